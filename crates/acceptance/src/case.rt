@@ -1,0 +1,122 @@
+use std::alloc::{AllocError, Global};
+
+/// What a run must write.
+#[derive(Drop)]
+pub enum Wanted {
+    /// All of the output.
+    Output(String),
+    /// Lines that stand one behind the other, behind those of the parts before.
+    Part(String),
+}
+
+/// A case: the words and the files of a run, and what it must write and answer.
+#[derive(Drop)]
+pub struct Case {
+    pub words: Vec<String>,
+    pub files: Vec<(String, Vec<u8>)>,
+    pub wanted: Vec<Wanted>,
+    pub status: u8,
+}
+
+/// Where the next lines of a case belong.
+#[derive(Drop)]
+enum Section {
+    /// What the case shows, which no one reads but a person.
+    About,
+    Words,
+    File(String, String),
+    Output(String),
+    Part(String),
+}
+
+impl Case {
+    fn new(alloc: Global) -> Self {
+        Case {
+            words: Vec::new(alloc),
+            files: Vec::new(alloc),
+            wanted: Vec::new(alloc),
+            status: 0,
+        }
+    }
+
+    /// Takes a section that has all its lines.
+    fn close(&mut self, section: Section) -> Result<(), AllocError> {
+        match section {
+            Section::About | Section::Words => {}
+            Section::File(path, text) => self.files.push((path, text.into_bytes()))?,
+            Section::Output(text) => self.wanted.push(Wanted::Output(text))?,
+            Section::Part(text) => self.wanted.push(Wanted::Part(text))?,
+        }
+        Ok(())
+    }
+}
+
+/// Takes a line that is no heading into its section.
+fn take_line(
+    alloc: Global,
+    case: &mut Case,
+    section: Section,
+    line: &str,
+) -> Result<Section, AllocError> {
+    Ok(match section {
+        Section::About => Section::About,
+        Section::Words => {
+            case.words.push(String::from_str(alloc, line)?)?;
+            Section::Words
+        }
+        Section::File(path, text) => Section::File(path, with_line(text, line)?),
+        Section::Output(text) => Section::Output(with_line(text, line)?),
+        Section::Part(text) => Section::Part(with_line(text, line)?),
+    })
+}
+
+fn with_line(text: String, line: &str) -> Result<String, AllocError> {
+    let mut text = text;
+    text.push_str(line)?;
+    text.push('\n')?;
+    Ok(text)
+}
+
+/// The section that a heading begins, or None for the status and for what is no heading.
+fn section_of(alloc: Global, heading: &str) -> Result<Option<Section>, AllocError> {
+    let text = String::new(alloc);
+    if let Some(path) = heading.strip_prefix("file ") {
+        return Ok(Some(Section::File(String::from_str(alloc, path)?, text)));
+    }
+    Ok(match heading {
+        "words" => Some(Section::Words),
+        "stdout" => Some(Section::Output(text)),
+        "part" => Some(Section::Part(text)),
+        _ => None,
+    })
+}
+
+/// Reads a case, or answers None where the text is none.
+///
+/// What it shows stands first. Then come, each below a heading `>>> words`, `>>> file PATH`,
+/// `>>> stdout` or `>>> part`, the words, one a line, the files and what must be written; the
+/// heading `>>> status N` stands last.
+pub fn read_case(alloc: Global, text: &str) -> Result<Option<Case>, AllocError> {
+    let mut case = Case::new(alloc);
+    let mut section = Section::About;
+    for line in text.lines() {
+        let Some(heading) = line.strip_prefix(">>> ") else {
+            section = take_line(alloc, &mut case, section, line)?;
+            continue;
+        };
+        if let Some(number) = heading.strip_prefix("status ") {
+            let Ok(status) = number.parse::<u8>() else {
+                return Ok(None);
+            };
+            case.close(section)?;
+            case.status = status;
+            return Ok(Some(case));
+        }
+        let Some(next) = section_of(alloc, heading)? else {
+            return Ok(None);
+        };
+        case.close(section)?;
+        section = next;
+    }
+    Ok(None)
+}

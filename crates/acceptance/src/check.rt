@@ -1,0 +1,72 @@
+use crate::case::{Case, Wanted};
+use edge_io::{OpenGate, SureSink, SureTree};
+use pytest_core::pytest_main;
+use std::alloc::{AllocError, Global};
+use std::thread::Threads;
+
+/// What stands behind a part in a text, where the part stands there at the beginning of a line.
+fn behind<'a>(text: &'a str, part: &str) -> Option<&'a str> {
+    let mut rest = text;
+    for _ in 0..=text.len() {
+        if let Some(behind) = rest.strip_prefix(part) {
+            return Some(behind);
+        }
+        let (_, next) = rest.split_once('\n')?;
+        rest = next;
+    }
+    None
+}
+
+/// What is left of an output behind one thing wanted, or None where it is missing.
+fn without<'a>(output: &str, rest: &'a str, wanted: &Wanted) -> Option<&'a str> {
+    match wanted {
+        Wanted::Output(text) if output == text.as_str() => Some(rest),
+        Wanted::Output(_) => None,
+        Wanted::Part(text) => behind(rest, text.as_str()),
+    }
+}
+
+/// Whether an output has all that is wanted, in order.
+fn has_all(output: &str, wanted: &[Wanted]) -> bool {
+    let mut rest = output;
+    for one in wanted {
+        let Some(next) = without(output, rest, one) else {
+            return false;
+        };
+        rest = next;
+    }
+    true
+}
+
+fn wanted_text(alloc: Global, wanted: &[Wanted]) -> Result<String, AllocError> {
+    let mut text = String::new(alloc);
+    for one in wanted {
+        let (Wanted::Output(lines) | Wanted::Part(lines)) = one;
+        text.push_str(lines.as_str())?;
+    }
+    Ok(text)
+}
+
+/// Runs a case, and says what was wanted and what came where they differ.
+pub fn check<R: Threads + Sync>(rt: &R, alloc: Global, case: Case) -> Result<String, AllocError> {
+    let Case {
+        words,
+        files,
+        wanted,
+        status,
+    } = case;
+    let mut tree = SureTree::new(alloc, files);
+    let mut out = SureSink::new(alloc);
+    let came = pytest_main(rt, alloc, &words, &mut tree, &mut out, &OpenGate).number();
+    let Ok(output) = str::from_utf8(out.bytes()) else {
+        return String::from_str(alloc, "the output is not UTF-8\n");
+    };
+    if !has_all(output, &wanted) {
+        let text = wanted_text(alloc, &wanted)?;
+        return format!(in alloc; "wanted\n{text}but got\n{output}");
+    }
+    if came != status {
+        return format!(in alloc; "wanted status {status} but got {came}\n");
+    }
+    Ok(String::new(alloc))
+}

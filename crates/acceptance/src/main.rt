@@ -1,0 +1,51 @@
+//! Runs the worked cases of its folder, and says which of them differ from what they want.
+#![tactic(auto)]
+
+mod case;
+mod check;
+
+use case::read_case;
+use check::check;
+use std::alloc::{AllocError, Global};
+use std::rt::Files;
+use std::thread::Threads;
+use std::{fs, io};
+
+/// The names of the folder's cases, in order.
+fn case_names<R: Files + AllocGlobal + Clone + Drop>(rt: &R) -> io::Result<Vec<String>> {
+    let mut names = Vec::new(rt.alloc());
+    for entry in fs::read_dir(rt, ".")? {
+        let entry = entry?;
+        if entry.file_name().as_bytes().ends_with(b".case") {
+            names.push(String::from_str(rt.alloc(), entry.file_name())?)?;
+        }
+    }
+    names.sort()?;
+    Ok(names)
+}
+
+/// What is wrong with a case, or an empty text.
+fn fault_of<R: Threads + Sync>(rt: &R, alloc: Global, text: &str) -> Result<String, AllocError> {
+    match read_case(alloc, text)? {
+        Some(case) => check(rt, alloc, case),
+        None => String::from_str(alloc, "it is no case\n"),
+    }
+}
+
+fn run<R: Threads + Sync + Files + Print + AllocGlobal + Clone + Drop>(rt: &R) -> io::Result<()> {
+    let names = case_names(rt)?;
+    let mut differing = 0u64;
+    for name in &names {
+        let text = fs::read_to_string(rt, name.as_str())?;
+        let fault = fault_of(rt, rt.alloc(), text.as_str())?;
+        if !fault.is_empty() {
+            differing = differing.saturating_add(1);
+            println!(rt; "{name}: {fault}")?;
+        }
+    }
+    println!(rt; "{} cases, {differing} of them not as wanted", names.len())
+}
+
+fn main(rt: HostRuntime) -> io::Result<()> {
+    run(&rt)
+}

@@ -1,0 +1,7 @@
+pub mod Settings
+pub mod Numbers
+pub mod Cuts
+pub mod Outcomes
+pub mod Letters
+pub mod Says
+pub mod Cut

@@ -1,0 +1,5 @@
+pub mod Faults
+pub mod Options
+pub mod Parts
+pub mod Table
+pub mod Values

@@ -1,0 +1,155 @@
+-- The command line as a list of parts: settings, paths and faults, in the order of the words.
+use Rattle.std.specs.Prelude.{◌≡◌, ◌<◌, length, ℕ, List, [], ◌∷◌, ◌++◌, Bool, true, false, not, ◌||◌, Option, None, Some, map, drop, codes, is_some, nat_eq, ◌==◌, if◌then◌else◌}
+use Rattle.std.specs.List.{filter_map, take_while, prefix_len, before_first, starts_with}
+use Rattle.std.specs.Str.{IsUtf8, bytes_eq}
+use Rattle.cli_words.specs.Table.{takes_named}
+use Rattle.cli_words.specs.Values.{behind, given_setting, setting_of}
+use Rattle.cli_words.specs.declared.fault.UsageFault.{UsageFault}
+use Rattle.cli_words.specs.declared.fault.UsageFault.TheVariants.{Unrecognized, NeedsValue, BadValue, TakesNoValue}
+use Rattle.cli_words.specs.declared.setting.Setting.{Setting}
+use Rattle.cli_words.specs.declared.table.Given.{Given}
+use Rattle.cli_words.specs.declared.table.Rule.{Rule}
+use Rattle.cli_words.specs.declared.table.Takes.{Takes}
+use Rattle.cli_words.specs.declared.table.Takes.TheVariants.{Nothing, Value}
+
+-- a part of the command line
+pub data Part : Type 0 where
+  PathOf : List ℕ → Part
+  Sets : Setting → Part
+  Wrong : UsageFault → Part
+
+-- `--`, behind which all words are paths
+abbrev pub is_end : List ℕ → Bool
+is_end word = bytes_eq word (codes "--")
+
+abbrev pub begins_with_dash : List ℕ → Bool
+begins_with_dash word = starts_with nat_eq word (codes "-")
+
+-- a word that is no option
+abbrev pub is_path : List ℕ → Bool
+is_path word = not (begins_with_dash word) || bytes_eq word (codes "-")
+
+abbrev pub is_long : List ℕ → Bool
+is_long word = starts_with nat_eq word (codes "--")
+
+-- an option with this value
+abbrev pub valued : List ℕ → List ℕ → Option Setting → Part
+valued option value None = Wrong (BadValue option value)
+valued option value (Some setting) = Sets setting
+
+-- an option whose value is to be the next word
+abbrev pub next_valued : List ℕ → Rule → Option (List ℕ) → Part
+next_valued option rule None = Wrong (NeedsValue option)
+next_valued option rule (Some next) =
+    if begins_with_dash next then Wrong (NeedsValue option) else valued option next (setting_of rule next)
+
+-- an option that takes no value
+abbrev pub switched : List ℕ → Given → Option (List ℕ) → Part
+switched option given None = Sets (given_setting given)
+switched option given (Some value) = Wrong (TakesNoValue option)
+
+-- what an option of a word says; its value may stand in the word or be the next word
+abbrev pub option_part : Option Takes → List ℕ → List ℕ → Option (List ℕ) → Option (List ℕ) → Part
+option_part None word option value next = Wrong (Unrecognized word)
+option_part (Some (Nothing given)) word option value next = switched option given value
+option_part (Some (Value rule)) word option None next = next_valued option rule next
+option_part (Some (Value rule)) word option (Some value) next = valued option value (setting_of rule value)
+
+-- whether an option takes the next word
+abbrev pub asks : Option Takes → Option (List ℕ) → Bool
+asks (Some (Value rule)) None = true
+asks _ _ = false
+
+-- an option of a word, with the value that stands in the word
+abbrev pub Spelled : Type 0
+Spelled = List ℕ × Option (List ℕ)
+
+-- `--name` or `--name=value`
+abbrev pub long_option : List ℕ → Spelled
+long_option word =
+    (before_first (λ c. c == 61) word, behind 61 word)
+
+-- the spelling of a short option
+abbrev pub short : ℕ → List ℕ
+short letter = 45 ∷ letter ∷ []
+
+-- what a letter sets, if it is an option without value
+abbrev pub given_of : Option Takes → Option Given
+given_of (Some (Nothing given)) = Some given
+given_of _ = None
+
+abbrev pub flag_of : ℕ → Option Given
+flag_of letter = given_of (takes_named (short letter))
+
+abbrev pub is_flag : ℕ → Bool
+is_flag letter = is_some (flag_of letter)
+
+-- a value right behind its letter, less one `=`
+abbrev pub value_behind : List ℕ → Option (List ℕ)
+value_behind [] = None
+value_behind (c ∷ cs) = Some (if c == 61 then cs else c ∷ cs)
+
+-- the option that stands behind the flags
+abbrev pub short_option : List ℕ → Option Spelled
+short_option [] = None
+short_option (letter ∷ letters) = Some (short letter, value_behind letters)
+
+-- the flags at the front of a short word's letters, and what stands behind them
+abbrev pub flags : List ℕ → List Given
+flags letters = filter_map flag_of (take_while is_flag letters)
+
+abbrev pub behind_flags : List ℕ → List ℕ
+behind_flags letters = drop (prefix_len is_flag letters) letters
+
+-- what an option of a word says, where there is one
+abbrev pub spelled_parts : List ℕ → Option Spelled → Option (List ℕ) → List Part
+spelled_parts word None next = []
+spelled_parts word (Some spelled) next = option_part (takes_named spelled.0) word spelled.0 spelled.1 next ∷ []
+
+abbrev pub spelled_asks : Option Spelled → Bool
+spelled_asks None = false
+spelled_asks (Some spelled) = asks (takes_named spelled.0) spelled.1
+
+abbrev pub flag_part : Given → Part
+flag_part given = Sets (given_setting given)
+
+-- letters that start with an option without value, or with none
+pub record StartsWithFlag (letters : List ℕ) (given : Given) (rest : List ℕ) : Type 0 where
+  pub first : flags letters ≡ given ∷ flags rest
+  pub behind : behind_flags letters ≡ behind_flags rest
+  pub shorter : length rest < length letters
+  pub text : IsUtf8 rest
+
+pub record HasNoFlag (letters : List ℕ) : Type 0 where
+  pub none : flags letters ≡ []
+  pub all : behind_flags letters ≡ letters
+
+-- what the letters of a short word say
+unfoldable pub letters_say : List ℕ → List ℕ → Option (List ℕ) → List Part
+letters_say word letters next =
+    map flag_part (flags letters) ++ spelled_parts word (short_option (behind_flags letters)) next
+
+unfoldable pub letters_ask : List ℕ → Bool
+letters_ask letters = spelled_asks (short_option (behind_flags letters))
+
+-- what a word says, before the next word
+unfoldable pub says : List ℕ → Option (List ℕ) → List Part
+says word next =
+    if is_path word then PathOf word ∷ []
+    else (if is_long word then spelled_parts word (Some (long_option word)) next
+    else letters_say word (drop 1 word) next)
+
+-- whether a word takes the next one as its value
+unfoldable pub takes_next : List ℕ → Bool
+takes_next word =
+    if is_path word then false
+    else (if is_long word then spelled_asks (Some (long_option word))
+    else letters_ask (drop 1 word))
+
+-- the parts of a command line
+abbrev pub parts_of : List (List ℕ) → List Part
+parts_of [] = []
+parts_of (word ∷ []) = if is_end word then [] else says word None
+parts_of (word ∷ next ∷ words) =
+    if is_end word then map PathOf (next ∷ words)
+    else says word (Some next) ++ (if takes_next word then parts_of words else parts_of (next ∷ words))

@@ -1,0 +1,122 @@
+ghost use Rattle.std.specs.Prelude.{◌≡◌, ◌≤◌, ◌<◌, ◌==◌, IfOk, option_copied};
+ghost use Rattle.std.specs.List.{list_all, before_first};
+ghost use Rattle.std.specs.Char.{is_ascii_digit};
+ghost use Rattle.cli_words.specs.Values.{behind, is_number, number_in, style_named, distribution_named, seed_and_files_in, setting_of, given_setting};
+
+use crate::options::{Dist, Tb};
+use crate::table::{Counter, Given, Rule, Switch, TextOption};
+use crate::word::Word;
+use std::alloc::{AllocError, Global};
+
+/// One option with its value.
+#[derive(Debug, Drop)]
+pub enum Setting {
+    On(Switch),
+    Count(Counter, u32),
+    Text(TextOption, Word),
+    Style(Tb),
+    Distribution(Dist),
+    /// Seed and number of files.
+    Generated(u32, u32),
+}
+
+fn all_digits(text: &[u8]) -> bool
+    ensures { result ≡ list_all is_ascii_digit text.now }
+{
+    text.iter().all(|digit| digit.is_ascii_digit())
+}
+
+/// Whether a text is a number: one to nine ASCII digits.
+fn is_number(text: &[u8]) -> bool
+    ensures { result ≡ is_number text.now }
+{
+    all_digits(text) && 1 <= text.len() && text.len() <= 9
+}
+
+/// A number from `low` to `high`.
+fn number(text: &str, low: u32, high: u32) -> Option<u32>
+    ensures { result ≡ number_in low high text.now }
+{
+    if !is_number(text.as_bytes()) {
+        return None;
+    }
+    let number = text.parse::<u32>().ok()?;
+    if number < low || high < number {
+        return None;
+    }
+    Some(number)
+}
+
+fn style(text: &str) -> Option<Tb>
+    ensures { result ≡ style_named text.now }
+{
+    match text {
+        "short" => Some(Tb::Short),
+        "line" => Some(Tb::Line),
+        "no" => Some(Tb::No),
+        _ => None,
+    }
+}
+
+fn distribution(text: &str) -> Option<Dist>
+    ensures { result ≡ distribution_named text.now }
+{
+    match text {
+        "loadfile" => Some(Dist::LoadFile),
+        "no" => Some(Dist::No),
+        _ => None,
+    }
+}
+
+/// What stands before the first `mark`, and what stands behind it, if there is one.
+pub(crate) fn cut_at(text: &str, mark: char) -> (&str, Option<&str>)
+    requires { mark < 128 }
+    ensures before { result.0.now ≡ before_first (λ c. c == mark) text.now }
+    ensures behind { option_copied result.1 ≡ behind mark text.now }
+{
+    match text.split_once(mark) {
+        Some((before, behind)) => (before, Some(behind)),
+        None => (text, None),
+    }
+}
+
+/// Two numbers with a comma between them: the seed and the number of files of the generated tree.
+fn seed_and_files(text: &str) -> Option<(u32, u32)>
+    ensures { result ≡ seed_and_files_in text.now }
+{
+    let (seed, files) = cut_at(text, ',');
+    let files = number(files?, 1, 4_000)?;
+    let seed = number(seed, 0, 65_535)?;
+    Some((seed, files))
+}
+
+impl Given {
+    pub(crate) fn setting(self) -> Setting
+        ensures { result ≡ given_setting self }
+    {
+        match self {
+            Given::On(switch) => Setting::On(switch),
+            Given::Count(counter, count) => Setting::Count(counter, count),
+        }
+    }
+}
+
+impl Rule {
+    /// What a value sets, if it is a value of this form.
+    pub(crate) fn setting(self, alloc: Global, value: &str) -> Result<Option<Setting>, AllocError>
+        ensures { IfOk result (λ setting. setting ≡ setting_of self value.now) }
+    {
+        let setting = match self {
+            Rule::Text(option) => Some(Setting::Text(option, Word::of(alloc, value)?)),
+            Rule::Number(counter, low, high) => number(value, low, high).map(|count| Setting::Count(
+                counter, count,
+            )),
+            Rule::Style => style(value).map(Setting::Style),
+            Rule::Distribution => distribution(value).map(Setting::Distribution),
+            Rule::SeedAndFiles => seed_and_files(value).map(|(seed, files)| Setting::Generated(
+                seed, files,
+            )),
+        };
+        Ok(setting)
+    }
+}

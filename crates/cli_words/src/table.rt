@@ -1,0 +1,149 @@
+ghost use Rattle.std.specs.Prelude.{◌≡◌};
+ghost use Rattle.cli_words.specs.Table.{takes_in, takes_named};
+
+/// What can be switched on.
+#[derive(Clone, Copy, Debug)]
+pub enum Switch {
+    Verbose,
+    CollectOnly,
+    SetupShow,
+}
+
+/// What is set to a number.
+#[derive(Clone, Copy, Debug)]
+pub enum Counter {
+    MaxFail,
+    Workers,
+    StepLimit,
+}
+
+/// What is set to a text.
+#[derive(Clone, Copy, Debug)]
+pub enum TextOption {
+    Keyword,
+    Marks,
+    Ignore,
+}
+
+/// What an option without a value sets.
+#[derive(Clone, Copy, Debug)]
+pub enum Given {
+    On(Switch),
+    Count(Counter, u32),
+}
+
+/// The form of an option's value.
+#[derive(Clone, Copy, Debug)]
+pub enum Rule {
+    Text(TextOption),
+    /// A number from the first to the second.
+    Number(Counter, u32, u32),
+    Style,
+    Distribution,
+    SeedAndFiles,
+}
+
+/// Whether an option takes a value.
+#[derive(Clone, Copy, Debug)]
+pub enum Takes {
+    Nothing(Given),
+    Value(Rule),
+}
+
+/// An option of the command line.
+#[derive(Clone, Copy)]
+pub struct Row {
+    spelling: &'static str,
+    takes: Takes,
+}
+
+/// All options, with each of their spellings.
+const OPTIONS: [Row; 17] = [
+    Row {
+        spelling: "-k",
+        takes: Takes::Value(Rule::Text(TextOption::Keyword)),
+    },
+    Row {
+        spelling: "-m",
+        takes: Takes::Value(Rule::Text(TextOption::Marks)),
+    },
+    Row {
+        spelling: "-x",
+        takes: Takes::Nothing(Given::Count(Counter::MaxFail, 1)),
+    },
+    Row {
+        spelling: "--exitfirst",
+        takes: Takes::Nothing(Given::Count(Counter::MaxFail, 1)),
+    },
+    Row {
+        spelling: "--maxfail",
+        takes: Takes::Value(Rule::Number(Counter::MaxFail, 0, 65_536)),
+    },
+    Row {
+        spelling: "--tb",
+        takes: Takes::Value(Rule::Style),
+    },
+    Row {
+        spelling: "-n",
+        takes: Takes::Value(Rule::Number(Counter::Workers, 0, 8)),
+    },
+    Row {
+        spelling: "--numprocesses",
+        takes: Takes::Value(Rule::Number(Counter::Workers, 0, 8)),
+    },
+    Row {
+        spelling: "--dist",
+        takes: Takes::Value(Rule::Distribution),
+    },
+    Row {
+        spelling: "--ignore",
+        takes: Takes::Value(Rule::Text(TextOption::Ignore)),
+    },
+    Row {
+        spelling: "-v",
+        takes: Takes::Nothing(Given::On(Switch::Verbose)),
+    },
+    Row {
+        spelling: "--verbose",
+        takes: Takes::Nothing(Given::On(Switch::Verbose)),
+    },
+    Row {
+        spelling: "--collect-only",
+        takes: Takes::Nothing(Given::On(Switch::CollectOnly)),
+    },
+    Row {
+        spelling: "--co",
+        takes: Takes::Nothing(Given::On(Switch::CollectOnly)),
+    },
+    Row {
+        spelling: "--setup-show",
+        takes: Takes::Nothing(Given::On(Switch::SetupShow)),
+    },
+    Row {
+        spelling: "--step-limit",
+        takes: Takes::Value(Rule::Number(Counter::StepLimit, 1, 100_000_000)),
+    },
+    Row {
+        spelling: "--generated",
+        takes: Takes::Value(Rule::SeedAndFiles),
+    },
+];
+
+fn takes_among(rows: &[Row], spelling: &[u8]) -> Option<Takes>
+    ensures { result ≡ takes_in spelling.now rows.now }
+{
+    for row in rows {
+        if row.spelling.as_bytes() == spelling {
+            return Some(row.takes);
+        }
+    }
+    None
+}
+
+/// What the option of this spelling takes, if there is one.
+#[tactic(auto, unfolding(crate::specs::Table::takes_named))]
+pub fn takes_of(spelling: &[u8]) -> Option<Takes>
+    ensures { result ≡ takes_named spelling.now }
+{
+    takes_among(&OPTIONS, spelling)
+}

@@ -1,0 +1,4 @@
+pub mod Causes
+pub mod Told
+pub mod Files
+pub mod LoadFaults

@@ -1,0 +1,354 @@
+ghost use Rattle.std.specs.Prelude.{◌≡◌, ⊤, Contains};
+ghost use Rattle.hook_order.specs.Answers.{HandsOnWant};
+ghost use Rattle.hook_order.specs.Frames.{TakesFrame};
+
+use crate::{Impl, Inner, Opened, Ran, Runner, call_all, call_first, order};
+use std::alloc::Global;
+use std::fmt::Write;
+use std::process::Abort;
+use std::test::Fail;
+
+/// What an implementation of the fake runner does.
+#[derive(Clone, Copy)]
+enum Act {
+    Gives(u32),
+    GivesNone,
+    Raises(u32),
+    WantsMemory,
+    HandsOn,
+    Replaces(u32),
+    Swallows,
+    RaisesBefore(u32),
+    WantsMemoryBefore,
+    RaisesBehind(u32),
+    WantsMemoryBehind,
+}
+
+/// It logs its calls; the number of a list is 1000.
+#[derive(Drop)]
+struct Fake {
+    acts: Vec<Act>,
+    out: Vec<u32>,
+    log: String,
+}
+
+impl Fake {
+    fn act(&self, code: u32) -> Act {
+        self.acts
+            .get(code as usize)
+            .copied()
+            .unwrap_or(Act::GivesNone)
+    }
+
+    fn note(&mut self, what: &str, code: u32)
+        ensures { self.new.out ≡ self.old.out }
+    {
+        let _ = write!(self.log, "{what} {code}; ");
+    }
+}
+
+fn take_out(out: &mut Vec<u32>, frozen: u32)
+    requires { Contains out.old.items frozen }
+    ensures { TakesFrame frozen out.old.items out.new.items }
+{
+    let mut at = out.len();
+    while at > 0 {
+        at -= 1;
+        if out[at] == frozen {
+            let _frame = out.remove(at);
+            return;
+        }
+    }
+}
+
+impl Runner for Fake {
+    type Got = u32;
+
+    type Exc = u32;
+
+    type Frozen = u32;
+
+    ghost frames = { λ s. s.out.items };
+
+    ghost calls = { λ _ _ _ _. ⊤ };
+
+    ghost begins = { λ _ _ _ _. ⊤ };
+
+    ghost resumes = { λ _ _ _ _ _. ⊤ };
+
+    fn call(&mut self, which: &Impl) -> Ran<u32, u32> {
+        self.note("call", which.code);
+        match self.act(which.code) {
+            Act::Gives(value) => Ran::Gave(Some(value)),
+            Act::GivesNone => Ran::Gave(None),
+            Act::Raises(exception) => Ran::Raised(exception),
+            _ => Ran::OutOfMemory,
+        }
+    }
+
+    fn begin(&mut self, which: &Impl) -> Opened<u32, u32> {
+        self.note("begin", which.code);
+        match self.act(which.code) {
+            Act::RaisesBefore(exception) => Opened::Raised(exception),
+            Act::WantsMemoryBefore => Opened::OutOfMemory,
+            _ => match self.out.push(which.code) {
+                Ok(()) => Opened::Yielded(which.code),
+                Err(_) => Opened::OutOfMemory,
+            },
+        }
+    }
+
+    fn resume(&mut self, frozen: u32, inner: Inner<u32, u32>) -> Ran<u32, u32>
+        requires { Contains self.old.out.items frozen }
+        ensures frames { TakesFrame frozen self.old.out.items self.new.out.items }
+        ensures want { HandsOnWant inner result }
+    {
+        take_out(&mut self.out, frozen);
+        let seen = match &inner {
+            Inner::List => "resume with list",
+            Inner::Gave(_) => "resume with value",
+            Inner::Raised(_) => "resume with exception",
+            Inner::OutOfMemory => "resume with want of memory",
+        };
+        self.note(seen, frozen);
+        answer_to(self.act(frozen), inner)
+    }
+}
+
+fn answer_to(act: Act, inner: Inner<u32, u32>) -> Ran<u32, u32>
+    ensures { HandsOnWant inner result }
+{
+    match inner {
+        Inner::OutOfMemory => Ran::OutOfMemory,
+        Inner::List => outcome(act, Ran::Gave(Some(1000))),
+        Inner::Gave(value) => outcome(act, Ran::Gave(value)),
+        Inner::Raised(exception) => outcome(act, Ran::Raised(exception)),
+    }
+}
+
+fn outcome(act: Act, handed_on: Ran<u32, u32>) -> Ran<u32, u32> {
+    match act {
+        Act::Replaces(value) => Ran::Gave(Some(value)),
+        Act::Swallows => Ran::Gave(None),
+        Act::RaisesBehind(exception) => Ran::Raised(exception),
+        Act::WantsMemoryBehind => Ran::OutOfMemory,
+        _ => handed_on,
+    }
+}
+
+const PLAIN: (bool, bool, bool) = (false, false, false);
+
+const FIRST: (bool, bool, bool) = (false, true, false);
+
+const LAST: (bool, bool, bool) = (false, false, true);
+
+const BOTH: (bool, bool, bool) = (false, true, true);
+
+const WRAPPER: (bool, bool, bool) = (true, false, false);
+
+const FIRST_WRAPPER: (bool, bool, bool) = (true, true, false);
+
+const LAST_WRAPPER: (bool, bool, bool) = (true, false, true);
+
+fn implementation(registered: u32, flags: (bool, bool, bool), code: u32) -> Impl {
+    Impl {
+        registered,
+        wrapper: flags.0,
+        first: flags.1,
+        last: flags.2,
+        node: 0,
+        code,
+    }
+}
+
+/// The numbers of registration in order of call (pluggy's documentation, "Call time order"; pytest's, "Hook function
+/// ordering / call example").
+#[test]
+fn implementations_run_in_the_documented_order(rt: HostRuntime) {
+    let rows = [
+        ([PLAIN, PLAIN, PLAIN, PLAIN], [3, 2, 1, 0]),
+        ([FIRST, LAST, WRAPPER, PLAIN], [2, 0, 3, 1]),
+        ([LAST, LAST, PLAIN, LAST], [2, 0, 1, 3]),
+        ([FIRST, FIRST, PLAIN, BOTH], [3, 1, 0, 2]),
+        (
+            [LAST_WRAPPER, WRAPPER, FIRST_WRAPPER, WRAPPER],
+            [2, 3, 1, 0],
+        ),
+        ([LAST_WRAPPER, LAST_WRAPPER, PLAIN, LAST], [0, 1, 2, 3]),
+    ];
+    for (flags, want) in rows {
+        let mut impls = [
+            implementation(0, flags[0], 0),
+            implementation(1, flags[1], 1),
+            implementation(2, flags[2], 2),
+            implementation(3, flags[3], 3),
+        ];
+        order(&mut impls);
+        let got = [
+            impls[0].registered,
+            impls[1].registered,
+            impls[2].registered,
+            impls[3].registered,
+        ];
+        assert_eq!(rt; got, want);
+    }
+}
+
+/// A fake runner whose implementations are wrappers or not and do this, in order of call.
+fn scene(alloc: Global, acts: &[(bool, Act)]) -> Result<(Fake, Vec<Impl>), Fail> {
+    let mut fake = Fake {
+        acts: Vec::new(alloc),
+        out: Vec::new(alloc),
+        log: String::new(alloc),
+    };
+    let mut impls = Vec::new(alloc);
+    let mut code = 0u8;
+    for (wrapper, act) in acts {
+        fake.acts.push(*act)?;
+        let flags = (*wrapper, false, false);
+        impls.push(implementation(u32::from(u8::MAX - code), flags, u32::from(code)))?;
+        code = code.saturating_add(1);
+    }
+    Ok((fake, impls))
+}
+
+fn check_all(rt: &impl Abort, alloc: Global, acts: &[(bool, Act)], want: &str) -> Result<(), Fail> {
+    let (mut fake, mut impls) = scene(alloc, acts)?;
+    order(&mut impls);
+    let answer = call_all(alloc, &mut fake, &impls);
+    let log = &fake.log;
+    let told = format!(in alloc; "{log}{answer:?}")?;
+    assert_eq!(rt; told.as_str(), want);
+    assert!(rt; fake.out.is_empty());
+    Ok(())
+}
+
+fn check_first(
+    rt: &impl Abort,
+    alloc: Global,
+    acts: &[(bool, Act)],
+    want: &str,
+) -> Result<(), Fail> {
+    let (mut fake, mut impls) = scene(alloc, acts)?;
+    order(&mut impls);
+    let answer = call_first(alloc, &mut fake, &impls);
+    let log = &fake.log;
+    let told = format!(in alloc; "{log}{answer:?}")?;
+    assert_eq!(rt; told.as_str(), want);
+    assert!(rt; fake.out.is_empty());
+    Ok(())
+}
+
+#[test]
+fn all_values_are_called_for(rt: HostRuntime) -> Result<(), Fail> {
+    use Act::*;
+    let alloc = rt.alloc();
+    check_all(&rt, alloc, &[], "Gave(Some([]))")?;
+    check_all(
+        &rt,
+        alloc,
+        &[(false, Gives(1)), (false, GivesNone), (false, Gives(2))],
+        "call 0; call 1; call 2; Gave(Some([1, 2]))",
+    )?;
+    check_all(
+        &rt,
+        alloc,
+        &[(false, Gives(1)), (false, Raises(7)), (false, Gives(2))],
+        "call 0; call 1; Raised(7)",
+    )?;
+    check_all(
+        &rt,
+        alloc,
+        &[(true, HandsOn), (true, Replaces(5)), (false, Gives(1))],
+        "begin 0; begin 1; call 2; resume with list 1; resume with value 0; Gave(Some([5]))",
+    )?;
+    check_all(
+        &rt,
+        alloc,
+        &[(true, Swallows), (false, Raises(7)), (false, Gives(1))],
+        "begin 0; call 1; resume with exception 0; Gave(None)",
+    )?;
+    check_all(
+        &rt,
+        alloc,
+        &[(true, HandsOn), (true, RaisesBefore(3)), (false, Gives(1))],
+        "begin 0; begin 1; resume with exception 0; Raised(3)",
+    )?;
+    check_all(
+        &rt,
+        alloc,
+        &[(true, RaisesBehind(4)), (false, Raises(7))],
+        "begin 0; call 1; resume with exception 0; Raised(4)",
+    )?;
+    Ok(())
+}
+
+#[test]
+fn want_of_memory_goes_through_the_wrappers(rt: HostRuntime) -> Result<(), Fail> {
+    use Act::*;
+    let alloc = rt.alloc();
+    check_all(
+        &rt,
+        alloc,
+        &[
+            (true, HandsOn),
+            (true, Swallows),
+            (false, WantsMemory),
+            (false, Gives(1)),
+        ],
+        "begin 0; begin 1; call 2; resume with want of memory 1; resume with want of memory 0; OutOfMemory",
+    )?;
+    check_all(
+        &rt,
+        alloc,
+        &[
+            (true, Swallows),
+            (true, WantsMemoryBefore),
+            (false, Gives(1)),
+        ],
+        "begin 0; begin 1; resume with want of memory 0; OutOfMemory",
+    )?;
+    check_all(
+        &rt,
+        alloc,
+        &[
+            (true, Swallows),
+            (true, WantsMemoryBehind),
+            (false, Gives(1)),
+        ],
+        "begin 0; begin 1; call 2; resume with list 1; resume with want of memory 0; OutOfMemory",
+    )?;
+    check_first(
+        &rt,
+        alloc,
+        &[(true, Replaces(1)), (false, WantsMemory)],
+        "begin 0; call 1; resume with want of memory 0; OutOfMemory",
+    )?;
+    Ok(())
+}
+
+#[test]
+fn the_first_value_is_called_for(rt: HostRuntime) -> Result<(), Fail> {
+    use Act::*;
+    let alloc = rt.alloc();
+    check_first(&rt, alloc, &[], "Gave(None)")?;
+    check_first(
+        &rt,
+        alloc,
+        &[(false, GivesNone), (false, Gives(2)), (false, Gives(3))],
+        "call 0; call 1; Gave(Some(2))",
+    )?;
+    check_first(
+        &rt,
+        alloc,
+        &[(true, HandsOn), (false, GivesNone)],
+        "begin 0; call 1; resume with value 0; Gave(None)",
+    )?;
+    check_first(
+        &rt,
+        alloc,
+        &[(true, HandsOn), (false, Raises(2)), (false, Gives(3))],
+        "begin 0; call 1; resume with exception 0; Raised(2)",
+    )?;
+    Ok(())
+}

@@ -1,0 +1,54 @@
+-- The expressions of pytest's `-k` and `-m`: trees, and the grammar as a relation.
+use Rattle.std.specs.Prelude.{◌≡◌, ℕ, List, [], ◌∷◌, ◌++◌}
+use Rattle.std.proofs.Common.{suc}
+use Rattle.mark_expr.specs.declared.token.Kind.TheVariants as kinds
+use Rattle.mark_expr.specs.declared.token.Token.{Token}
+use Rattle.mark_expr.specs.declared.tree.MarkExpr.{MarkExpr, Not', And', Or', Row_of-MarkExpr, end_of-MarkExpr, more_of-MarkExpr}
+use Rattle.mark_expr.specs.declared.tree.MarkExpr.TheVariants as exprs
+
+-- an expression, whatever holds it
+pub data Tree : Type 0 where
+  Name : List ℕ → Tree
+  Negation : Tree → Tree
+  Conjunction : Tree → Tree → Tree
+  Disjunction : Tree → Tree → Tree
+
+-- the expression that a MarkExpr holds: a row of parts is joined from the left
+abbrev mutual
+  pub view : MarkExpr → Tree
+  view (exprs.Ident n) = Name n
+  view (Not' p e) = Negation (view e)
+  view (And' p first shape more) = joined_row Conjunction (view first) more
+  view (Or' p first shape more) = joined_row Disjunction (view first) more
+
+  pub joined_row : (Tree → Tree → Tree) → Tree → {m : _} → Row_of-MarkExpr m → Tree
+  joined_row f a end_of-MarkExpr = a
+  joined_row f a (more_of-MarkExpr e rest) = joined_row f (f a (view e)) rest
+
+-- parts, joined from the left
+abbrev pub joined : (Tree → Tree → Tree) → Tree → List MarkExpr → Tree
+joined f a [] = a
+joined f a (e ∷ es) = joined f (f a (view e)) es
+
+-- the lines of the grammar
+pub data Sort : Type 0 where
+  or_expr : Sort
+  and_expr : Sort
+  not_expr : Sort
+
+-- THE GRAMMAR, a case for each way to read a line. The number is how many parentheses and `not`s may be open at once.
+--     expr:     and_expr ("or" and_expr)*
+--     and_expr: not_expr ("and" not_expr)*
+--     not_expr: "not" not_expr | "(" expr ")" | ident
+pub data Reading : Sort → ℕ → List Token → Tree → Type 0 where
+  ident : {n : ℕ} {w : List Token} {name : List ℕ} (t : Token) → t.kind ≡ kinds.Ident name → w ≡ t ∷ [] → Reading not_expr n w (Name name)
+  negation : {n : ℕ} {w v : List Token} {x : Tree} (t : Token) → t.kind ≡ kinds.Not → w ≡ t ∷ v → Reading not_expr n v x → Reading not_expr (suc n) w (Negation x)
+  parens : {n : ℕ} {w v : List Token} {x : Tree} (o c : Token) → o.kind ≡ kinds.Open → c.kind ≡ kinds.Close → w ≡ o ∷ (v ++ c ∷ []) → Reading or_expr n v x → Reading not_expr (suc n) w x
+  and_one : {n : ℕ} {w : List Token} {x : Tree} → Reading not_expr n w x → Reading and_expr n w x
+  and_more : {n : ℕ} {w u v : List Token} {l r : Tree} (t : Token) → t.kind ≡ kinds.And → w ≡ u ++ t ∷ v → Reading and_expr n u l → Reading not_expr n v r → Reading and_expr n w (Conjunction l r)
+  or_one : {n : ℕ} {w : List Token} {x : Tree} → Reading and_expr n w x → Reading or_expr n w x
+  or_more : {n : ℕ} {w u v : List Token} {l r : Tree} (t : Token) → t.kind ≡ kinds.Or → w ≡ u ++ t ∷ v → Reading or_expr n u l → Reading and_expr n v r → Reading or_expr n w (Disjunction l r)
+
+-- the tokens are this expression, with at most n parentheses and `not`s open at once
+abbrev pub Within : ℕ → List Token → Tree → Type 0
+Within n = Reading or_expr n

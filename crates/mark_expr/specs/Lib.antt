@@ -1,0 +1,5 @@
+pub mod Answer
+pub mod Expression
+pub mod Grammar
+pub mod Matching
+pub mod Text

@@ -1,0 +1,52 @@
+ghost use Rattle.std.specs.Prelude.{◌≡◌, IfSome, IsSome, List, ℕ, map, string_bytes};
+ghost use Rattle.edge_io.specs.Causes.{Rose};
+ghost use Rattle.edge_io.specs.Files.{File};
+ghost use Rattle.pytest_core.specs.Report.{Answer, IsReport, plain_word};
+ghost use Rattle.pytest_core.specs.Written.{Wrote};
+
+use crate::answer::{RunFault, answer};
+use crate::status::Status;
+use edge_io::{Gate, Sink, SinkFail, Tree, one_list_of_kept_files, put_all};
+use py_parse::one_list_of_lines;
+use std::alloc::Global;
+use std::thread::Threads;
+
+/// Runs the tests that the words name, and writes the report.
+///
+/// The words are those of the command line behind the program's name. Nothing is written before all
+/// files were read, and nothing is put behind a fault of the sink.
+pub fn pytest_main<R: Threads + Sync, T: Tree, S: Sink, G: Gate + Sync>(
+    _rt: &R,
+    alloc: Global,
+    words: &[String],
+    tree: &mut T,
+    out: &mut S,
+    _gate: &G,
+) -> Status
+    // The bytes written and the status are the report's: all of them, or under a fault a prefix.
+    ensures report { IfSome (T.files tree.old) (λ files. Wrote (IsReport (map string_bytes words.now) files) (S.told out.old) (S.told out.new) result) }
+    // The tree's fault comes only where its count rose, and the words are not refused.
+    ensures tree { result ≡ Status.TreeFault → Rose (T.faults tree.old) (T.faults tree.new) }
+    ensures read { result ≡ Status.TreeFault → IsSome (plain_word (map string_bytes words.now)) }
+    // The sink's fault comes only where its count rose.
+    ensures sink { result ≡ Status.SinkFault → Rose (S.faults out.old) (S.faults out.new) }
+{
+    let (text, status) = match answer(alloc, words, tree) {
+        Ok(answer) => answer,
+        Err(RunFault::Tree) => return Status::TreeFault,
+        Err(RunFault::OutOfMemory) => return Status::OutOfMemory,
+    };
+    match put_all(out, text.as_str().as_bytes()) {
+        Ok(()) => status,
+        Err(SinkFail::Failed) => Status::SinkFault,
+        Err(SinkFail::OutOfMemory) => Status::OutOfMemory,
+    }
+}
+
+/// A law: the words and the tree's files have one report.
+pub fn one_report()
+    ensures { (words : List (List ℕ)) (tree : List File) (a b : Answer) → IsReport words tree a → IsReport words tree b → a ≡ b }
+{
+    one_list_of_kept_files();
+    one_list_of_lines();
+}
