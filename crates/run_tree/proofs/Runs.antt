@@ -1,6 +1,6 @@
 -- The laws of a run.
 use Rattle.std.proofs.Common.{◌≡◌, ℕ, ◌+◌, zero, suc, add-zero, add-suc, zero-add, suc-add, List, [], ◌∷◌, ◌++◌, refl, sym, ap, ◌∙◌, append_assoc}
-use Rattle.run_tree.specs.Todo.{Todo, Done, Note, Spend, Ask, Freeze, Ending, Ended, Spent, Frozen, Run, noted, spend_all, bind, walk, run, follow_end, follow}
+use Rattle.run_tree.specs.Todo.{Todo, Done, Note, Spend, Ask, Freeze, Ended, Spent, Frozen, Run, noted, spend_all, bind, run, follow}
 
 module _ {N X R O : Type 0} (body : R → (O → Todo N X R O) → Todo N X R O) where
   pub run-Done : (n : ℕ) (o : O) → run body n (Done o) ≡ ([], Ended o n)

@@ -1,7 +1,7 @@
 -- Trees that are the same run to the same end.
-use Rattle.std.proofs.Common.{◌≡◌, ℕ, zero, suc, List, [], ◌∷◌, refl, ap, ◌∙◌}
-use Rattle.run_tree.specs.Todo.{Todo, Done, Note, Spend, Ask, Freeze, Ending, Ended, Spent, Frozen, Run, noted, bind, run, spend_all}
-use Rattle.run_tree.specs.Same.{Same, SameBehind, SameBodies, SameEnding, SameRun}
+use Rattle.std.proofs.Common.{◌≡◌, ℕ, zero, suc, [], ◌∷◌, refl}
+use Rattle.run_tree.specs.Todo.{Todo, Done, Note, Spend, Ask, Freeze, Run, noted, run, spend_all}
+use Rattle.run_tree.specs.Same.{Same, SameBodies, SameRun}
 
 module _ {N X Y R S O P : Type 0} (Spents : X → Y → Type 0) (Asks : R → S → Type 0) (Ends : O → P → Type 0) where
   noted_same : (m n : N) (r : Run N X R O) (s : Run N Y S P) → m ≡ n → SameRun Spents Asks Ends r s → SameRun Spents Asks Ends (noted (m ∷ []) r) (noted (n ∷ []) s)

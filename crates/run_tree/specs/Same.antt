@@ -1,5 +1,5 @@
 -- When two trees are runs of the same things.
-use Rattle.std.specs.Prelude.{ℕ, ◌≡◌, List}
+use Rattle.std.specs.Prelude.{◌≡◌}
 use Rattle.run_tree.specs.Todo.{Todo, Done, Note, Spend, Ask, Freeze, Ending, Ended, Spent, Frozen, Run}
 
 -- Spents relates what is said where the budget ends, Asks the requests, Ends the ends; notes are the same.

@@ -1,0 +1,13 @@
+pub mod Store
+pub mod Around
+pub mod Moves
+pub mod Joined
+pub mod Shown
+pub mod Kept
+pub mod Arenas
+pub mod Heads
+pub mod Spliced
+pub mod Grown
+pub mod Calls
+pub mod Starts
+pub mod Walks

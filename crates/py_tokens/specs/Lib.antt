@@ -1,0 +1,5 @@
+pub mod Layout
+pub mod Lexemes
+pub mod Places
+pub mod Reading
+pub mod Words
