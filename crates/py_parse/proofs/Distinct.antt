@@ -10,8 +10,8 @@ use Rattle.std.proofs.lemmas.Cmp.{nat_list_eq_equiv}
 use Rattle.std.proofs.lemmas.List.{get_or-map, length-map, take_more}
 use Rattle.std.proofs.lemmas.List.Sorted.{IsPermutation-map, IsPermutation-sym}
 use Rattle.std.proofs.lemmas.Map.Keys.{IsDistinct-IsPermutation, IsDistinct-from_sorted, apart_from_distinct, sorted_from_all_adjacent}
-use Rattle.py_tree.specs.declared.lines.Line.{Line}
-use Rattle.py_tree.specs.declared.lines.Line.TheVariants.{Empty, Def, Pass, AssertEqual}
+use Rattle.py_parse.specs.declared.lines.Line.{Line}
+use Rattle.py_parse.specs.declared.lines.Line.TheVariants.{Empty, Def, Pass, AssertEqual}
 use Rattle.py_parse.specs.First.{HasTwins, NeighboursDiffer, chars_of, names_of}
 
 names_of-append : (lines more : List Line) → names_of (lines ++ more) ≡ names_of lines ++ names_of more

@@ -1,3 +1,3 @@
-pub mod Lines
+pub mod LineTexts
 pub mod Distinct
 pub mod Unique

@@ -4,10 +4,10 @@ use Rattle.std.specs.Str.Parse.{digits_value}
 use Rattle.std.proofs.lemmas.Fmt.{decimal_is_IsNumeral}
 use Rattle.std.proofs.lemmas.List.{append_cancel_right, length-append}
 use Rattle.std.proofs.lemmas.Bool.{false≢true}
-use Rattle.py_tree.specs.declared.lines.Line.{Line}
-use Rattle.py_tree.specs.declared.lines.Line.TheVariants.{Empty, Def, Pass, AssertEqual}
+use Rattle.py_parse.specs.declared.lines.Line.{Line}
+use Rattle.py_parse.specs.declared.lines.Line.TheVariants.{Empty, Def, Pass, AssertEqual}
 use Rattle.py_parse.specs.First.{IsAssert, IsCondition, IsLine, Reads}
-use Rattle.py_parse.proofs.Lines.{IsNoEnd, check_ends, def_ends, literal, no_space}
+use Rattle.py_parse.proofs.LineTexts.{IsNoEnd, check_ends, def_ends, literal, no_space}
 
 -- lists that are cut at a byte which the first parts do not have
 one_cut : (c : ℕ) (xs ys us vs : List ℕ) → ((i : ℕ) → i < length xs → get_or xs i 0 ≢ c) → ((i : ℕ) → i < length us → get_or us i 0 ≢ c) → xs ++ c ∷ ys ≡ us ++ c ∷ vs → (xs ≡ us) × (ys ≡ vs)

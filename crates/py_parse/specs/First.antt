@@ -1,8 +1,8 @@
 use Rattle.std.specs.Prelude.{Vec, ◌+◌, length, slice_index_or, ◌≡◌, ◌≢◌, ℕ, ◌^◌, ◌<◌, List, [], ◌∷◌, ◌++◌, Option, MatchOption, codes, decimal, Bool, true, false, IsTrue, not, ◌||◌, ◌&&◌, nat_le, ◌==◌, nat_eq, bytes_eq}
 use Rattle.std.proofs.Common.{Global}
 use Rattle.std.specs.List.{starts_with, list_all, IsDistinct}
-use Rattle.py_tree.specs.declared.lines.Line.{Line}
-use Rattle.py_tree.specs.declared.lines.Line.TheVariants.{Empty, Def, Pass, AssertEqual}
+use Rattle.py_parse.specs.declared.lines.Line.{Line}
+use Rattle.py_parse.specs.declared.lines.Line.TheVariants.{Empty, Def, Pass, AssertEqual}
 
 -- the characters of a name that code holds
 abbrev pub chars_of : Vec ℕ Global → List ℕ

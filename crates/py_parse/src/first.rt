@@ -1,10 +1,11 @@
 ghost use Rattle.std.specs.Prelude.{◌≡◌, ◌↔◌, ℕ, List, [], IfOk, IsErrOf, IsAscii, IsTrue, MatchOption, map};
-ghost use Rattle.py_tree.specs.declared.lines.Line.{Line};
+ghost use Rattle.py_parse.specs.declared.lines.Line.{Line};
 ghost use Rattle.py_parse.specs.First.{chars_of, Finds, IsFirst, IsForm, IsLine, Reads, all_follow, is_body, may_follow, names_of};
 
 use crate::line::{assert_of, name_of};
+use crate::lines::{Line, Module};
 use crate::names::differ;
-use py_tree::{Line, Module, SrcText};
+use py_source::SrcText;
 use std::alloc::{AllocError, AllocFailed, Global};
 
 /// Why a text is not read.

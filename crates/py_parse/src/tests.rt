@@ -1,5 +1,5 @@
 use super::*;
-use py_tree::Line;
+use crate::lines::Line;
 use std::test::Fail;
 
 #[test]

@@ -1,17 +1,20 @@
-ghost use Rattle.std.specs.Prelude.{◌≡◌, if◌then◌else◌, ◌==◌, IfErr, IfOk, IfSome, IsSome, IsTrue, IsErrOf, Some, map, string_bytes};
+ghost use Rattle.std.specs.Prelude.{◌≡◌, if◌then◌else◌, IfErr, IfOk, IfSome, IsSome, IsTrue, IsErrOf, map, string_bytes};
+ghost use Rattle.std.specs.List.{list_any};
+ghost use Rattle.cli_words.specs.Faults.{usage_text};
+ghost use Rattle.report_text.specs.Blocks.{has_failed};
 ghost use Rattle.edge_io.specs.Causes.{HasCause};
-ghost use Rattle.edge_io.specs.Files.{tree_limit};
 ghost use Rattle.edge_io.specs.LoadFaults.{limit_of};
-ghost use Rattle.pytest_core.specs.Report.{IsReport, SaysOf, SaysOfWord, is_said, not_built, not_found, plain_word, ran, refusal};
+ghost use Rattle.pytest_core.specs.Report.{IsReport, SaysOf, SaysOfOptions, SaysOfWord, asked_word, counted_items, is_said, not_found, plain_word, ran, refusal};
 ghost use Rattle.pytest_core.specs.Texts.{limit_text};
 
-use crate::outcome::run_tests;
-use crate::report::{count_failed, push_report, push_usage};
+use crate::outcome::item_reports;
+use crate::report::{any_failed, push_usage, report_bytes};
 use crate::status::Status;
 use crate::word::plain_word_of;
+use cli_words::{Options, UsageFault, read_words};
 use edge_io::{Files, LoadFault, Tree, load_files};
-use py_parse::{FirstFault, parse_first};
-use py_tree::Line;
+use py_parse::{FirstFault, Line, parse_first};
+use report_text::{ItemReport, OutOfMemory};
 use std::alloc::{AllocError, Global};
 
 /// Why there is no report.
@@ -32,72 +35,109 @@ impl From<AllocError> for RunFault {
     }
 }
 
-fn usage_of(alloc: Global, text: &str) -> Result<(String, Status), AllocError>
-    ensures answer { IfOk result (λ a. (string_bytes a.0, a.1) ≡ refusal text.now) }
+/// Bytes and a status.
+type Answer = (Vec<u8>, Status);
+
+fn usage_of(alloc: Global, text: &str) -> Result<Answer, AllocError>
+    ensures answer { IfOk result (λ a. (a.0.items, a.1) ≡ refusal text.now) }
     ensures said { IfOk result (λ a. IsTrue (is_said a.1)) }
 {
     let mut out = String::new(alloc);
     push_usage(&mut out, text)?;
-    Ok((out, Status::Usage))
+    Ok((out.into_bytes(), Status::Usage))
 }
 
-fn not_found_of(alloc: Global, word: &str) -> Result<(String, Status), AllocError>
-    ensures answer { IfOk result (λ a. (string_bytes a.0, a.1) ≡ not_found word.now) }
+fn not_found_of(alloc: Global, word: &str) -> Result<Answer, AllocError>
+    ensures answer { IfOk result (λ a. (a.0.items, a.1) ≡ not_found word.now) }
     ensures said { IfOk result (λ a. IsTrue (is_said a.1)) }
 {
     let text = format!(in alloc; "not found: {word}")?;
     usage_of(alloc, text.as_str())
 }
 
-fn status_of(failed: usize) -> Status
-    ensures answer { result ≡ (if failed == 0 then Status.Passed else Status.Failed) }
-    ensures said { IsTrue (is_said result) }
-{
-    if failed == 0 {
-        return Status::Passed;
-    }
-    Status::Failed
-}
-
-fn ran_of(alloc: Global, file: &str, lines: &[Line]) -> Result<(String, Status), AllocError>
-    ensures answer { IfOk result (λ a. (string_bytes a.0, a.1) ≡ ran file.now lines.now) }
+fn refused_of(alloc: Global, fault: &UsageFault) -> Result<Answer, AllocError>
+    ensures answer { IfOk result (λ a. (a.0.items, a.1) ≡ refusal (usage_text fault.now)) }
     ensures said { IfOk result (λ a. IsTrue (is_said a.1)) }
 {
-    let outcomes = run_tests(alloc, lines)?;
-    let mut out = String::new(alloc);
-    push_report(alloc, &mut out, file, &outcomes)?;
-    Ok((out, status_of(count_failed(&outcomes))))
+    let text = format!(in alloc; "{fault}")?;
+    usage_of(alloc, text.as_str())
 }
 
-fn says_of(alloc: Global, file: &str, bytes: &[u8]) -> Result<(String, Status), AllocError>
-    ensures answer { IfOk result (λ a. SaysOf file.now bytes.now (string_bytes a.0, a.1)) }
+fn status_of(items: &[ItemReport]) -> Status
+    ensures answer { result ≡ (if list_any has_failed items.now then Status.Failed else Status.Passed) }
+    ensures said { IsTrue (is_said result) }
+{
+    if any_failed(items) {
+        return Status::Failed;
+    }
+    Status::Passed
+}
+
+fn counted_of(alloc: Global, options: &Options, items: &[ItemReport]) -> Result<Answer, AllocError>
+    ensures answer { IfOk result (λ a. (a.0.items, a.1) ≡ counted_items options.now items.now) }
+    ensures said { IfOk result (λ a. IsTrue (is_said a.1)) }
+{
+    if items.len() > 65_536 {
+        return usage_of(alloc, "too many items");
+    }
+    match report_bytes(alloc, options, items, items.len() as u32) {
+        Ok(bytes) => Ok((bytes, status_of(items))),
+        Err(OutOfMemory) => Err(AllocError),
+    }
+}
+
+fn ran_of(
+    alloc: Global,
+    options: &Options,
+    file: &str,
+    lines: &[Line],
+) -> Result<Answer, AllocError>
+    ensures answer { IfOk result (λ a. (a.0.items, a.1) ≡ ran options.now file.now lines.now) }
+    ensures said { IfOk result (λ a. IsTrue (is_said a.1)) }
+{
+    if lines.len() > 1_048_577 {
+        return usage_of(alloc, "not built");
+    }
+    match item_reports(alloc, options.collect_only, file, lines) {
+        Ok(items) => counted_of(alloc, options, &items),
+        Err(OutOfMemory) => Err(AllocError),
+    }
+}
+
+fn says_of(alloc: Global, options: &Options, file: &str, bytes: &[u8]) -> Result<Answer, AllocError>
+    ensures answer { IfOk result (λ a. SaysOf options.now file.now bytes.now (a.0.items, a.1)) }
     ensures said { IfOk result (λ a. IsTrue (is_said a.1)) }
 {
     let Ok(text) = str::from_utf8(bytes) else {
         return usage_of(alloc, "not built");
     };
     match parse_first(alloc, text) {
-        Ok(module) => ran_of(alloc, file, module.items()),
+        Ok(module) => ran_of(alloc, options, file, module.items()),
         Err(FirstFault::NotBuilt) => usage_of(alloc, "not built"),
         Err(FirstFault::OutOfMemory) => Err(AllocError),
     }
 }
 
-fn says_of_word(alloc: Global, word: &str, files: &Files) -> Result<(String, Status), AllocError>
-    ensures answer { IfOk result (λ a. SaysOfWord word.now files.now (string_bytes a.0, a.1)) }
+fn says_of_word(
+    alloc: Global,
+    options: &Options,
+    word: &str,
+    files: &Files,
+) -> Result<Answer, AllocError>
+    ensures answer { IfOk result (λ a. SaysOfWord options.now word.now files.now (a.0.items, a.1)) }
     ensures said { IfOk result (λ a. IsTrue (is_said a.1)) }
 {
     let Some(bytes) = files.bytes_at(word) else {
         return not_found_of(alloc, word);
     };
     if files.items().len() == 1 {
-        return says_of(alloc, word, bytes);
+        return says_of(alloc, options, word, bytes);
     }
     usage_of(alloc, "not built")
 }
 
-fn limit_of_tree(alloc: Global, fault: &LoadFault) -> Result<(String, Status), RunFault>
-    ensures answer { IfOk result (λ a. IfSome (limit_of fault.now) (λ l. (string_bytes a.0, a.1) ≡ refusal (limit_text l))) }
+fn limit_of_tree(alloc: Global, fault: &LoadFault) -> Result<Answer, RunFault>
+    ensures answer { IfOk result (λ a. IfSome (limit_of fault.now) (λ l. (a.0.items, a.1) ≡ refusal (limit_text l))) }
     ensures limit { IfOk result (λ a. IsSome (limit_of fault.now)) }
     ensures said { IfOk result (λ a. IsTrue (is_said a.1)) }
     ensures tree { IsErrOf result RunFault.Tree → fault.now ≡ LoadFault.Tree }
@@ -114,22 +154,35 @@ fn limit_of_tree(alloc: Global, fault: &LoadFault) -> Result<(String, Status), R
     }
 }
 
-/// The report of words over a tree, and its status.
-pub fn answer<T: Tree>(
+fn answer_options<T: Tree>(
     alloc: Global,
-    words: &[String],
+    options: &Options,
     tree: &mut T,
-) -> Result<(String, Status), RunFault>
-    ensures report { IfOk result (λ a. IfSome (T.files tree.old) (λ files. IsReport (map string_bytes words.now) files (string_bytes a.0, a.1))) }
+) -> Result<Answer, RunFault>
+    ensures report { IfOk result (λ a. IfSome (T.files tree.old) (λ files. SaysOfOptions options.now files (a.0.items, a.1))) }
     ensures said { IfOk result (λ a. IsTrue (is_said a.1)) }
-    ensures read { IsErrOf result RunFault.Tree → IsSome (plain_word (map string_bytes words.now)) }
+    ensures read { IsErrOf result RunFault.Tree → IsSome (plain_word options.now) }
     ensures cause { HasCause RunFault.Tree (T.faults tree.old) (T.faults tree.new) result }
 {
-    let Some(word) = plain_word_of(words) else {
+    let Some(word) = plain_word_of(options) else {
         return Ok(usage_of(alloc, "not built")?);
     };
     match load_files(alloc, tree) {
-        Ok(files) => Ok(says_of_word(alloc, word, &files)?),
+        Ok(files) => Ok(says_of_word(alloc, options, word, &files)?),
         Err(fault) => limit_of_tree(alloc, &fault),
+    }
+}
+
+/// The report of words over a tree, and its status.
+pub fn answer<T: Tree>(alloc: Global, words: &[String], tree: &mut T) -> Result<Answer, RunFault>
+    ensures report { IfOk result (λ a. IfSome (T.files tree.old) (λ files. IsReport (map string_bytes words.now) files (a.0.items, a.1))) }
+    ensures said { IfOk result (λ a. IsTrue (is_said a.1)) }
+    ensures read { IsErrOf result RunFault.Tree → IsSome (asked_word (map string_bytes words.now)) }
+    ensures cause { HasCause RunFault.Tree (T.faults tree.old) (T.faults tree.new) result }
+{
+    match read_words(alloc, words) {
+        Ok(options) => answer_options(alloc, &options, tree),
+        Err(UsageFault::OutOfMemory) => Err(RunFault::OutOfMemory),
+        Err(fault) => Ok(refused_of(alloc, &fault)?),
     }
 }

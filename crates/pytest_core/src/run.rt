@@ -1,7 +1,7 @@
 ghost use Rattle.std.specs.Prelude.{◌≡◌, IfSome, IsSome, List, ℕ, map, string_bytes};
 ghost use Rattle.edge_io.specs.Causes.{Rose};
 ghost use Rattle.edge_io.specs.Files.{File};
-ghost use Rattle.pytest_core.specs.Report.{Answer, IsReport, plain_word};
+ghost use Rattle.pytest_core.specs.Report.{Answer, IsReport, asked_word};
 ghost use Rattle.pytest_core.specs.Written.{Wrote};
 
 use crate::answer::{RunFault, answer};
@@ -27,16 +27,16 @@ pub fn pytest_main<R: Threads + Sync, T: Tree, S: Sink, G: Gate + Sync>(
     ensures report { IfSome (T.files tree.old) (λ files. Wrote (IsReport (map string_bytes words.now) files) (S.told out.old) (S.told out.new) result) }
     // The tree's fault comes only where its count rose, and the words are not refused.
     ensures tree { result ≡ Status.TreeFault → Rose (T.faults tree.old) (T.faults tree.new) }
-    ensures read { result ≡ Status.TreeFault → IsSome (plain_word (map string_bytes words.now)) }
+    ensures read { result ≡ Status.TreeFault → IsSome (asked_word (map string_bytes words.now)) }
     // The sink's fault comes only where its count rose.
     ensures sink { result ≡ Status.SinkFault → Rose (S.faults out.old) (S.faults out.new) }
 {
-    let (text, status) = match answer(alloc, words, tree) {
+    let (bytes, status) = match answer(alloc, words, tree) {
         Ok(answer) => answer,
         Err(RunFault::Tree) => return Status::TreeFault,
         Err(RunFault::OutOfMemory) => return Status::OutOfMemory,
     };
-    match put_all(out, text.as_str().as_bytes()) {
+    match put_all(out, &bytes) {
         Ok(()) => status,
         Err(SinkFail::Failed) => Status::SinkFault,
         Err(SinkFail::OutOfMemory) => Status::OutOfMemory,

@@ -14,6 +14,48 @@ test_a.py .
 =================================== 1 passed ===================================
 ";
 
+const FAILS: &str = "\n\ndef test_x():\n    assert 2 == 3\n    assert 1 == 0\n\
+        def test_y():\n    pass\ndef test_z():\n    assert 7 == 7\n    assert 0 == 10\n";
+
+const FAILED: &str = "\
+============================= test session starts ==============================
+collected 3 items
+
+test_a.py F.F
+
+=================================== FAILURES ===================================
+____________________________________ test_x ____________________________________
+test_a.py:4: in test_x
+    assert 2 == 3
+E   AssertionError
+____________________________________ test_z ____________________________________
+test_a.py:10: in test_z
+    assert 0 == 10
+E   AssertionError
+=========================== short test summary info ============================
+FAILED test_a.py::test_x - AssertionError
+FAILED test_a.py::test_z - AssertionError
+============================== 2 failed, 1 passed ==============================
+";
+
+const VERBOSE: &str = "\
+============================= test session starts ==============================
+collected 1 item
+
+test_a.py::test_one PASSED
+
+=================================== 1 passed ===================================
+";
+
+const COLLECTED: &str = "\
+============================= test session starts ==============================
+collected 1 item
+
+test_a.py::test_one
+
+=============================== 1 test collected ===============================
+";
+
 fn words(alloc: Global, words: &[&str]) -> Result<Vec<String>, AllocError> {
     let mut made = Vec::new(alloc);
     for word in words {
@@ -36,44 +78,34 @@ fn tree(alloc: Global, files: &[(&str, &str)]) -> Result<SureTree, AllocError> {
 #[test]
 fn writes_the_report_and_answers_its_status(rt: HostRuntime) -> Result<(), Fail> {
     let alloc = rt.alloc();
-    let failing = "\n\ndef test_x():\n    assert 2 == 3\n    assert 1 == 0\n\
-        def test_y():\n    pass\ndef test_z():\n    assert 7 == 7\n    assert 0 == 10\n";
-    let failed = "\
-============================= test session starts ==============================
-collected 3 items
-
-test_a.py F.F
-
-=================================== FAILURES ===================================
-____________________________________ test_x ____________________________________
-test_a.py:4: in test_x
-    assert 2 == 3
-E   AssertionError
-____________________________________ test_z ____________________________________
-test_a.py:10: in test_z
-    assert 0 == 10
-E   AssertionError
-=========================== short test summary info ============================
-FAILED test_a.py::test_x - AssertionError
-FAILED test_a.py::test_z - AssertionError
-============================== 2 failed, 1 passed ==============================
-";
-    for (word, text, wanted, number) in [
+    for (line, text, wanted, number) in [
         ("test_a.py", PASSES, PASSED, 0u8),
-        ("test_a.py", failing, failed, 1),
+        ("test_a.py", FAILS, FAILED, 1),
+        ("-v test_a.py", PASSES, VERBOSE, 0),
+        ("--co test_a.py", PASSES, COLLECTED, 0),
+        ("-k one test_a.py", PASSES, "ERROR: not built\n", 4),
+        (
+            "--tb=long x",
+            PASSES,
+            "ERROR: argument --tb: invalid value: 'long'\n",
+            4,
+        ),
         ("nope.py", PASSES, "ERROR: not found: nope.py\n", 4),
         ("test_a.py", "x = 1\n", "ERROR: not built\n", 4),
         ("conftest.py", PASSES, "ERROR: not built\n", 4),
-        ("-a.py", PASSES, "ERROR: not built\n", 4),
+        ("-- -a.py", PASSES, "ERROR: not built\n", 4),
         ("sub/test_a.py", PASSES, "ERROR: not built\n", 4),
         ("test_a.py::test.py", PASSES, "ERROR: not built\n", 4),
     ] {
         let mut tree = tree(alloc, &[("test_a.py", text)])?;
         let mut out = SureSink::new(alloc);
-        let words = words(alloc, &[word])?;
-        let status = pytest_main(&rt, alloc, &words, &mut tree, &mut out, &OpenGate);
-        assert_eq!(rt; out.bytes(), wanted.as_bytes(), "at {word}");
-        assert_eq!(rt; status.number(), number, "at {word}");
+        let mut given = Vec::new(alloc);
+        for word in line.split(' ') {
+            given.push(String::from_str(alloc, word)?)?;
+        }
+        let status = pytest_main(&rt, alloc, &given, &mut tree, &mut out, &OpenGate);
+        assert_eq!(rt; out.bytes(), wanted.as_bytes(), "at {line}");
+        assert_eq!(rt; status.number(), number, "at {line}");
     }
     Ok(())
 }

@@ -2,7 +2,7 @@ use Rattle.std.proofs.Common.{◌∙◌, sym}
 use Rattle.std.specs.Prelude.{codes}
 use Rattle.std.proofs.lemmas.Bool.{false≢true}
 use Rattle.std.proofs.lemmas.Slice.Eq.{bytes_eq-Decides}
-use Rattle.py_tree.specs.declared.lines.Line.TheVariants.{Empty, Def, Pass, AssertEqual}
+use Rattle.py_parse.specs.declared.lines.Line.TheVariants.{Empty, Def, Pass, AssertEqual}
 use Rattle.py_parse.specs.First.{IsLine}
 use Rattle.py_parse.proofs.Unique.{no_text}
 use Rattle.py_parse.proofs.first.line_of.Goals as goal

@@ -1,5 +1,5 @@
 use Rattle.std.proofs.Common.{◌≡◌, drop}
-use Rattle.py_tree.specs.declared.lines.Line.TheVariants.{Empty}
+use Rattle.py_parse.specs.declared.lines.Line.TheVariants.{Empty}
 use Rattle.py_parse.specs.First.{all_follow}
 use Rattle.py_parse.proofs.first.lines_follow.Given as goal
 

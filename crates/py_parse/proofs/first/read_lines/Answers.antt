@@ -1,7 +1,7 @@
 use Rattle.std.proofs.Common.{rules, arith, subst, append-nil, [], Some, None}
 use Rattle.std.proofs.lemmas.Str.Pattern.{split_parts}
 use Rattle.py_parse.specs.First.{Reads}
-use Rattle.py_parse.proofs.Lines.{empty_from_test}
+use Rattle.py_parse.proofs.LineTexts.{empty_from_test}
 use Rattle.py_parse.proofs.Unique.{after_cut, left_more, no_text, not_cut, reads_more}
 use Rattle.py_parse.proofs.first.read_lines.Goals as goal
 

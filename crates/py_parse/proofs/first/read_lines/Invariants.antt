@@ -1,6 +1,6 @@
 use Rattle.std.proofs.Common.{◌++◌, List, length}
 use Rattle.std.specs.Prelude.{IsUtf8}
-use Rattle.py_tree.specs.declared.lines.Line.{Line}
+use Rattle.py_parse.specs.declared.lines.Line.{Line}
 use Rattle.py_parse.specs.First.{Reads}
 use Rattle.py_parse.proofs.first.read_lines.Given as goal
 

@@ -1,6 +1,6 @@
 use Rattle.std.proofs.Common.{Some, None}
 use Rattle.std.specs.Prelude.{decimal, codes}
-use Rattle.py_parse.proofs.Lines.{cut, behind_prefix}
+use Rattle.py_parse.proofs.LineTexts.{cut, behind_prefix}
 use Rattle.py_parse.proofs.line.condition_of.Goals as goal
 
 pub returns-in_default : goal.returns-in_default

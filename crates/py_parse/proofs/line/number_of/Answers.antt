@@ -1,7 +1,7 @@
 use Rattle.std.proofs.Common.{◌≡◌, ap, sym, ◌∙◌, arith}
 use Rattle.std.specs.Prelude.{decimal}
 use Rattle.std.proofs.lemmas.Slice.Eq.{bytes_eq-Decides}
-use Rattle.py_parse.proofs.Lines.{number_parses}
+use Rattle.py_parse.proofs.LineTexts.{number_parses}
 use Rattle.py_parse.proofs.line.number_of.Goals as goal
 
 pub returns-in_default : goal.returns-in_default

@@ -1,0 +1,158 @@
+ghost use Rattle.std.specs.Prelude.{◌≡◌, ◌<◌, ℕ, length, None, Some, IfSome, IfOk, true, if◌then◌else◌};
+ghost use Rattle.fixture_table.specs.Nearest.{def_at};
+ghost use Rattle.fixture_table.specs.Scopes.{rank_of};
+ghost use Rattle.fixture_table.specs.Faults.{asks_in_vain, rank_or, rank_at, is_narrower, first_narrower, requests, Reaches, IsRecursive, HasFault, IsSound, SoundTo, FirstFault};
+ghost use Rattle.fixture_table.specs.declared.entry.Entry.TheVariants.{Definition};
+ghost use Rattle.fixture_table.specs.declared.fault.FixtureFault.{FixtureFault};
+ghost use Rattle.fixture_table.specs.Closing.{Known, IsKnown, has};
+ghost use Rattle.fixture_table.specs.Marks.{Below, row_of};
+
+use crate::closing::{Asking, among};
+use crate::entry::Entry;
+use crate::fault::{FixtureFault, OutOfMemory};
+use crate::looking::nearest;
+use crate::reaching::is_reached;
+use crate::types::{DefId, FixtureDef, Scope};
+use std::alloc::Global;
+
+fn rank_or(defs: &[FixtureDef], found: Option<usize>) -> u8
+    requires { IfSome found (λ d. d < length defs.now) }
+    ensures { result ≡ rank_or defs.now found }
+{
+    match found {
+        None => 0,
+        Some(place) => defs[place].scope.rank(),
+    }
+}
+
+impl Asking<'_> {
+    /// Whether it asks for its own name, and none stands further out.
+    pub fn asks_in_vain(&self, place: usize) -> bool
+        requires { place < length self.now.defs.now }
+        ensures { result ≡ asks_in_vain self.now.nodes.now self.now.defs.now self.now.item self.now.bound.now place }
+    {
+        let name = self.defs[place].name;
+        if !among(self.defs[place].args.items(), name) {
+            return false;
+        }
+        if among(self.bound, name) {
+            return false;
+        }
+        nearest(self.nodes, self.defs, name, self.item, Some(place)).is_none()
+    }
+
+    /// The scope of what an argument gets; a bound name counts as function scope.
+    fn rank_at(&self, place: usize, name: u32) -> u8
+        requires { place < length self.now.defs.now }
+        ensures { result ≡ rank_at self.now.nodes.now self.now.defs.now self.now.item self.now.bound.now place name }
+    {
+        if among(self.bound, name) {
+            return Scope::Function.rank();
+        }
+        let beyond = if name == self.defs[place].name {
+            Some(place)
+        } else {
+            None
+        };
+        rank_or(
+            self.defs,
+            nearest(self.nodes, self.defs, name, self.item, beyond),
+        )
+    }
+
+    fn is_narrower(&self, place: usize, name: u32) -> bool
+        requires { place < length self.now.defs.now }
+        ensures { result ≡ is_narrower self.now.nodes.now self.now.defs.now self.now.item self.now.bound.now place name }
+    {
+        self.defs[place].scope.rank() < self.rank_at(place, name)
+    }
+
+    /// The first argument of narrower scope.
+    pub fn first_narrower(&self, place: usize) -> Option<u32>
+        requires { place < length self.now.defs.now }
+        ensures { result ≡ first_narrower self.now.nodes.now self.now.defs.now self.now.item self.now.bound.now place }
+    {
+        for name in self.defs[place].args.items() {
+            if self.is_narrower(place, *name) {
+                return Some(*name);
+            }
+        }
+        None
+    }
+}
+
+impl Asking<'_> {
+    /// Whether a definition is reached from itself, or asks for its own name with none further out.
+    fn is_recursive(
+        &self,
+        alloc: Global,
+        asks: &[Vec<usize>],
+        place: usize,
+    ) -> Result<bool, OutOfMemory>
+        requires place { place < length self.now.defs.now }
+        requires size { length asks.now ≡ length self.now.defs.now }
+        requires below { (d : ℕ) → Below (row_of asks.now d) (length self.now.defs.now) }
+        requires out { Reaches (row_of asks.now) place place → Reaches (requests self.now.nodes.now self.now.defs.now self.now.item self.now.bound.now) place place }
+        requires back { Reaches (requests self.now.nodes.now self.now.defs.now self.now.item self.now.bound.now) place place → Reaches (row_of asks.now) place place }
+        ensures yes { IfOk result (λ b. b ≡ true → IsRecursive self.now.nodes.now self.now.defs.now self.now.item self.now.bound.now place) }
+        ensures no { IfOk result (λ b. IsRecursive self.now.nodes.now self.now.defs.now self.now.item self.now.bound.now place → b ≡ true) }
+    {
+        if self.asks_in_vain(place) {
+            return Ok(true);
+        }
+        is_reached(alloc, asks, place)
+    }
+
+    /// The fault of an entry, if it has one.
+    fn fault_of(
+        &self,
+        alloc: Global,
+        asks: &[Vec<usize>],
+        entry: Entry,
+    ) -> Result<Option<FixtureFault>, OutOfMemory>
+        requires known { IsKnown self.now.defs.now entry }
+        requires size { length asks.now ≡ length self.now.defs.now }
+        requires below { (d : ℕ) → Below (row_of asks.now d) (length self.now.defs.now) }
+        requires out { (d : ℕ) → entry ≡ Definition d → Reaches (row_of asks.now) d d → Reaches (requests self.now.nodes.now self.now.defs.now self.now.item self.now.bound.now) d d }
+        requires back { (d : ℕ) → entry ≡ Definition d → Reaches (requests self.now.nodes.now self.now.defs.now self.now.item self.now.bound.now) d d → Reaches (row_of asks.now) d d }
+        ensures fault { IfOk result (λ found. (fault : FixtureFault) → found ≡ Some fault → HasFault self.now.nodes.now self.now.defs.now self.now.item self.now.bound.now entry fault) }
+        ensures sound { IfOk result (λ found. found ≡ None → IsSound self.now.nodes.now self.now.defs.now self.now.item self.now.bound.now entry) }
+    {
+        match entry {
+            Entry::Missing(name) => Ok(Some(FixtureFault::Unknown(name))),
+            Entry::Definition(place) => {
+                if self.is_recursive(alloc, asks, place)? {
+                    return Ok(Some(FixtureFault::Recursive(self.defs[place].name)));
+                }
+                match self.first_narrower(place) {
+                    None => Ok(None),
+                    Some(name) => Ok(Some(FixtureFault::ScopeMismatch(DefId::new(place), name))),
+                }
+            }
+        }
+    }
+
+    /// Whether no entry has a fault, or else the first that has one.
+    pub fn judge(
+        &self,
+        alloc: Global,
+        asks: &[Vec<usize>],
+        entries: &[Entry],
+    ) -> Result<Option<FixtureFault>, OutOfMemory>
+        requires known { Known self.now.defs.now entries.now }
+        requires size { length asks.now ≡ length self.now.defs.now }
+        requires below { (d : ℕ) → Below (row_of asks.now d) (length self.now.defs.now) }
+        requires out { (d : ℕ) → has (Definition d) entries.now ≡ true → Reaches (row_of asks.now) d d → Reaches (requests self.now.nodes.now self.now.defs.now self.now.item self.now.bound.now) d d }
+        requires back { (d : ℕ) → has (Definition d) entries.now ≡ true → Reaches (requests self.now.nodes.now self.now.defs.now self.now.item self.now.bound.now) d d → Reaches (row_of asks.now) d d }
+        ensures fault { IfOk result (λ found. (fault : FixtureFault) → found ≡ Some fault → FirstFault self.now.nodes.now self.now.defs.now self.now.item self.now.bound.now entries.now fault) }
+        ensures sound { IfOk result (λ found. found ≡ None → SoundTo self.now.nodes.now self.now.defs.now self.now.item self.now.bound.now entries.now (length entries.now)) }
+    {
+        for entry in entries {
+            let found = self.fault_of(alloc, asks, *entry)?;
+            if found.is_some() {
+                return Ok(found);
+            }
+        }
+        Ok(None)
+    }
+}

@@ -1,8 +1,0 @@
-use Rattle.std.proofs.Common.{◌≡◌, ◌++◌, take, map}
-use Rattle.std.specs.Prelude.{string_bytes, flat_map}
-use Rattle.pytest_core.specs.Outcomes.{told_of}
-use Rattle.pytest_core.specs.Texts.{block}
-use Rattle.pytest_core.proofs.report.push_blocks.Given as goal
-
-abbrev pub invariant-loop-outcome : goal.invariant-loop-outcome
-invariant-loop-outcome l = string_bytes l.out ≡ string_bytes l.fn.out ++ flat_map (block l.file) (map told_of (take l.outcome-index l.outcomes))

@@ -1,0 +1,118 @@
+-- The progress lines.
+use Rattle.std.specs.Prelude.{ℕ, List, [], ◌∷◌, ◌++◌, length, drop, slice_get, Bool, true, false, ◌&&◌, Option, None, Some, is_some, codes, decimal, flat_map, ◌==◌, if◌then◌else◌}
+use Rattle.std.specs.Str.{bytes_eq}
+use Rattle.texts.specs.Texts.{ended}
+use Rattle.cli_words.specs.declared.options.Options.{Options}
+use Rattle.report_text.specs.Outcomes.{letter, outcome_of, word}
+use Rattle.report_text.specs.declared.outcome.Outcome.{Outcome}
+use Rattle.report_text.specs.declared.outcome.Phase.TheVariants.{Setup, Call, Teardown}
+use Rattle.report_text.specs.declared.report.ItemReport.{ItemReport}
+use Rattle.report_text.specs.declared.report.Place.{Place}
+
+-- a report, and where its item ran
+abbrev pub Row : Type 0
+Row = ItemReport × Option Place
+
+-- each report with its place, where there are places
+abbrev pub rows : List ItemReport → List Place → List Row
+rows [] places = []
+rows (report ∷ reports) places = (report, slice_get places 0) ∷ rows reports (drop 1 places)
+
+-- the end of a line, behind the worker's name
+unfoldable pub line_end : Option Place → List ℕ
+line_end None = codes "\n"
+line_end (Some place) = codes " [gw" ++ (decimal place.worker ++ codes "]\n")
+
+-- the letters of an item
+unfoldable pub letter_of : Option Outcome → List ℕ
+letter_of None = []
+letter_of (Some outcome) = letter outcome
+
+unfoldable pub letters_of : ItemReport → List ℕ
+letters_of report =
+    letter_of (outcome_of Setup report.setup) ++ (letter_of (outcome_of Call report.call) ++ letter_of (outcome_of Teardown report.teardown))
+
+-- whether two neighbours stand in one line: in one file, and with workers in one group
+abbrev pub same_group : Option Place → Option Place → Bool
+same_group None None = true
+same_group (Some place) (Some next) = place.group == next.group
+same_group _ _ = false
+
+abbrev pub same_line : Row → Row → Bool
+same_line row next = bytes_eq row.0.file next.0.file && same_group row.1 next.1
+
+-- the stretches of neighbours that stand in one line
+abbrev pub onto_stretch : Row → List (List Row) → List (List Row)
+onto_stretch row [] = (row ∷ []) ∷ []
+onto_stretch row ([] ∷ others) = (row ∷ []) ∷ others
+onto_stretch row ((next ∷ stretch) ∷ others) =
+    if same_line row next then (row ∷ next ∷ stretch) ∷ others else (row ∷ []) ∷ (next ∷ stretch) ∷ others
+
+abbrev pub stretches : List Row → List (List Row)
+stretches [] = []
+stretches (row ∷ rest) = onto_stretch row (stretches rest)
+
+abbrev pub last_place : List Row → Option Place
+last_place [] = None
+last_place (row ∷ []) = row.1
+last_place (row ∷ next ∷ rest) = last_place (next ∷ rest)
+
+-- the file, the letters of its items, and the worker
+abbrev pub letters_in : List Row → List ℕ
+letters_in stretch = flat_map (λ row. letters_of row.0) stretch
+
+unfoldable pub start_of : ItemReport → List ℕ
+start_of report = report.file ++ codes " "
+
+abbrev pub stretch_line : List Row → List ℕ
+stretch_line [] = []
+stretch_line (row ∷ rest) = start_of row.0 ++ (letters_in (row ∷ rest) ++ line_end (last_place (row ∷ rest)))
+
+unfoldable pub plain_lines : List Row → List ℕ
+plain_lines rows = flat_map stretch_line (stretches rows)
+
+-- what stands between the letters of two neighbours
+abbrev pub between : Row → Row → List ℕ
+between row next = if same_line row next then [] else line_end row.1 ++ start_of next.0
+
+-- what stands behind the letters of an item
+abbrev pub behind : Row → List Row → List ℕ
+behind row [] = line_end row.1
+behind row (next ∷ rest) = between row next ++ (letters_of next.0 ++ behind next rest)
+
+-- with `-v` a line an outcome
+unfoldable pub verbose_line : List ℕ → Option Place → Option Outcome → List ℕ
+verbose_line node_id place None = []
+verbose_line node_id place (Some outcome) = node_id ++ (codes " " ++ (word outcome ++ line_end place))
+
+unfoldable pub verbose_lines : Row → List ℕ
+verbose_lines row =
+    verbose_line row.0.node_id row.1 (outcome_of Setup row.0.setup)
+    ++ (verbose_line row.0.node_id row.1 (outcome_of Call row.0.call)
+    ++ verbose_line row.0.node_id row.1 (outcome_of Teardown row.0.teardown))
+
+-- with `--setup-show` the lines of each item
+abbrev pub shown_line : Option Place → List ℕ → List ℕ
+shown_line place line = line ++ line_end place
+
+abbrev pub shown_lines_of : Row → List ℕ
+shown_lines_of row = flat_map (shown_line row.1) row.0.shown_lines
+
+-- with `--collect-only` the node ids
+abbrev pub node_line : ItemReport → List ℕ
+node_line report = ended report.node_id
+
+unfoldable pub progress_lines : Options → List ItemReport → List Place → List ℕ
+progress_lines options reports places =
+    if is_some options.generated then []
+    else (if options.collect_only then flat_map node_line reports
+    else (if options.setup_show then flat_map shown_lines_of (rows reports places)
+    else (if options.verbose then flat_map verbose_lines (rows reports places)
+    else plain_lines (rows reports places))))
+
+-- the lines, and an empty line where there were any
+abbrev pub with_gap : List ℕ → List ℕ
+with_gap lines = if length lines == 0 then [] else lines ++ 10 ∷ []
+
+unfoldable pub progress_of : Options → List ItemReport → List Place → List ℕ
+progress_of options reports places = with_gap (progress_lines options reports places)

@@ -1,0 +1,17 @@
+pub mod Lists
+pub mod Order
+pub mod Closure
+pub mod Holds
+pub mod Births
+pub mod Deaths
+pub mod Hooked
+pub mod Given
+pub mod Depth
+pub mod Seen
+pub mod Reports
+pub mod Sessions
+pub mod Requests
+pub mod Small
+pub mod Rows
+pub mod Unlawful
+pub mod HookCalls

@@ -1,0 +1,195 @@
+-- What the events of calls are.
+use Rattle.std.proofs.Common.{◌≡◌, ℕ, zero, suc, true, false, cond, List, [], ◌∷◌, ◌++◌, inl, inr, refl, sym, ap, ◌∙◌, subst, eq-eqb, append_assoc, Option, None, Some}
+use Rattle.std.proofs.lemmas.List.{append-nil}
+use Rattle.std.proofs.lemmas.List.Elements.{filter-append}
+use Rattle.std.proofs.lemmas.Bool.{cases_eq, ne_eqb}
+use Rattle.session_rules.proofs.Holds.{called}
+use Rattle.session_rules.proofs.Hooked.{cond_law, in_hooks_keeps}
+use Rattle.session_rules.specs.Demand.{AllGiven, Answer, Answers, Given, OneRefused, Refused, Replies, Reply, answer_of, ask_all, ask_next, born, demand, event_of, fresh, is_same, numbers_of, replace, set_up_after, settle, with_arguments}
+use Rattle.session_rules.specs.Events.{In, IsCalled, calls_of, is_call}
+use Rattle.session_rules.specs.Fits.{Distinct}
+use Rattle.session_rules.specs.Live.{dependents, down_order, find, not_on, numbered, numbers_in}
+use Rattle.session_rules.specs.Session.{bad_of, call_after, call_item, call_phase, chain_of, counted_as, demand_closure, demand_next, finalize_own, has_reached, in_hooks, leave, next_unless, node_of, noted, run_item, session, set_up_by, set_up_item, set_up_phase, teardown_phase, test_item, test_with, torn_down, values_for}
+use Rattle.session_rules.specs.Teardown.{Got, State, Step, also, down, down_all, down_more, down_one, emit, in_world, some_raised, step, torn_of}
+use Rattle.session_rules.specs.World.{Call, Failure, Item, Kept, Language, LiveInstance, Phase, Rules, SetUp, Teardown, Value}
+use Rattle.session_rules.specs.declared.journal.Event.{Event}
+use Rattle.session_rules.specs.declared.journal.Event.TheVariants.{CallBegins, CallEnds, Down, DownBegins}
+
+-- What neither a teardown nor a set-up changes, no demand changes.
+pub record Unseen {L : Language} {A : Type 0} (rules : Rules L) (f : State L → A) : Type 0 where
+  pub down : (i : LiveInstance L) (s : State L) → f (down rules i s).state ≡ f s
+  pub born : (bases : List ℕ) (i : LiveInstance L) (w : L.World) (s : State L) → f (born bases i w s).state ≡ f s
+
+one_same : {L : Language} {A : Type 0} (rules : Rules L) (f : State L → A) (u : Unseen rules f) (o : Option (LiveInstance L)) (s : State L) → f (down_one rules o s).state ≡ f s
+one_same rules f u None s = refl
+one_same rules f u (Some i) s = u.down i s
+
+more_same : {L : Language} {A : Type 0} (rules : Rules L) (f : State L → A) (u : Unseen rules f) (ns : List ℕ) (raised : List L.Thrown) (s : State L) → f (down_more rules ns raised s).state ≡ f s
+more_same rules f u [] raised s = refl
+more_same rules f u (n ∷ ns) raised s = more_same rules f u ns (raised ++ (down_one rules (numbered n s.live) s).raised) (down_one rules (numbered n s.live) s).state ∙ one_same rules f u (numbered n s.live) s
+
+pub down_same : {L : Language} {A : Type 0} (rules : Rules L) (f : State L → A) (u : Unseen rules f) (set : List (LiveInstance L)) (s : State L) → f (down_all rules set s).state ≡ f s
+down_same rules f u set s = more_same rules f u (numbers_in (down_order set)) [] s
+
+after_same : {L : Language} {A : Type 0} (rules : Rules L) (f : State L → A) (u : Unseen rules f) (item : Item) (d : ℕ) (given : List (Got L)) (raised : List L.Thrown) (s : State L) → f (set_up_after rules item d given raised s).state ≡ f s
+after_same rules f u item d given [] s = u.born _ _ _ s
+after_same rules f u item d given (x ∷ xs) s = refl
+
+settle_same : {L : Language} {A : Type 0} (rules : Rules L) (f : State L → A) (u : Unseen rules f) (item : Item) (d : ℕ) (given : List (Got L)) (o : Option (LiveInstance L)) (s : State L) → f (settle rules item d given o s).state ≡ f s
+settle_same rules f u item d given None s = u.born _ _ _ s
+settle_same rules f u item d given (Some i) s =
+    let r = down_all rules (dependents i.order s.live) s in
+    elim (is_same i.param (item.parameter d)) as (λ b. f (cond b (record { answer = answer_of i i.slot.kept; state = s }) (replace rules item d given r)).state ≡ f s) [
+      | true ↦ refl
+      | false ↦ after_same rules f u item d given r.raised r.state ∙ down_same rules f u (dependents i.order s.live) s
+    ]
+
+with_same : {L : Language} {A : Type 0} (rules : Rules L) (f : State L → A) (u : Unseen rules f) (item : Item) (d : ℕ) (a : Answers L) (s : State L) → f (with_arguments rules item d a s).state ≡ f s
+with_same rules f u item d (AllGiven given) s = settle_same rules f u item d given (find d (item.place d) s.live) s
+with_same rules f u item d (OneRefused es) s = refl
+
+next_same : {L : Language} {A : Type 0} (rules : Rules L) (f : State L → A) (u : Unseen rules f) (rest : List (Got L) → State L → Replies L) → ((given : List (Got L)) (s : State L) → f (rest given s).state ≡ f s) → (given : List (Got L)) (a : Answer L) (s : State L) → f (ask_next rest given a s).state ≡ f s
+next_same rules f u rest law given (Given i) s = law (given ++ i ∷ []) s
+next_same rules f u rest law given (Refused es) s = refl
+
+all_same : {L : Language} {A : Type 0} (rules : Rules L) (f : State L → A) (u : Unseen rules f) (ask : ℕ → State L → Reply L) → ((d : ℕ) (s : State L) → f (ask d s).state ≡ f s) → (ds : List ℕ) (given : List (Got L)) (s : State L) → f (ask_all ask ds given s).state ≡ f s
+all_same rules f u ask law [] given s = refl
+all_same rules f u ask law (d ∷ ds) given s = next_same rules f u (ask_all ask ds) (all_same rules f u ask law ds) given (ask d s).answer (ask d s).state ∙ law d s
+
+pub demand_same : {L : Language} {A : Type 0} (rules : Rules L) (f : State L → A) (u : Unseen rules f) (item : Item) (depth d : ℕ) (s : State L) → f (demand rules item depth d s).state ≡ f s
+demand_same rules f u item zero d s = refl
+demand_same rules f u item (suc depth) d s =
+    let r = ask_all (demand rules item depth) (item.requests d) [] s in
+    with_same rules f u item d r.answers r.state ∙ all_same rules f u (demand rules item depth) (λ e t. demand_same rules f u item depth e t) (item.requests d) [] s
+
+abbrev pub seen : {L : Language} → ℕ → State L → List Event
+seen j s = calls_of j s.events
+
+born_seen : {L : Language} (j : ℕ) (events : List Event) (bases : List ℕ) (i : LiveInstance L) (kept : Kept L) → calls_of j (events ++ event_of bases i kept ∷ []) ≡ calls_of j events
+born_seen j events bases i (Value v) = filter-append (is_call j) events (event_of bases i (Value v) ∷ []) ∙ append-nil (calls_of j events)
+born_seen j events bases i (Failure v) = filter-append (is_call j) events (event_of bases i (Failure v) ∷ []) ∙ append-nil (calls_of j events)
+
+unseen : {L : Language} (rules : Rules L) (j : ℕ) → Unseen rules (λ (s : State L). calls_of j s.events)
+unseen rules j =
+    record {
+      down = λ i s. filter-append (is_call j) s.events (DownBegins i.order ∷ Down i.order (some_raised (torn_of rules i s.world).raised) ∷ []) ∙ append-nil (calls_of j s.events);
+      born = λ bases i w s. born_seen j s.events bases i i.slot.kept;
+    }
+
+pub unseen_given : {L : Language} (rules : Rules L) → Unseen rules (λ (s : State L). s.given)
+unseen_given rules = record { down = λ i s. refl; born = λ bases i w s. refl }
+
+next_seen : {L : Language} (j : ℕ) (rest : State L → Step L) → ((s : State L) → calls_of j (rest s).state.events ≡ calls_of j s.events) → (a : Answer L) (s : State L) → calls_of j (demand_next rest a s).state.events ≡ calls_of j s.events
+next_seen j rest law (Given i) s = law (noted i s)
+next_seen j rest law (Refused es) s = refl
+
+closure_seen : {L : Language} (rules : Rules L) (j : ℕ) (item : Item) (ds : List ℕ) (s : State L) → calls_of j (demand_closure rules item ds s).state.events ≡ calls_of j s.events
+closure_seen rules j item [] s = refl
+closure_seen {L} rules j item (d ∷ ds) s =
+    next_seen j (demand_closure rules item ds) (closure_seen rules j item ds) (demand rules item rules.depth d s).answer (demand rules item rules.depth d s).state
+    ∙ demand_same rules (λ (t : State L). calls_of j t.events) (unseen rules j) item rules.depth d s
+
+by_seen : {L : Language} (rules : Rules L) (j : ℕ) (item : Item) (closure : Option (List ℕ)) (s : State L) → calls_of j (set_up_by rules item closure s).state.events ≡ calls_of j s.events
+by_seen rules j item None s = refl
+by_seen rules j item (Some ds) s = closure_seen rules j item ds s
+
+hooks_seen : {L : Language} (rules : Rules L) (j : ℕ) (phase : Phase) (item : Item) (next : Option ℕ) (built : State L → Step L) → ((s : State L) → calls_of j (built s).state.events ≡ calls_of j s.events) → (s : State L) → calls_of j (in_hooks rules phase item next built s).state.events ≡ calls_of j s.events
+hooks_seen {L} rules j phase item next built law s = in_hooks_keeps rules phase item next built (λ (t : State L). calls_of j t.events ≡ calls_of j s.events) (λ t p. law t ∙ p) (λ w t p. p) s refl
+
+set_up_seen : {L : Language} (rules : Rules L) (j : ℕ) (item : Item) (s : State L) → calls_of j (set_up_phase rules item s).state.events ≡ calls_of j s.events
+set_up_seen rules j item s = hooks_seen rules j SetUp item None (set_up_item rules item) (by_seen rules j item item.closure) s
+
+all_seen : {L : Language} (rules : Rules L) (j : ℕ) (set : List (LiveInstance L)) (s : State L) → calls_of j (down_all rules set s).state.events ≡ calls_of j s.events
+all_seen {L} rules j set s = down_same rules (λ (t : State L). calls_of j t.events) (unseen rules j) set s
+
+leave_seen : {L : Language} (rules : Rules L) (j : ℕ) (next : Option Item) (s : State L) → calls_of j (leave rules next s).state.events ≡ calls_of j s.events
+leave_seen rules j next s = all_seen rules j (not_on (chain_of next) s.live) (record (finalize_own rules s).state { given = []; left = true })
+
+torn_seen : {L : Language} (rules : Rules L) (j : ℕ) (item : Item) (next : Option Item) (s : State L) → calls_of j (torn_down rules item next s).state.events ≡ calls_of j s.events
+torn_seen {L} rules j item next s =
+    let r = in_hooks rules Teardown item (node_of next) (leave rules next) (record s { left = false }) in
+    let e : calls_of j r.state.events ≡ calls_of j s.events = hooks_seen rules j Teardown item (node_of next) (leave rules next) (leave_seen rules j next) (record s { left = false }) in
+    cond_law (λ (x : Step L). calls_of j x.state.events ≡ calls_of j s.events) r.state.left r (also r.raised (leave rules next r.state)) e (leave_seen rules j next r.state ∙ e)
+
+teardown_seen : {L : Language} (rules : Rules L) (j maxfail : ℕ) (item : Item) (items : List Item) (s : State L) → calls_of j (teardown_phase rules maxfail item items s).events ≡ calls_of j s.events
+teardown_seen {L} rules j maxfail item items s =
+    let t = torn_down rules item (next_unless (has_reached maxfail s) items) s in
+    let r = step t.raised (counted_as (bad_of rules Teardown item t) t.state) in
+    let e : calls_of j r.state.events ≡ calls_of j s.events = torn_seen rules j item (next_unless (has_reached maxfail s) items) s in
+    cond_law (λ (x : Step L). calls_of j x.state.events ≡ calls_of j s.events) (has_reached maxfail r.state) (also r.raised (down_all rules r.state.live r.state)) r
+    (all_seen rules j r.state.live r.state ∙ e) e
+
+-- a test changes nothing but its world and its request
+pub record Untouched {L : Language} (s t : State L) : Type 0 where
+  pub live : t.live ≡ s.live
+  pub next : t.next ≡ s.next
+  pub events : t.events ≡ s.events
+
+test_untouched : {L : Language} (rules : Rules L) (item : Item) (s : State L) (values : Option (List L.Value)) (t : State L) → Untouched s t → Untouched s (test_with rules item values t).state
+test_untouched rules item s None t u = record { live = u.live; next = u.next; events = u.events }
+test_untouched rules item s (Some values) t u = record { live = u.live; next = u.next; events = u.events }
+
+pub call_untouched : {L : Language} (rules : Rules L) (item : Item) (s : State L) → Untouched s (in_hooks rules Call item None (test_item rules item) s).state
+call_untouched {L} rules item s =
+    in_hooks_keeps rules Call item None (test_item rules item) (Untouched s) (λ t u. test_untouched rules item s (values_for t.given item.arguments) t u)
+    (λ w t u. record { live = u.live; next = u.next; events = u.events }) s (record { live = refl; next = refl; events = refl })
+
+abbrev pub given_numbers : {L : Language} → State L → List ℕ
+given_numbers s = numbers_of s.given []
+
+-- the call of an item adds its two events, or nothing
+pub call_events : {L : Language} (rules : Rules L) (item : Item) (s : State L) → (call_item rules item s).events ≡ s.events ++ CallBegins item.node (given_numbers s) ∷ CallEnds item.node ∷ []
+call_events rules item s =
+    ap (λ (x : List Event). x ++ CallEnds item.node ∷ []) (call_untouched rules item (emit (CallBegins item.node (given_numbers s)) s)).events
+    ∙ append_assoc s.events (CallBegins item.node (given_numbers s) ∷ []) (CallEnds item.node ∷ [])
+
+call_other : {L : Language} (rules : Rules L) (j : ℕ) (item : Item) (raised : List L.Thrown) (s : State L) → (j ≡ item.node → ⊥) → calls_of j (call_after rules item raised s).events ≡ calls_of j s.events
+call_other rules j item (x ∷ xs) s ne = refl
+call_other rules j item [] s ne =
+    let none : calls_of j (CallBegins item.node (given_numbers s) ∷ CallEnds item.node ∷ []) ≡ [] = rw (ne_eqb j item.node ne) in
+    ap (calls_of j) (call_events rules item s) ∙ (filter-append (is_call j) s.events (CallBegins item.node (given_numbers s) ∷ CallEnds item.node ∷ [])
+    ∙ (ap (λ (x : List Event). calls_of j s.events ++ x) none ∙ append-nil (calls_of j s.events)))
+
+call_same : {L : Language} (rules : Rules L) (item : Item) (raised : List L.Thrown) (s : State L) → calls_of item.node s.events ≡ [] → IsCalled (call_after rules item raised s).events item.node
+call_same rules item (x ∷ xs) s e = inl e
+call_same rules item [] s e =
+    let own : calls_of item.node (CallBegins item.node (given_numbers s) ∷ CallEnds item.node ∷ []) ≡ CallBegins item.node (given_numbers s) ∷ CallEnds item.node ∷ [] = rw (eq-eqb item.node item.node refl) in
+    inr (
+      given_numbers s,
+      ap (calls_of item.node) (call_events rules item s) ∙ (filter-append (is_call item.node) s.events (CallBegins item.node (given_numbers s) ∷ CallEnds item.node ∷ [])
+          ∙ (ap (λ (x : List Event). x ++ calls_of item.node (CallBegins item.node (given_numbers s) ∷ CallEnds item.node ∷ [])) e ∙ own)),
+    )
+
+-- the state in which an item begins
+abbrev pub opened : {L : Language} → Rules L → Item → State L → State L
+opened rules item s = in_world (rules.begin_item item.node s.world) s
+
+item_other : {L : Language} (rules : Rules L) (j maxfail : ℕ) (item : Item) (items : List Item) (s : State L) → (j ≡ item.node → ⊥) → calls_of j (run_item rules maxfail item items s).events ≡ calls_of j s.events
+item_other rules j maxfail item items s ne =
+    let r = set_up_phase rules item (opened rules item s) in
+    teardown_seen rules j maxfail item items (call_phase rules item r) ∙ (call_other rules j item r.raised r.state ne ∙ set_up_seen rules j item (opened rules item s))
+
+called_along : (xs ys : List Event) (j : ℕ) → calls_of j ys ≡ calls_of j xs → IsCalled xs j → IsCalled ys j
+called_along xs ys j e (inl q) = inl (e ∙ q)
+called_along xs ys j e (inr q) = inr (q.0, e ∙ q.1)
+
+item_own : {L : Language} (rules : Rules L) (maxfail : ℕ) (item : Item) (items : List Item) (s : State L) → calls_of item.node s.events ≡ [] → IsCalled (run_item rules maxfail item items s).events item.node
+item_own rules maxfail item items s e =
+    let r = set_up_phase rules item (opened rules item s) in
+    called_along (call_phase rules item r).events (run_item rules maxfail item items s).events item.node (teardown_seen rules item.node maxfail item items (call_phase rules item r))
+    (call_same rules item r.raised r.state (set_up_seen rules item.node item (opened rules item s) ∙ e))
+
+item_called : {L : Language} (rules : Rules L) (j maxfail : ℕ) (item : Item) (items : List Item) (s : State L) → calls_of item.node s.events ≡ [] → IsCalled s.events j → IsCalled (run_item rules maxfail item items s).events j
+item_called rules j maxfail item items s e c =
+    elim (cases_eq j item.node) [
+      | inl q ↦ subst (λ (x : ℕ). IsCalled (run_item rules maxfail item items s).events x) (sym q) (item_own rules maxfail item items s e)
+      | inr ne ↦ called_along s.events (run_item rules maxfail item items s).events j (item_other rules j maxfail item items s ne) c
+    ]
+
+pub session_called : {L : Language} (rules : Rules L) (maxfail : ℕ) (items : List Item) (s : State L) → Distinct items → ((item : Item) → In item items → calls_of item.node s.events ≡ []) → ((j : ℕ) → IsCalled s.events j) → (j : ℕ) → IsCalled (session rules maxfail items s).events j
+session_called rules maxfail [] s distinct fresh called j = called j
+session_called {L} rules maxfail (item ∷ items) s distinct fresh called j =
+    let t = run_item rules maxfail item items s in
+    let c : (k : ℕ) → IsCalled t.events k = λ k. item_called rules k maxfail item items s (fresh item (inl refl)) (called k) in
+    cond_law (λ (x : State L). IsCalled x.events j) (has_reached maxfail t) t (session rules maxfail items t) (c j)
+    (session_called rules maxfail items t distinct.1 (λ i m. item_other rules i.node maxfail item items s (distinct.0 i m) ∙ fresh i (inr m)) c j)

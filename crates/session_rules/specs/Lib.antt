@@ -1,0 +1,13 @@
+pub mod Numbers
+pub mod Events
+pub mod Live
+pub mod Hooks
+pub mod HookFollows
+pub mod Request
+pub mod World
+pub mod Teardown
+pub mod Demand
+pub mod Session
+pub mod Reports
+pub mod Fits
+pub mod Idle
