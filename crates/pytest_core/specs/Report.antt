@@ -10,7 +10,7 @@ use Rattle.cli_words.specs.declared.options.Options.{Options}
 use Rattle.report_text.specs.declared.report.ItemReport.{ItemReport}
 use Rattle.report_text.specs.Blocks.{has_failed}
 use Rattle.pytest_core.specs.Outcomes.{items_of}
-use Rattle.pytest_core.specs.Texts.{limit_text, report, usage}
+use Rattle.pytest_core.specs.Texts.{limit_text, report, until_failures, usage}
 use Rattle.pytest_core.specs.declared.status.Status.{Status}
 use Rattle.pytest_core.specs.declared.status.Status.TheVariants.{Passed, Failed, Interrupted, Usage, NoTests, OutOfMemory, TreeFault, SinkFault}
 
@@ -55,12 +55,11 @@ unfoldable pub asks_for_more : Options → Bool
 asks_for_more options =
     not (length options.keyword == 0)
     || (not (length options.marks == 0)
-    || (not (options.maxfail == 0)
     || (asks_for_workers options
     || (not (length options.ignore == 0)
     || (options.setup_show
     || (not (options.step_limit == 1000000)
-    || is_some options.generated))))))
+    || is_some options.generated)))))
 
 -- the one path of a list, where that is a plain word
 abbrev pub one_path : List (List ℕ) → Option (List ℕ)
@@ -79,12 +78,12 @@ most_lines = 1048577
 abbrev pub most_items : ℕ
 most_items = 65536
 
--- what is said of the reports of a file's tests
-abbrev pub told : Options → List ItemReport → Answer
-told options reports = (report options reports, if list_any has_failed reports then Failed else Passed)
+-- what is said of a file's tests, and of those that ran
+abbrev pub told : Options → List ItemReport → List ItemReport → Answer
+told options items ran = (report options items ran, if list_any has_failed ran then Failed else Passed)
 
 abbrev pub counted_items : Options → List ItemReport → Answer
-counted_items options reports = if nat_lt most_items (length reports) then refusal (codes "too many items") else told options reports
+counted_items options items = if nat_lt most_items (length items) then refusal (codes "too many items") else told options items (until_failures options.maxfail items)
 
 -- what is said of the lines of a file of plain tests
 abbrev pub ran : Options → List ℕ → List Line → Answer

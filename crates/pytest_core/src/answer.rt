@@ -8,7 +8,7 @@ ghost use Rattle.pytest_core.specs.Report.{IsReport, SaysOf, SaysOfOptions, Says
 ghost use Rattle.pytest_core.specs.Texts.{limit_text};
 
 use crate::outcome::item_reports;
-use crate::report::{any_failed, push_usage, report_bytes};
+use crate::report::{any_failed, push_usage, report_bytes, until_failures};
 use crate::status::Status;
 use crate::word::plain_word_of;
 use cli_words::{Options, UsageFault, read_words};
@@ -80,8 +80,9 @@ fn counted_of(alloc: Global, options: &Options, items: &[ItemReport]) -> Result<
     if items.len() > 65_536 {
         return usage_of(alloc, "too many items");
     }
-    match report_bytes(alloc, options, items, items.len() as u32) {
-        Ok(bytes) => Ok((bytes, status_of(items))),
+    let ran = until_failures(items, options.maxfail);
+    match report_bytes(alloc, options, items, ran) {
+        Ok(bytes) => Ok((bytes, status_of(ran))),
         Err(OutOfMemory) => Err(AllocError),
     }
 }

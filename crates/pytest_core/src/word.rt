@@ -41,7 +41,6 @@ fn asks_for_more(options: &Options) -> bool
 {
     options.keyword.text().len() != 0
         || options.marks.text().len() != 0
-        || options.maxfail != 0
         || options.asks_for_workers()
         || options.ignore.items().len() != 0
         || options.setup_show
