@@ -134,6 +134,22 @@ fn same(alloc: Global, case: Case, places: &[usize]) -> bool {
     }
 }
 
+fn asks<'a>(
+    rows: &'a [Row<'a>],
+    item: u32,
+    bound: &'a [u32],
+    uses: &'a [u32],
+    args: &'a [u32],
+) -> Case<'a> {
+    Case {
+        rows,
+        item,
+        bound,
+        uses,
+        args,
+    }
+}
+
 fn fault(alloc: Global, case: Case) -> Option<FixtureFault> {
     match closed(alloc, case) {
         Err(fault) => Some(fault),
@@ -165,106 +181,19 @@ fn closures_are_in_order(rt: HostRuntime) -> Result<(), Fail> {
     ];
     let shared = [one(1, &[3, 2], 0), one(2, &[3], 0), one(3, &[], 0)];
     let cases: [(Case, &[usize]); 10] = [
+        (asks(&overriding, 4, &[], &[], &[1]), &[2, 1, 0]),
+        (asks(&overriding, 1, &[], &[], &[1]), &[1, 0]),
+        (asks(&overriding, 5, &[], &[1], &[1]), &[0]),
+        (asks(&twice, 4, &[], &[], &[1]), &[1]),
+        (asks(&twice_own, 4, &[], &[], &[1]), &[1, 0]),
+        (asks(&autos, 4, &[], &[5], &[4]), &[1, 2, 5, 0, 4, 3]),
+        (asks(&autos, 5, &[], &[], &[]), &[1]),
         (
-            Case {
-                rows: &overriding,
-                item: 4,
-                bound: &[],
-                uses: &[],
-                args: &[1],
-            },
-            &[2, 1, 0],
-        ),
-        (
-            Case {
-                rows: &overriding,
-                item: 1,
-                bound: &[],
-                uses: &[],
-                args: &[1],
-            },
-            &[1, 0],
-        ),
-        (
-            Case {
-                rows: &overriding,
-                item: 5,
-                bound: &[],
-                uses: &[1],
-                args: &[1],
-            },
-            &[0],
-        ),
-        (
-            Case {
-                rows: &twice,
-                item: 4,
-                bound: &[],
-                uses: &[],
-                args: &[1],
-            },
-            &[1],
-        ),
-        (
-            Case {
-                rows: &twice_own,
-                item: 4,
-                bound: &[],
-                uses: &[],
-                args: &[1],
-            },
-            &[1, 0],
-        ),
-        (
-            Case {
-                rows: &autos,
-                item: 4,
-                bound: &[],
-                uses: &[5],
-                args: &[4],
-            },
-            &[1, 2, 5, 0, 4, 3],
-        ),
-        (
-            Case {
-                rows: &autos,
-                item: 5,
-                bound: &[],
-                uses: &[],
-                args: &[],
-            },
-            &[1],
-        ),
-        (
-            Case {
-                rows: &scopes,
-                item: 4,
-                bound: &[],
-                uses: &[],
-                args: &[1, 5, 3, 4, 6],
-            },
+            asks(&scopes, 4, &[], &[], &[1, 5, 3, 4, 6]),
             &[3, 1, 5, 4, 0, 2],
         ),
-        (
-            Case {
-                rows: &shared,
-                item: 4,
-                bound: &[],
-                uses: &[],
-                args: &[1],
-            },
-            &[0, 2, 1],
-        ),
-        (
-            Case {
-                rows: &shared,
-                item: 4,
-                bound: &[3],
-                uses: &[3],
-                args: &[1, 3],
-            },
-            &[0, 1],
-        ),
+        (asks(&shared, 4, &[], &[], &[1]), &[0, 2, 1]),
+        (asks(&shared, 4, &[3], &[3], &[1, 3]), &[0, 1]),
     ];
     for (case, places) in cases {
         assert!(rt; same(alloc, case, places));
@@ -294,124 +223,28 @@ fn the_first_fault_is_named(rt: HostRuntime) -> Result<(), Fail> {
         scoped(2, Scope::Function, &[]),
     ];
     let cases = [
+        (asks(&below, 5, &[], &[], &[1]), FixtureFault::Unknown(1)),
+        (asks(&below, 4, &[], &[8], &[9]), FixtureFault::Unknown(8)),
+        (asks(&lost, 4, &[], &[], &[1]), FixtureFault::Unknown(9)),
+        (asks(&own, 4, &[], &[], &[1]), FixtureFault::Recursive(1)),
+        (asks(&ring, 4, &[], &[], &[2]), FixtureFault::Recursive(2)),
+        (asks(&tail, 4, &[], &[], &[1]), FixtureFault::Recursive(2)),
         (
-            Case {
-                rows: &below,
-                item: 5,
-                bound: &[],
-                uses: &[],
-                args: &[1],
-            },
-            FixtureFault::Unknown(1),
-        ),
-        (
-            Case {
-                rows: &below,
-                item: 4,
-                bound: &[],
-                uses: &[8],
-                args: &[9],
-            },
-            FixtureFault::Unknown(8),
-        ),
-        (
-            Case {
-                rows: &lost,
-                item: 4,
-                bound: &[],
-                uses: &[],
-                args: &[1],
-            },
-            FixtureFault::Unknown(9),
-        ),
-        (
-            Case {
-                rows: &own,
-                item: 4,
-                bound: &[],
-                uses: &[],
-                args: &[1],
-            },
-            FixtureFault::Recursive(1),
-        ),
-        (
-            Case {
-                rows: &ring,
-                item: 4,
-                bound: &[],
-                uses: &[],
-                args: &[2],
-            },
-            FixtureFault::Recursive(2),
-        ),
-        (
-            Case {
-                rows: &tail,
-                item: 4,
-                bound: &[],
-                uses: &[],
-                args: &[1],
-            },
-            FixtureFault::Recursive(2),
-        ),
-        (
-            Case {
-                rows: &narrow,
-                item: 4,
-                bound: &[],
-                uses: &[],
-                args: &[1],
-            },
+            asks(&narrow, 4, &[], &[], &[1]),
             FixtureFault::ScopeMismatch(DefId::new(0), 2),
         ),
         (
-            Case {
-                rows: &narrow,
-                item: 4,
-                bound: &[3],
-                uses: &[],
-                args: &[1],
-            },
+            asks(&narrow, 4, &[3], &[], &[1]),
             FixtureFault::ScopeMismatch(DefId::new(0), 3),
         ),
+        (asks(&narrow, 4, &[], &[7], &[1]), FixtureFault::Unknown(7)),
         (
-            Case {
-                rows: &narrow,
-                item: 4,
-                bound: &[],
-                uses: &[7],
-                args: &[1],
-            },
-            FixtureFault::Unknown(7),
-        ),
-        (
-            Case {
-                rows: &narrow,
-                item: 4,
-                bound: &[],
-                uses: &[1],
-                args: &[7],
-            },
+            asks(&narrow, 4, &[], &[1], &[7]),
             FixtureFault::ScopeMismatch(DefId::new(0), 2),
         ),
+        (asks(&both, 4, &[], &[], &[1]), FixtureFault::Recursive(1)),
         (
-            Case {
-                rows: &both,
-                item: 4,
-                bound: &[],
-                uses: &[],
-                args: &[1],
-            },
-            FixtureFault::Recursive(1),
-        ),
-        (
-            Case {
-                rows: &first,
-                item: 4,
-                bound: &[],
-                uses: &[],
-                args: &[1],
-            },
+            asks(&first, 4, &[], &[], &[1]),
             FixtureFault::ScopeMismatch(DefId::new(0), 2),
         ),
     ];
