@@ -47,15 +47,18 @@ module _ (A : Type 0) (L M : Lang Tree) (p : Reader Tree) (e : Rule A (Unit {0})
 
 -- the facts of each level of blocks
 facts_block : (M : Lang Tree) (r : Reader Tree) → Rule ⊥ (Unit {0}) kind M M r false E1 GE → (m : ℕ) → Rule ⊥ (0 < m) kind (block_level M m) (block_level M m) (block_reader r m) false B1 []
+unfolding block_reader
 facts_block M r e zero = never_rule
 facts_block M r e (suc m) = asking (λ al _. tt) (block_rule ⊥ M M r e m m (λ a. absurd a) _ _ _ (facts_block M r e m))
 
 module _ (A : Type 0) (L M : Lang Tree) (p r : Reader Tree) (e : Rule A (Unit {0}) kind L M p false E1 GE) (f : Rule ⊥ (Unit {0}) kind M M r false E1 GE) where
   zero_block : (m : ℕ) → Rule A (0 < 0) kind (block_level L zero) (block_level M (suc m)) (block_reader p zero) false B1 []
+  unfolding block_reader
   zero_block m = record { facts = (facts_block M r f (suc m)).facts; reader = λ al z. absurd (no_level z); able = λ al z. absurd (no_level z); able_wide = λ al. start_right ((simples_rule A L M p e NoStatement).able_wide al) }
 
   -- blocks with n levels left, against those with more
   blocks : (n m : ℕ) → n < m → Rule A (0 < n) kind (block_level L n) (block_level M m) (block_reader p n) false B1 []
+  unfolding block_reader
   blocks n zero h = absurd (omega arith)
   blocks zero (suc m) h = zero_block m
   blocks (suc n) (suc m) h = asking (λ al _. tt) (block_rule A L M p e n m (λ al. omega arith) _ _ _ (blocks n m (omega arith)))

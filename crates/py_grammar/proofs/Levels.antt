@@ -118,6 +118,7 @@ module _ (A : Type 0) (n m : ℕ) (lt : A → n < m) (p : Known A n m) where
       (λ a. refl) (λ al u a w l. atom_fits (level n).expr n expr_low w a l))
 
   unary_line : Rule A (Unit {0}) kind (level (suc n)).unary (level (suc m)).unary (readers (suc n)).unary false U1 GU
+  unfolding readers
   unary_line = wider _ refl (or_step (wanting (λ al _. (one_wide al, λ e. le_of 1 n e)) (guard (nat_le 1 n) (nat_le 1 m)
       (step («then» (λ o. made (Unary o.0.at unary.Minus) (readers n).unary o.1) (token k.minus (some (kinds.Op op.Minus)) refl) (λ o. made_rule (Unary o.at unary.Minus) unary_rule) (λ _. refl)))
       (λ al h e. go_then (go_one e) (λ o. start_then (unary_rule.able_wide al) (λ t. start_nothing))))) primary_line refl)
@@ -126,6 +127,7 @@ module _ (A : Type 0) (n m : ℕ) (lt : A → n < m) (p : Known A n m) where
   times_step s = step («then» (λ o. made (Binary (at_of s) s o.0) (readers n).unary o.1) (one (some (kinds.Op op.Star)) refl) (λ o. made_rule (Binary (at_of s) s o) unary_rule) (λ _. refl))
 
   prod_line : Rule A (Unit {0}) kind (level (suc n)).prod (level (suc m)).prod (readers (suc n)).prod false U1 GP
+  unfolding readers
   prod_line = wider _ refl (bind {Y = λ a. height a ≤ suc n} _ unary_line
       (λ a. loop_fit {Fits = λ s. height s ≤ suc n} {F = λ _. P1} P1 (behind_at n P1 (readers n).unary) a
       (λ s. wanting (λ al f. (room_wide al s s (same s) f, room_left s)) (guard (room n s) (room m s) (times_step s) (λ al h e. go_then (go_one e) (λ o. start_then (unary_rule.able_wide al) (λ t. start_nothing)))))
@@ -136,6 +138,7 @@ module _ (A : Type 0) (n m : ℕ) (lt : A → n < m) (p : Known A n m) where
   plus_step s = step («then» (λ o. made (Binary (at_of s) s o.0) (readers n).prod o.1) (one (some (kinds.Op op.Plus)) refl) (λ o. made_rule (Binary (at_of s) s o) prod_rule) (λ _. refl))
 
   sum_line : Rule A (Unit {0}) kind (level (suc n)).sum (level (suc m)).sum (readers (suc n)).sum false U1 GS
+  unfolding readers
   sum_line = wider _ refl (bind {Y = λ a. height a ≤ suc n} _ prod_line
       (λ a. loop_fit {Fits = λ s. height s ≤ suc n} {F = λ _. S1} S1 (behind_at n S1 (readers n).prod) a
       (λ s. wanting (λ al f. (room_wide al s s (same s) f, room_left s)) (guard (room n s) (room m s) (plus_step s) (λ al h e. go_then (go_one e) (λ o. start_then (prod_rule.able_wide al) (λ t. start_nothing)))))
@@ -146,6 +149,7 @@ module _ (A : Type 0) (n m : ℕ) (lt : A → n < m) (p : Known A n m) where
   comparison_step s = step («then» (λ o. made (compare_more s o.0) (readers n).sum o.1) (one (some (kinds.Op op.EqualEqual)) refl) (λ o. made_rule (compare_more s o) sum_rule) (λ _. refl))
 
   compare_line : Rule A (Unit {0}) kind (CompareAt n (level n).unary (level n).prod (level n).sum (level n).expr) (CompareAt m (level m).unary (level m).prod (level m).sum (level m).expr) (compare_at n (readers n).unary (readers n).prod (readers n).sum (readers n).expr) false U1 GC
+  unfolding readers
   compare_line = wider _ refl (bind {Y = λ a. height a ≤ suc n} _ sum_line
       (λ a. loop_fit {Fits = λ s. height s ≤ suc n} {F = λ _. C1} C1 (compare_step n (readers n).sum) a
       (λ s. wanting (λ al f. (room_wide al s (first_compared s) (first_compared_low s) f, room_left (first_compared s))) (guard (room n (first_compared s)) (room m (first_compared s)) (comparison_step s) (λ al h e. go_then (go_one e) (λ o. start_then (sum_rule.able_wide al) (λ t. start_nothing)))))
@@ -153,11 +157,13 @@ module _ (A : Type 0) (n m : ℕ) (lt : A → n < m) (p : Known A n m) where
       (λ a. refl) (λ al u a w l. sum_fits w a l))
 
   negation_line : Rule A (Unit {0}) kind (level (suc n)).negation (level (suc m)).negation (readers (suc n)).negation false E1 GC
+  unfolding readers
   negation_line = wider _ refl (or_step (wanting (λ al _. (one_wide al, λ e. le_of 1 n e)) (guard (nat_le 1 n) (nat_le 1 m)
       (step («then» (λ o. made (Not o.0.at) (readers n).negation o.1) (token k.not (some (kinds.Op op.Not)) refl) (λ o. made_rule (Not o.at) negation_rule) (λ _. refl)))
       (λ al h e. go_then (go_one e) (λ o. start_then (negation_rule.able_wide al) (λ t. start_nothing))))) compare_line refl)
 
   conjunct_line : Rule A (Unit {0}) kind (level (suc n)).conjunct (level (suc m)).conjunct (readers (suc n)).conjunct false E1 GA
+  unfolding readers
   conjunct_line = wider _ refl (bind {Y = λ a. height a ≤ suc n} _ negation_line
       (λ a. loop_fit {Fits = λ s. height s ≤ suc n} {F = λ _. k.and ∷ []} (k.and ∷ []) (and_step n (readers n).negation) a
       (λ s. wanting (λ al f. (room_wide al s (first_and s) (first_and_low s) f, room_left (first_and s))) (guard (room n (first_and s)) (room m (first_and s)) (step (behind k.and (some (kinds.Op op.And)) refl (made_rule (and_more s) negation_rule))) (λ al h e. go_then (go_one e) (λ o. start_then (negation_rule.able_wide al) (λ t. start_nothing)))))
@@ -165,6 +171,7 @@ module _ (A : Type 0) (n m : ℕ) (lt : A → n < m) (p : Known A n m) where
       (λ a. refl) (λ al u a w l. negation_fits w a l))
 
   disjunct_line : Rule A (Unit {0}) kind (level (suc n)).disjunct (level (suc m)).disjunct (readers (suc n)).disjunct false E1 GO
+  unfolding readers
   disjunct_line = wider _ refl (bind {Y = λ a. height a ≤ suc n} _ conjunct_line
       (λ a. loop_fit {Fits = λ s. height s ≤ suc n} {F = λ _. k.or ∷ []} (k.or ∷ []) (or_step_at n (readers n).conjunct) a
       (λ s. wanting (λ al f. (room_wide al s (first_or s) (first_or_low s) f, room_left (first_or s))) (guard (room n (first_or s)) (room m (first_or s)) (step (behind k.or (some (kinds.Op op.Or)) refl (made_rule (or_more s) conjunct_rule))) (λ al h e. go_then (go_one e) (λ o. start_then (conjunct_rule.able_wide al) (λ t. start_nothing)))))
@@ -175,6 +182,7 @@ module _ (A : Type 0) (n m : ℕ) (lt : A → n < m) (p : Known A n m) where
   choice_step a = wider_step _ refl (step (behind k.if (some (kinds.Op op.If)) refl («then» (λ c. (k.else ▸ made (IfElse (at_of a) a c.0) (readers n).expr) c.1) disjunct_rule (λ c. behind k.else (some (kinds.Op op.Else)) refl (made_rule (IfElse (at_of a) a c) expr_rule)) (λ _. refl))))
 
   expr_line : Rule A (Unit {0}) kind (level (suc n)).expr (level (suc m)).expr (readers (suc n)).expr false E1 GE
+  unfolding readers
   expr_line = wider _ refl (bind {Y = λ a. height a ≤ suc n} (λ x. cond (starts (k.if ∷ []) x.1) (guard_at (room n x.0) (λ h. has (kind h) (k.if ∷ [])) (choice (readers n).disjunct (readers n).expr x.0) x.1) (Found x.0 x.1)) disjunct_line
       (λ a. or_step (wanting (λ al f. (room_wide al a a (same a) f, room_left a)) (guard (room n a) (room m a) (choice_step a)
       (λ al h e. go_then (go_one e) (λ o. start_then (disjunct_rule.able_wide al) (λ c. start_then (start_one (some (kinds.Op op.Else)) refl) (λ _. start_then (expr_rule.able_wide al) (λ t. start_nothing))))))) (nothing a) refl)
@@ -281,6 +289,7 @@ pub no_level : 0 < 0 → ⊥
 no_level h = omega arith
 
 zero_level : (m : ℕ) → Known (Unit {0}) 0 (suc (suc m))
+unfolding readers
 zero_level m = let f = facts_of (suc (suc m)) in record {
   unary_rule = record { facts = f.unary_rule.facts; reader = λ a x. absurd (no_level x); able = λ a x. absurd (no_level x); able_wide = λ a. able_unary (suc m) };
   prod_rule = record { facts = f.prod_rule.facts; reader = λ a x. absurd (no_level x); able = λ a x. absurd (no_level x); able_wide = λ a. able_prod (suc m) };

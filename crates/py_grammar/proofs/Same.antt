@@ -1,12 +1,12 @@
--- The relation by cases is the grammar made of parts (work in progress).
-use Rattle.std.proofs.Common.{◌≡◌, ℕ, zero, suc, ◌+◌, ◌≤◌, max, Bool, true, false, nat_le, ◌⊎◌, inl, inr, List, [], ◌∷◌, ◌++◌, refl, sym, ap, ◌∙◌, subst, arith, append_assoc, append-nil}
+-- The relation by cases is the grammar made of parts.
+use Rattle.std.proofs.Common.{◌≡◌, ℕ, zero, suc, ◌≤◌, max, Bool, true, false, ◌⊎◌, inl, inr, List, [], ◌∷◌, ◌++◌, refl, sym, ap, subst, arith, append-nil}
 use Rattle.std.proofs.lemmas.Grind.{common_steps}
 use Rattle.py_tokens.specs.declared.token.Token.{Token}
 use Rattle.py_tree.specs.Trees.{Tree}
 use Rattle.py_tokens.specs.declared.token.TokenKind.{TokenKind}
-use Rattle.parsing.specs.Reading.{Then, Or, Nothing, One, Loop, done, again, When, Never, has}
+use Rattle.parsing.specs.Reading.{Then, Or, Nothing, done, Never, has}
 use Rattle.py_grammar.specs.Kinds.{kind, number_of, text_in, text_of, Tok}
-use Rattle.py_grammar.specs.Parts.{Lang, ◌⨟◌, As, Any, Items, items, ItemsOf}
+use Rattle.py_grammar.specs.Parts.{Lang, ◌⨟◌, As, items, ItemsOf}
 use Rattle.py_grammar.specs.Expressions.{P1, S1, C1, number_in, binary_of, comparison_of, Leaf, call, Texts, PrimaryAt, CompareAt, level}
 use Rattle.py_tokens.specs.declared.token.TokenKind.TheVariants as kinds
 use Rattle.py_tokens.specs.declared.op.Op.TheVariants as op
@@ -15,64 +15,15 @@ use Rattle.py_tree.specs.Trees as trees
 use Rattle.py_grammar.specs.Numbers as k
 use Rattle.py_grammar.specs.Shapes.{height, room, at_of, compare_more, and_more, or_more, first_compared, first_and, first_or, text_more as joined}
 use Rattle.py_grammar.proofs.Fits.{of_le}
+use Rattle.py_grammar.proofs.Pieces.{first, one_token, made_of, more_loop, more_from, alone}
 use Rattle.py_grammar.specs.Reads.{Sort, Reading, name, number, true_word, false_word, none_word, text_one, text_more, text, group, called, minus, unary_one, prod_one, prod_more, sum_one, sum_more, compare_one, compared, negated, negation_one, conjunct_one, conjunct_more, disjunct_one, disjunct_more, expr_one, chosen, Arguments, no_argument, arguments, last_comma, Several, one_argument, more_arguments}
 use Rattle.py_grammar.specs.Reads as sort
-
--- A loop behind a first part is a relation R that has the first part, and, behind what R has, each step.
-pub of_loop : {T S : Type 0} {First : List T → S → Type 0} {Step : S → List T → S → Type 0} (R : List T → S → Type 0) → ((w : List T) (a : S) → First w a → R w a) → ((u v : List T) (a b : S) → R u a → Step a v b → R (u ++ v) b) → (w : List T) (b : S) → Then First (λ a. Loop Step a) w b → R w b
-of_loop {T = T} {S = S} {Step = Step} R f g w b r = subst (λ x. R x b) (sym r.whole) (go r.front r.back r.value b (f r.front r.value r.left) r.right)
-  where
-    go : (u v : List T) (a b : S) → R u a → Loop Step a v b → R (u ++ v) b
-    go u v a b h (done n) = subst (λ x. R x a) (sym (ap (λ x. u ++ x) n ∙ append-nil u)) h
-    go u v a b h (again {t = t} {u = x} {v = y} e s l) = subst (λ z. R z b) (append_assoc u x y ∙ sym (ap (λ z. u ++ z) e)) (go (u ++ x) y t b (g u x a t h s) l)
-
--- and back: what is read with a step behind it is read
-pub more_loop : {T S : Type 0} {First : List T → S → Type 0} {Step : S → List T → S → Type 0} (w u v : List T) (a b : S) → w ≡ u ++ v → Then First (λ a. Loop Step a) u a → Step a v b → Then First (λ a. Loop Step a) w b
-more_loop {T = T} {S = S} {Step = Step} w u v a b e r s = record {
-  front = r.front;
-  back = r.back ++ v;
-  value = r.value;
-  whole = e ∙ ap (λ x. x ++ v) r.whole ∙ append_assoc r.front r.back v;
-  left = r.left;
-  right = go r.value r.back r.right;
-}
-  where
-    go : (c : S) (x : List T) → Loop Step c x a → Loop Step c (x ++ v) b
-    go c x (done n) = again (ap (λ y. y ++ v) n ∙ sym (append-nil v)) s (done refl)
-    go c x (again {t = t} {u = y} {v = z} q p l) = again (ap (λ k. k ++ v) q ∙ append_assoc y z v) p (go t z l)
 
 of_number : (n x : ℕ) → n ≡ x → has n (x ∷ []) ≡ true
 of_number n x e = grind (arith, common_steps)
 
 pub of_kind : (t : Token) (x : TokenKind) → t.kind ≡ x → has (kind t) (number_of x ∷ []) ≡ true
 of_kind t x e = of_number (kind t) (number_of x) (ap number_of e)
-
-one_token : {B : Type 0} (F : List ℕ) {f : Token → B} (w : List Token) (b : B) (t : Token) → w ≡ t ∷ [] → has (kind t) F ≡ true → b ≡ f t → Any F f w b
-one_token F w b t q h v = record { token = t; whole = q; passes = h; value = v }
-
-first : {A B : Type 0} (F : List ℕ) {f : Token → A} {K : A → Lang B} (w v : List Token) (b : B) (t : Token) → w ≡ t ∷ v → has (kind t) F ≡ true → K (f t) v b → Then (Any F f) K w b
-first F {f = f} w v b t q h r = record { front = t ∷ []; back = v; value = f t; whole = q; left = record { token = t; whole = refl; passes = h; value = refl }; right = r }
-
-made_of : {A B : Type 0} {L : Lang A} (f : A → B) (v : List Token) (x : A) → L v x → As f L v (f x)
-made_of f v x r = record { front = v; back = []; value = x; whole = sym (append-nil v); left = r; right = (refl, refl) }
-
-alone : {A : Type 0} {L : Lang A} {P : A → Lang A} (w : List Token) (x : A) → L w x → Then L (λ a. Loop P a) w x
-alone w x r = record { front = w; back = []; value = x; whole = sym (append-nil w); left = r; right = done refl }
-
--- the same where the loop begins with what g makes of the first part
-more_from : {T A S : Type 0} {First : List T → A → Type 0} {Step : S → List T → S → Type 0} (g : A → S) (w u v : List T) (a b : S) → w ≡ u ++ v → Then First (λ a. Loop Step (g a)) u a → Step a v b → Then First (λ a. Loop Step (g a)) w b
-more_from {T = T} {S = S} {Step = Step} g w u v a b e r s = record {
-  front = r.front;
-  back = r.back ++ v;
-  value = r.value;
-  whole = e ∙ ap (λ x. x ++ v) r.whole ∙ append_assoc r.front r.back v;
-  left = r.left;
-  right = go (g r.value) r.back r.right;
-}
-  where
-    go : (c : S) (x : List T) → Loop Step c x a → Loop Step c (x ++ v) b
-    go c x (done n) = again (ap (λ y. y ++ v) n ∙ sym (append-nil v)) s (done refl)
-    go c x (again {t = t} {u = y} {v = z} q p l) = again (ap (λ k. k ++ v) q ∙ append_assoc y z v) p (go t z l)
 
 -- the lines as parts, by sort
 abbrev pub Made : Sort → ℕ → Lang Tree
@@ -122,7 +73,7 @@ expr_one_made : (n : ℕ) (w : List Token) (x : Tree) → Made sort.disjunct n w
 expr_one_made zero w x r = r
 expr_one_made (suc n) w x r = record { front = w; back = []; value = x; whole = sym (append-nil w); left = r; right = inr (refl, refl) }
 
-tall : (s : Tree) → 1 ≤ height s
+pub tall : (s : Tree) → 1 ≤ height s
 tall (trees.Name at n) = omega arith
 tall s = omega arith
 
@@ -145,15 +96,15 @@ leaf_made : (n : ℕ) (w : List Token) (x : Tree) → Leaf w x → Made sort.pri
 leaf_made n w x r = alone w x (inr r)
 
 -- what stands between the parentheses of a call
-abbrev Between : ℕ → List Token → trees.Trees → Type 0
-Between n v es = ((b : Bool) × ItemsOf trees.More trees.Empty (level n).expr v (record { all = es; ended = b })) ⊎ ((v ≡ []) × (es ≡ trees.Empty))
+abbrev Held : ℕ → List Token → trees.Trees → Type 0
+Held n v es = ((b : Bool) × ItemsOf trees.More trees.Empty (level n).expr v (record { all = es; ended = b })) ⊎ ((v ≡ []) × (es ≡ trees.Empty))
 
-tail_made : (n : ℕ) (f : Tree) (v : List Token) (es : trees.Trees) (c : Token) → has (kind c) (k.right_paren ∷ []) ≡ true → Between n v es → Or (Then (ItemsOf trees.More trees.Empty (level n).expr) (λ es. k.right_paren ⨟ Nothing (call f es.all))) (k.right_paren ⨟ Nothing (call f trees.Empty)) (v ++ c ∷ []) (call f es)
+tail_made : (n : ℕ) (f : Tree) (v : List Token) (es : trees.Trees) (c : Token) → has (kind c) (k.right_paren ∷ []) ≡ true → Held n v es → Or (Then (ItemsOf trees.More trees.Empty (level n).expr) (λ es. k.right_paren ⨟ Nothing (call f es.all))) (k.right_paren ⨟ Nothing (call f trees.Empty)) (v ++ c ∷ []) (call f es)
 tail_made n f v es c i (inl (b, r)) = inl (record { front = v; back = c ∷ []; value = record { all = es; ended = b }; whole = refl; left = r; right = first (k.right_paren ∷ []) (c ∷ []) [] (call f es) c refl i (refl, refl) })
 tail_made n f v es c i (inr (p, q)) = inr (first (k.right_paren ∷ []) (v ++ c ∷ []) [] (call f es) c (ap (λ x. x ++ c ∷ []) p) i (refl, ap (λ x. call f x) q))
 
 mutual
-  to : {s : Sort} {n : ℕ} {w : List Token} {x : Tree} → Reading s n w x → Made s n w x
+  pub to : {s : Sort} {n : ℕ} {w : List Token} {x : Tree} → Reading s n w x → Made s n w x
   to (name {n = n} {w = w} {s = s} t e q) = leaf_made n w (trees.Name t.at s) (inl (one_token (k.name ∷ []) w (trees.Name t.at s) t q (of_kind t (kinds.Name s) e) (ap (λ y. trees.Name t.at (text_in y)) (sym e))))
   to (number {n = n} {w = w} {v = v} t e q) = leaf_made n w (trees.Number t.at v) (inr (inl (one_token (k.number ∷ []) w (trees.Number t.at v) t q (of_kind t (kinds.Number v) e) (ap (λ y. number_in t.at y) (sym e)))))
   to (true_word {n = n} {w = w} t e q) = leaf_made n w (trees.True t.at) (inr (inr (inl (one_token (k.true ∷ []) w (trees.True t.at) t q (of_kind t (kinds.Op op.True) e) refl))))
@@ -181,7 +132,7 @@ mutual
   to (expr_one {n = n} {w = w} {x = x} r) = expr_one_made n w x (to r)
   to (chosen {n = n} {u = u} {v = v} {x = x} {w = w} {a = a} {b = b} {c = c} i j e f q r h s t) = record { front = u; back = i ∷ (v ++ j ∷ x); value = a; whole = q; left = to r; right = inl (room_of n a h, first (k.if ∷ []) (i ∷ (v ++ j ∷ x)) (v ++ j ∷ x) (trees.IfElse (at_of a) a c b) i refl (of_kind i (kinds.Op op.If) e) (record { front = v; back = j ∷ x; value = c; whole = refl; left = to s; right = first (k.else ∷ []) (j ∷ x) x (trees.IfElse (at_of a) a c b) j refl (of_kind j (kinds.Op op.Else) f) (made_of (trees.IfElse (at_of a) a c) x b (to t)) })) }
 
-  between : {n : ℕ} {w : List Token} {es : trees.Trees} → Arguments n w es → Between n w es
+  between : {n : ℕ} {w : List Token} {es : trees.Trees} → Arguments n w es → Held n w es
   between (no_argument q) = inr (q, refl)
   between (arguments r) = inl (false, several r)
   between (last_comma {n = n} {v = v} {w = w} {es = es} c e q r) = inl (true, more_from (λ x. items (trees.More trees.Empty x)) w v (c ∷ []) (items es) (record { all = es; ended = true }) q (several r) (refl, first (k.comma ∷ []) (c ∷ []) [] (record { all = es; ended = true }) c refl (of_kind c (kinds.Op op.Comma) e) (inr (refl, refl))))

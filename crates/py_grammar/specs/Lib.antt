@@ -6,3 +6,7 @@ pub mod Expressions
 pub mod Reading
 pub mod Statements
 pub mod Reads
+pub mod ReadsStatements
+pub mod Context
+pub mod Depth
+pub mod Sources

@@ -101,20 +101,27 @@ abbrev pub expr_at : ℕ → (u p s n a o e : Reader Tree) → Reader Tree
 expr_at i u p s n a o e ts = or_at i u p s n a e ts >>= λ x. cond (starts (k.if ∷ []) x.1) (guard_at (room i x.0) (λ h. has (kind h) (k.if ∷ [])) (choice o e x.0) x.1) (Found x.0 x.1)
 
 pub record Readers : Type 0 where
+  pub atom : Reader Tree
+  pub primary : Reader Tree
   pub unary : Reader Tree
   pub prod : Reader Tree
   pub sum : Reader Tree
+  pub compare : Reader Tree
   pub negation : Reader Tree
   pub conjunct : Reader Tree
   pub disjunct : Reader Tree
   pub expr : Reader Tree
 
-abbrev pub readers : ℕ → Readers
-readers zero = record { unary = deep_at (λ h. has (kind h) U1); prod = deep_at (λ h. has (kind h) U1); sum = deep_at (λ h. has (kind h) U1); negation = deep_at (λ h. has (kind h) E1); conjunct = deep_at (λ h. has (kind h) E1); disjunct = deep_at (λ h. has (kind h) E1); expr = deep_at (λ h. has (kind h) E1) }
+-- an equation a line stands in proofs/Equations.antt
+unfoldable pub readers : ℕ → Readers
+readers zero = record { atom = deep_at (λ h. has (kind h) A1); primary = deep_at (λ h. has (kind h) A1); unary = deep_at (λ h. has (kind h) U1); prod = deep_at (λ h. has (kind h) U1); sum = deep_at (λ h. has (kind h) U1); compare = deep_at (λ h. has (kind h) U1); negation = deep_at (λ h. has (kind h) E1); conjunct = deep_at (λ h. has (kind h) E1); disjunct = deep_at (λ h. has (kind h) E1); expr = deep_at (λ h. has (kind h) E1) }
 readers (suc n) = let p = readers n in record {
+  atom = atom_at n p.expr;
+  primary = primary n p.expr;
   unary = unary_at n p.unary p.expr;
   prod = prod_at n p.unary p.expr;
   sum = sum_at n p.unary p.prod p.expr;
+  compare = compare_at n p.unary p.prod p.sum p.expr;
   negation = not_at n p.unary p.prod p.sum p.negation p.expr;
   conjunct = and_at n p.unary p.prod p.sum p.negation p.expr;
   disjunct = or_at n p.unary p.prod p.sum p.negation p.conjunct p.expr;

@@ -220,7 +220,7 @@ stmts_at n e b ts = stmt_at n e b (NoStatement, ts) >>= many_at (λ _ h. has (ki
 abbrev pub block_at : ℕ → (e : Reader Tree) (b : Reader Block) → Reader Block
 block_at n e b ts = cond (starts (k.newline ∷ []) ts) ((k.newline ▸ k.indent ▸ λ ts. stmts_at n e b ts >>= λ x. (k.dedent ▸ Found x.0) x.1) ts) (simples e NoStatement ts)
 
-abbrev pub block_reader : Reader Tree → ℕ → Reader Block
+unfoldable pub block_reader : Reader Tree → ℕ → Reader Block
 block_reader e zero = deep_at (λ h. has (kind h) (k.newline ∷ SI1))
 block_reader e (suc n) = block_at n e (block_reader e n)
 

@@ -1,0 +1,9 @@
+pub mod Listed
+pub mod Sorted
+pub mod Changed
+pub mod Found
+pub mod Going
+pub mod Stepped
+pub mod Scoped
+pub mod Calls
+pub mod Latest

@@ -1,0 +1,4 @@
+pub mod Down
+pub mod Plain
+pub mod Chained
+pub mod Walked

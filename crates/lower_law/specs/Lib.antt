@@ -1,0 +1,4 @@
+pub mod Alike
+pub mod Lowered
+pub mod Law
+pub mod Built

@@ -1,0 +1,4 @@
+pub mod Called
+pub mod Texts
+pub mod Printing
+pub mod Calls

@@ -1,0 +1,39 @@
+-- Texts of values, or why there is none.
+use Rattle.std.specs.Prelude.{ℕ, List, ◌++◌, if◌then◌else◌, codes, Option, Some, None}
+use Rattle.py_calls.specs.declared.made.TextMade.{TextMade}
+use Rattle.py_calls.specs.declared.made.TextMade.TheVariants.{Text, Refused}
+use Rattle.py_values.specs.Kinds.{builtin_name}
+use Rattle.py_values.specs.Raises.{raise}
+use Rattle.py_values.specs.Repr.{str_of}
+use Rattle.py_values.specs.Symbols.{shown}
+use Rattle.py_values.specs.declared.builtin.Builtin.{Builtin}
+use Rattle.py_values.specs.declared.class.ExcClass.TheVariants.{TypeError, RecursionError, MemoryError}
+use Rattle.py_values.specs.declared.end.Raise.{Raise}
+use Rattle.py_values.specs.declared.object.Obj.{Obj}
+use Rattle.py_values.specs.declared.shown.Shown.{Shown}
+use Rattle.py_values.specs.declared.value.Value.{Value}
+
+abbrev pub wrong : Builtin → Raise
+wrong b = raise TypeError (codes "wrong arguments for " ++ builtin_name b)
+
+-- a text that lies too deep, or is longer than 65,536 characters, is refused
+abbrev pub text_by : Shown → TextMade
+text_by s =
+    if s.deep then Refused (raise RecursionError (codes "nesting too deep"))
+    else if s.cut then Refused (raise MemoryError (codes "sequence too long"))
+    else Text s.text
+
+-- the text of a value
+abbrev pub text_of : List Obj → Value → TextMade
+text_of heap v = text_by (shown 65536 (str_of heap v))
+
+-- one text behind another; the first refusal where there is one
+abbrev pub joined : TextMade → TextMade → TextMade
+joined (Refused r) t = Refused r
+joined (Text a) (Refused r) = Refused r
+joined (Text a) (Text b) = Text (a ++ b)
+
+-- what is told of a text that is being made
+abbrev pub told_text : Option Raise → List ℕ → TextMade
+told_text None a = Text a
+told_text (Some r) a = Refused r

@@ -1,0 +1,11 @@
+// A text, or why there is none.
+
+use py_values::PyText;
+use py_values::end::Raise;
+
+/// A text, or the exception that is raised in its place.
+#[derive(Drop)]
+pub enum TextMade {
+    Text(PyText),
+    Refused(Raise),
+}

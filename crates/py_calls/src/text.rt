@@ -1,0 +1,52 @@
+// Texts of values.
+
+ghost use Rattle.std.specs.Prelude.{◌≡◌, IfOk};
+ghost use Rattle.py_calls.specs.Texts as texts;
+
+use crate::made::TextMade;
+use py_values::OutOfMemory;
+use py_values::builtin::Builtin;
+use py_values::class::ExcClass;
+use py_values::end::{Raise, push_ascii};
+use py_values::heap::Heap;
+use py_values::kinds::builtin_name;
+use py_values::repr::str;
+use py_values::shown::Shown;
+use py_values::value::Value;
+use std::alloc::Global;
+
+/// The greatest length of a text.
+const MOST: usize = 65536;
+
+/// The error that a call's arguments don't fit it.
+pub fn wrong(alloc: Global, which: Builtin) -> Result<Raise, OutOfMemory>
+    ensures { IfOk result (λ r. r ≡ texts.wrong which) }
+{
+    let mut text = Vec::new(alloc);
+    push_ascii(&mut text, "wrong arguments for ")?;
+    push_ascii(&mut text, builtin_name(which))?;
+    Raise::from_chars(alloc, ExcClass::TypeError, &text)
+}
+
+fn text_by(alloc: Global, shown: Shown) -> Result<TextMade, OutOfMemory>
+    ensures { IfOk result (λ t. t ≡ texts.text_by shown) }
+{
+    let Shown { text, cut, deep } = shown;
+    if deep {
+        let raise = Raise::from_ascii(alloc, ExcClass::RecursionError, "nesting too deep")?;
+        return Ok(TextMade::Refused(raise));
+    }
+    if cut {
+        let raise = Raise::from_ascii(alloc, ExcClass::MemoryError, "sequence too long")?;
+        return Ok(TextMade::Refused(raise));
+    }
+    Ok(TextMade::Text(text))
+}
+
+/// The text of a value.
+pub fn text_of(alloc: Global, heap: &Heap, v: Value) -> Result<TextMade, OutOfMemory>
+    ensures { IfOk result (λ t. t ≡ texts.text_of heap.now v) }
+{
+    let shown = str(alloc, heap, v, MOST)?;
+    text_by(alloc, shown)
+}

@@ -1,0 +1,4 @@
+pub mod Dividing
+pub mod Judging
+pub mod Repeating
+pub mod Within

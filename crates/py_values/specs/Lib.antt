@@ -1,0 +1,12 @@
+pub mod Names
+pub mod Lending
+pub mod Truth
+pub mod Kinds
+pub mod Symbols
+pub mod Showing
+pub mod Adding
+pub mod Repr
+pub mod Equal
+pub mod Less
+pub mod Ends
+pub mod Raises

@@ -1,0 +1,111 @@
+// How an operator or a built-in call ends.
+
+ghost use Rattle.std.specs.Prelude.{◌≡◌, ◌++◌, IfOk, OnOk};
+ghost use Rattle.py_values.specs.Ends.{finished, steps_of, cost_of, made_cost, within};
+ghost use Rattle.py_values.specs.Raises as raises;
+
+use crate::class::ExcClass;
+use crate::heap::Heap;
+use crate::object::Obj;
+use crate::value::Value;
+use py_text::{OutOfMemory, PyText};
+use std::alloc::Global;
+
+/// An exception that is to be raised: its class, and its one argument: `arg` where it is given, else the text where it
+/// isn't empty, else none.
+#[derive(Drop)]
+pub struct Raise {
+    pub class: ExcClass,
+    pub text: PyText,
+    pub arg: Option<Value>,
+}
+
+impl Raise {
+    /// A raise with a text.
+    pub fn from_chars(alloc: Global, class: ExcClass, text: &[char]) -> Result<Self, OutOfMemory>
+        ensures { IfOk result (λ r. r ≡ raises.raise class text.now) }
+    {
+        let text = PyText::from_chars(alloc, text)?;
+        Ok(Raise {
+            class,
+            text,
+            arg: None,
+        })
+    }
+
+    /// A raise with a text of ASCII characters.
+    pub fn from_ascii(alloc: Global, class: ExcClass, text: &str) -> Result<Self, OutOfMemory>
+        ensures { IfOk result (λ r. r ≡ raises.raise class text.now) }
+    {
+        let mut chars = Vec::new(alloc);
+        push_ascii(&mut chars, text)?;
+        let raise = Raise::from_chars(alloc, class, &chars)?;
+        Ok(raise)
+    }
+}
+
+/// Puts ASCII characters behind others.
+pub fn push_ascii(chars: &mut Vec<char>, text: &str) -> Result<(), OutOfMemory>
+    ensures { OnOk result (chars.new.items ≡ chars.old.items ++ text.now) }
+{
+    for b in text.as_bytes() {
+        chars.push(char::from(*b))?;
+    }
+    Ok(())
+}
+
+/// How an operator or a built-in call ends, with its cost in steps.
+#[derive(Drop)]
+pub enum OpEnd {
+    Value(Value, u64),
+    Raised(Raise, u64),
+    Exhausted,
+}
+
+/// What an operator or a built-in call makes, with its cost in steps, before the heap has it.
+#[derive(Drop)]
+pub enum Made {
+    Give(Value, u64),
+    New(Obj, u64),
+    Fail(Raise, u64),
+}
+
+impl Made {
+    /// The steps of what is made.
+    pub fn cost(&self) -> u64
+        ensures { result ≡ cost_of self.now }
+    {
+        match self {
+            Made::Give(_, cost) => *cost,
+            Made::New(_, cost) => *cost,
+            Made::Fail(_, cost) => *cost,
+        }
+    }
+}
+
+/// What is made under a budget, if anything.
+pub fn made_within(made: Made, budget: u64) -> Option<Made>
+    ensures { result ≡ within budget made }
+{
+    if budget < made.cost() {
+        None
+    } else {
+        Some(made)
+    }
+}
+
+/// Puts what is made into the heap; nothing is made where the budget doesn't suffice.
+pub fn finish(heap: &mut Heap, made: Option<Made>) -> Result<OpEnd, OutOfMemory>
+    ensures end { IfOk result (λ e. (e, heap.new) ≡ finished heap.old made) }
+    ensures cost { IfOk result (λ e. steps_of e ≡ made_cost made) }
+{
+    match made {
+        Some(Made::Give(v, cost)) => Ok(OpEnd::Value(v, cost)),
+        Some(Made::New(obj, cost)) => {
+            let id = heap.add(obj)?;
+            Ok(OpEnd::Value(Value::Ref(id), cost))
+        }
+        Some(Made::Fail(raise, cost)) => Ok(OpEnd::Raised(raise, cost)),
+        None => Ok(OpEnd::Exhausted),
+    }
+}

@@ -1,0 +1,73 @@
+// The heap.
+
+ghost use Rattle.std.specs.Prelude.{◌≡◌, ◌<◌, ◌++◌, ◌∷◌, [], IfOk, length, slice_get, Some, option_copied};
+ghost use Rattle.py_values.specs.Lending.{LendsObj};
+ghost use Rattle.std.specs.Borrow.{sem};
+
+use crate::object::Obj;
+use crate::value::ObjId;
+use py_text::OutOfMemory;
+use std::alloc::Global;
+use std::marker::Model;
+
+/// The objects of a session; none is ever taken away.
+#[derive(Drop)]
+pub struct Heap {
+    objs: Vec<Obj>,
+}
+
+impl Model for Heap {
+    ghost use Rattle.std.specs.Prelude.{List};
+    ghost use Rattle.py_values.specs.declared.object.Obj.{Obj};
+
+    ghost Value = { List Obj };
+
+    ghost view = { λ h. h.objs.items };
+}
+
+impl Heap {
+    pub fn new(alloc: Global) -> Result<Self, OutOfMemory>
+        ensures { IfOk result (λ h. h ≡ []) }
+    {
+        Ok(Heap {
+            objs: Vec::new(alloc),
+        })
+    }
+
+    /// Appends an object, and gives its place.
+    pub fn add(&mut self, obj: Obj) -> Result<ObjId, OutOfMemory>
+        ensures { IfOk result (λ id. (id.at ≡ length self.old) × (self.new ≡ self.old ++ obj ∷ [])) }
+    {
+        let at = self.objs.len();
+        self.objs.push(obj)?;
+        Ok(ObjId { at })
+    }
+
+    pub fn len(&self) -> usize
+        ensures { result ≡ length self.now }
+    {
+        self.objs.len()
+    }
+
+    /// The object at a place, where there is one.
+    pub fn get(&self, id: ObjId) -> Option<&Obj>
+        ensures { option_copied result ≡ slice_get self.now id.at }
+    {
+        self.objs.get(id.at)
+    }
+
+    pub fn obj(&self, id: ObjId) -> &Obj
+        requires { id.at < length self.now }
+        ensures { slice_get self.now id.at ≡ Some result.now }
+    {
+        &self.objs[id.at]
+    }
+
+    pub fn obj_mut(&mut self, id: ObjId) -> &mut Obj
+        requires { id.at < length self.old }
+        ensures* writes_back { sem 𝓛 (LendsObj self.entry id.at result) }
+        ensures value { slice_get self.old id.at ≡ Some result.now }
+    {
+        &mut self.objs[id.at]
+    }
+}

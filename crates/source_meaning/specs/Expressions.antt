@@ -1,0 +1,41 @@
+-- What expressions do (Language Reference, expressions).
+use Rattle.std.specs.Prelude.{List, [], ◌∷◌, ◌++◌, true, false}
+use Rattle.py_values.specs.declared.value.Value.TheVariants as val
+use Rattle.py_tree.specs.Trees as t
+use Rattle.py_tree.specs.Trees.{Tree, Trees, Empty, More}
+use Rattle.py_tree.specs.Statements.{Block}
+use Rattle.source_meaning.specs.Requests.{Turn, Function}
+use Rattle.py_world.specs.Outcome.{Part, Next}
+use Rattle.py_world.specs.Expressions.{noted, constant, name_part, text_part, unary_part, binary_part, compare_part, not_part, and_part, or_part, choice_part, call_part}
+
+abbrev pub SourcePart : Type 0
+SourcePart = Part Function Block Turn
+
+-- a form that the language doesn't have yet
+abbrev pub missing : SourcePart
+missing p s k = k (Next s)
+
+abbrev mutual
+  -- WHAT AN EXPRESSION DOES
+  pub eval : Tree → SourcePart
+  eval (t.Name at name) = noted at (name_part name)
+  eval (t.Number at n) = noted at (constant (val.Int n))
+  eval (t.Text at text) = noted at (text_part text)
+  eval (t.True at) = noted at (constant (val.Bool true))
+  eval (t.False at) = noted at (constant (val.Bool false))
+  eval (t.NoneTree at) = noted at (constant val.None)
+  eval (t.Paren at e) = noted at (eval e)
+  eval (t.Call at f args names) = noted at (call_part (eval f) (parts args))
+  eval (t.Unary at op e) = noted at (unary_part op (eval e))
+  eval (t.Binary at l op r) = noted at (binary_part (eval l) op (eval r))
+  eval (t.Compare at e ops es) = noted at (compare_part (eval e) ops (parts es))
+  eval (t.Not at e) = noted at (not_part (eval e))
+  eval (t.And at e es) = noted at (and_part (eval e) (parts es))
+  eval (t.Or at e es) = noted at (or_part (eval e) (parts es))
+  eval (t.IfElse at e condition other) = noted at (choice_part (eval e) (eval condition) (eval other))
+  eval _ = missing
+
+  -- what each of them does
+  pub parts : Trees → List SourcePart
+  parts Empty = []
+  parts (More before e) = parts before ++ eval e ∷ []
