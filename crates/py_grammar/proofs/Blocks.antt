@@ -1,5 +1,5 @@
 -- Statements and blocks, level by level, and whole sources.
-use Rattle.std.proofs.Common.{◌≡◌, ℕ, zero, suc, ◌<◌, true, false, nat_le, inl, inr, List, [], ◌∷◌, ◌++◌, refl, arith}
+use Rattle.std.proofs.Common.{◌≡◌, ℕ, zero, suc, ◌<◌, length, true, false, nat_le, inl, inr, List, [], ◌∷◌, ◌++◌, refl, arith}
 use Rattle.py_tokens.specs.declared.op.Op.TheVariants as op
 use Rattle.py_tokens.specs.declared.token.Token.{Token}
 use Rattle.py_tokens.specs.declared.token.TokenKind.TheVariants as kinds
@@ -7,7 +7,7 @@ use Rattle.py_tree.specs.Trees.{Tree}
 use Rattle.py_tree.specs.Statements.{Block, NoStatement, Next}
 use Rattle.parsing.specs.Reading.{Found, many_at, has, CanGoOn}
 use Rattle.parsing.specs.Answer.{Settled, finish}
-use Rattle.parsing.proofs.Rules.{Rule, step, nothing, «then», or, loop, guard, or_step, wanting, asking, wider, start_then, start_one, start_nothing, start_loop, start_right, go_then, go_one, go_left, go_right}
+use Rattle.parsing.proofs.Rules.{Rule, rule_takes, step, nothing, «then», or, loop, guard, or_step, wanting, asking, wider, start_then, start_one, start_nothing, start_loop, start_right, go_then, go_one, go_left, go_right}
 use Rattle.parsing.proofs.Sets.{has_either}
 use Rattle.parsing.proofs.Answers.{settled}
 use Rattle.py_grammar.specs.Kinds.{kind}
@@ -69,6 +69,16 @@ module _ (A : Type 0) (L M : Lang Tree) (p r : Reader Tree) (e : Rule A (Unit {0
 -- a source with n + 1 levels of expressions and of blocks, against one with more
 pub sources : (n m : ℕ) → suc (suc n) < m → Rule (Unit {0}) (Unit {0}) kind (ModuleAt (suc n) (level (suc n)).expr) (ModuleAt m (level m).expr) (module_at (suc n) (readers (suc n)).expr) false (k.end ∷ ST1) []
 sources n m h = module_rule (Unit {0}) _ _ _ (readers m).expr (asking (λ _ _. omega arith) (levels (suc n) m h).expr_rule) (asking (λ al _. absurd al) (facts_of m).expr_rule) (suc n) m (omega arith)
+
+-- each block and each statement takes a token
+block_rules : (n : ℕ) (i j : ℕ) → i < j → Rule (Unit {0}) (0 < i) kind (block_level (level (suc n)).expr i) (block_level (level (suc (suc (suc n)))).expr j) (block_reader (readers (suc n)).expr i) false B1 []
+block_rules n i j h = blocks (Unit {0}) _ _ _ (readers (suc (suc (suc n)))).expr (asking (λ _ _. omega arith) (levels (suc n) (suc (suc (suc n))) (omega arith)).expr_rule) (asking (λ al _. absurd al) (facts_of (suc (suc (suc n)))).expr_rule) i j h
+
+pub block_takes : (n i : ℕ) (ts : List Token) (b : Block) (rest : List Token) → 0 < i → block_reader (readers (suc n)).expr i ts ≡ Found b rest → length rest < length ts
+block_takes n i ts b rest h e = rule_takes (asking (λ _ _. h) (block_rules n i (suc i) (omega arith))) ts b rest e
+
+pub stmt_takes : (n i : ℕ) (before : Block) (ts : List Token) (b : Block) (rest : List Token) → stmt_at i (readers (suc n)).expr (block_reader (readers (suc n)).expr i) (before, ts) ≡ Found b rest → length rest < length ts
+stmt_takes n i before ts b rest e = rule_takes (stmt_rule (Unit {0}) _ _ _ (asking (λ _ _. omega arith) (levels (suc n) (suc (suc (suc n))) (omega arith)).expr_rule) i (suc i) (λ _. omega arith) _ _ _ (block_rules n i (suc i) (omega arith)) before) ts b rest e
 
 -- THE LAWS of a source
 pub source_law : (n m : ℕ) → suc (suc n) < m → (ts : List Token) → Settled (ModuleAt (suc n) (level (suc n)).expr) (ModuleAt m (level m).expr) ts (finish (module_at (suc n) (readers (suc n)).expr ts))

@@ -1,3 +1,9 @@
-pub mod LineTexts
-pub mod Distinct
-pub mod Unique
+pub mod Ops
+pub mod Joined
+pub mod Shapes
+pub mod Loops
+pub mod Rules
+pub mod StatementShapes
+pub mod BlockShapes
+pub mod ContextSteps
+pub mod Verdicts

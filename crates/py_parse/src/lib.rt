@@ -1,13 +1,13 @@
 //! Reads sources.
 #![tactic(auto)]
 
-mod first;
-mod line;
-mod lines;
-mod names;
+mod blocks;
+mod context;
+mod expressions;
+mod leaves;
+mod marks;
+mod parser;
+mod simple;
+mod stop;
 
-pub use first::{FirstFault, one_list_of_lines, parse_first};
-pub use lines::{Line, Module};
-
-#[cfg(test)]
-mod tests;
+pub use parser::{SyntaxFault, parse};

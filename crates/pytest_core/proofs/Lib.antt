@@ -1,2 +1,2 @@
-pub mod Encoded
+pub mod Held
 pub mod Reports

@@ -1,5 +1,5 @@
-pub mod Outcomes
 pub mod Report
 pub mod Status
 pub mod Texts
 pub mod Written
+pub mod Sources

@@ -1,16 +1,21 @@
-use Rattle.std.specs.Prelude.{MatchBool, ◌||◌, ◌≡◌, ℕ, List, [], ◌∷◌, ◌++◌, Bool, true, false, Option, None, Some, MatchOption, IsUtf8, codes, length, nat_eq, not, ◌&&◌, ◌==◌, bytes_eq, if◌then◌else◌, nat_lt, is_some, MatchResult, Result, Ok, Err}
+use Rattle.std.specs.Prelude.{MatchBool, ◌||◌, ◌≡◌, ℕ, List, [], ◌∷◌, ◌++◌, Bool, true, false, Option, None, Some, MatchOption, IsUtf8, codes, length, nat_eq, not, ◌&&◌, ◌==◌, chars, bytes_eq, if◌then◌else◌, is_some, MatchResult, Result, Ok, Err}
 use Rattle.std.specs.List.{starts_with, ends_with, list_any}
 use Rattle.edge_io.specs.Files.{File, IsKept, file_at, tree_limit}
-use Rattle.py_parse.specs.declared.lines.Line.{Line}
-use Rattle.py_parse.specs.First.{IsFirst}
+use Rattle.py_grammar.specs.Sources.{Reads}
+use Rattle.py_tokens.specs.Layout.{layout}
+use Rattle.py_tokens.specs.declared.token.Token.{Token}
+use Rattle.py_tree.specs.Statements.{Block}
+use Rattle.source_meaning.specs.Meaning.{source}
 use Rattle.cli_words.specs.Faults.{usage_text}
 use Rattle.cli_words.specs.Options.{asks_for_workers, options_of}
 use Rattle.cli_words.specs.declared.fault.UsageFault.{UsageFault}
 use Rattle.cli_words.specs.declared.options.Options.{Options}
 use Rattle.report_text.specs.declared.report.ItemReport.{ItemReport}
 use Rattle.report_text.specs.Blocks.{has_failed}
-use Rattle.pytest_core.specs.Outcomes.{items_of}
-use Rattle.pytest_core.specs.Texts.{limit_text, report, until_failures, usage}
+use Rattle.file_session.specs.Session.{says_of}
+use Rattle.file_session.specs.declared.says.Says.{Says}
+use Rattle.file_session.specs.declared.says.Says.TheVariants as file
+use Rattle.pytest_core.specs.Texts.{limit_text, report, usage}
 use Rattle.pytest_core.specs.declared.status.Status.{Status}
 use Rattle.pytest_core.specs.declared.status.Status.TheVariants.{Passed, Failed, Interrupted, Usage, NoTests, OutOfMemory, TreeFault, SinkFault}
 
@@ -58,8 +63,7 @@ asks_for_more options =
     || (asks_for_workers options
     || (not (length options.ignore == 0)
     || (options.setup_show
-    || (not (options.step_limit == 1000000)
-    || is_some options.generated)))))
+    || is_some options.generated))))
 
 -- the one path of a list, where that is a plain word
 abbrev pub one_path : List (List ℕ) → Option (List ℕ)
@@ -71,28 +75,24 @@ one_path (word ∷ other ∷ words) = None
 abbrev pub plain_word : Options → Option (List ℕ)
 plain_word options = if asks_for_more options then None else one_path options.paths
 
--- no file that is within the limits of the tree has more lines than this
-abbrev pub most_lines : ℕ
-most_lines = 1048577
+-- the status of a run of so many tests
+abbrev pub status_of : ℕ → List ItemReport → Status
+status_of count reports = if count == 0 then NoTests else if list_any has_failed reports then Failed else Passed
 
-abbrev pub most_items : ℕ
-most_items = 65536
+-- what is printed for what is said of a file
+abbrev pub told : Options → Says → Answer
+told options file.NotBuilt = not_built
+told options file.TooMany = refusal (codes "too many items")
+told options (file.Ran count reports) = (report options count reports, status_of count reports)
 
--- what is said of a file's tests, and of those that ran
-abbrev pub told : Options → List ItemReport → List ItemReport → Answer
-told options items ran = (report options items ran, if list_any has_failed ran then Failed else Passed)
+-- THE SOURCE of bytes: they are a text, whose tokens are read as this tree
+pub data Holds (bytes : List ℕ) (block : Block) : Type 0 where
+  read : (tokens : List Token) → IsUtf8 bytes → layout (chars bytes) ≡ Ok tokens → Reads tokens block → Holds bytes block
 
-abbrev pub counted_items : Options → List ItemReport → Answer
-counted_items options items = if nat_lt most_items (length items) then refusal (codes "too many items") else told options items (until_failures options.maxfail items)
-
--- what is said of the lines of a file of plain tests
-abbrev pub ran : Options → List ℕ → List Line → Answer
-ran options file lines = if nat_lt most_lines (length lines) then not_built else counted_items options (items_of options.collect_only file 1 lines)
-
--- what is said of a file's bytes
+-- what is said of a file's bytes: what its source does, or that it has none
 pub data SaysOf (options : Options) (file bytes : List ℕ) (answer : Answer) : Type 0 where
-  Ran : (lines : List Line) → IsUtf8 bytes → IsFirst bytes lines → answer ≡ ran options file lines → SaysOf options file bytes answer
-  NotRead : ((lines : List Line) → IsUtf8 bytes → IsFirst bytes lines → ⊥) → answer ≡ not_built → SaysOf options file bytes answer
+  Ran : (block : Block) → Holds bytes block → answer ≡ told options (says_of source options file bytes block) → SaysOf options file bytes answer
+  NotRead : ((block : Block) → Holds bytes block → ⊥) → answer ≡ not_built → SaysOf options file bytes answer
 
 -- what is said of a word over the kept files
 abbrev pub SaysOfWord : Options → List ℕ → List File → Answer → Type 0

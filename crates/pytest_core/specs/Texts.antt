@@ -1,4 +1,4 @@
-use Rattle.std.specs.Prelude.{ℕ, ◌-◌, List, [], ◌∷◌, ◌++◌, length, codes, Bool, not, ◌&&◌, ◌==◌, count_by, if◌then◌else◌}
+use Rattle.std.specs.Prelude.{ℕ, List, [], ◌++◌, codes, Bool, not, ◌&&◌, ◌==◌, count_by}
 use Rattle.texts.specs.Texts.{ended}
 use Rattle.cli_words.specs.declared.options.Options.{Options}
 use Rattle.edge_io.specs.Files.{TreeLimit, ManyFiles, LargeFile, LargeTree}
@@ -18,26 +18,14 @@ limit_text ManyFiles = codes "too many files"
 limit_text (LargeFile path) = codes "file too large: " ++ path
 limit_text LargeTree = codes "tree too large"
 
--- whether a run that stops after so many more failures ends with this item
-abbrev pub ends_run : ℕ → ItemReport → Bool
-ends_run left item = has_failed item && left == 1
-
-abbrev pub left_behind : ℕ → ItemReport → ℕ
-left_behind left item = if has_failed item then left - 1 else left
-
--- the items that run: those up to the one with which so many have failed, and all of them for 0
-abbrev pub until_failures : ℕ → List ItemReport → List ItemReport
-until_failures left [] = []
-until_failures left (item ∷ items) = item ∷ (if ends_run left item then [] else until_failures (left_behind left item) items)
-
 -- whether a run stopped
 abbrev pub has_reached : ℕ → List ItemReport → Bool
 has_reached maxfail ran = not (maxfail == 0) && count_by has_failed ran == maxfail
 
--- the report of a run of these items, without errors of collection, without workers, and in which nothing was deselected
-abbrev pub report : Options → List ItemReport → List ItemReport → List ℕ
-report options items ran =
-    ((head_of (length items) 0 0 0
+-- the report of a run that collected so many items and ran these, without errors of collection, without workers, and in which nothing was deselected
+abbrev pub report : Options → ℕ → List ItemReport → List ℕ
+report options count ran =
+    ((head_of count 0 0 0
     ++ progress_of options ran [])
     ++ sections_of options.tb [] ran)
-    ++ summary_of options [] ran (length items) 0 (has_reached options.maxfail ran)
+    ++ summary_of options [] ran count 0 (has_reached options.maxfail ran)

@@ -1,19 +1,18 @@
-ghost use Rattle.std.specs.Prelude.{◌≡◌, if◌then◌else◌, IfErr, IfOk, IfSome, IsSome, IsTrue, IsErrOf, map, string_bytes};
-ghost use Rattle.std.specs.List.{list_any};
+ghost use Rattle.std.specs.Prelude.{◌≡◌, IfErr, IfOk, IfSome, IsSome, IsTrue, IsErrOf, map, string_bytes};
 ghost use Rattle.cli_words.specs.Faults.{usage_text};
-ghost use Rattle.report_text.specs.Blocks.{has_failed};
 ghost use Rattle.edge_io.specs.Causes.{HasCause};
+ghost use Rattle.file_session.specs.Session.{IsFew};
 ghost use Rattle.edge_io.specs.LoadFaults.{limit_of};
-ghost use Rattle.pytest_core.specs.Report.{IsReport, SaysOf, SaysOfOptions, SaysOfWord, asked_word, counted_items, is_said, not_found, plain_word, ran, refusal};
+ghost use Rattle.pytest_core.specs.Report.{IsReport, SaysOf, SaysOfOptions, SaysOfWord, asked_word, is_said, not_found, plain_word, refusal};
 ghost use Rattle.pytest_core.specs.Texts.{limit_text};
 
-use crate::outcome::item_reports;
-use crate::report::{any_failed, push_usage, report_bytes, until_failures};
+use crate::report::{any_failed, push_usage, report_bytes};
+use crate::source::core_of;
 use crate::status::Status;
 use crate::word::plain_word_of;
 use cli_words::{Options, UsageFault, read_words};
 use edge_io::{Files, LoadFault, Tree, load_files};
-use py_parse::{FirstFault, Line, parse_first};
+use file_session::{Says, run_file};
 use report_text::{ItemReport, OutOfMemory};
 use std::alloc::{AllocError, Global};
 
@@ -63,44 +62,34 @@ fn refused_of(alloc: Global, fault: &UsageFault) -> Result<Answer, AllocError>
     usage_of(alloc, text.as_str())
 }
 
-fn status_of(items: &[ItemReport]) -> Status
-    ensures answer { result ≡ (if list_any has_failed items.now then Status.Failed else Status.Passed) }
+fn status_of(count: u32, reports: &[ItemReport]) -> Status
+    ensures answer { result ≡ meant.status_of count reports.now }
     ensures said { IsTrue (is_said result) }
 {
-    if any_failed(items) {
+    if count == 0 {
+        return Status::NoTests;
+    }
+    if any_failed(reports) {
         return Status::Failed;
     }
     Status::Passed
 }
 
-fn counted_of(alloc: Global, options: &Options, items: &[ItemReport]) -> Result<Answer, AllocError>
-    ensures answer { IfOk result (λ a. (a.0.items, a.1) ≡ counted_items options.now items.now) }
-    ensures said { IfOk result (λ a. IsTrue (is_said a.1)) }
-{
-    if items.len() > 65_536 {
-        return usage_of(alloc, "too many items");
-    }
-    let ran = until_failures(items, options.maxfail);
-    match report_bytes(alloc, options, items, ran) {
-        Ok(bytes) => Ok((bytes, status_of(ran))),
-        Err(OutOfMemory) => Err(AllocError),
-    }
-}
+ghost use Rattle.pytest_core.specs.Report as meant;
 
-fn ran_of(
-    alloc: Global,
-    options: &Options,
-    file: &str,
-    lines: &[Line],
-) -> Result<Answer, AllocError>
-    ensures answer { IfOk result (λ a. (a.0.items, a.1) ≡ ran options.now file.now lines.now) }
+/// The report of what is said of a file.
+fn told(alloc: Global, options: &Options, says: &Says) -> Result<Answer, AllocError>
+    requires { IsFew says.now }
+    ensures answer { IfOk result (λ a. (a.0.items, a.1) ≡ meant.told options.now says.now) }
     ensures said { IfOk result (λ a. IsTrue (is_said a.1)) }
 {
-    if lines.len() > 1_048_577 {
-        return usage_of(alloc, "not built");
-    }
-    match item_reports(alloc, options.collect_only, file, lines) {
-        Ok(items) => counted_of(alloc, options, &items),
+    let (count, reports) = match says {
+        Says::NotBuilt => return usage_of(alloc, "not built"),
+        Says::TooMany => return usage_of(alloc, "too many items"),
+        Says::Ran(count, reports) => (*count, reports.items()),
+    };
+    match report_bytes(alloc, options, count, reports) {
+        Ok(bytes) => Ok((bytes, status_of(count, reports))),
         Err(OutOfMemory) => Err(AllocError),
     }
 }
@@ -109,13 +98,12 @@ fn says_of(alloc: Global, options: &Options, file: &str, bytes: &[u8]) -> Result
     ensures answer { IfOk result (λ a. SaysOf options.now file.now bytes.now (a.0.items, a.1)) }
     ensures said { IfOk result (λ a. IsTrue (is_said a.1)) }
 {
-    let Ok(text) = str::from_utf8(bytes) else {
+    let Some(code) = core_of(alloc, bytes)? else {
         return usage_of(alloc, "not built");
     };
-    match parse_first(alloc, text) {
-        Ok(module) => ran_of(alloc, options, file, module.items()),
-        Err(FirstFault::NotBuilt) => usage_of(alloc, "not built"),
-        Err(FirstFault::OutOfMemory) => Err(AllocError),
+    match run_file(alloc, options, file, bytes, code) {
+        Ok(says) => told(alloc, options, &says),
+        Err(OutOfMemory) => Err(AllocError),
     }
 }
 

@@ -2,9 +2,9 @@
 #![tactic(auto)]
 
 mod answer;
-mod outcome;
 mod report;
 mod run;
+mod source;
 mod status;
 mod word;
 

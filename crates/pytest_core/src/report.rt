@@ -1,7 +1,7 @@
-ghost use Rattle.std.specs.Prelude.{◌≡◌, ◌++◌, ◌≤◌, OnOk, IfOk, string_bytes, length};
+ghost use Rattle.std.specs.Prelude.{◌≡◌, ◌++◌, ◌≤◌, OnOk, IfOk, string_bytes};
 ghost use Rattle.std.specs.List.{list_any};
 ghost use Rattle.report_text.specs.Blocks.{has_failed};
-ghost use Rattle.pytest_core.specs.Texts.{ends_run, has_reached, left_behind, report, until_failures, usage};
+ghost use Rattle.pytest_core.specs.Texts.{has_reached, report, usage};
 
 use cli_words::Options;
 use report_text::{ItemReport, OutOfMemory, PhaseEnd, head, progress, sections, summary};
@@ -32,36 +32,6 @@ pub fn any_failed(items: &[ItemReport]) -> bool
     items.iter().any(has_failed)
 }
 
-/// Whether the run ends with this item, where so many failures are left until it is to stop.
-fn ends_run(item: &ItemReport, left: u32) -> bool
-    ensures { result ≡ ends_run left item.now }
-{
-    has_failed(item) && left == 1
-}
-
-fn left_behind(item: &ItemReport, left: u32) -> u32
-    ensures { result ≡ left_behind left item.now }
-{
-    if has_failed(item) {
-        return left.saturating_sub(1);
-    }
-    left
-}
-
-/// The items up to the one with which so many have failed; all of them for 0.
-pub fn until_failures(items: &[ItemReport], maxfail: u32) -> &[ItemReport]
-    ensures { result.now ≡ until_failures maxfail items.now }
-{
-    let mut left = maxfail;
-    for (index, item) in items.iter().enumerate() {
-        if ends_run(item, left) {
-            return &items[..index + 1];
-        }
-        left = left_behind(item, left);
-    }
-    items
-}
-
 fn has_reached(ran: &[ItemReport], maxfail: u32) -> bool
     ensures { result ≡ has_reached maxfail ran.now }
 {
@@ -73,13 +43,12 @@ fn has_reached(ran: &[ItemReport], maxfail: u32) -> bool
 pub fn report_bytes(
     alloc: Global,
     options: &Options,
-    items: &[ItemReport],
+    count: u32,
     ran: &[ItemReport],
 ) -> Result<Vec<u8>, OutOfMemory>
-    requires { length items.now ≤ 65536 }
-    ensures { IfOk result (λ bytes. bytes.items ≡ report options.now items.now ran.now) }
+    requires { count ≤ 65536 }
+    ensures { IfOk result (λ bytes. bytes.items ≡ report options.now count ran.now) }
 {
-    let count = items.len() as u32;
     let stopped = has_reached(ran, options.maxfail);
     let mut out = head(alloc, options, count, 0, 0, 0)?;
     let progress = progress(alloc, options, ran, &[])?;

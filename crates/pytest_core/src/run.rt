@@ -7,7 +7,6 @@ ghost use Rattle.pytest_core.specs.Written.{Wrote};
 use crate::answer::{RunFault, answer};
 use crate::status::Status;
 use edge_io::{Gate, Sink, SinkFail, Tree, one_list_of_kept_files, put_all};
-use py_parse::one_list_of_lines;
 use std::alloc::Global;
 use std::thread::Threads;
 
@@ -48,5 +47,4 @@ pub fn one_report()
     ensures { (words : List (List ℕ)) (tree : List File) (a b : Answer) → IsReport words tree a → IsReport words tree b → a ≡ b }
 {
     one_list_of_kept_files();
-    one_list_of_lines();
 }

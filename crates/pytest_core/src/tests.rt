@@ -56,6 +56,35 @@ test_a.py::test_one
 =============================== 1 test collected ===============================
 ";
 
+const NO_TESTS: &str = "\
+============================= test session starts ==============================
+collected 0 items
+
+================================= no tests ran =================================
+";
+
+const FACTORIAL: &str =
+    "def fact(n):\n    r = 1\n    while n > 0:\n        r = r * n\n        n = n - 1\n    return r\n\n\
+        def test_f():\n    assert fact(4) == 24\n";
+
+const LIMITED: &str = "\
+============================= test session starts ==============================
+collected 1 item
+
+test_a.py F
+
+=================================== FAILURES ===================================
+____________________________________ test_f ____________________________________
+test_a.py:9: in test_f
+    assert fact(4) == 24
+test_a.py:3: in fact
+    while n > 0:
+E   StepLimit: step limit of 3 reached
+=========================== short test summary info ============================
+FAILED test_a.py::test_f - StepLimit: step limit of 3 reached
+=================================== 1 failed ===================================
+";
+
 fn words(alloc: Global, words: &[&str]) -> Result<Vec<String>, AllocError> {
     let mut made = Vec::new(alloc);
     for word in words {
@@ -91,7 +120,17 @@ fn writes_the_report_and_answers_its_status(rt: HostRuntime) -> Result<(), Fail>
             4,
         ),
         ("nope.py", PASSES, "ERROR: not found: nope.py\n", 4),
-        ("test_a.py", "x = 1\n", "ERROR: not built\n", 4),
+        ("test_a.py", "x = 1\n", NO_TESTS, 5),
+        ("--step-limit=3 test_a.py", FACTORIAL, LIMITED, 1),
+        ("test_a.py", "x = 1 // 0\n", "ERROR: not built\n", 4),
+        ("test_a.py", "x = $\n", "ERROR: not built\n", 4),
+        ("test_a.py", "x = = 1\n", "ERROR: not built\n", 4),
+        (
+            "test_a.py",
+            "def test_x(a):\n    pass\n",
+            "ERROR: not built\n",
+            4,
+        ),
         ("conftest.py", PASSES, "ERROR: not built\n", 4),
         ("-- -a.py", PASSES, "ERROR: not built\n", 4),
         ("sub/test_a.py", PASSES, "ERROR: not built\n", 4),

@@ -44,7 +44,6 @@ fn asks_for_more(options: &Options) -> bool
         || options.asks_for_workers()
         || options.ignore.items().len() != 0
         || options.setup_show
-        || options.step_limit != 1_000_000
         || options.generated.is_some()
 }
 

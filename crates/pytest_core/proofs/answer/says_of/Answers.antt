@@ -1,7 +1,12 @@
+use Rattle.std.proofs.Common.{subst}
 use Rattle.std.proofs.lemmas.Result.{IfOk-weaker}
-use Rattle.pytest_core.proofs.Reports.{says_ran}
+use Rattle.pytest_core.specs.Sources.{HasCore}
+use Rattle.pytest_core.proofs.Held.{says_ran}
 use Rattle.pytest_core.proofs.answer.says_of.Goals as goal
 
-pub returns-in-Ok-parse_first-clause-answer : goal.returns-in-Ok-parse_first-clause-answer
-returns-in-Ok-parse_first-clause-answer c =
-    IfOk-weaker c.ran_of.result _ _ (λ a h. says_ran c.args.options.now c.args.file.now c.in-Ok.text.now c.args.bytes.now c.in-Ok-parse_first.module c.items.result.now (a.0.items, a.1) c.in-Ok.ensures.cases c.in-Ok-parse_first.ensures.found c.items.ensures h) c.ran_of.ensures.answer
+pub returns-in-Ok-clause-answer : goal.returns-in-Ok-clause-answer
+returns-in-Ok-clause-answer c =
+    IfOk-weaker c.told.result _ _
+    (λ a h. says_ran c.args.options.now c.args.file.now c.args.bytes.now c.in-Some.code c.in-Ok.says (a.0.items, a.1)
+    (subst (HasCore c.args.bytes.now) c.in-Some.is c.in_ok-code.ensures) c.in-Ok.ensures.source h)
+    c.told.ensures.answer

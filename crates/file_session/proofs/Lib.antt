@@ -1,0 +1,4 @@
+pub mod Alike
+pub mod Encoded
+pub mod Entries
+pub mod Frames

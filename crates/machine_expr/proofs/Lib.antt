@@ -1,0 +1,4 @@
+pub mod Parts
+pub mod Rows
+pub mod Naming
+pub mod Temps

@@ -1,0 +1,79 @@
+-- The parts of an expression as a list.
+use Rattle.std.proofs.Common.{◌≡◌, ℕ, List, [], ◌∷◌, map, refl, sym, ap, ◌∙◌, ◌+◌, ◌<◌, arith}
+use Rattle.run_tree.specs.Todo.{Note}
+use Rattle.std.specs.declared.alloc.Global.{Global}
+use Rattle.std.specs.declared.rc.Rc.{Rc}
+use Rattle.std.specs.declared.vec.Vec.{Vec}
+use Rattle.std.specs.List.{sum_by}
+use Rattle.std.proofs.lemmas.List.Sums.{sum_by-cons}
+use Rattle.py_source.specs.declared.pos.Pos.{Pos}
+use Rattle.py_core.specs.declared.expr.CoreExpr.{CoreExpr}
+use Rattle.py_core.specs.declared.expr.CoreExprKind.{CoreExprKind, Row_of-CoreExprKind-Call-1-1 as Row, end_of-CoreExprKind-Call-1-1 as end, more_of-CoreExprKind-Call-1-1 as more}
+use Rattle.py_core.specs.declared.expr.CoreExprKind.TheBlock.{items-the_row-CoreExprKind-Call-1-1 as items, items_hidden-the_row-CoreExprKind-Call-1-1-0 as items_hidden, hidden-the_row-CoreExprKind-Call-1-1-0 as hidden}
+use Rattle.py_core.specs.declared.expr.CoreExprKind.TheVariants as v
+use Rattle.py_tree.specs.declared.op.BinOp.{BinOp}
+use Rattle.py_tree.specs.declared.op.CmpOp.{CmpOp}
+use Rattle.py_tree.specs.declared.op.UnOp.{UnOp}
+use Rattle.py_world.specs.Site.{Site}
+use Rattle.py_world.specs.Expressions.{call_part, and_part, or_part, compare_part, unary_part, binary_part, choice_part, kept_part}
+use Rattle.core_meaning.specs.Expressions.{CorePart, eval, eval_at, parts}
+use Rattle.machine_state.specs.Frames.{CoreState, CoreThen, parts_from}
+use Rattle.machine_state.specs.Work.{weight, weight_at, weights, weight_from}
+use Rattle.machine_expr.specs.Noting.{with_note}
+
+parts_row : {n : _} (row : Row n) → parts row ≡ map (λ e. eval e.value) (items n row)
+parts_row end = refl
+parts_row (more p a e row) = ap (λ (xs : List CorePart). eval_at a e ∷ xs) (parts_row row)
+
+pub parts_items : (es : Vec (Rc CoreExpr Global) Global) → parts (hidden es) ≡ map (λ e. eval e.value) es.items
+parts_items es = parts_row (hidden es) ∙ ap (map (λ (e : Rc CoreExpr Global). eval e.value)) (items_hidden es)
+
+weights_row : {n : _} (row : Row n) → weights row ≡ sum_by (λ e. weight e.value + 1) (items n row)
+weights_row end = refl
+weights_row (more {n = n} p a e row) =
+    ap (λ (w : ℕ). weight_at e + 1 + w) (weights_row row)
+    ∙ sym (sum_by-cons {X = Rc CoreExpr Global} (λ e. weight e.value + 1) (record { ptr = p.ptr; value = record { at = a; kind = e } }) (items n row))
+
+pub weights_items : (es : Vec (Rc CoreExpr Global) Global) → weights (hidden es) ≡ sum_by (λ e. weight e.value + 1) es.items
+weights_items es = weights_row (hidden es) ∙ ap (sum_by (λ (e : Rc CoreExpr Global). weight e.value + 1)) (items_hidden es)
+
+module _ (kind : CoreExprKind) (at : Pos) (a : Rc CoreExpr Global) (es : Rc (Vec (Rc CoreExpr Global) Global) Global) (p : Site) (s : CoreState) (k : CoreThen) where
+  pub call_begins : kind ≡ v.Call a es → with_note at kind (call_part (eval a.value) (parts_from 0 es) p s k) ≡ eval_at at kind p s k
+  call_begins is = rw is (ap (λ (ps : List CorePart). Note at (call_part (eval a.value) ps p s k)) (sym (parts_items es.value)))
+
+  pub and_begins : kind ≡ v.And a es → with_note at kind (and_part (eval a.value) (parts_from 0 es) p s k) ≡ eval_at at kind p s k
+  and_begins is = rw is (ap (λ (ps : List CorePart). Note at (and_part (eval a.value) ps p s k)) (sym (parts_items es.value)))
+
+  pub or_begins : kind ≡ v.Or a es → with_note at kind (or_part (eval a.value) (parts_from 0 es) p s k) ≡ eval_at at kind p s k
+  or_begins is = rw is (ap (λ (ps : List CorePart). Note at (or_part (eval a.value) ps p s k)) (sym (parts_items es.value)))
+
+  pub compare_begins : (ops : Rc (Vec CmpOp Global) Global) → kind ≡ v.Compare a ops es → with_note at kind (compare_part (eval a.value) ops.value.items (parts_from 0 es) p s k) ≡ eval_at at kind p s k
+  compare_begins ops is = rw is (ap (λ (ps : List CorePart). Note at (compare_part (eval a.value) ops.value.items ps p s k)) (sym (parts_items es.value)))
+
+module _ (kind : CoreExprKind) (at : Pos) (p : Site) (s : CoreState) (k : CoreThen) where
+  pub unary_begins : (op : UnOp) (a : Rc CoreExpr Global) → kind ≡ v.Unary op a → with_note at kind (unary_part op (eval a.value) p s k) ≡ eval_at at kind p s k
+  unary_begins op a is = rw is refl
+
+  pub binary_begins : (a b b' : Rc CoreExpr Global) (op : BinOp) → kind ≡ v.Binary a op b → b'.value ≡ b.value
+      → with_note at kind (binary_part (eval a.value) op (eval b'.value) p s k) ≡ eval_at at kind p s k
+  binary_begins a b b' op is same = rw (is, same) refl
+
+  pub choice_begins : (a c b a' b' : Rc CoreExpr Global) → kind ≡ v.IfElse a c b → a'.value ≡ a.value → b'.value ≡ b.value
+      → with_note at kind (choice_part (eval a'.value) (eval c.value) (eval b'.value) p s k) ≡ eval_at at kind p s k
+  choice_begins a c b a' b' is same alike = rw (is, same, alike) refl
+
+  pub keep_begins : (t : ℕ) (a : Rc CoreExpr Global) → kind ≡ v.SetTemp t a → with_note at kind (kept_part t (eval a.value) p s k) ≡ eval_at at kind p s k
+  keep_begins t a is = rw is refl
+
+module _ (kind : CoreExprKind) (a : Rc CoreExpr Global) (es : Rc (Vec (Rc CoreExpr Global) Global) Global) where
+  pub call_weight : kind ≡ v.Call a es → weight a.value + (weight_from 0 es + 4) ≡ weight_at kind
+  call_weight is = let e : weights (hidden es.value) ≡ weight_from 0 es = weights_items es.value in rw is (omega (arith, e))
+
+  pub and_weight : kind ≡ v.And a es → weight a.value + (weight_from 0 es + 2) ≡ weight_at kind
+  and_weight is = let e : weights (hidden es.value) ≡ weight_from 0 es = weights_items es.value in rw is (omega (arith, e))
+
+  pub or_weight : kind ≡ v.Or a es → weight a.value + (weight_from 0 es + 2) ≡ weight_at kind
+  or_weight is = let e : weights (hidden es.value) ≡ weight_from 0 es = weights_items es.value in rw is (omega (arith, e))
+
+  pub compare_weight : (ops : Rc (Vec CmpOp Global) Global) → kind ≡ v.Compare a ops es → weight a.value + (weight_from 0 es + 3) ≡ weight_at kind
+  compare_weight ops is = let e : weights (hidden es.value) ≡ weight_from 0 es = weights_items es.value in rw is (omega (arith, e))

@@ -1,0 +1,178 @@
+// Expressions begin.
+
+ghost use Rattle.std.specs.Prelude.{◌≡◌, ◌+◌, ◌<◌, ◌∷◌, IfOk, OnOk};
+ghost use Rattle.py_world.specs.World.{set_at, temp};
+ghost use Rattle.py_world.specs.Outcome.{Gave};
+ghost use Rattle.py_world.specs.Expressions as world;
+ghost use Rattle.core_meaning.specs.Expressions.{eval};
+ghost use Rattle.machine_state.specs.Frames.{after, outer_of, parts_from, rest_of, site_now, site_of, state_of, todo};
+ghost use Rattle.machine_state.specs.Work.{doing_work, frame_work, stack_work, weight, weight_from};
+ghost use Rattle.machine_expr.specs.Noting.{with_note};
+
+use crate::names::{Looked, look_up};
+use machine_state::frame::{CallFrame, ChainFrame, End, Frame, OperandFrame};
+use machine_state::machine::{Doing, Machine, Origin};
+use py_core::{CmpOp, CoreExpr, CoreExprKind, SrcText};
+use py_text::{OutOfMemory, PyText};
+use py_values::class::ExcClass;
+use py_values::end::Raise;
+use py_values::object::Obj;
+use py_values::value::Value;
+use std::rc::Rc;
+
+/// The most characters of a text.
+const MOST_LONG: usize = 65536;
+
+/// Puts a frame on the stack, and goes on with an expression.
+pub fn descend(m: &mut Machine, frame: Frame, e: &Rc<CoreExpr>) -> Result<Doing, OutOfMemory>
+    ensures next { IfOk result (λ d. todo d m.new
+        ≡ eval e.now.value (site_of m.old.here (outer_of (frame ∷ m.old.stack))) (state_of m.old) (after (frame ∷ m.old.stack) m.old.here)) }
+    ensures left { m.new.left ≡ m.old.left }
+    ensures work { IfOk result (λ d. doing_work d + stack_work m.new ≡ weight e.now.value + (frame_work frame + stack_work m.old)) }
+{
+    m.stack.push(frame)?;
+    Ok(Doing::Evaluate(e.clone()?))
+}
+
+/// The value of a name.
+fn name_value(m: &mut Machine, name: &SrcText) -> Result<Doing, OutOfMemory>
+    ensures next { IfOk result (λ d. todo d m.new ≡ world.name_part name.now (site_now m.old) (state_of m.old) (rest_of m.old)) }
+    ensures left { m.new.left ≡ m.old.left }
+    ensures work { IfOk result (λ d. doing_work d ≡ 0) }
+    ensures stack { m.new.stack ≡ m.old.stack }
+{
+    match look_up(m, name)? {
+        Looked::Value(v) => Ok(Doing::Back(End::Value(v))),
+        Looked::Fails(raise) => m.raise(raise, Origin::Code),
+    }
+}
+
+/// A text, which is a new object at each evaluation.
+fn text_made(m: &mut Machine, text: &SrcText) -> Result<Doing, OutOfMemory>
+    ensures next { IfOk result (λ d. todo d m.new ≡ world.text_part text.now (site_now m.old) (state_of m.old) (rest_of m.old)) }
+    ensures left { m.new.left ≡ m.old.left }
+    ensures work { IfOk result (λ d. doing_work d ≡ 0) }
+    ensures stack { m.new.stack ≡ m.old.stack }
+{
+    if text.chars().len() > MOST_LONG {
+        let raise = Raise::from_ascii(m.alloc, ExcClass::MemoryError, "sequence too long")?;
+        return m.raise(raise, Origin::Code);
+    }
+    let text = PyText::from_chars(m.alloc, text.chars())?;
+    let id = m.heap.add(Obj::Text(text))?;
+    Ok(Doing::Back(End::Value(Value::Ref(id))))
+}
+
+/// The value of a temporary.
+fn temp_value(m: &Machine, t: u32) -> Value
+    ensures { Gave result (state_of m.now) ≡ world.temp_found (temp t (state_of m.now)) (state_of m.now) }
+{
+    match m.temps.get(t as usize) {
+        Some(Some(v)) => *v,
+        _ => Value::None,
+    }
+}
+
+#[tactic(auto, using(crate::proofs::Temps::set_grown, crate::proofs::Temps::set_within))]
+/// Sets a temporary.
+pub fn set_temp(temps: &mut Vec<Option<Value>>, t: u32, v: Value) -> Result<(), OutOfMemory>
+    ensures { OnOk result (temps.new.items ≡ set_at t v temps.old.items) }
+{
+    let at = t as usize;
+    'grow: while temps.len() <= at {
+        temps.push(None)?;
+    }
+    temps[at] = Some(v);
+    Ok(())
+}
+
+fn begin_call(
+    m: &mut Machine,
+    f: &Rc<CoreExpr>,
+    es: &Rc<Vec<Rc<CoreExpr>>>,
+) -> Result<Doing, OutOfMemory>
+    ensures next { IfOk result (λ d. todo d m.new ≡ world.call_part (eval f.now.value) (parts_from 0 es.now) (site_now m.old) (state_of m.old) (rest_of m.old)) }
+    ensures left { m.new.left ≡ m.old.left }
+    ensures work { IfOk result (λ d. doing_work d + stack_work m.new ≡ weight f.now.value + (weight_from 0 es.now + 3 + stack_work m.old)) }
+{
+    let operands = es.clone()?;
+    let frame = Frame::Call(CallFrame::Callee(operands));
+    descend(m, frame, f)
+}
+
+fn begin_and(
+    m: &mut Machine,
+    a: &Rc<CoreExpr>,
+    es: &Rc<Vec<Rc<CoreExpr>>>,
+) -> Result<Doing, OutOfMemory>
+    ensures next { IfOk result (λ d. todo d m.new ≡ world.and_part (eval a.now.value) (parts_from 0 es.now) (site_now m.old) (state_of m.old) (rest_of m.old)) }
+    ensures left { m.new.left ≡ m.old.left }
+    ensures work { IfOk result (λ d. doing_work d + stack_work m.new ≡ weight a.now.value + (weight_from 0 es.now + 1 + stack_work m.old)) }
+{
+    let operands = es.clone()?;
+    let frame = Frame::Chain(ChainFrame::And(operands, 0));
+    descend(m, frame, a)
+}
+
+fn begin_or(
+    m: &mut Machine,
+    a: &Rc<CoreExpr>,
+    es: &Rc<Vec<Rc<CoreExpr>>>,
+) -> Result<Doing, OutOfMemory>
+    ensures next { IfOk result (λ d. todo d m.new ≡ world.or_part (eval a.now.value) (parts_from 0 es.now) (site_now m.old) (state_of m.old) (rest_of m.old)) }
+    ensures left { m.new.left ≡ m.old.left }
+    ensures work { IfOk result (λ d. doing_work d + stack_work m.new ≡ weight a.now.value + (weight_from 0 es.now + 1 + stack_work m.old)) }
+{
+    let operands = es.clone()?;
+    let frame = Frame::Chain(ChainFrame::Or(operands, 0));
+    descend(m, frame, a)
+}
+
+fn begin_compare(
+    m: &mut Machine,
+    a: &Rc<CoreExpr>,
+    ops: &Rc<Vec<CmpOp>>,
+    es: &Rc<Vec<Rc<CoreExpr>>>,
+) -> Result<Doing, OutOfMemory>
+    ensures next { IfOk result (λ d. todo d m.new ≡ world.compare_part (eval a.now.value) ops.now.value.items (parts_from 0 es.now) (site_now m.old) (state_of m.old) (rest_of m.old)) }
+    ensures left { m.new.left ≡ m.old.left }
+    ensures work { IfOk result (λ d. doing_work d + stack_work m.new ≡ weight a.now.value + (weight_from 0 es.now + 2 + stack_work m.old)) }
+{
+    let operators = ops.clone()?;
+    let operands = es.clone()?;
+    let frame = Frame::Chain(ChainFrame::First(operators, operands));
+    descend(m, frame, a)
+}
+
+/// Begins an expression.
+pub fn evaluate(m: &mut Machine, e: &CoreExpr) -> Result<Doing, OutOfMemory>
+    ensures next { IfOk result (λ d. with_note e.now.at e.now.kind (todo d m.new) ≡ eval e.now (site_now m.old) (state_of m.old) (rest_of m.old)) }
+    ensures left { m.new.left ≡ m.old.left }
+    ensures work { IfOk result (λ d. doing_work d + stack_work m.new < weight e.now + stack_work m.old) }
+{
+    match &e.kind {
+        CoreExprKind::Name(name) => name_value(m, name),
+        CoreExprKind::Number(n) => Ok(Doing::Back(End::Value(Value::Int(*n)))),
+        CoreExprKind::Text(text) => text_made(m, text),
+        CoreExprKind::True => Ok(Doing::Back(End::Value(Value::Bool(true)))),
+        CoreExprKind::False => Ok(Doing::Back(End::Value(Value::Bool(false)))),
+        CoreExprKind::None => Ok(Doing::Back(End::Value(Value::None))),
+        CoreExprKind::Paren(a) => Ok(Doing::Evaluate(a.clone()?)),
+        CoreExprKind::Call(f, es) => begin_call(m, f, es),
+        CoreExprKind::Unary(op, a) => { descend(m, Frame::Operand(OperandFrame::Unary(*op)), a) }
+        CoreExprKind::Binary(a, op, b) => {
+            let frame = Frame::Operand(OperandFrame::Right(*op, b.clone()?));
+            descend(m, frame, a)
+        }
+        CoreExprKind::Compare(a, ops, es) => begin_compare(m, a, ops, es),
+        CoreExprKind::Not(a) => descend(m, Frame::Operand(OperandFrame::Not), a),
+        CoreExprKind::And(a, es) => begin_and(m, a, es),
+        CoreExprKind::Or(a, es) => begin_or(m, a, es),
+        CoreExprKind::IfElse(a, condition, b) => {
+            let frame = Frame::Operand(OperandFrame::Choice(a.clone()?, b.clone()?));
+            descend(m, frame, condition)
+        }
+        CoreExprKind::SetTemp(t, a) => descend(m, Frame::Operand(OperandFrame::Keep(*t)), a),
+        CoreExprKind::Temp(t) => Ok(Doing::Back(End::Value(temp_value(m, *t)))),
+    }
+}

@@ -1,0 +1,71 @@
+// Operators.
+
+ghost use Rattle.std.specs.Prelude.{◌≡◌, ℕ, IfOk};
+ghost use Rattle.py_ops.specs.Binary.{binary_of};
+ghost use Rattle.py_ops.specs.Compare.{compare_of};
+ghost use Rattle.py_ops.specs.Unary.{unary_of};
+ghost use Rattle.py_world.specs.Outcome.{operated};
+ghost use Rattle.machine_state.specs.Frames.{rest_of, site_now, state_of, Follows};
+ghost use Rattle.machine_state.specs.Work.{Falls};
+ghost use Rattle.py_values.specs.Ends.{within};
+
+use machine_state::machine::{Machine, Origin, Turned};
+use py_core::{BinOp, CmpOp, UnOp};
+use py_ops::binary::binary_made;
+use py_ops::compare::compare_made;
+use py_ops::unary::unary_made;
+use py_text::OutOfMemory;
+use py_values::end::{Made, made_within};
+use py_values::heap::Heap;
+use py_values::value::Value;
+use std::alloc::Global;
+
+/// An operator between two values: its step, its cost, and its end.
+pub fn operate(m: &mut Machine, op: BinOp, x: Value, y: Value) -> Result<Turned, OutOfMemory>
+    ensures next { IfOk result (λ t. Follows t m.new m.old.left (operated (binary_of op m.old.heap x y) (site_now m.old) (state_of m.old) (rest_of m.old))) }
+    ensures work { IfOk result (λ t. (work : ℕ) → Falls t m.new m.old.left work) }
+{
+    if !m.spend() {
+        return Ok(Turned::Exhausted(m.trace(Origin::Code)?));
+    }
+    let made = binary_made(m.alloc, &m.heap, op, x, y, m.left)?;
+    m.pay(made, Origin::Code)
+}
+
+/// What an operator makes of a value, under a budget.
+fn unary_within(
+    alloc: Global,
+    heap: &Heap,
+    op: UnOp,
+    x: Value,
+    budget: u64,
+) -> Result<Option<Made>, OutOfMemory>
+    ensures { IfOk result (λ m. m ≡ within budget (unary_of op heap.now x)) }
+{
+    let made = unary_made(alloc, heap, op, x)?;
+    Ok(made_within(made, budget))
+}
+
+/// An operator before a value.
+pub fn operate_before(m: &mut Machine, op: UnOp, x: Value) -> Result<Turned, OutOfMemory>
+    ensures next { IfOk result (λ t. Follows t m.new m.old.left (operated (unary_of op m.old.heap x) (site_now m.old) (state_of m.old) (rest_of m.old))) }
+    ensures work { IfOk result (λ t. (work : ℕ) → Falls t m.new m.old.left work) }
+{
+    if !m.spend() {
+        return Ok(Turned::Exhausted(m.trace(Origin::Code)?));
+    }
+    let made = unary_within(m.alloc, &m.heap, op, x, m.left)?;
+    m.pay(made, Origin::Code)
+}
+
+/// A comparison of two values.
+pub fn compare(m: &mut Machine, op: CmpOp, x: Value, y: Value) -> Result<Turned, OutOfMemory>
+    ensures next { IfOk result (λ t. Follows t m.new m.old.left (operated (compare_of op m.old.heap x y) (site_now m.old) (state_of m.old) (rest_of m.old))) }
+    ensures work { IfOk result (λ t. (work : ℕ) → Falls t m.new m.old.left work) }
+{
+    if !m.spend() {
+        return Ok(Turned::Exhausted(m.trace(Origin::Code)?));
+    }
+    let made = compare_made(m.alloc, &m.heap, op, x, y, m.left)?;
+    m.pay(made, Origin::Code)
+}

@@ -1,0 +1,103 @@
+// Sources and modules.
+
+ghost use Rattle.std.specs.Prelude.{◌≡◌};
+ghost use Rattle.machine_state.specs.Coded.{coded_of};
+
+use py_core::Core;
+use py_source::SourceFault;
+use py_text::PyText;
+use py_world::Load;
+use std::marker::Model;
+
+/// The code of a source, or why it has none.
+#[derive(Drop)]
+pub enum SourceCode {
+    Code(Core),
+    Fault(SourceFault),
+}
+
+/// A source: its file's path and bytes, and its code.
+#[derive(Drop)]
+pub struct SourceFile {
+    path: PyText,
+    bytes: Vec<u8>,
+    code: SourceCode,
+}
+
+impl Model for SourceFile {
+    ghost use Rattle.py_world.specs.World.{Source};
+    ghost use Rattle.py_core.specs.declared.stmt.Core.{Core};
+
+    ghost Value = { Source Core };
+
+    ghost use Rattle.py_core.specs.contracts.stmt.CoreStmtKind as kind;
+    ghost use Rattle.std.specs.Coded.{codes};
+
+    ghost coded = { Prim.hlevel (codes, kind.the_row.coded) };
+
+    ghost use Rattle.machine_state.specs.Coded.{coded_of};
+
+    ghost view = { λ s. record { path = s.path; bytes = s.bytes.items; code = coded_of s.code } };
+}
+
+impl SourceFile {
+    pub fn new(path: PyText, bytes: Vec<u8>, code: SourceCode) -> Self
+        ensures { result ≡ record { path = path; bytes = bytes.items; code = coded_of code } }
+    {
+        SourceFile { path, bytes, code }
+    }
+
+    pub fn path(&self) -> &PyText
+        ensures { result.now ≡ self.now.path }
+    {
+        &self.path
+    }
+
+    pub fn bytes(&self) -> &[u8]
+        ensures { result.now ≡ self.now.bytes }
+    {
+        &self.bytes
+    }
+
+    pub fn code(&self) -> &SourceCode
+        ensures { coded_of result.now ≡ self.now.code }
+    {
+        &self.code
+    }
+}
+
+/// A module's path, and how far its load is.
+#[derive(Drop)]
+pub struct ModuleLoad {
+    path: PyText,
+    load: Load,
+}
+
+impl Model for ModuleLoad {
+    ghost use Rattle.std.specs.Prelude.{List, ℕ};
+    ghost use Rattle.py_world.specs.declared.load.Load.{Load};
+
+    ghost Value = { List ℕ × Load };
+
+    ghost view = { λ m. (m.path, m.load) };
+}
+
+impl ModuleLoad {
+    pub fn new(path: PyText, load: Load) -> Self
+        ensures { result ≡ (path, load) }
+    {
+        ModuleLoad { path, load }
+    }
+
+    pub fn path(&self) -> &PyText
+        ensures { result.now ≡ self.now.0 }
+    {
+        &self.path
+    }
+
+    pub fn load(&self) -> &Load
+        ensures { result.now ≡ self.now.1 }
+    {
+        &self.load
+    }
+}

@@ -1,0 +1,9 @@
+mod Free
+mod Distinct
+mod Counted
+mod Product
+mod Zipped
+mod Short
+mod Groups
+mod Shuffled
+mod Regrouped

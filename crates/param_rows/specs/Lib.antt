@@ -1,0 +1,7 @@
+pub mod Ids
+pub mod Rows
+pub mod Faults
+pub mod Steps
+pub mod Grouping
+pub mod Cuts
+pub mod Taken

@@ -1,0 +1,139 @@
+ghost use Rattle.std.specs.Prelude.{◌≡◌, ◌++◌, ◌∷◌, None, Some, IfOk, OnOk, if◌then◌else◌};
+ghost use Rattle.std.specs.List.{zip};
+ghost use Rattle.std.specs.Option.{option_copied};
+ghost use Rattle.param_rows.specs.Rows.{joined_with, set_choice, param_choice};
+ghost use Rattle.param_rows.specs.Steps.{with_choice};
+
+use crate::fault::OutOfMemory;
+use crate::id::PyId;
+use crate::param::{Numbers, Pairs, ParamSet, Row};
+use std::alloc::Global;
+
+/// Two ids with `-` between them.
+fn joined(alloc: Global, id: &PyId, rest: &PyId) -> Result<PyId, OutOfMemory>
+    ensures { IfOk result (λ new. new ≡ id.now ++ 45 ∷ rest.now) }
+{
+    let mut chars = Vec::from_slice(alloc, id.chars())?;
+    chars.push('-')?;
+    chars.extend_from_slice(rest.chars())?;
+    Ok(PyId::from_vec(chars))
+}
+
+fn copied(alloc: Global, id: &Option<PyId>) -> Result<Option<PyId>, OutOfMemory>
+    ensures { IfOk result (λ new. new ≡ id.now) }
+{
+    match id {
+        Some(id) => Ok(Some(PyId::from_chars(alloc, id.chars())?)),
+        None => Ok(None),
+    }
+}
+
+/// An id before what follows.
+fn id_before(alloc: Global, id: &PyId, rest: &Option<PyId>) -> Result<Option<PyId>, OutOfMemory>
+    ensures { IfOk result (λ new. new ≡ joined_with (Some id.now) rest.now) }
+{
+    match rest {
+        Some(rest) => Ok(Some(joined(alloc, id, rest)?)),
+        None => Ok(Some(PyId::from_chars(alloc, id.chars())?)),
+    }
+}
+
+/// A set's id, if it has one, before what follows.
+fn set_id_before(
+    alloc: Global,
+    id: &Option<PyId>,
+    rest: &Option<PyId>,
+) -> Result<Option<PyId>, OutOfMemory>
+    ensures { IfOk result (λ new. new ≡ joined_with id.now rest.now) }
+{
+    match id {
+        Some(id) => id_before(alloc, id, rest),
+        None => copied(alloc, rest),
+    }
+}
+
+fn numbers_before(alloc: Global, one: &[u32], other: &[u32]) -> Result<Numbers, OutOfMemory>
+    ensures { IfOk result (λ new. new ≡ one.now ++ other.now) }
+{
+    let mut numbers = Vec::from_slice(alloc, one)?;
+    numbers.extend_from_slice(other)?;
+    Ok(Numbers::from_vec(numbers))
+}
+
+/// The names with their values.
+fn bound(alloc: Global, names: &[u32], values: &[u32]) -> Result<Vec<(u32, u32)>, OutOfMemory>
+    ensures { IfOk result (λ pairs. pairs.items ≡ zip names.now values.now) }
+{
+    let mut pairs = Vec::new(alloc);
+    for at in 0..names.len().min(values.len()) {
+        pairs.push((names[at], values[at]))?;
+    }
+    Ok(pairs)
+}
+
+/// The names with their values, before the pairs that follow.
+fn bound_before(
+    alloc: Global,
+    names: &[u32],
+    values: &[u32],
+    rest: &[(u32, u32)],
+) -> Result<Pairs, OutOfMemory>
+    ensures { IfOk result (λ new. new ≡ zip names.now values.now ++ rest.now) }
+{
+    let mut pairs = bound(alloc, names, values)?;
+    pairs.extend_from_slice(rest)?;
+    Ok(Pairs::from_vec(pairs))
+}
+
+fn pair_before(alloc: Global, pair: (u32, u32), rest: &[(u32, u32)]) -> Result<Pairs, OutOfMemory>
+    ensures { IfOk result (λ new. new ≡ pair ∷ rest.now) }
+{
+    let mut pairs = Vec::new(alloc);
+    pairs.push(pair)?;
+    pairs.extend_from_slice(rest)?;
+    Ok(Pairs::from_vec(pairs))
+}
+
+/// How rows are made.
+#[derive(Clone, Copy)]
+pub struct Making {
+    pub alloc: Global,
+    /// Whether they have ids.
+    pub named: bool,
+}
+
+impl Making {
+    /// A row with a set of a mark before it.
+    pub fn with_set(&self, names: &[u32], set: &ParamSet, row: &Row) -> Result<Row, OutOfMemory>
+        ensures { IfOk result (λ new. new ≡ with_choice self.now.named (set_choice names.now set.now) row.now) }
+    {
+        let id = if self.named {
+            set_id_before(self.alloc, &set.id, &row.id)?
+        } else {
+            None
+        };
+        Ok(Row {
+            bound: bound_before(self.alloc, names, set.values.items(), row.bound.items())?,
+            fixture_params: Pairs::copied(self.alloc, &row.fixture_params)?,
+            id,
+            marks: numbers_before(self.alloc, set.marks.items(), row.marks.items())?,
+        })
+    }
+
+    /// A row with a parameter of a fixture before it.
+    pub fn with_param(&self, param: (u32, u32), id: &PyId, row: &Row) -> Result<Row, OutOfMemory>
+        ensures { IfOk result (λ new. new ≡ with_choice self.now.named (param_choice param.0 (param.1, id.now)) row.now) }
+    {
+        let id = if self.named {
+            id_before(self.alloc, id, &row.id)?
+        } else {
+            None
+        };
+        Ok(Row {
+            bound: Pairs::copied(self.alloc, &row.bound)?,
+            fixture_params: pair_before(self.alloc, param, row.fixture_params.items())?,
+            id,
+            marks: Numbers::copied(self.alloc, &row.marks)?,
+        })
+    }
+}

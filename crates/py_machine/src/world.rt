@@ -1,0 +1,188 @@
+// The world.
+
+ghost use Rattle.std.specs.Prelude.{◌≡◌, [], None, IfOk, OnOk, chars, length, slice_get, option_map};
+ghost use Rattle.py_world.specs.Names.{first_heap, names_in};
+ghost use Rattle.py_world.specs.Runs.{source_at};
+ghost use Rattle.py_world.specs.World as seen;
+ghost use Rattle.core_meaning.specs.Meaning.{core_call, core_module};
+ghost use Rattle.py_machine.specs.Worlds.{empty, fault_of, given, with_source};
+
+use crate::sources::text_of;
+use crate::{begin, lines, load, sources};
+use machine_state::machine::Machine;
+use machine_state::place::{Here, Place};
+use machine_state::source::{SourceCode, SourceFile};
+use machine_state::stack::ControlStack;
+use py_core::Core;
+use py_source::SourceFault;
+use py_text::{OutOfMemory, PyText};
+use py_values::builtin::Builtin;
+use py_values::heap::Heap;
+use py_values::names::Names;
+use py_values::object::Obj;
+use py_values::value::{ObjId, Value};
+use py_world::Ended;
+use std::alloc::Global;
+use std::marker::Model;
+use std::mem;
+
+/// The sources, the modules that are loaded, the heap, and what was printed.
+#[derive(Drop)]
+pub struct World {
+    machine: Machine,
+}
+
+impl Model for World {
+    ghost use Rattle.core_meaning.specs.Meaning.{CoreWorld};
+
+    ghost Value = { CoreWorld };
+
+    ghost use Rattle.py_core.specs.contracts.stmt.CoreStmtKind as kind;
+    ghost use Rattle.py_core.specs.contracts.stmt.CoreFn as function;
+    ghost use Rattle.std.specs.Coded.{codes};
+
+    ghost coded = { Prim.hlevel (codes, kind.the_row.coded, function.the_row.coded) };
+
+    ghost use Rattle.machine_state.specs.Frames.{world_of};
+
+    ghost view = { λ w. world_of w.machine };
+}
+
+/// The place of a module's object.
+pub type ModuleId = ObjId;
+
+fn first_objects(alloc: Global) -> Result<Heap, OutOfMemory>
+    ensures { IfOk result (λ h. h ≡ first_heap) }
+{
+    let mut heap = Heap::new(alloc)?;
+    heap.add(Obj::Builtin(Builtin::Print))?;
+    heap.add(Obj::Builtin(Builtin::Len))?;
+    heap.add(Obj::Builtin(Builtin::Str))?;
+    Ok(heap)
+}
+
+impl World {
+    /// A world without sources. Its heap has the objects of the built-in names.
+    pub fn new(alloc: Global) -> Result<Self, OutOfMemory>
+        ensures { IfOk result (λ w. w ≡ empty) }
+    {
+        let here = Here {
+            place: Place::Module(PyText::from_chars(alloc, &[])?, 0),
+            around: 0,
+            line: 0,
+        };
+        Ok(World {
+            machine: Machine {
+                alloc,
+                sources: Vec::new(alloc),
+                modules: Vec::new(alloc),
+                heap: first_objects(alloc)?,
+                codes: Vec::new(alloc),
+                printed: Vec::new(alloc),
+                stack: ControlStack::new(alloc),
+                locals: Names::new(alloc),
+                temps: Vec::new(alloc),
+                here,
+                left: 0,
+            },
+        })
+    }
+}
+
+/// Adds a source under a path that has none.
+pub fn add_source(
+    world: &mut World,
+    path: &str,
+    bytes: &[u8],
+    code: Result<Core, SourceFault>,
+) -> Result<(), OutOfMemory>
+    requires { source_at (chars path.now) world.old.sources ≡ None }
+    ensures { OnOk result (world.new ≡ with_source (record { path = chars path.now; bytes = bytes.now; code = given code }) world.old) }
+{
+    let alloc = world.machine.alloc;
+    let path = text_of(alloc, path)?;
+    let bytes = Vec::from_slice(alloc, bytes)?;
+    let code = match code {
+        Ok(core) => SourceCode::Code(core),
+        Err(fault) => SourceCode::Fault(fault),
+    };
+    world
+        .machine
+        .sources
+        .push(SourceFile::new(path, bytes, code))?;
+    Ok(())
+}
+
+/// The fault of the source of a path, where it has one.
+pub fn fault(world: &World, path: &str) -> Option<SourceFault>
+    ensures { result ≡ fault_of (source_at (chars path.now) world.now.sources) }
+{
+    match sources::find(&world.machine.sources, path) {
+        Some(source) => sources::fault(source),
+        None => None,
+    }
+}
+
+/// The line with this number, from 1, of the source of a path, without its end.
+pub fn line<'w>(world: &'w World, path: &str, number: u32) -> Option<&'w str>
+    ensures { option_map told_line result ≡ line_at (chars path.now) number world.now.sources }
+{
+    match sources::find(&world.machine.sources, path) {
+        Some(source) => lines::source_line(source.bytes(), number),
+        None => None,
+    }
+}
+
+ghost use Rattle.py_machine.specs.Lines.{line_at, told_line};
+
+/// The objects.
+pub fn heap(world: &World) -> &Heap
+    ensures { result.now ≡ world.now.heap }
+{
+    &world.machine.heap
+}
+
+/// The text that was printed since the last take.
+pub fn take_printed(world: &mut World) -> Vec<u8>
+    ensures printed { result.items ≡ world.old.printed }
+    ensures same { world.new ≡ seen.world_with_printed [] world.old }
+{
+    let none = Vec::new(world.machine.alloc);
+    mem::replace(&mut world.machine.printed, none)
+}
+
+/// The name of a module at a place, with its value, in order of first binding.
+pub fn names(world: &World, id: ModuleId, at: usize) -> Option<(&PyText, Value)>
+    requires { IsModule (slice_get world.now.heap id.at) }
+    ensures { option_map told_name result ≡ slice_get (names_in (slice_get world.now.heap id.at)) at }
+{
+    match world.machine.heap.get(id) {
+        Some(Obj::Module(found)) => match found.names.entry(at) {
+            Some((name, v)) => Some((name.text(), *v)),
+            None => None,
+        },
+        _ => None,
+    }
+}
+
+ghost use Rattle.py_machine.specs.Worlds.{IsModule, told_name};
+
+/// Calls a value with arguments, within a budget of steps.
+pub fn call(world: &mut World, f: Value, args: &[Value], budget: u64) -> Result<Ended, OutOfMemory>
+    ensures { IfOk result (λ e. (e, world.new) ≡ core_call f args.now budget world.old) }
+{
+    let ended = begin::call(&mut world.machine, f, args, budget)?;
+    Ok(ended)
+}
+
+/// Executes a module, at most once per world, within a budget of steps.
+pub fn run_module(world: &mut World, path: &str, budget: u64) -> Result<Ended, OutOfMemory>
+    requires { IsSome (coded (source_at (chars path.now) world.old.sources)) }
+    ensures { IfOk result (λ e. (e, world.new) ≡ core_module (chars path.now) budget world.old) }
+{
+    let ended = load::load(&mut world.machine, path, budget)?;
+    Ok(ended)
+}
+
+ghost use Rattle.std.specs.Prelude.{IsSome};
+ghost use Rattle.py_world.specs.Runs.{coded};

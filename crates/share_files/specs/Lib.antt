@@ -1,0 +1,4 @@
+pub mod Deal
+pub mod Rule
+pub mod Fed
+pub mod Work
