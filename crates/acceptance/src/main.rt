@@ -1,4 +1,14 @@
 //! Runs the worked cases of its folder, and says which of them differ from what they want.
+//!
+//! # What it is for
+//!
+//! Each file `NAME.case` has words, files, and what a run over them must write and answer. Those named `wrong_..` want what no
+//! run writes or answers, and must be told as wrong, so that a checker that passes everything is seen.
+//!
+//! # What is proved
+//!
+//! That the program is safe and ends. What the cases show is a test of `pytest_main`, whose meaning is proved in
+//! `pytest_core`.
 #![tactic(auto)]
 
 mod case;

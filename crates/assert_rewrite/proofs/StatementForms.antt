@@ -20,7 +20,7 @@ use Rattle.py_tree.specs.declared.stmt.StmtKind.TheBlock.{hidden-the_row-Stmt-1,
 use Rattle.py_tree.specs.declared.stmt.StmtKind.TheVariants as s
 use Rattle.py_tree.specs.declared.stmt.Target.{Target}
 use Rattle.py_tree.specs.declared.stmt.Yield.{Yield}
-use Rattle.py_tree.specs.Names.{names_of, locals_of}
+use Rattle.py_tree.specs.Names.{names_of, locals_of, yields_in}
 use Rattle.py_tree.specs.Trees.{Tree, Trees, Empty, More, Maybe, Absent, Present, tree, trees, some_tree}
 use Rattle.py_tree.specs.Statements as st
 use Rattle.py_tree.specs.Statements.{Statement, Block, Parameter, NoStatement, Branches, NoBranch, Place, statement, statement_at, block_on, block, block_behind, branches_on, branches_behind, branches, place, parameters, module_tree}
@@ -30,7 +30,7 @@ use Rattle.py_core.specs.declared.stmt.CoreBranch.{CoreBranch, roll-CoreBranch}
 use Rattle.py_core.specs.declared.stmt.CoreFn.{CoreFn, roll-CoreFn}
 use Rattle.py_core.specs.declared.stmt.CoreSingle.{CoreSingle}
 use Rattle.py_core.specs.declared.stmt.CoreStmt.{CoreStmt}
-use Rattle.py_core.specs.declared.stmt.CoreStmtKind.{CoreStmtKind, items-the_row-CoreStmt as row_items, items-the_row-CoreBranch as row_branches}
+use Rattle.py_core.specs.declared.stmt.CoreStmtKind.{CoreStmtKind, items-the_row-CoreBranch as row_branches}
 use Rattle.py_core.specs.declared.stmt.CoreStmtKind.TheBlock.{items_hidden-the_row-CoreStmt-1 as core_items_hidden, hidden-the_row-CoreStmt-1, items_hidden-the_row-CoreBranch-0 as core_branches_hidden, hidden-the_row-CoreBranch-0 as core_hide_branches}
 use Rattle.py_core.specs.declared.stmt.CoreStmtKind.TheVariants as c
 use Rattle.py_core.specs.declared.stmt.CoreTarget.{CoreTarget}
@@ -38,19 +38,23 @@ use Rattle.py_core.specs.declared.stmt.Template.TheVariants.{Plain}
 use Rattle.source_meaning.specs.Statements.{listed, function as source_function}
 use Rattle.lower_law.specs.Built.{BuiltStatement, BuiltBlock, BuiltBranches, NoTrees, NoMaybe}
 use Rattle.lower_law.specs.Lowered as low
-use Rattle.lower_law.specs.Lowered.{LoweredExpr, LoweredSome, LoweredStatement, LoweredBlock, LoweredBranches, LoweredFunction, LoweredModule, Choice, choice_at, branches_listed, core_at}
-use Rattle.assert_rewrite.specs.Lowers.{Lowers, LowersSome, LoweredPlace, named, LowersSingle, LowersTargets, LowersStatement, LowersBlock, LowersBranches, LowersFunction, EmptyBranch, empty}
+use Rattle.source_meaning.specs.Statements.{script}
+use Rattle.std.specs.Prelude.{Bool, false as plain}
+use Rattle.py_core.specs.Blocks.{explains_in, source_in, stmts_in}
+use Rattle.py_core.specs.declared.stmt.CoreBlock.{CoreBlock, roll-CoreBlock}
+use Rattle.lower_law.specs.Sourced.{function_in, module_of, sources_in}
+use Rattle.lower_law.specs.Lowered.{LoweredExpr, LoweredSome, LoweredStatement, LoweredBlock, LoweredBody, LoweredBranches, LoweredFunction, LoweredModule, PlainParameters, Choice, choice_at, branches_listed, core_at}
+use Rattle.assert_rewrite.specs.Lowers.{Lowers, LowersSome, LoweredPlace, named, LowersSingle, LowersTargets, LowersStatement, LowersBlock, LowersBody, Carries, LowersBranches, LowersFunction, EmptyBranch, empty}
 
 -- blocks and branches, as rows
-block_row : (stmts : Vec Stmt Global) (cores : Vec CoreStmt Global) → LowersBlock stmts.items cores.items → BuiltBlock (block_on NoStatement (hidden-the_row-Stmt-1 stmts)) → LoweredBlock (listed (block_on NoStatement (hidden-the_row-Stmt-1 stmts))) (row_items _ (hidden-the_row-CoreStmt-1 cores))
-block_row stmts cores h =
-    subst (λ t. BuiltBlock t → LoweredBlock (listed t) (row_items _ (hidden-the_row-CoreStmt-1 cores))) (sym (block_hidden stmts)) (subst (λ xs. BuiltBlock (block stmts.items) → LoweredBlock (listed (block stmts.items)) xs) (sym (core_items_hidden cores)) h.by)
+body_row : (stmts : Vec Stmt Global) (core : CoreBlock) → LowersBody stmts.items core → BuiltBlock (block_on NoStatement (hidden-the_row-Stmt-1 stmts)) → LoweredBody plain (listed (block_on NoStatement (hidden-the_row-Stmt-1 stmts))) core
+body_row stmts core h = subst (λ t. BuiltBlock t → LoweredBody plain (listed t) core) (sym (block_hidden stmts)) h.by
 
-branches_row : (all : Vec Branch Global) (cores : Vec CoreBranch Global) → LowersBranches all.items cores.items → BuiltBranches (branches_on NoBranch (hide_branches all)) → LoweredBranches (branches_listed (branches_on NoBranch (hide_branches all))) (row_branches _ (core_hide_branches cores))
+branches_row : (all : Vec Branch Global) (cores : Vec CoreBranch Global) → LowersBranches all.items cores.items → BuiltBranches (branches_on NoBranch (hide_branches all)) → LoweredBranches plain (branches_listed (branches_on NoBranch (hide_branches all))) (row_branches _ (core_hide_branches cores))
 branches_row all cores h =
-    subst (λ t. BuiltBranches t → LoweredBranches (branches_listed t) (row_branches _ (core_hide_branches cores))) (sym (branches_hidden all)) (subst (λ xs. BuiltBranches (branches all.items) → LoweredBranches (branches_listed (branches all.items)) xs) (sym (core_branches_hidden cores)) h.by)
+    subst (λ t. BuiltBranches t → LoweredBranches plain (branches_listed t) (row_branches _ (core_hide_branches cores))) (sym (branches_hidden all)) (subst (λ xs. BuiltBranches (branches all.items) → LoweredBranches plain (branches_listed (branches all.items)) xs) (sym (core_branches_hidden cores)) h.by)
 
-augmented : (at : Pos) (op : BinOp) (p : Place) (core : CoreSingle) (e : Tree) (x : Rc CoreExpr Global) → LoweredPlace p core → LoweredExpr e x.value → LoweredStatement (st.AugAssign at p op e) at (c.AugAssign core op x)
+augmented : (at : Pos) (op : BinOp) (p : Place) (core : CoreSingle) (e : Tree) (x : Rc CoreExpr Global) → LoweredPlace p core → LoweredExpr e x.value → LoweredStatement plain (st.AugAssign at p op e) at (c.AugAssign core op x)
 augmented at op p core e x (named place name) h = low.augment at place name op h
 
 -- a function at its `def`
@@ -61,7 +65,15 @@ def_rolled at f = ap (λ b. st.Def at (trees (out-Function f.value).decorators.v
 def_is : (at : Pos) (f : Rc Function Global) → statement_at at (s.Def f) ≡ st.Def at (trees (out-Function f.value).decorators.value.items) (out-Function f.value).at (out-Function f.value).name (parameters (out-Function f.value).params.value.items) (some_tree (out-Function f.value).returns) (block (out-Function f.value).body.value.items)
 def_is at f = subst (λ y. statement_at at (s.Def (record { ptr = f.ptr; value = y })) ≡ st.Def at (trees (out-Function f.value).decorators.value.items) (out-Function f.value).at (out-Function f.value).name (parameters (out-Function f.value).params.value.items) (some_tree (out-Function f.value).returns) (block (out-Function f.value).body.value.items)) (roll-out-Function f.value) (def_rolled at f)
 
-defined : (at word : Pos) (name : List ℕ) (ds : Trees) (params : List Parameter) (returns : Maybe) (body : Block) (r : Rc CoreFn Global) → NoTrees ds → NoMaybe returns → LoweredFunction word (source_function name params body) r.value → LoweredStatement (st.Def at ds word name params returns body) at (c.Def r)
+-- the function that core code carries
+function_rolled : (f : Function) → function_in plain (roll-Function (out-Function f)) ≡ source_function plain (out-Function f).name (parameters (out-Function f).params.value.items) (block (out-Function f).body.value.items)
+unfolding roll-Function denote.Hole.Carrier.roll hidden-the_row-Stmt-1
+function_rolled f = ap (source_function plain (out-Function f).name (parameters (out-Function f).params.value.items)) (block_hidden (out-Function f).body.value)
+
+function_is : (f : Function) → function_in plain f ≡ source_function plain (out-Function f).name (parameters (out-Function f).params.value.items) (block (out-Function f).body.value.items)
+function_is f = subst (λ y. function_in plain y ≡ source_function plain (out-Function f).name (parameters (out-Function f).params.value.items) (block (out-Function f).body.value.items)) (roll-out-Function f) (function_rolled f)
+
+defined : (at word : Pos) (name : List ℕ) (ds : Trees) (params : List Parameter) (returns : Maybe) (body : Block) (r : Rc CoreFn Global) → NoTrees ds → NoMaybe returns → LoweredFunction word (source_function plain name params body) r.value → LoweredStatement plain (st.Def at ds word name params returns body) at (c.Def r)
 defined at word name Empty params Absent body r a b h = low.define at word name h
 defined at word name Empty params (Present e) body r a b h = elim b [ ]
 defined at word name (More ds e) params returns body r a b h = elim a [ ]
@@ -98,16 +110,16 @@ module _ (at : Pos) (kind : StmtKind) where
   pub continue_form : kind ≡ s.Continue → LowersStatement at kind c.Continue
   continue_form is = rw is (record { by = λ b. low.again at })
 
-  pub if_form : (all : Rc (Vec Branch Global) Global) (other : Rc (Vec Stmt Global) Global) (xs : Rc (Vec CoreBranch Global) Global) (ys : Rc (Vec CoreStmt Global) Global) → kind ≡ s.If all other → LowersBranches all.value.items xs.value.items → LowersBlock other.value.items ys.value.items → LowersStatement at kind (c.If xs ys)
-  if_form all other xs ys is g h = rw is (record { by = λ b. low.choose at (branches_row all.value xs.value g b.0) (block_row other.value ys.value h b.1) })
+  pub if_form : (all : Rc (Vec Branch Global) Global) (other : Rc (Vec Stmt Global) Global) (xs : Rc (Vec CoreBranch Global) Global) (ys : Rc CoreBlock Global) → kind ≡ s.If all other → LowersBranches all.value.items xs.value.items → LowersBody other.value.items ys.value → LowersStatement at kind (c.If xs ys)
+  if_form all other xs ys is g h = rw is (record { by = λ b. low.choose at (branches_row all.value xs.value g b.0) (body_row other.value ys.value h b.1) })
 
-  pub while_form : (e : Rc Expr Global) (body : Rc (Vec Stmt Global) Global) (x : Rc CoreExpr Global) (ys : Rc (Vec CoreStmt Global) Global) → kind ≡ s.While e body → Lowers e.value x.value → LowersBlock body.value.items ys.value.items → LowersStatement at kind (c.While x ys)
-  while_form e body x ys is g h = rw is (record { by = λ b. low.loop at (g.by b.0) (block_row body.value ys.value h b.1) })
+  pub while_form : (e : Rc Expr Global) (body : Rc (Vec Stmt Global) Global) (x : Rc CoreExpr Global) (ys : Rc CoreBlock Global) → kind ≡ s.While e body → Lowers e.value x.value → LowersBody body.value.items ys.value → LowersStatement at kind (c.While x ys)
+  while_form e body x ys is g h = rw is (record { by = λ b. low.loop at (g.by b.0) (body_row body.value ys.value h b.1) })
 
   pub def_form : (f : Rc Function Global) (r : Rc CoreFn Global) (core : CoreFn) → kind ≡ s.Def f → LowersFunction f.value core → r.value ≡ core → LowersStatement at kind (c.Def r)
   def_form f r core is h same =
       let g : LowersFunction f.value r.value = rw same h in
-      rw is (record { by = subst (λ t. BuiltStatement t → LoweredStatement t at (c.Def r)) (sym (def_is at f)) (λ b. defined at _ _ _ _ _ _ r b.0 b.1 (g.by b.2)) })
+      rw is (record { by = subst (λ t. BuiltStatement t → LoweredStatement plain t at (c.Def r)) (sym (def_is at f)) (λ b. defined at _ _ _ _ _ _ r b.0 b.1 (g.by b.2 b.3)) })
 
   -- any core stands for a form that the language doesn't have yet
   pub assign_yield_form : (ts : Rc (Vec Target Global) Global) (y : Yield) (core : CoreStmtKind) → kind ≡ s.AssignYield ts y → LowersStatement at kind core
@@ -145,31 +157,62 @@ module _ (at : Pos) (kind : StmtKind) where
 
 pub ruleset forms = (do_form, assign_form, augment_form, return_form, assert_form, global_form, pass_form, break_form, continue_form, if_form, while_form, def_form, assign_yield_form, return_yield_form, raise_form, del_form, yield_form, import_form, import_from_form, for_form, try_form, with_form, class_form)
 
--- an assert at its place
-branch_empty : (at : Pos) (x : Rc CoreExpr Global) (body : Rc (Vec CoreStmt Global) Global) → body.value.items ≡ [] → EmptyBranch at x (roll-CoreBranch (record { at = at; condition = x; body = body }) ∷ [])
-unfolding roll-CoreBranch denote.Hole.Carrier.roll hidden-the_row-CoreStmt-1
-branch_empty at x body none = empty (core_items_hidden body.value ∙ none)
+-- a block of core with these statements
+items_rolled : (source : Rc (Vec Stmt Global) Global) (x : Bool) (stmts : Vec CoreStmt Global) → stmts_in (roll-CoreBlock (record { source = source; explains = x; stmts = stmts })) ≡ stmts.items
+unfolding roll-CoreBlock denote.Hole.Carrier.roll hidden-the_row-CoreStmt-1
+items_rolled source x stmts = core_items_hidden stmts
 
-pub empty_form : (at : Pos) (x : Rc CoreExpr Global) (body : Rc (Vec CoreStmt Global) Global) (all : List CoreBranch) → all ≡ roll-CoreBranch (record { at = at; condition = x; body = body }) ∷ [] → body.value.items ≡ [] → EmptyBranch at x all
+source_rolled : (source : Rc (Vec Stmt Global) Global) (x : Bool) (stmts : Vec CoreStmt Global) → source_in (roll-CoreBlock (record { source = source; explains = x; stmts = stmts })) ≡ source.value.items
+unfolding roll-CoreBlock denote.Hole.Carrier.roll hidden-the_row-CoreStmt-1
+source_rolled source x stmts = refl
+
+explains_rolled : (source : Rc (Vec Stmt Global) Global) (x : Bool) (stmts : Vec CoreStmt Global) → explains_in (roll-CoreBlock (record { source = source; explains = x; stmts = stmts })) ≡ x
+unfolding roll-CoreBlock denote.Hole.Carrier.roll hidden-the_row-CoreStmt-1
+explains_rolled source x stmts = refl
+
+pub bare_form : (source : Rc (Vec Stmt Global) Global) (x : Bool) (stmts : Vec CoreStmt Global) (b : Rc CoreBlock Global) → b.value ≡ roll-CoreBlock (record { source = source; explains = x; stmts = stmts }) → stmts_in b.value ≡ stmts.items
+bare_form source x stmts b is = ap stmts_in is ∙ items_rolled source x stmts
+
+pub ruleset bare_blocks = (bare_form)
+
+pub carries_form : (ss : Rc (Vec Stmt Global) Global) (source : Rc (Vec Stmt Global) Global) (stmts : Vec CoreStmt Global) (b : Rc CoreBlock Global) → b.value ≡ roll-CoreBlock (record { source = source; explains = plain; stmts = stmts }) → source.value ≡ ss.value → Carries ss.value.items b.value
+carries_form ss source stmts b is same =
+    rw is (record { source = source_rolled source plain stmts ∙ ap (λ (v : Vec Stmt Global). v.items) same; plainly = explains_rolled source plain stmts })
+
+pub body_form : (ss : Rc (Vec Stmt Global) Global) (source : Rc (Vec Stmt Global) Global) (stmts : Vec CoreStmt Global) (b : Rc CoreBlock Global) → b.value ≡ roll-CoreBlock (record { source = source; explains = plain; stmts = stmts }) → source.value ≡ ss.value → LowersBlock ss.value.items stmts.items → LowersBody ss.value.items b.value
+body_form ss source stmts b is same h =
+    rw is (record {
+      by = λ t. low.body (explains_rolled source plain stmts) (ap (λ (xs : List Stmt). listed (block xs)) (source_rolled source plain stmts) ∙ ap (λ (v : Vec Stmt Global). listed (block v.items)) same)
+          (subst (λ xs. LoweredBlock plain (listed (block ss.value.items)) xs) (sym (items_rolled source plain stmts)) (h.by t));
+    })
+
+pub ruleset bodies = (carries_form, body_form)
+
+-- an assert at its place
+branch_empty : (at : Pos) (x : Rc CoreExpr Global) (body : Rc CoreBlock Global) → stmts_in body.value ≡ [] → EmptyBranch at x (roll-CoreBranch (record { at = at; condition = x; body = body }) ∷ [])
+unfolding roll-CoreBranch denote.Hole.Carrier.roll
+branch_empty at x body none = empty none
+
+pub empty_form : (at : Pos) (x : Rc CoreExpr Global) (body : Rc CoreBlock Global) (all : List CoreBranch) → all ≡ roll-CoreBranch (record { at = at; condition = x; body = body }) ∷ [] → stmts_in body.value ≡ [] → EmptyBranch at x all
 empty_form at x body all is none = rw is (branch_empty at x body none)
 
 pub ruleset empties = (empty_form)
 
-failing : (at : Pos) (e : Tree) (m : Maybe) (x : Rc CoreExpr Global) (y : Option (Rc CoreExpr Global)) (all : Rc (Vec CoreBranch Global) Global) (other : Rc (Vec CoreStmt Global) Global) (items : List CoreBranch) → all.value.items ≡ items → EmptyBranch at x items → LoweredExpr e x.value → LoweredSome m y → other.value.items ≡ core_at at (c.FailWith Plain y) ∷ [] → LoweredStatement (st.Assert at e m) at (c.If all other)
-failing at e m x y all other items is (empty none) h g o = low.assert_it at h g (core_branches_hidden all.value ∙ is) none (core_items_hidden other.value ∙ o)
+failing : (at : Pos) (e : Tree) (m : Maybe) (x : Rc CoreExpr Global) (y : Option (Rc CoreExpr Global)) (all : Rc (Vec CoreBranch Global) Global) (other : Rc CoreBlock Global) (items : List CoreBranch) → all.value.items ≡ items → EmptyBranch at x items → LoweredExpr e x.value → LoweredSome m y → stmts_in other.value ≡ core_at at (c.FailWith Plain y) ∷ [] → LoweredStatement plain (st.Assert at e m) at (c.If all other)
+failing at e m x y all other items is (empty none) h g o = low.assert_it at h g (core_branches_hidden all.value ∙ is) none o
 
-pub assert_is : (at : Pos) (e : Rc Expr Global) (m : Option (Rc Expr Global)) (x : Rc CoreExpr Global) (y : Option (Rc CoreExpr Global)) (all : Rc (Vec CoreBranch Global) Global) (other : Rc (Vec CoreStmt Global) Global) → Lowers e.value x.value → LowersSome m y → EmptyBranch at x all.value.items → other.value.items ≡ core_at at (c.FailWith Plain y) ∷ [] → LowersStatement at (s.Assert e m) (c.If all other)
+pub assert_is : (at : Pos) (e : Rc Expr Global) (m : Option (Rc Expr Global)) (x : Rc CoreExpr Global) (y : Option (Rc CoreExpr Global)) (all : Rc (Vec CoreBranch Global) Global) (other : Rc CoreBlock Global) → Lowers e.value x.value → LowersSome m y → EmptyBranch at x all.value.items → stmts_in other.value ≡ core_at at (c.FailWith Plain y) ∷ [] → LowersStatement at (s.Assert e m) (c.If all other)
 assert_is at e m x y all other h g b o = record { by = λ t. failing at (tree e.value) (some_tree m) x y all other all.value.items refl b (h.by t.0) (g.by t.1) o }
 
 pub ruleset asserts = (assert_is)
 
-statements_push : {ss : List Statement} {xs : List CoreStmt} (s : Statement) (at : Pos) (kind : CoreStmtKind) → LoweredBlock ss xs → LoweredStatement s at kind → LoweredBlock (ss ++ s ∷ []) (xs ++ core_at at kind ∷ [])
+statements_push : {ss : List Statement} {xs : List CoreStmt} (s : Statement) (at : Pos) (kind : CoreStmtKind) → LoweredBlock plain ss xs → LoweredStatement plain s at kind → LoweredBlock plain (ss ++ s ∷ []) (xs ++ core_at at kind ∷ [])
 statements_push s at kind low.LoweredBlock.ends h = low.LoweredBlock.goes_on h low.LoweredBlock.ends
 statements_push s at kind (low.LoweredBlock.goes_on y ys) h = low.LoweredBlock.goes_on y (statements_push s at kind ys h)
 
 block_behind_last : (ss : List Stmt) (xs : List CoreStmt) (s : Stmt) (kind : CoreStmtKind) → LowersBlock ss xs → LowersStatement s.at s.kind kind → LowersBlock (ss ++ s ∷ []) (xs ++ core_at s.at kind ∷ [])
 block_behind_last ss xs s kind all h =
-    record { by = subst (λ t. BuiltBlock t → LoweredBlock (listed t) (xs ++ core_at s.at kind ∷ [])) (sym (block_more NoStatement ss s)) (λ b. statements_push (statement s) s.at kind (all.by b.0) (h.by b.1)) }
+    record { by = subst (λ t. BuiltBlock t → LoweredBlock plain (listed t) (xs ++ core_at s.at kind ∷ [])) (sym (block_more NoStatement ss s)) (λ b. statements_push (statement s) s.at kind (all.by b.0) (h.by b.1)) }
 
 -- one more statement is lowered
 pub statements_more : (ss : List Stmt) (xs : List CoreStmt) (i : ℕ) (s : Stmt) (kind : CoreStmtKind) → i < length ss → s ≡ get_or ss i s → LowersBlock (take i ss) xs → LowersStatement s.at s.kind kind → LowersBlock (take (i + 1) ss) (xs ++ core_at s.at kind ∷ [])
@@ -178,8 +221,8 @@ statements_more ss xs i s kind lt is all h = rw (take_more ss i s lt, ← is) (b
 pub statements_none : (xs : List CoreStmt) → xs ≡ [] → LowersBlock [] xs
 statements_none xs is = subst (λ xs. LowersBlock [] xs) (sym is) (record { by = λ b. low.LoweredBlock.ends })
 
-pub statements_all : (ss : List Stmt) (i : ℕ) (done : Vec CoreStmt Global) (r : Rc (Vec CoreStmt Global) Global) → length ss ≤ i → LowersBlock (take i ss) done.items → r.value ≡ done → LowersBlock ss r.value.items
-statements_all ss i done r le all is = rw is (subst (λ ss. LowersBlock ss done.items) (take_all i ss le) all)
+pub statements_all : (ss : List Stmt) (i : ℕ) (done : List CoreStmt) → length ss ≤ i → LowersBlock (take i ss) done → LowersBlock ss done
+statements_all ss i done le all = subst (λ ss. LowersBlock ss done) (take_all i ss le) all
 
 pub ruleset blocks = (statements_more, statements_none, statements_all)
 
@@ -191,28 +234,28 @@ branch_rolled before b = ap (λ t. st.Branch before (out-Branch b).at (tree (out
 branch_is : (before : Branches) (b : Branch) → branches_behind before (b ∷ []) ≡ st.Branch before (out-Branch b).at (tree (out-Branch b).condition.value) (block (out-Branch b).body.value.items)
 branch_is before b = subst (λ y. branches_behind before (y ∷ []) ≡ st.Branch before (out-Branch b).at (tree (out-Branch b).condition.value) (block (out-Branch b).body.value.items)) (roll-out-Branch b) (branch_rolled before b)
 
-branch_made : (at : Pos) (e : Tree) (body : Block) (x : Rc CoreExpr Global) (ys : Rc (Vec CoreStmt Global) Global) → LoweredExpr e x.value → LoweredBlock (listed body) ys.value.items → LoweredBranches (choice_at at e body ∷ []) (roll-CoreBranch (record { at = at; condition = x; body = ys }) ∷ [])
-unfolding roll-CoreBranch denote.Hole.Carrier.roll hidden-the_row-CoreStmt-1
-branch_made at e body x ys h g = low.LoweredBranches.more at h (subst (λ zs. LoweredBlock (listed body) zs) (sym (core_items_hidden ys.value)) g) low.LoweredBranches.none
+branch_made : (at : Pos) (e : Tree) (body : Block) (x : Rc CoreExpr Global) (ys : Rc CoreBlock Global) → LoweredExpr e x.value → LoweredBody plain (listed body) ys.value → LoweredBranches plain (choice_at at e body ∷ []) (roll-CoreBranch (record { at = at; condition = x; body = ys }) ∷ [])
+unfolding roll-CoreBranch denote.Hole.Carrier.roll
+branch_made at e body x ys h g = low.LoweredBranches.more at h g low.LoweredBranches.none
 
-pub branch_form : (b : Branch) (x : Rc CoreExpr Global) (ys : Rc (Vec CoreStmt Global) Global) → Lowers (out-Branch b).condition.value x.value → LowersBlock (out-Branch b).body.value.items ys.value.items → LowersBranches (b ∷ []) (roll-CoreBranch (record { at = (out-Branch b).at; condition = x; body = ys }) ∷ [])
+pub branch_form : (b : Branch) (x : Rc CoreExpr Global) (ys : Rc CoreBlock Global) → Lowers (out-Branch b).condition.value x.value → LowersBody (out-Branch b).body.value.items ys.value → LowersBranches (b ∷ []) (roll-CoreBranch (record { at = (out-Branch b).at; condition = x; body = ys }) ∷ [])
 branch_form b x ys h g =
-    record { by = subst (λ t. BuiltBranches t → LoweredBranches (branches_listed t) (roll-CoreBranch (record { at = (out-Branch b).at; condition = x; body = ys }) ∷ [])) (sym (branch_is NoBranch b)) (λ t. branch_made _ _ _ x ys (h.by t.1) (g.by t.2)) }
+    record { by = subst (λ t. BuiltBranches t → LoweredBranches plain (branches_listed t) (roll-CoreBranch (record { at = (out-Branch b).at; condition = x; body = ys }) ∷ [])) (sym (branch_is NoBranch b)) (λ t. branch_made _ _ _ x ys (h.by t.1) (g.by t.2)) }
 
 pub ruleset branch_forms = (branch_form)
 
-branches_push : {bs : List Choice} {xs : List CoreBranch} {cs : List Choice} {ys : List CoreBranch} → LoweredBranches bs xs → LoweredBranches cs ys → LoweredBranches (bs ++ cs) (xs ++ ys)
+branches_push : {bs : List Choice} {xs : List CoreBranch} {cs : List Choice} {ys : List CoreBranch} → LoweredBranches plain bs xs → LoweredBranches plain cs ys → LoweredBranches plain (bs ++ cs) (xs ++ ys)
 branches_push low.LoweredBranches.none h = h
-branches_push (low.LoweredBranches.more at x body rest) h = low.LoweredBranches.more at x body (branches_push rest h)
+branches_push (low.LoweredBranches.more at x lowered rest) h = low.LoweredBranches.more at x lowered (branches_push rest h)
 
 behind_branches : (before : Branches) (all : List Branch) (b : Branch) → branches_behind before (all ++ b ∷ []) ≡ branches_behind (branches_behind before all) (b ∷ [])
 behind_branches before [] b = refl
-behind_branches before (branch.Branch' at condition p n body ∷ rest) b = behind_branches (branches_behind before (branch.Branch' at condition p n body ∷ [])) rest b
+behind_branches before (branch.Branch' at condition p n held ∷ rest) b = behind_branches (branches_behind before (branch.Branch' at condition p n held ∷ [])) rest b
 
 branches_last : (all : List Branch) (xs : List CoreBranch) (b : Branch) (x : CoreBranch) → LowersBranches all xs → LowersBranches (b ∷ []) (x ∷ []) → LowersBranches (all ++ b ∷ []) (xs ++ x ∷ [])
 branches_last all xs b x g h =
-    let one : BuiltBranches (st.Branch NoBranch (out-Branch b).at (tree (out-Branch b).condition.value) (block (out-Branch b).body.value.items)) → LoweredBranches (choice_at (out-Branch b).at (tree (out-Branch b).condition.value) (block (out-Branch b).body.value.items) ∷ []) (x ∷ []) = subst (λ t. BuiltBranches t → LoweredBranches (branches_listed t) (x ∷ [])) (branch_is NoBranch b) h.by in
-    record { by = subst (λ t. BuiltBranches t → LoweredBranches (branches_listed t) (xs ++ x ∷ [])) (sym (behind_branches NoBranch all b ∙ branch_is (branches all) b)) (λ t. branches_push (g.by t.0) (one (tt, t.1, t.2))) }
+    let one : BuiltBranches (st.Branch NoBranch (out-Branch b).at (tree (out-Branch b).condition.value) (block (out-Branch b).body.value.items)) → LoweredBranches plain (choice_at (out-Branch b).at (tree (out-Branch b).condition.value) (block (out-Branch b).body.value.items) ∷ []) (x ∷ []) = subst (λ t. BuiltBranches t → LoweredBranches plain (branches_listed t) (x ∷ [])) (branch_is NoBranch b) h.by in
+    record { by = subst (λ t. BuiltBranches t → LoweredBranches plain (branches_listed t) (xs ++ x ∷ [])) (sym (behind_branches NoBranch all b ∙ branch_is (branches all) b)) (λ t. branches_push (g.by t.0) (one (tt, t.1, t.2))) }
 
 -- one more branch is lowered
 pub branches_more : (all : List Branch) (xs : List CoreBranch) (i : ℕ) (b : Branch) (x : CoreBranch) → i < length all → b ≡ get_or all i b → LowersBranches (take i all) xs → LowersBranches (b ∷ []) (x ∷ []) → LowersBranches (take (i + 1) all) (xs ++ x ∷ [])
@@ -227,17 +270,23 @@ branches_all all i done r le h is = rw is (subst (λ all. LowersBranches all don
 pub ruleset branch_lists = (branches_more, branches_none, branches_all)
 
 -- a function
-function_made : (word : Pos) (name : List ℕ) (params : List Parameter) (body : Block) (ps ls : List (List ℕ)) (ys : Rc (Vec CoreStmt Global) Global) → ps ≡ names_of params → ls ≡ locals_of params body → LoweredBlock (listed body) ys.value.items → LoweredFunction word (source_function name params body) (roll-CoreFn (record { at = word; name = name; params = ps; locals = ls; body = ys }))
-unfolding roll-CoreFn denote.Hole.Carrier.roll hidden-the_row-CoreStmt-1
-function_made word name params body ps ls ys p l h = low.made word name p l (subst (λ zs. LoweredBlock (listed body) zs) (sym (core_items_hidden ys.value)) h)
+function_made : (source : Rc Function Global) (word : Pos) (name : List ℕ) (params : List Parameter) (body : Block) (ps ls : List (List ℕ)) (yields : Bool) (ys : Rc CoreBlock Global) → PlainParameters params → function_in plain source.value ≡ source_function plain name params body → ps ≡ names_of params → ls ≡ locals_of params body → yields ≡ yields_in body → LoweredBody plain (listed body) ys.value → LoweredFunction word (source_function plain name params body) (roll-CoreFn (record { source = source; at = word; name = name; params = ps; locals = ls; yields = yields; body = ys }))
+unfolding roll-CoreFn denote.Hole.Carrier.roll
+function_made source word name params body ps ls yields ys none from p l y h = low.made word name none from p l y h
 
-pub function_form : (f : Function) (name : List ℕ) (ps ls : List (List ℕ)) (ys : Rc (Vec CoreStmt Global) Global) → name ≡ (out-Function f).name → ps ≡ names_of (parameters (out-Function f).params.value.items) → ls ≡ locals_of (parameters (out-Function f).params.value.items) (block (out-Function f).body.value.items) → LowersBlock (out-Function f).body.value.items ys.value.items → LowersFunction f (roll-CoreFn (record { at = (out-Function f).at; name = name; params = ps; locals = ls; body = ys }))
-function_form f name ps ls ys same p l h = rw same (record { by = λ b. function_made (out-Function f).at (out-Function f).name (parameters (out-Function f).params.value.items) (block (out-Function f).body.value.items) ps ls ys p l (h.by b) })
+pub function_form : (f : Function) (source : Rc Function Global) (name : List ℕ) (ps ls : List (List ℕ)) (yields : Bool) (ys : Rc CoreBlock Global) → source.value ≡ f → name ≡ (out-Function f).name → ps ≡ names_of (parameters (out-Function f).params.value.items) → ls ≡ locals_of (parameters (out-Function f).params.value.items) (block (out-Function f).body.value.items) → yields ≡ yields_in (block (out-Function f).body.value.items) → LowersBody (out-Function f).body.value.items ys.value → LowersFunction f (roll-CoreFn (record { source = source; at = (out-Function f).at; name = name; params = ps; locals = ls; yields = yields; body = ys }))
+function_form f source name ps ls yields ys is same p l y h = rw same (record { by = λ none b. function_made source (out-Function f).at (out-Function f).name (parameters (out-Function f).params.value.items) (block (out-Function f).body.value.items) ps ls yields ys none (ap (function_in plain) is ∙ function_is f) p l y (h.by b) })
 
 pub ruleset functions = (function_form)
 
 -- a source
-pub module_form : (m : Module) (body : Rc (Vec CoreStmt Global) Global) → LowersBlock m.body.value.items body.value.items → BuiltBlock (module_tree m) → LoweredModule (module_tree m) (record { body = body })
-module_form m body h = h.by
+own_block : (ss : List Statement) (b : CoreBlock) → LoweredBody plain ss b → LoweredBlock (explains_in b) (sources_in b) (stmts_in b)
+own_block ss b (low.body flag from h) = subst (λ (z : Bool). LoweredBlock z (sources_in b) (stmts_in b)) (sym flag) (subst (λ (ss : List Statement). LoweredBlock plain ss (stmts_in b)) (sym from) h)
 
-pub ruleset modules = (module_form)
+pub module_source : (m : Module) (body : Rc CoreBlock Global) → Carries m.body.value.items body.value → module_of (record { body = body }) ≡ script plain (module_tree m)
+module_source m body h = ap (λ (z : Bool). script z (block (source_in body.value))) h.plainly ∙ ap (λ (ss : List Stmt). script plain (block ss)) h.source
+
+pub module_form : (m : Module) (body : Rc CoreBlock Global) → LowersBody m.body.value.items body.value → BuiltBlock (module_tree m) → LoweredModule (module_of (record { body = body })) (record { body = body })
+module_form m body h b = (refl, own_block _ body.value (h.by b))
+
+pub ruleset modules = (module_source, module_form)

@@ -2,18 +2,33 @@ ghost use Rattle.std.specs.Prelude.{IfOk, ◌≡◌, ◌∷◌, []};
 ghost use Rattle.py_tree.specs.Names.{names_of};
 ghost use Rattle.py_tree.specs.Statements.{parameters};
 ghost use Rattle.py_tree.specs.declared.stmt.StmtKind.TheVariants as source;
-ghost use Rattle.assert_rewrite.specs.Lowers.{LowersStatement, LowersBlock, LowersBranches, LowersFunction, EmptyBranch};
+ghost use Rattle.assert_rewrite.specs.Lowers.{Carries, LowersStatement, LowersBlock, LowersBody, LowersBranches, LowersFunction, EmptyBranch};
 ghost use Rattle.lower_law.specs.Lowered.{core_at};
+ghost use Rattle.py_core.specs.Blocks.{stmts_in};
 ghost use Rattle.py_core.specs.declared.stmt.CoreStmtKind.TheVariants as core;
 ghost use Rattle.py_core.specs.declared.stmt.Template.TheVariants.{Plain};
 
 use crate::expressions::{lower_expr, lower_some};
 use crate::targets::{lower_single, lower_targets};
-use py_core::{CoreBranch, CoreExpr, CoreFn, CoreStmt, CoreStmtKind, Template};
+use py_core::{CoreBlock, CoreBranch, CoreExpr, CoreFn, CoreStmt, CoreStmtKind, Template};
 use py_text::OutOfMemory;
 use py_tree::{Branch, Expr, Function, Names, Param, Pos, Stmt, StmtKind, bindings_of};
 use std::alloc::Global;
 use std::rc::Rc;
+
+/// A block that stands for no statements of the source.
+#[tactic(auto, using(crate::proofs::StatementForms::bare_blocks))]
+fn bare_block(alloc: Global, stmts: Vec<CoreStmt>) -> Result<Rc<CoreBlock>, OutOfMemory>
+    ensures { IfOk result (λ b. stmts_in b.value ≡ stmts.items) }
+{
+    let source = Rc::new(alloc, Vec::new(alloc))?;
+    let block = CoreBlock {
+        source,
+        explains: false,
+        stmts,
+    };
+    Ok(Rc::new(alloc, block)?)
+}
 
 /// A branch at a place that does nothing.
 #[tactic(auto, using(crate::proofs::StatementForms::empties))]
@@ -24,7 +39,7 @@ fn empty_branch(
 ) -> Result<Rc<Vec<CoreBranch>>, OutOfMemory>
     ensures { IfOk result (λ branches. EmptyBranch at condition branches.value.items) }
 {
-    let body = Rc::new(alloc, Vec::new(alloc))?;
+    let body = bare_block(alloc, Vec::new(alloc))?;
     let mut branches = Vec::new(alloc);
     branches.push(CoreBranch {
         at,
@@ -39,13 +54,13 @@ fn failure(
     alloc: Global,
     at: Pos,
     message: Option<Rc<CoreExpr>>,
-) -> Result<Rc<Vec<CoreStmt>>, OutOfMemory>
-    ensures { IfOk result (λ stmts. stmts.value.items ≡ core_at at (core.FailWith Plain message) ∷ []) }
+) -> Result<Rc<CoreBlock>, OutOfMemory>
+    ensures { IfOk result (λ b. stmts_in b.value ≡ core_at at (core.FailWith Plain message) ∷ []) }
 {
     let mut stmts = Vec::new(alloc);
     let kind = CoreStmtKind::FailWith(Template::Plain, message);
     stmts.push(CoreStmt { at, kind })?;
-    Ok(Rc::new(alloc, stmts)?)
+    bare_block(alloc, stmts)
 }
 
 /// The core form of an assert at a place: an `if` there that does nothing, whose `else` is the failure.
@@ -78,15 +93,30 @@ fn param_names(alloc: Global, params: &[Param]) -> Result<Names, OutOfMemory>
 /// The core code of statements, in their order.
 #[cycle(block)]
 #[tactic(auto, using(crate::proofs::StatementForms::blocks))]
-pub fn lower_block(alloc: Global, stmts: &[Stmt]) -> Result<Rc<Vec<CoreStmt>>, OutOfMemory>
-    ensures { IfOk result (λ cores. LowersBlock stmts.now cores.value.items) }
+fn lower_block(alloc: Global, stmts: &[Stmt]) -> Result<Vec<CoreStmt>, OutOfMemory>
+    ensures { IfOk result (λ cores. LowersBlock stmts.now cores.items) }
 {
     let mut done = Vec::new(alloc);
     for stmt in stmts {
         let kind = lower_statement(alloc, stmt)?;
         done.push(CoreStmt { at: stmt.at, kind })?;
     }
-    Ok(Rc::new(alloc, done)?)
+    Ok(done)
+}
+
+/// The core block of a block of the source.
+#[cycle(block)]
+#[tactic(auto, using(crate::proofs::StatementForms::bodies))]
+pub fn lower_body(alloc: Global, stmts: &Rc<Vec<Stmt>>) -> Result<Rc<CoreBlock>, OutOfMemory>
+    ensures carried { IfOk result (λ b. Carries stmts.now.value.items b.value) }
+    ensures lowered { IfOk result (λ b. LowersBody stmts.now.value.items b.value) }
+{
+    let block = CoreBlock {
+        source: stmts.clone()?,
+        explains: false,
+        stmts: lower_block(alloc, stmts)?,
+    };
+    Ok(Rc::new(alloc, block)?)
 }
 
 /// The core form of a statement. `pass` stands for a form that the language doesn't have yet.
@@ -113,11 +143,11 @@ fn lower_statement(alloc: Global, stmt: &Stmt) -> Result<CoreStmtKind, OutOfMemo
         StmtKind::Continue => Ok(CoreStmtKind::Continue),
         StmtKind::If(branches, other) => {
             let branches = lower_branches(alloc, branches)?;
-            Ok(CoreStmtKind::If(branches, lower_block(alloc, other)?))
+            Ok(CoreStmtKind::If(branches, lower_body(alloc, other)?))
         }
         StmtKind::While(condition, body) => {
             let condition = lower_expr(alloc, condition)?;
-            Ok(CoreStmtKind::While(condition, lower_block(alloc, body)?))
+            Ok(CoreStmtKind::While(condition, lower_body(alloc, body)?))
         }
         StmtKind::Def(function) => {
             let function = lower_function(alloc, function)?;
@@ -157,7 +187,7 @@ fn lower_branch(alloc: Global, branch: &Branch) -> Result<CoreBranch, OutOfMemor
     ensures { IfOk result (λ made. LowersBranches (branch.now ∷ []) (made ∷ [])) }
 {
     let condition = lower_expr(alloc, &branch.condition)?;
-    let body = lower_block(alloc, &branch.body)?;
+    let body = lower_body(alloc, &branch.body)?;
     Ok(CoreBranch {
         at: branch.at,
         condition,
@@ -168,17 +198,20 @@ fn lower_branch(alloc: Global, branch: &Branch) -> Result<CoreBranch, OutOfMemor
 /// The core form of a function, where its `def` stands.
 #[cycle(block)]
 #[tactic(auto, using(crate::proofs::StatementForms::functions))]
-fn lower_function(alloc: Global, function: &Function) -> Result<CoreFn, OutOfMemory>
-    ensures { IfOk result (λ made. LowersFunction function.now made) }
+fn lower_function(alloc: Global, function: &Rc<Function>) -> Result<CoreFn, OutOfMemory>
+    ensures { IfOk result (λ made. LowersFunction function.now.value made) }
 {
     let names = bindings_of(alloc, &function.params, &function.body)?;
     let params = param_names(alloc, &function.params)?;
-    let body = lower_block(alloc, &function.body)?;
+    let body = lower_body(alloc, &function.body)?;
+    let source = function.clone()?;
     Ok(CoreFn {
+        source,
         at: function.at,
         name: function.name.clone()?,
         params,
         locals: names.locals,
+        yields: names.yields,
         body,
     })
 }

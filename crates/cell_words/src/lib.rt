@@ -1,12 +1,19 @@
-//! Words of memory that are counted: two lists in which one place is written at a time, each write one step.
+//! Words of memory that are counted: two lists, the cells and the heads, in which one place is written at a time, each write one step.
+//!
+//! Proved:
+//!
+//! - `CellWords` is seen as its two lists. `new` is empty; `grow_cells` and `grow_heads` append one (`ok`) or leave both lists as they were
+//!   (`err`). `swap_cell` and `swap_head` give back what stood at the place (`before`), change that place and nothing else (`after`), and
+//!   add exactly one to `steps` (`step`). `cell` and `head` lend a word. No other call has `&mut`.
+//! - `Steps<L>` is seen as a number, over any ledger; only the two swaps add to it. It takes no bytes.
+//!
+//! Only tests show that the calls succeed with ample memory.
 #![tactic(auto)]
 
-mod fault;
 mod steps;
 #[cfg(test)]
 mod tests;
 mod words;
 
-pub use fault::OutOfMemory;
 pub use steps::Steps;
-pub use words::Words;
+pub use words::CellWords;

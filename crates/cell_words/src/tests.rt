@@ -1,6 +1,7 @@
 ghost use Rattle.std.specs.Prelude.{◌≡◌, ◌<◌};
 
-use crate::{OutOfMemory, Steps, Words};
+use crate::{CellWords, Steps};
+use seq::OutOfMemory;
 use std::alloc::Global;
 use std::marker::Brand;
 use std::sync::ledger::{Blank, Ledger};
@@ -13,7 +14,7 @@ fn written<L: Ledger>(alloc: Global, blank: Blank) -> Result<[u32; 5], OutOfMemo
     requires share { 0 < blank.parts }
 {
     let mut steps = Steps::<L>::new(blank);
-    let mut words = Words::new(alloc)?;
+    let mut words = CellWords::new(alloc)?;
     words.grow_cells(1)?;
     words.grow_cells(2)?;
     words.grow_heads(3)?;

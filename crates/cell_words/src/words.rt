@@ -1,7 +1,7 @@
 ghost use Rattle.std.specs.Prelude.{◌≡◌, ◌+◌, ◌<◌, [], ◌∷◌, ◌++◌, length, IfOk, OnOk, OnErr, slice_get, slice_set, Some};
 
-use crate::fault::OutOfMemory;
 use crate::steps::Steps;
+use seq::OutOfMemory;
 use std::alloc::Global;
 use std::marker::Model;
 use std::mem;
@@ -9,12 +9,12 @@ use std::sync::ledger::Ledger;
 
 /// Two lists of words, the cells and the heads. Only `swap_cell` and `swap_head` change a word that is there.
 #[derive(Drop)]
-pub struct Words<C, H> {
+pub struct CellWords<C, H> {
     cells: Vec<C>,
     heads: Vec<H>,
 }
 
-impl<C, H> Model for Words<C, H> {
+impl<C, H> Model for CellWords<C, H> {
     ghost use Rattle.cell_words.specs.Lists.{Lists};
 
     ghost Value = { Lists C H };
@@ -22,12 +22,12 @@ impl<C, H> Model for Words<C, H> {
     ghost view = { λ w. record { cells = w.cells.items; heads = w.heads.items } };
 }
 
-impl<C, H> Words<C, H> {
+impl<C, H> CellWords<C, H> {
     /// No cells and no heads.
-    pub fn new(alloc: Global) -> Result<Words<C, H>, OutOfMemory>
+    pub fn new(alloc: Global) -> Result<CellWords<C, H>, OutOfMemory>
         ensures { IfOk result (λ w. w ≡ record { cells = []; heads = [] }) }
     {
-        Ok(Words {
+        Ok(CellWords {
             cells: Vec::new(alloc),
             heads: Vec::new(alloc),
         })

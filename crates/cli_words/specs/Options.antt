@@ -111,7 +111,7 @@ outcome o parts = unless (first_of (filter_map fault_of parts)) (with_parts o pa
 
 abbrev pub is_no : Dist → Bool
 is_no dist.No = true
-is_no _ = false
+is_no dist.LoadFile = false
 
 -- `-n` above 0, and neither `--dist=no` nor `--collect-only`
 abbrev pub asks_for_workers : Options → Bool

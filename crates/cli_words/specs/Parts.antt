@@ -58,7 +58,9 @@ option_part (Some (Value rule)) word option (Some value) next = valued option va
 -- whether an option takes the next word
 abbrev pub asks : Option Takes → Option (List ℕ) → Bool
 asks (Some (Value rule)) None = true
-asks _ _ = false
+asks (Some (Value rule)) (Some value) = false
+asks (Some (Nothing given)) value = false
+asks None value = false
 
 -- an option of a word, with the value that stands in the word
 abbrev pub Spelled : Type 0
@@ -76,7 +78,8 @@ short letter = 45 ∷ letter ∷ []
 -- what a letter sets, if it is an option without value
 abbrev pub given_of : Option Takes → Option Given
 given_of (Some (Nothing given)) = Some given
-given_of _ = None
+given_of (Some (Value rule)) = None
+given_of None = None
 
 abbrev pub flag_of : ℕ → Option Given
 flag_of letter = given_of (takes_named (short letter))

@@ -1,5 +1,5 @@
 use crate::word::Word;
-use std::alloc::AllocError;
+use seq::OutOfMemory;
 use std::error::Error;
 use std::fmt;
 
@@ -42,13 +42,13 @@ impl fmt::Display for UsageFault {
 
 impl Error for UsageFault {}
 
-impl From<AllocError> for UsageFault {
+impl From<OutOfMemory> for UsageFault {
     ghost use Rattle.std.specs.Prelude.{◌≡◌};
     ghost use Rattle.cli_words.specs.declared.fault.UsageFault.TheVariants.{OutOfMemory};
 
     ghost from_gives = { λ _ fault. fault ≡ OutOfMemory };
 
-    fn from(_error: AllocError) -> UsageFault {
+    fn from(_error: OutOfMemory) -> UsageFault {
         UsageFault::OutOfMemory
     }
 }

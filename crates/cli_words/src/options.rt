@@ -5,7 +5,8 @@ ghost use Rattle.cli_words.specs.Parts.{Sets, PathOf};
 use crate::setting::Setting;
 use crate::table::{Counter, Switch, TextOption};
 use crate::word::{Word, Words};
-use std::alloc::{AllocError, Global};
+use seq::OutOfMemory;
+use std::alloc::Global;
 
 /// How much a report tells of each failure: `--tb` of pytest's command line.
 #[derive(Clone, Copy, Debug, PartialEq, Eq)]
@@ -75,7 +76,7 @@ impl Options {
         self.workers > 0 && self.dist != Dist::No && !self.collect_only
     }
 
-    pub(crate) fn push_path(&mut self, path: Word) -> Result<(), AllocError>
+    pub(crate) fn push_path(&mut self, path: Word) -> Result<(), OutOfMemory>
         ensures { OnOk result (self.new ≡ with_parts self.old (PathOf path ∷ [])) }
     {
         self.paths.push(path)?;
@@ -102,7 +103,7 @@ impl Options {
         }
     }
 
-    fn set_text(&mut self, option: TextOption, text: Word) -> Result<(), AllocError>
+    fn set_text(&mut self, option: TextOption, text: Word) -> Result<(), OutOfMemory>
         ensures { OnOk result (self.new ≡ with_parts self.old (Sets (Setting.Text option text) ∷ [])) }
     {
         match option {
@@ -114,7 +115,7 @@ impl Options {
     }
 
     /// Sets what the setting says; a later setting of the same option replaces it, but paths to ignore are added.
-    pub(crate) fn set(&mut self, setting: Setting) -> Result<(), AllocError>
+    pub(crate) fn set(&mut self, setting: Setting) -> Result<(), OutOfMemory>
         ensures { OnOk result (self.new ≡ with_parts self.old (Sets setting ∷ [])) }
     {
         match setting {

@@ -11,7 +11,8 @@ use crate::options::Options;
 use crate::setting::cut_at;
 use crate::table::{Given, Rule, Takes, takes_of};
 use crate::word::Word;
-use std::alloc::{AllocError, Global};
+use seq::OutOfMemory;
+use std::alloc::Global;
 
 fn starts_with(word: &str, front: &str) -> bool
     ensures { result ≡ starts_with nat_eq word.now front.now }
@@ -48,7 +49,7 @@ fn value_behind(letters: &str) -> Option<&str>
     }
 }
 
-fn short(alloc: Global, letter: u8) -> Result<String, AllocError>
+fn short(alloc: Global, letter: u8) -> Result<String, OutOfMemory>
     requires { letter < 128 }
     ensures { IfOk result (λ s. string_bytes s ≡ short letter) }
 {
@@ -67,7 +68,10 @@ fn set_value(
     ensures { Gives (outcome options.old (valued option.now value.now (setting_of rule value.now) ∷ [])) options.new result }
 {
     let Some(setting) = rule.setting(alloc, value)? else {
-        return Err(UsageFault::BadValue(Word::of(alloc, option)?, Word::of(alloc, value)?));
+        return Err(UsageFault::BadValue(
+            Word::from_str(alloc, option)?,
+            Word::from_str(alloc, value)?,
+        ));
     };
     options.set(setting)?;
     Ok(())
@@ -84,7 +88,7 @@ fn set_next(
 {
     match next {
         Some(value) if !starts_with(value, "-") => set_value(alloc, options, option, rule, value),
-        _ => Err(UsageFault::NeedsValue(Word::of(alloc, option)?)),
+        _ => Err(UsageFault::NeedsValue(Word::from_str(alloc, option)?)),
     }
 }
 
@@ -98,7 +102,7 @@ fn read_switch(
     ensures { Gives (outcome options.old (switched option.now given (option_copied value.entry) ∷ [])) options.new result }
 {
     match value {
-        Some(_) => Err(UsageFault::TakesNoValue(Word::of(alloc, option)?)),
+        Some(_) => Err(UsageFault::TakesNoValue(Word::from_str(alloc, option)?)),
         None => {
             options.set(given.setting())?;
             Ok(())
@@ -119,7 +123,7 @@ fn read_option(
     ensures took { IfOk result (λ took. took ≡ asks (takes_named option.now) (option_copied value.entry)) }
 {
     match takes_of(option.as_bytes()) {
-        None => Err(UsageFault::Unrecognized(Word::of(alloc, word)?)),
+        None => Err(UsageFault::Unrecognized(Word::from_str(alloc, word)?)),
         Some(Takes::Nothing(given)) => {
             read_switch(alloc, options, option, given, value)?;
             Ok(false)
@@ -149,7 +153,7 @@ fn first_flag(letters: &str) -> Option<(Given, &str)>
 }
 
 /// Reads the options without value at the front of a word's letters; gives what stands behind them.
-fn read_flags<'a>(options: &mut Options, letters: &'a str) -> Result<&'a str, AllocError>
+fn read_flags<'a>(options: &mut Options, letters: &'a str) -> Result<&'a str, OutOfMemory>
     ensures set { OnOk result (options.new ≡ with_parts options.old (map flag_part (flags letters.now))) }
     ensures rest { IfOk result (λ rest. rest.now ≡ behind_flags letters.now) }
 {
@@ -177,7 +181,7 @@ fn read_letters(
         return Ok(false);
     }
     let Some((letter, behind)) = first_letter(rest) else {
-        return Err(UsageFault::Unrecognized(Word::of(alloc, word)?));
+        return Err(UsageFault::Unrecognized(Word::from_str(alloc, word)?));
     };
     let option = short(alloc, letter)?;
     read_option(
@@ -201,7 +205,7 @@ fn read_word(
     ensures took { IfOk result (λ took. took ≡ takes_next word.now) }
 {
     if is_path(word) {
-        options.push_path(Word::of(alloc, word)?)?;
+        options.push_path(Word::from_str(alloc, word)?)?;
         return Ok(false);
     }
     if starts_with(word, "--") {
@@ -210,7 +214,7 @@ fn read_word(
     }
     match first_letter(word) {
         Some((_, letters)) => read_letters(alloc, options, word, letters, next),
-        None => Err(UsageFault::Unrecognized(Word::of(alloc, word)?)),
+        None => Err(UsageFault::Unrecognized(Word::from_str(alloc, word)?)),
     }
 }
 
@@ -234,11 +238,11 @@ fn words_left(words: &[String], took: bool) -> &[String]
 }
 
 /// Reads words behind `--`.
-fn read_paths(alloc: Global, options: &mut Options, words: &[String]) -> Result<(), AllocError>
+fn read_paths(alloc: Global, options: &mut Options, words: &[String]) -> Result<(), OutOfMemory>
     ensures { OnOk result (options.new ≡ with_parts options.old (map PathOf (map string_bytes words.now))) }
 {
     for word in words {
-        options.push_path(Word::of(alloc, word.as_str())?)?;
+        options.push_path(Word::from_str(alloc, word.as_str())?)?;
     }
     Ok(())
 }

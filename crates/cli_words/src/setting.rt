@@ -6,7 +6,8 @@ ghost use Rattle.cli_words.specs.Values.{behind, is_number, number_in, style_nam
 use crate::options::{Dist, Tb};
 use crate::table::{Counter, Given, Rule, Switch, TextOption};
 use crate::word::Word;
-use std::alloc::{AllocError, Global};
+use seq::OutOfMemory;
+use std::alloc::Global;
 
 /// One option with its value.
 #[derive(Debug, Drop)]
@@ -103,11 +104,11 @@ impl Given {
 
 impl Rule {
     /// What a value sets, if it is a value of this form.
-    pub(crate) fn setting(self, alloc: Global, value: &str) -> Result<Option<Setting>, AllocError>
+    pub(crate) fn setting(self, alloc: Global, value: &str) -> Result<Option<Setting>, OutOfMemory>
         ensures { IfOk result (λ setting. setting ≡ setting_of self value.now) }
     {
         let setting = match self {
-            Rule::Text(option) => Some(Setting::Text(option, Word::of(alloc, value)?)),
+            Rule::Text(option) => Some(Setting::Text(option, Word::from_str(alloc, value)?)),
             Rule::Number(counter, low, high) => number(value, low, high).map(|count| Setting::Count(
                 counter, count,
             )),

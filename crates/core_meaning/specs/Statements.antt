@@ -1,9 +1,10 @@
 -- What core statements do (Language Reference, simple and compound statements).
-use Rattle.std.specs.Prelude.{List, [], ◌∷◌, Option, Some, None}
+use Rattle.std.specs.Prelude.{ℕ, ◌+◌, List, [], ◌∷◌, drop, map, Option, Some, None}
 use Rattle.std.specs.declared.alloc.Global.{Global}
 use Rattle.std.specs.declared.rc.Rc.{Rc}
 use Rattle.py_core.specs.declared.expr.CoreExpr.{CoreExpr}
-use Rattle.py_core.specs.declared.stmt.Core.{Core}
+use Rattle.py_core.specs.Blocks.{stmts_in}
+use Rattle.py_core.specs.declared.stmt.CoreBlock.{CoreBlock}
 use Rattle.py_core.specs.declared.stmt.CoreBranch as branch
 use Rattle.py_core.specs.declared.stmt.CoreFn as fn
 use Rattle.py_core.specs.declared.stmt.CoreFn.{CoreFn}
@@ -12,28 +13,29 @@ use Rattle.py_core.specs.declared.stmt.CoreSingleKind.TheVariants as single
 use Rattle.py_core.specs.declared.stmt.CoreTarget.{CoreTarget}
 use Rattle.py_core.specs.declared.stmt.CoreTarget.TheVariants as target
 use Rattle.py_core.specs.declared.stmt.Template.{Template}
-use Rattle.py_core.specs.declared.stmt.Template.TheVariants.{Plain}
+use Rattle.py_core.specs.declared.stmt.Template.TheVariants.{Plain, Explain}
 use Rattle.py_core.specs.declared.stmt.CoreStmt.{CoreStmt}
 use Rattle.py_core.specs.declared.stmt.CoreStmtKind as f
-use Rattle.py_core.specs.declared.stmt.CoreStmtKind.{CoreStmtKind, Row_of-CoreStmt, end_of-CoreStmt, more_of-CoreStmt, Row_of-CoreBranch, end_of-CoreBranch, more_of-CoreBranch, items-the_row-CoreStmt, items-the_row-CoreBranch}
+use Rattle.py_core.specs.declared.stmt.CoreStmtKind.{CoreStmtKind, items-the_row-CoreBranch}
 use Rattle.py_core.specs.declared.stmt.CoreStmtKind.TheVariants as v
 use Rattle.py_tree.specs.declared.op.BinOp.{BinOp}
+use Rattle.py_tree.specs.Trees.{tree}
 use Rattle.core_meaning.specs.Expressions.{CorePart, eval}
-use Rattle.core_meaning.specs.Requests.{Turn, StatementOf, TurnOf}
+use Rattle.core_meaning.specs.Requests.{core_kinds, Layer, Statements, Turn, StatementOf, TurnOf}
 use Rattle.py_world.specs.Site.{site}
-use Rattle.py_world.specs.World.{unset}
+use Rattle.py_world.specs.Arguments.{required}
 use Rattle.py_world.specs.Outcome.{Body, Next, on_next}
-use Rattle.py_world.specs.Statements.{Store, Choice, asked, expression_statement, store_name, assign, augment_name, return_value, pass, leave_loop, next_turn, fail, choose, loop, turn_of, define}
+use Rattle.py_world.specs.Statements.{Store, Choice, asked, expression_statement, store_name, assign, augment_name, return_value, yield_value, pass, leave_loop, next_turn, fail, fail_explained, choose, loop, turn_of, define}
 use Rattle.py_world.specs.Calls.{Entry}
 
 abbrev pub CoreBody : Type 0
-CoreBody = Body CoreFn Core Turn
+CoreBody = Body core_kinds
 
 abbrev pub CoreStore : Type 0
-CoreStore = Store CoreFn Core Turn
+CoreStore = Store core_kinds
 
 abbrev pub CoreChoice : Type 0
-CoreChoice = Choice CoreFn Core Turn
+CoreChoice = Choice core_kinds
 
 abbrev pub store_at : CoreSingleKind → CoreStore
 store_at (single.Name name) = store_name name
@@ -55,55 +57,73 @@ some_part (Some e) = Some (eval e.value)
 -- what a failed assert shows beside its message
 abbrev pub failure : Template → Option (Rc CoreExpr Global) → CorePart
 failure Plain message = fail (some_part message)
+failure (Explain e) message = fail_explained (tree e.value) (some_part message)
 
 -- a statement begins with a step, but for a failure, which is a part of its assert
-abbrev pub begun_at : CoreStmtKind → CoreStmt → CorePart
-begun_at (v.FailWith template message) st = failure template message
-begun_at kind st = asked (StatementOf st)
+abbrev pub begun_at : CoreStmtKind → List Layer → CoreStmt → CorePart
+begun_at (v.Expr e) ls st = asked (StatementOf ls st)
+begun_at (v.Assign ts e) ls st = asked (StatementOf ls st)
+begun_at (v.AugAssign t op e) ls st = asked (StatementOf ls st)
+begun_at (v.Return e) ls st = asked (StatementOf ls st)
+begun_at (v.FailWith template message) ls st = failure template message
+begun_at (v.Global names) ls st = asked (StatementOf ls st)
+begun_at v.Pass ls st = asked (StatementOf ls st)
+begun_at v.Break ls st = asked (StatementOf ls st)
+begun_at v.Continue ls st = asked (StatementOf ls st)
+begun_at (f.If' p n branches q other) ls st = asked (StatementOf ls st)
+begun_at (v.Yield e) ls st = asked (StatementOf ls st)
+begun_at (f.While' e p body) ls st = asked (StatementOf ls st)
+begun_at (f.Def' p fn) ls st = asked (StatementOf ls st)
 
-abbrev pub begun : CoreStmt → CorePart
-begun st = begun_at st.kind st
+abbrev pub begun : List Layer → CoreStmt → CorePart
+begun ls st = begun_at st.kind ls st
 
--- STATEMENTS ONE AFTER ANOTHER, each on its line
-abbrev pub block : List CoreStmt → CoreBody
-block [] scene s k = k (Next s)
-block (st ∷ rest) scene s k = begun st (site scene st.at.line) s (λ o. on_next o k (λ s. block rest scene s k))
+-- STATEMENTS ONE AFTER ANOTHER, each on its line: those of a block from a place on
+abbrev pub block_from : List Layer → CoreBlock → ℕ → List CoreStmt → CoreBody
+block_from ls b at [] scene s k = k (Next s)
+block_from ls b at (st ∷ rest) scene s k =
+    begun (Statements b (at + 1) ∷ ls) st (site scene st.at.line) s (λ o. on_next o k (λ s. block_from ls b (at + 1) rest scene s k))
 
-abbrev pub choice : branch.CoreBranch → CoreChoice
-choice (branch.CoreBranch' at condition p n body) = (at.line, (eval condition.value, block (items-the_row-CoreStmt _ body)))
+abbrev pub block : List Layer → CoreBlock → CoreBody
+block ls b = block_from ls b 0 (stmts_in b)
 
-abbrev pub choices : List branch.CoreBranch → List CoreChoice
-choices [] = []
-choices (b ∷ rest) = choice b ∷ choices rest
+-- what remains of a body, the innermost block first
+abbrev pub remains : List Layer → CorePart
+remains [] p s k = k (Next s)
+remains (Statements b at ∷ ls) p s k = block_from ls b at (drop at (stmts_in b)) p.scene s (λ o. on_next o k (λ s. remains ls p s k))
 
--- an `if` begins with no temporary
-abbrev pub choose_unset : List CoreChoice → CoreBody → CorePart
-choose_unset branches other p s k = choose branches other p (unset s) k
+abbrev pub choice : List Layer → branch.CoreBranch → CoreChoice
+choice ls (branch.CoreBranch' at condition p body) = (at.line, (eval condition.value, block ls body))
+
+abbrev pub choices : List Layer → List branch.CoreBranch → List CoreChoice
+choices ls [] = []
+choices ls (b ∷ rest) = choice ls b ∷ choices ls rest
 
 abbrev pub define_fn : CoreFn → CorePart
-define_fn (fn.CoreFn' at name params locals p n body) = define name at.line params (fn.CoreFn' at name params locals p n body)
+define_fn (fn.CoreFn' source at name params locals yields p body) = define name at.line (map required params) yields (fn.CoreFn' source at name params locals yields p body)
 
 -- WHAT A STATEMENT DOES, its step being taken
-abbrev pub statement_at : CoreStmtKind → CorePart
-statement_at (v.Expr e) = expression_statement (eval e.value)
-statement_at (v.Assign ts e) = assign (stores ts.value.items) (eval e.value)
-statement_at (v.AugAssign t op e) = augment_at t.kind op (eval e.value)
-statement_at (v.Return e) = return_value (some_part e)
-statement_at (v.FailWith template message) = failure template message
-statement_at (v.Global names) = pass
-statement_at v.Pass = pass
-statement_at v.Break = leave_loop
-statement_at v.Continue = next_turn
-statement_at (f.If' p n branches q m other) = choose_unset (choices (items-the_row-CoreBranch _ branches)) (block (items-the_row-CoreStmt _ other))
-statement_at (f.While' e p n body) = loop (TurnOf e.value (items-the_row-CoreStmt _ body)) (eval e.value)
-statement_at (f.Def' p fn) = define_fn fn
+abbrev pub statement_at : List Layer → CoreStmtKind → CorePart
+statement_at ls (v.Expr e) = expression_statement (eval e.value)
+statement_at ls (v.Assign ts e) = assign (stores ts.value.items) (eval e.value)
+statement_at ls (v.AugAssign t op e) = augment_at t.kind op (eval e.value)
+statement_at ls (v.Return e) = return_value (some_part e)
+statement_at ls (v.FailWith template message) = failure template message
+statement_at ls (v.Global names) = pass
+statement_at ls (v.Yield e) = yield_value (some_part e) ls
+statement_at ls v.Pass = pass
+statement_at ls v.Break = leave_loop
+statement_at ls v.Continue = next_turn
+statement_at ls (f.If' p n branches q other) = choose (choices ls (items-the_row-CoreBranch _ branches)) (block ls other)
+statement_at ls (f.While' e p body) = loop (TurnOf e.value body) (eval e.value)
+statement_at ls (f.Def' p fn) = define_fn fn
 
-abbrev pub statement : CoreStmt → CorePart
-statement st = statement_at st.kind
+abbrev pub statement : List Layer → CoreStmt → CorePart
+statement ls st = statement_at ls st.kind
 
 abbrev pub act : Turn → CorePart
-act (StatementOf st) = statement st
-act (TurnOf e stmts) = turn_of (TurnOf e stmts) (eval e) (block stmts)
+act (StatementOf ls st) = statement ls st
+act (TurnOf e body) = turn_of (TurnOf e body) (eval e) (block [] body)
 
-abbrev pub entry : CoreFn → Entry CoreFn Core Turn
-entry (fn.CoreFn' at name params locals p n body) = record { name = name; params = params; own = locals; body = block (items-the_row-CoreStmt _ body) }
+abbrev pub entry : CoreFn → Entry core_kinds
+entry (fn.CoreFn' source at name params locals yields p body) = record { name = name; own = locals; body = block [] body }

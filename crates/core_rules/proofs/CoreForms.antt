@@ -1,9 +1,8 @@
 -- Core forms don't look at what follows them.
-use Rattle.std.proofs.Common.{◌≡◌, ℕ, List, [], ◌∷◌, Option, Some, None, true, false, refl, sym, ap, ◌∙◌}
+use Rattle.std.proofs.Common.{◌≡◌, ℕ, ◌+◌, List, [], ◌∷◌, drop, Option, Some, None, true, false, refl}
 use Rattle.std.specs.declared.alloc.Global.{Global}
 use Rattle.std.specs.declared.rc.Rc.{Rc}
-use Rattle.run_tree.specs.Todo.{Done, bind, run, follow}
-use Rattle.run_tree.proofs.Runs.{run-bind}
+use Rattle.run_tree.specs.Todo.{Done, run, follow}
 use Rattle.py_source.specs.declared.pos.Pos.{Pos}
 use Rattle.py_tree.specs.declared.op.BinOp.{BinOp}
 use Rattle.py_values.specs.declared.value.Value.{Value}
@@ -12,7 +11,6 @@ use Rattle.py_core.specs.declared.expr.CoreExpr.{CoreExpr}
 use Rattle.py_core.specs.declared.expr.CoreExprKind as f
 use Rattle.py_core.specs.declared.expr.CoreExprKind.{CoreExprKind, Row_of-CoreExprKind-Call-1-1 as Row, end_of-CoreExprKind-Call-1-1 as end, more_of-CoreExprKind-Call-1-1 as more}
 use Rattle.py_core.specs.declared.expr.CoreExprKind.TheVariants as v
-use Rattle.py_core.specs.declared.stmt.Core.{Core}
 use Rattle.py_core.specs.declared.stmt.CoreBranch as branch
 use Rattle.py_core.specs.declared.stmt.CoreFn as fn
 use Rattle.py_core.specs.declared.stmt.CoreFn.{CoreFn}
@@ -21,21 +19,25 @@ use Rattle.py_core.specs.declared.stmt.CoreSingleKind.TheVariants as single
 use Rattle.py_core.specs.declared.stmt.CoreTarget.{CoreTarget}
 use Rattle.py_core.specs.declared.stmt.CoreTarget.TheVariants as target
 use Rattle.py_core.specs.declared.stmt.Template.{Template}
-use Rattle.py_core.specs.declared.stmt.Template.TheVariants.{Plain}
+use Rattle.py_core.specs.declared.stmt.Template.TheVariants.{Plain, Explain}
 use Rattle.py_core.specs.declared.stmt.CoreStmt.{CoreStmt}
 use Rattle.py_core.specs.declared.stmt.CoreStmtKind as c
-use Rattle.py_core.specs.declared.stmt.CoreStmtKind.{CoreStmtKind, Row_of-CoreStmt, items-the_row-CoreStmt, items-the_row-CoreBranch}
+use Rattle.py_core.specs.declared.stmt.CoreStmtKind.{CoreStmtKind, items-the_row-CoreBranch}
+use Rattle.py_core.specs.declared.stmt.CoreBlock.{CoreBlock}
+use Rattle.py_core.specs.Blocks.{stmts_in}
 use Rattle.py_core.specs.declared.stmt.CoreStmtKind.TheVariants as k
-use Rattle.core_meaning.specs.Requests.{Turn, StatementOf, TurnOf}
+use Rattle.py_tree.specs.Trees as Rattle_tree
+use Rattle.core_meaning.specs.Requests.{core_kinds, Layer, Statements, Turn, StatementOf, TurnOf}
+use Rattle.core_meaning.specs.Meaning.{core}
 use Rattle.core_meaning.specs.Expressions.{CorePart, eval_at, eval, parts}
-use Rattle.core_meaning.specs.Statements.{CoreBody, CoreChoice, store_at, store, stores, augment_at, some_part, failure, begun_at, block, choices, choose_unset, define_fn, statement_at, statement, act, entry}
+use Rattle.core_meaning.specs.Statements.{remains, store_at, store, stores, augment_at, some_part, failure, begun_at, block_from, block, choices, define_fn, statement_at, statement, act, entry}
 use Rattle.py_world.specs.World.{State}
-use Rattle.py_world.specs.Site.{Scene, Site, site}
-use Rattle.py_world.specs.Outcome.{Then, Request}
+use Rattle.py_world.specs.Site.{Around, Scene, Site, site}
+use Rattle.py_world.specs.Arguments.{Arguments, plain}
+use Rattle.py_world.specs.Outcome.{Then}
 use Rattle.py_world.specs.Calls.{invoke, body_of}
-use Rattle.py_world.specs.declared.trace.TraceFrame.{TraceFrame}
 use Rattle.core_rules.proofs.Linear as line
-use Rattle.core_rules.proofs.Linear.{Linear, LinearBody, LinearAll}
+use Rattle.core_rules.proofs.Linear.{Linear, LinearBody, LinearAll, LinearMeaning}
 
 mutual
   eval_linear : (at : Pos) (e : CoreExprKind) → Linear (eval_at at e)
@@ -46,7 +48,7 @@ mutual
   eval_linear at v.False = line.noted_linear at (line.constant_linear (val.Bool false))
   eval_linear at v.None = line.noted_linear at (line.constant_linear val.None)
   eval_linear at (f.Paren' p a e) = line.noted_linear at (eval_linear a e)
-  eval_linear at (f.Call' p a e q n es) = line.noted_linear at (line.call_linear (eval_linear a e) (parts_linear es))
+  eval_linear at (f.Call' p a e q n es) = line.noted_linear at (line.call_linear plain (eval_linear a e) (parts_linear es))
   eval_linear at (f.Unary' op p a e) = line.noted_linear at (line.unary_linear op (eval_linear a e))
   eval_linear at (f.Binary' p a l op q b r) = line.noted_linear at (line.binary_linear op (eval_linear a l) (eval_linear b r))
   eval_linear at (f.Compare' p a e ops q n es) = line.noted_linear at (line.compare_linear ops.value.items (eval_linear a e) (parts_linear es))
@@ -79,74 +81,74 @@ augment_linear (single.Name name) op e = line.augment_linear name op e
 
 failure_linear : (t : Template) (m : Option (Rc CoreExpr Global)) → Linear (failure t m)
 failure_linear Plain m = line.fail_linear (some_linear m)
+failure_linear (Explain c) m = line.explained_linear (Rattle_tree.tree c.value) (some_linear m)
 
-begun_linear : (kind : CoreStmtKind) (st : CoreStmt) → Linear (begun_at kind st)
-begun_linear (k.Expr e) st = line.asked_linear (StatementOf st)
-begun_linear (k.Assign ts e) st = line.asked_linear (StatementOf st)
-begun_linear (k.AugAssign t op e) st = line.asked_linear (StatementOf st)
-begun_linear (k.Return e) st = line.asked_linear (StatementOf st)
-begun_linear (k.FailWith template message) st = failure_linear template message
-begun_linear (k.Global names) st = line.asked_linear (StatementOf st)
-begun_linear k.Pass st = line.asked_linear (StatementOf st)
-begun_linear k.Break st = line.asked_linear (StatementOf st)
-begun_linear k.Continue st = line.asked_linear (StatementOf st)
-begun_linear (c.If' p n branches q m other) st = line.asked_linear (StatementOf st)
-begun_linear (c.While' e p n body) st = line.asked_linear (StatementOf st)
-begun_linear (c.Def' p x) st = line.asked_linear (StatementOf st)
+begun_linear : (kind : CoreStmtKind) (ls : List Layer) (st : CoreStmt) → Linear (begun_at kind ls st)
+begun_linear (k.Expr e) ls st = line.asked_linear (StatementOf ls st)
+begun_linear (k.Assign ts e) ls st = line.asked_linear (StatementOf ls st)
+begun_linear (k.AugAssign t op e) ls st = line.asked_linear (StatementOf ls st)
+begun_linear (k.Return e) ls st = line.asked_linear (StatementOf ls st)
+begun_linear (k.FailWith template message) ls st = failure_linear template message
+begun_linear (k.Global names) ls st = line.asked_linear (StatementOf ls st)
+begun_linear (k.Yield e) ls st = line.asked_linear (StatementOf ls st)
+begun_linear k.Pass ls st = line.asked_linear (StatementOf ls st)
+begun_linear k.Break ls st = line.asked_linear (StatementOf ls st)
+begun_linear k.Continue ls st = line.asked_linear (StatementOf ls st)
+begun_linear (c.If' p n branches q other) ls st = line.asked_linear (StatementOf ls st)
+begun_linear (c.While' e p body) ls st = line.asked_linear (StatementOf ls st)
+begun_linear (c.Def' p x) ls st = line.asked_linear (StatementOf ls st)
 
-block_linear : (ss : List CoreStmt) → LinearBody (block ss)
-block_linear [] = record { does = λ scene s k l. refl }
-block_linear (st ∷ rest) = record { does = λ scene s k l. line.then_linear (begun_linear st.kind st) (site scene st.at.line) s _ _ l (line.next_bind k l _ _ (λ s. (block_linear rest).does scene s k l)) }
+from_linear : (ls : List Layer) (b : CoreBlock) (at : ℕ) (ss : List CoreStmt) → LinearBody (block_from ls b at ss)
+from_linear ls b at [] = record { does = λ scene s k l. refl }
+from_linear ls b at (st ∷ rest) = record { does = λ scene s k l. line.then_linear (begun_linear st.kind (Statements b (at + 1) ∷ ls) st) (site scene st.at.line) s _ _ l (line.next_bind k l _ _ (λ s. (from_linear ls b (at + 1) rest).does scene s k l)) }
 
-choices_linear : (bs : List branch.CoreBranch) → line.LinearChoices (choices bs)
-choices_linear [] = line.nil
-choices_linear (branch.CoreBranch' at e p n body ∷ rest) = line.cons at.line (eval_linear e.value.at e.value.kind) (block_linear (items-the_row-CoreStmt _ body)) (choices_linear rest)
+block_linear : (ls : List Layer) (b : CoreBlock) → LinearBody (block ls b)
+block_linear ls b = record { does = λ scene s k l. (from_linear ls b 0 (stmts_in b)).does scene s k l }
 
-choose_linear : {bs : List CoreChoice} {b : CoreBody} → line.LinearChoices bs → LinearBody b → Linear (choose_unset bs b)
-choose_linear bs b = record { does = λ p s k l. (line.branches_linear bs b).does p.scene _ k l }
+remains_linear : (ls : List Layer) → Linear (remains ls)
+remains_linear [] = record { does = λ p s k l. refl }
+remains_linear (Statements b at ∷ ls) = record { does = λ p s k l. line.body_then (from_linear ls b at (drop at (stmts_in b))) p.scene s _ _ l (line.next_bind k l _ _ (λ s. (remains_linear ls).does p s k l)) }
+
+choices_linear : (ls : List Layer) (bs : List branch.CoreBranch) → line.LinearChoices (choices ls bs)
+choices_linear ls [] = line.nil
+choices_linear ls (branch.CoreBranch' at e p body ∷ rest) = line.cons at.line (eval_linear e.value.at e.value.kind) (block_linear ls body) (choices_linear ls rest)
 
 define_linear : (x : CoreFn) → Linear (define_fn x)
-define_linear (fn.CoreFn' at name params locals p n body) = line.define_linear name at.line params _
+define_linear (fn.CoreFn' source at name params locals yields p body) = line.define_linear name at.line _ yields _
 
-statement_linear : (kind : CoreStmtKind) → Linear (statement_at kind)
-statement_linear (k.Expr e) = line.expression_linear (eval_linear e.value.at e.value.kind)
-statement_linear (k.Assign ts e) = line.assign_linear (stores_linear ts.value.items) (eval_linear e.value.at e.value.kind)
-statement_linear (k.AugAssign t op e) = augment_linear t.kind op (eval_linear e.value.at e.value.kind)
-statement_linear (k.Return e) = line.return_linear (some_linear e)
-statement_linear (k.FailWith template message) = failure_linear template message
-statement_linear (k.Global names) = line.pass_linear
-statement_linear k.Pass = line.pass_linear
-statement_linear k.Break = line.leave_linear
-statement_linear k.Continue = line.again_linear
-statement_linear (c.If' p n branches q m other) = choose_linear (choices_linear (items-the_row-CoreBranch _ branches)) (block_linear (items-the_row-CoreStmt _ other))
-statement_linear (c.While' e p n body) = line.loop_linear _ (eval_linear e.value.at e.value.kind)
-statement_linear (c.Def' p x) = define_linear x
+statement_linear : (ls : List Layer) (kind : CoreStmtKind) → Linear (statement_at ls kind)
+statement_linear ls (k.Expr e) = line.expression_linear (eval_linear e.value.at e.value.kind)
+statement_linear ls (k.Assign ts e) = line.assign_linear (stores_linear ts.value.items) (eval_linear e.value.at e.value.kind)
+statement_linear ls (k.AugAssign t op e) = augment_linear t.kind op (eval_linear e.value.at e.value.kind)
+statement_linear ls (k.Return e) = line.return_linear (some_linear e)
+statement_linear ls (k.FailWith template message) = failure_linear template message
+statement_linear ls (k.Global names) = line.pass_linear
+statement_linear ls (k.Yield e) = line.yield_linear (some_linear e) ls
+statement_linear ls k.Pass = line.pass_linear
+statement_linear ls k.Break = line.leave_linear
+statement_linear ls k.Continue = line.again_linear
+statement_linear ls (c.If' p n branches q other) = line.choose_linear (choices_linear ls (items-the_row-CoreBranch _ branches)) (block_linear ls other)
+statement_linear ls (c.While' e p body) = line.loop_linear _ (eval_linear e.value.at e.value.kind)
+statement_linear ls (c.Def' p x) = define_linear x
 
 act_linear : (what : Turn) → Linear (act what)
-act_linear (StatementOf st) = statement_linear st.kind
-act_linear (TurnOf e stmts) = line.turn_linear _ (eval_linear e.at e.kind) (block_linear stmts)
+act_linear (StatementOf ls st) = statement_linear ls st.kind
+act_linear (TurnOf e body) = line.turn_linear _ (eval_linear e.at e.kind) (block_linear [] body)
 
 entry_linear : (x : CoreFn) → LinearBody (entry x).body
-entry_linear (fn.CoreFn' at name params locals p n body) = block_linear (items-the_row-CoreStmt _ body)
+entry_linear (fn.CoreFn' source at name params locals yields p body) = block_linear [] body
 
-abbrev Next : Type 0
-Next = Then CoreFn Core Turn
+core_linear : LinearMeaning core
+core_linear = record { entries = entry_linear; acts = act_linear; bodies = λ code. block_linear [] code.body.value; remains = remains_linear }
 
-body_linear : (r : Request CoreFn Core Turn) (k l : Next) → bind (body_of entry act r k) l ≡ body_of entry act r (λ o. bind (k o) l)
-body_linear r k l = line.body_bind entry entry_linear act act_linear r k l
+pub expressions : (e : CoreExpr) (p : Site) (s : State core_kinds) (k : Then core_kinds) (budget : ℕ) → run (body_of core) budget (eval e p s k) ≡ follow (body_of core) (run (body_of core) budget (eval e p s Done)) k
+expressions e p s k budget = line.part_runs core core_linear (eval_linear e.at e.kind) p s k budget
 
--- a part that doesn't look at what follows runs to its end
-pub runs_part : {e : CorePart} → Linear e → (p : Site) (s : State CoreFn Core) (k : Next) (budget : ℕ) → run (body_of entry act) budget (e p s k) ≡ follow (body_of entry act) (run (body_of entry act) budget (e p s Done)) k
-runs_part {e = e} x p s k budget = ap (run (body_of entry act) budget) (sym (x.does p s Done k)) ∙ run-bind (body_of entry act) body_linear budget (e p s Done) k
+pub statements : (ls : List Layer) (st : CoreStmt) (p : Site) (s : State core_kinds) (k : Then core_kinds) (budget : ℕ) → run (body_of core) budget (statement ls st p s k) ≡ follow (body_of core) (run (body_of core) budget (statement ls st p s Done)) k
+statements ls st p s k budget = line.part_runs core core_linear (statement_linear ls st.kind) p s k budget
 
-pub expressions : (e : CoreExpr) (p : Site) (s : State CoreFn Core) (k : Next) (budget : ℕ) → run (body_of entry act) budget (eval e p s k) ≡ follow (body_of entry act) (run (body_of entry act) budget (eval e p s Done)) k
-expressions e p s k budget = runs_part (eval_linear e.at e.kind) p s k budget
+pub blocks : (ls : List Layer) (b : CoreBlock) (scene : Scene) (s : State core_kinds) (k : Then core_kinds) (budget : ℕ) → run (body_of core) budget (block ls b scene s k) ≡ follow (body_of core) (run (body_of core) budget (block ls b scene s Done)) k
+blocks ls b scene s k budget = line.body_runs core core_linear (block_linear ls b) scene s k budget
 
-pub statements : (st : CoreStmt) (p : Site) (s : State CoreFn Core) (k : Next) (budget : ℕ) → run (body_of entry act) budget (statement st p s k) ≡ follow (body_of entry act) (run (body_of entry act) budget (statement st p s Done)) k
-statements st p s k budget = runs_part (statement_linear st.kind) p s k budget
-
-pub blocks : (b : List CoreStmt) (scene : Scene) (s : State CoreFn Core) (k : Next) (budget : ℕ) → run (body_of entry act) budget (block b scene s k) ≡ follow (body_of entry act) (run (body_of entry act) budget (block b scene s Done)) k
-blocks b scene s k budget = ap (run (body_of entry act) budget) (sym ((block_linear b).does scene s Done k)) ∙ run-bind (body_of entry act) body_linear budget (block b scene s Done) k
-
-pub calls : (callee : Value) (args : List Value) (outer : List TraceFrame) (depth : ℕ) (s : State CoreFn Core) (k : Next) (budget : ℕ) → run (body_of entry act) budget (invoke entry callee args outer depth s k) ≡ follow (body_of entry act) (run (body_of entry act) budget (invoke entry callee args outer depth s Done)) k
-calls callee args outer depth s k budget = ap (run (body_of entry act) budget) (sym (line.invoke_bind entry entry_linear callee args outer depth s Done k)) ∙ run-bind (body_of entry act) body_linear budget (invoke entry callee args outer depth s Done) k
+pub calls : (callee : Value) (args : Arguments) (a : Around) (s : State core_kinds) (k : Then core_kinds) (budget : ℕ) → run (body_of core) budget (invoke core callee args a s k) ≡ follow (body_of core) (run (body_of core) budget (invoke core callee args a s Done)) k
+calls callee args a s k budget = line.call_runs core core_linear callee args a s k budget

@@ -11,11 +11,14 @@ use crate::tree::{Tree, TreeFail};
 use std::alloc::{AllocError, AllocFailed, Global};
 use std::marker::Model;
 
-const FILES_MOST: usize = 4096;
+/// So many files of a tree may be kept.
+pub const FILES_MOST: usize = 4096;
 
-const FILE_MOST: usize = 1_048_576;
+/// So many bytes may a kept file have: 1 MiB.
+pub const FILE_MOST: usize = 1_048_576;
 
-const TREE_MOST: usize = 8_388_608;
+/// So many bytes may the kept files have together: 8 MiB.
+pub const TREE_MOST: usize = 8_388_608;
 
 /// Why the files of a tree were not loaded.
 #[derive(Debug, Drop)]

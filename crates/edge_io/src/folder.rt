@@ -4,10 +4,12 @@ ghost use Rattle.edge_io.specs.Causes.{Rose};
 use crate::tree::{Tree, TreeFail};
 use std::alloc::{AllocError, Global};
 use std::io::{ErrorKind, Read};
+use std::marker::Model;
 use std::rt::Files;
 use std::{fs, io};
 
-const NAMES_MOST: u32 = 1_000_000;
+/// So many names, of files and folders, may stand below a folder in all.
+pub const NAMES_MOST: u32 = 1_000_000;
 
 /// What is left to be looked at of a folder, and what was found.
 #[derive(Drop)]
@@ -18,7 +20,7 @@ struct Walk {
     names: u32,
 }
 
-/// The files below a folder. It tells its faults alone.
+/// The files below a folder. It tells its faults alone, and is seen as their count.
 ///
 /// Links are not followed, and names that are not UTF-8 are left out. More than 1,000,000 names in
 /// all are a fault.
@@ -85,9 +87,19 @@ impl Walk {
     }
 }
 
+impl<R: Files + AllocGlobal + Clone + Drop> Model for DirTree<R> {
+    ghost use Rattle.std.specs.Prelude.{ℕ};
+
+    ghost Value = { ℕ };
+
+    ghost view = { λ tree. tree.faults };
+}
+
 impl<R: Files + AllocGlobal + Clone + Drop> DirTree<R> {
     /// The files below the folder `root`, as `.` for the current one.
-    pub fn new(rt: R, root: String) -> Self {
+    pub fn new(rt: R, root: String) -> Self
+        ensures { result ≡ 0 }
+    {
         DirTree {
             rt,
             root,
@@ -96,8 +108,8 @@ impl<R: Files + AllocGlobal + Clone + Drop> DirTree<R> {
     }
 
     fn fail(&mut self, e: io::Error) -> TreeFail
-        ensures later { self.old.faults ≤ self.new.faults }
-        ensures failed { result ≡ TreeFail.Failed → Rose self.old.faults self.new.faults }
+        ensures later { self.old ≤ self.new }
+        ensures failed { result ≡ TreeFail.Failed → Rose self.old self.new }
     {
         if e.kind() == ErrorKind::OutOfMemory {
             return TreeFail::OutOfMemory;
@@ -131,7 +143,7 @@ impl<R: Files + AllocGlobal + Clone + Drop> DirTree<R> {
 impl<R: Files + AllocGlobal + Clone + Drop> Tree for DirTree<R> {
     ghost files = { λ _. None };
 
-    ghost faults = { λ t. t.faults };
+    ghost faults = { λ tree. tree };
 
     fn list(&mut self) -> Result<Vec<String>, TreeFail> {
         match self.paths() {

@@ -3,6 +3,7 @@ ghost use Rattle.edge_io.specs.Causes.{HasCause};
 ghost use Rattle.edge_io.specs.Told.{Appends, AppendsPrefix};
 
 use std::io::Write;
+use std::marker::Model;
 
 /// Why a sink took nothing.
 #[derive(Clone, Copy, Debug, PartialEq, Eq)]
@@ -47,15 +48,25 @@ pub fn put_all<S: Sink>(out: &mut S, bytes: &[u8]) -> Result<(), SinkFail>
     Ok(())
 }
 
-/// A sink over any writer, as the standard output. It tells its faults alone.
+/// A sink over any writer, as the standard output. It tells its faults alone, and is seen as their count.
 #[derive(Drop)]
 pub struct StdSink<W: Write + Drop> {
     writer: W,
     faults: u64,
 }
 
+impl<W: Write + Drop> Model for StdSink<W> {
+    ghost use Rattle.std.specs.Prelude.{ℕ};
+
+    ghost Value = { ℕ };
+
+    ghost view = { λ sink. sink.faults };
+}
+
 impl<W: Write + Drop> StdSink<W> {
-    pub fn new(writer: W) -> Self {
+    pub fn new(writer: W) -> Self
+        ensures { result ≡ 0 }
+    {
         StdSink { writer, faults: 0 }
     }
 }
@@ -63,7 +74,7 @@ impl<W: Write + Drop> StdSink<W> {
 impl<W: Write + Drop> Sink for StdSink<W> {
     ghost told = { λ _. None };
 
-    ghost faults = { λ s. s.faults };
+    ghost faults = { λ sink. sink };
 
     fn put(&mut self, bytes: &[u8]) -> Result<usize, SinkFail> {
         match self.writer.write(bytes) {

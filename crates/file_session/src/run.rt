@@ -1,7 +1,7 @@
 // The run of tests.
 
 ghost use Rattle.std.specs.Prelude.{◌≡◌, if◌then◌else◌, [], IfOk, OnOk, encode_utf8_all, map, string_bytes};
-ghost use Rattle.core_meaning.specs.Meaning.{core};
+ghost use Rattle.source_meaning.specs.Meaning.{source};
 ghost use Rattle.file_session.specs.Session as session;
 
 use crate::found::Test;
@@ -9,6 +9,7 @@ use crate::told::{call_phase, encoded};
 use cli_words::Options;
 use py_machine::{World, call, take_printed};
 use py_text::OutOfMemory;
+use report_parts::is_failed;
 use report_text::{ItemReport, Lines, PhaseEnd, Text};
 use std::alloc::Global;
 
@@ -64,8 +65,8 @@ fn run_test(
     limit: u64,
     test: &Test,
 ) -> Result<ItemReport, OutOfMemory>
-    ensures report { IfOk result (λ r. r ≡ session.ran file.now limit test.now (session.run_test core limit test.now world.old)) }
-    ensures world { OnOk result (world.new ≡ session.taken (session.run_test core limit test.now world.old).1) }
+    ensures report { IfOk result (λ r. r ≡ session.ran file.now limit test.now (session.run_test source limit test.now world.old)) }
+    ensures world { OnOk result (world.new ≡ session.taken (session.run_test source limit test.now world.old).1) }
 {
     let ended = call(world, test.function, &[], limit)?;
     let end = call_phase(alloc, world, limit, &ended.out)?;
@@ -79,28 +80,17 @@ fn run_test(
     )
 }
 
-fn has_failed(report: &ItemReport) -> bool
-    ensures { result ≡ blocks.has_failed report.now }
-{
-    match &report.call {
-        PhaseEnd::Raised(_) | PhaseEnd::StrictXpassed(..) => true,
-        _ => false,
-    }
-}
-
-ghost use Rattle.report_text.specs.Blocks as blocks;
-
 /// Whether the run ends with this report, where so many failures are left until it is to stop.
 fn ends_run(report: &ItemReport, left: u32) -> bool
     ensures { result ≡ session.ends_run left report.now }
 {
-    has_failed(report) && left == 1
+    is_failed(&report.call) && left == 1
 }
 
 fn left_behind(report: &ItemReport, left: u32) -> u32
     ensures { result ≡ session.left_behind left report.now }
 {
-    if has_failed(report) {
+    if is_failed(&report.call) {
         return left.saturating_sub(1);
     }
     left
@@ -115,7 +105,7 @@ fn run_until(
     maxfail: u32,
     tests: &[Test],
 ) -> Result<Vec<ItemReport>, OutOfMemory>
-    ensures { IfOk result (λ r. r.items ≡ session.run_until core file.now limit maxfail tests.now world.old) }
+    ensures { IfOk result (λ r. r.items ≡ session.run_until source file.now limit maxfail tests.now world.old) }
 {
     let mut reports = Vec::new(alloc);
     let mut left = maxfail;
@@ -157,7 +147,7 @@ pub fn reports_of(
     file: &str,
     tests: &[Test],
 ) -> Result<Vec<ItemReport>, OutOfMemory>
-    ensures { IfOk result (λ r. r.items ≡ session.reports_of core options.now file.now tests.now world.old) }
+    ensures { IfOk result (λ r. r.items ≡ session.reports_of source options.now file.now tests.now world.old) }
 {
     if options.collect_only {
         return collect(alloc, file, tests);

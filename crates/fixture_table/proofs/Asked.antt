@@ -1,18 +1,16 @@
 -- What definitions ask for: numbers within the table, rows that are written down, lists that are closed.
 use Rattle.std.proofs.Common.{◌≡◌, ℕ, ◌<◌, ◌+◌, inl, inr, refl, ap, sym, subst, ◌∙◌, Bool, true, false, List, [], ◌∷◌, ◌++◌, length, arith, suc, zero, cond, IfSome, Option, Some, None, get_or, nat_eq, eq-eqb, append_assoc}
 use Rattle.std.specs.Option.{option_to_list}
-use Rattle.std.specs.declared.alloc.Global.{Global}
-use Rattle.std.specs.declared.vec.Vec.{Vec}
 use Rattle.std.proofs.lemmas.List.{append-nil}
 use Rattle.std.proofs.lemmas.Bool.{or_cases, eqb-true, cases_lt}
-use Rattle.fixture_table.specs.declared.types.Node.{Node}
+use Rattle.fixture_table.specs.declared.types.CollectionNode.{CollectionNode}
 use Rattle.fixture_table.specs.declared.types.FixtureDef.{FixtureDef}
 use Rattle.fixture_table.specs.declared.entry.Entry.{Entry}
 use Rattle.fixture_table.specs.declared.entry.Entry.TheVariants.{Definition, Missing}
-use Rattle.fixture_table.specs.Tree.{among}
+use Rattle.session_types.specs.Numbers.{among}
 use Rattle.fixture_table.specs.Closing.{IsKnown, same_entry, has, with_one, with_unseen, entry_at}
-use Rattle.fixture_table.specs.Faults.{definitions_of, requests}
-use Rattle.fixture_table.specs.Marks.{row_of, Below}
+use Rattle.fixture_table.specs.Faults.{definitions_of}
+use Rattle.fixture_table.specs.Marks.{Below}
 use Rattle.fixture_table.proofs.Reached.{or_true, or_right, among_push}
 
 pub definitions_append : (xs ys : List Entry) → definitions_of (xs ++ ys) ≡ definitions_of xs ++ definitions_of ys
@@ -92,24 +90,3 @@ below_more defs xs (Some (Definition d)) b k = λ e h. elim (or_cases (among e x
   | inl s ↦ b e s
   | inr s ↦ subst (λ (n : ℕ). n < length defs) (eqb-true d e s) k
 ]
-
--- what is read at a place within doesn't hang on what is read past the end
-pub other_or : (es : List Entry) (m : ℕ) (a b : Entry) → m < length es → get_or es m a ≡ get_or es m b
-other_or [] m a b lt = absurd (omega arith)
-other_or (x ∷ es) zero a b lt = refl
-other_or (x ∷ es) (suc m) a b lt = other_or es m a b (omega arith)
-
--- one more row is written down
-pub asked_row : (nodes : List Node) (defs : List FixtureDef) (item : ℕ) (bound : List ℕ) (es : List Entry) (m : ℕ) (e : Entry) (old new : List (Vec ℕ Global))
-    → m < length es
-    → ((p d : ℕ) → p < m → entry_at es p ≡ Definition d → row_of old d ≡ requests nodes defs item bound d)
-    → ((d : ℕ) → row_of new d ≡ cond (same_entry (get_or es m e) (Definition d)) (requests nodes defs item bound d) (row_of old d))
-    → (p d : ℕ) → p < m + 1 → entry_at es p ≡ Definition d → row_of new d ≡ requests nodes defs item bound d
-asked_row nodes defs item bound es m e old new within was rows p d lt is = pick (same_entry (get_or es m e) (Definition d)) refl where
-  pick : (b : Bool) → same_entry (get_or es m e) (Definition d) ≡ b → row_of new d ≡ requests nodes defs item bound d
-  pick true h = rows d ∙ ap (λ (c : Bool). cond c (requests nodes defs item bound d) (row_of old d)) h
-  pick false h = elim (cases_lt p m) [
-    | inl less ↦ rows d ∙ ap (λ (c : Bool). cond c (requests nodes defs item bound d) (row_of old d)) h ∙ was p d less is
-    | inr more ↦ let one : get_or es m e ≡ Definition d = other_or es m e (Missing 0) within ∙ ap (entry_at es) (omega (arith, lt, more)) ∙ is in
-        let bad : true ≡ false = sym (ap (λ (x : Entry). same_entry x (Definition d)) one ∙ same_refl (Definition d)) ∙ h in absurd cc
-  ]

@@ -1,22 +1,21 @@
 -- The end of a list that grows: what its entries ask for is in it.
-use Rattle.std.proofs.Common.{◌≡◌, ℕ, ◌<◌, ap, sym, subst, ◌∙◌, Bool, true, List, [], ◌∷◌, length, arith, suc, zero, Some, inl, inr, nat_eq}
+use Rattle.std.proofs.Common.{◌≡◌, ℕ, ◌<◌, ap, sym, subst, refl, cond, ◌∙◌, ◌||◌, Bool, true, false, List, [], ◌∷◌, ◌++◌, length, arith, suc, zero, Some, inl, inr, nat_eq}
 use Rattle.std.specs.List.{slice_get}
-use Rattle.std.specs.declared.alloc.Global.{Global}
-use Rattle.std.specs.declared.vec.Vec.{Vec}
 use Rattle.std.proofs.Math.ListN.{get_or-append}
-use Rattle.std.proofs.lemmas.Bool.{cases_lt, or_cases}
-use Rattle.fixture_table.specs.declared.types.Node.{Node}
+use Rattle.std.proofs.lemmas.Bool.{cases_lt, or_cases, or_parts}
+use Rattle.fixture_table.specs.declared.types.CollectionNode.{CollectionNode}
 use Rattle.fixture_table.specs.declared.types.FixtureDef.{FixtureDef}
 use Rattle.fixture_table.specs.declared.entry.Entry.{Entry}
 use Rattle.fixture_table.specs.declared.entry.Entry.TheVariants.{Definition, Missing}
-use Rattle.fixture_table.specs.Tree.{among}
-use Rattle.fixture_table.specs.Closing.{same_entry, has, with_unseen, asked, entry_at, Grown, Done, More}
-use Rattle.fixture_table.specs.Faults.{definitions_of, requests, Reaches, Once, Then}
-use Rattle.fixture_table.specs.Marks.{row_of}
-use Rattle.fixture_table.proofs.Asked.{Extends, has_extends, unseen_has, entry_place}
+use Rattle.session_types.specs.Numbers.{among}
+use Rattle.fixture_table.specs.Closing.{same_entry, has, with_one, with_unseen, asked, entry_at, entries_for, autouse_up, first_entries, Grown, Done, More}
+use Rattle.fixture_table.specs.Faults.{definitions_of}
+use Rattle.fixture_table.specs.Index.{IsShut}
+use Rattle.fixture_table.specs.Tree.{chain_of}
+use Rattle.fixture_table.proofs.Asked.{Extends, has_at, has_extends, unseen_has, entry_place, same_is, same_refl}
 use Rattle.fixture_table.proofs.Reached.{or_true, or_right}
 
-within : (es : List Entry) (p : ℕ) (e : Entry) → slice_get es p ≡ Some e → (p < length es) × (entry_at es p ≡ e)
+pub within : (es : List Entry) (p : ℕ) (e : Entry) → slice_get es p ≡ Some e → (p < length es) × (entry_at es p ≡ e)
 within [] p e h = absurd cc
 within (x ∷ es) zero e h = (omega arith, some_is x e h)
   where
@@ -27,7 +26,7 @@ within (x ∷ es) (suc p) e h = let r = within es p e h in ((let lt = r.0 in ome
 stays : (es ys : List Entry) (p : ℕ) → Extends es ys → p < length es → entry_at ys p ≡ entry_at es p
 stays es ys p x lt = ap (λ (zs : List Entry). entry_at zs p) x.is ∙ get_or-append es x.more (Missing 0) p lt
 
-module _ (nodes : List Node) (defs : List FixtureDef) (item : ℕ) (bound : List ℕ) where
+module _ (nodes : List CollectionNode) (defs : List FixtureDef) (item : ℕ) (bound : List ℕ) where
   -- what each entry asks for, up to a place, is there
   abbrev pub Has : List Entry → ℕ → Type 0
   Has es p = (q : ℕ) (x : Entry) → q < p → q < length es → has x (asked nodes defs item bound (entry_at es q)) ≡ true → has x es ≡ true
@@ -61,23 +60,44 @@ defs_has d (Definition e ∷ es) h = elim (or_cases (nat_eq e d) (among d (defin
 ]
 defs_has d (Missing n ∷ es) h = defs_has d es h
 
--- two tables of requests that agree on a closed set reach the same
-pub same_reach : (one other : ℕ → List ℕ) (inside : ℕ → Bool)
-    → ((d : ℕ) → inside d ≡ true → one d ≡ other d)
-    → ((d e : ℕ) → inside d ≡ true → among e (one d) ≡ true → inside e ≡ true)
-    → (d e : ℕ) → inside d ≡ true → Reaches one d e → Reaches other d e
-same_reach one other inside same shut d e there (Once _ _ h) = Once d e (subst (λ (r : List ℕ). among e r ≡ true) (same d there) h)
-same_reach one other inside same shut d e there (Then _ c _ h r) = Then d c e (subst (λ (r : List ℕ). among c r ≡ true) (same d there) h) (same_reach one other inside same shut c e (shut d c there h) r)
+module _ (nodes : List CollectionNode) (defs : List FixtureDef) (item : ℕ) (bound : List ℕ) (first end : List Entry) (grown : Grown nodes defs item bound first 0 end) where
+  pub shut : IsShut nodes defs item bound end
+  shut p x lt h = closed nodes defs item bound first end grown (entry_at end p) x (has_at end p lt) h
 
-module _ (nodes : List Node) (defs : List FixtureDef) (item : ℕ) (bound : List ℕ) (first end : List Entry) (grown : Grown nodes defs item bound first 0 end) (asks : List (Vec ℕ Global))
-    (same : (d : ℕ) → has (Definition d) end ≡ true → row_of asks d ≡ requests nodes defs item bound d) where
-  -- what an entry requests is an entry
-  pub shut : (d e : ℕ) → has (Definition d) end ≡ true → among e (requests nodes defs item bound d) ≡ true → has (Definition e) end ≡ true
-  shut d e there h = closed nodes defs item bound first end grown (Definition d) (Definition e) there (defs_has e (asked nodes defs item bound (Definition d)) h)
+-- THE LIST HAS EACH ENTRY ONCE
 
-  pub out : (d : ℕ) → has (Definition d) end ≡ true → Reaches (row_of asks) d d → Reaches (requests nodes defs item bound) d d
-  out d there r = same_reach (row_of asks) (requests nodes defs item bound) (λ e. has (Definition e) end) same
-      (λ c e inside h. shut c e inside (subst (λ (l : List ℕ). among e l ≡ true) (same c inside) h)) d d there r
+abbrev pub Single : List Entry → Type 0
+Single [] = Unit {0}
+Single (e ∷ es) = (has e es ≡ false) × Single es
 
-  pub back : (d : ℕ) → has (Definition d) end ≡ true → Reaches (requests nodes defs item bound) d d → Reaches (row_of asks) d d
-  back d there r = same_reach (requests nodes defs item bound) (row_of asks) (λ e. has (Definition e) end) (λ e inside. sym (same e inside)) shut d d there r
+single_push : (es : List Entry) (e : Entry) → Single es → has e es ≡ false → Single (es ++ e ∷ [])
+single_push [] e s h = (refl, tt)
+single_push (x ∷ es) e s h =
+    let parts = or_parts (same_entry x e) (has e es) h in
+    (no_more es s.0 (λ t. (let z : true ≡ false = sym (sym (ap (λ (y : Entry). same_entry x y) (sym (same_is e x t))) ∙ same_refl x) ∙ parts.0 in cc)), single_push es e s.1 parts.1)
+  where
+    no_more : (ys : List Entry) → has x ys ≡ false → (same_entry e x ≡ true → ⊥) → has x (ys ++ e ∷ []) ≡ false
+    no_more [] h k = elim (same_entry e x) as (λ b. (b ≡ true → ⊥) → (b || false) ≡ false) [ true ↦ λ f. absurd (f refl) | false ↦ λ f. refl ] k
+    no_more (y ∷ ys) h k = (let q = or_parts (same_entry y x) (has x ys) h in rw q.0 (no_more ys q.1 k))
+
+single_one : (e : Entry) (es : List Entry) → Single es → Single (with_one e es)
+single_one e es s = elim (has e es) as (λ b. has e es ≡ b → Single (cond b es (es ++ e ∷ []))) [ true ↦ λ h. s | false ↦ λ h. single_push es e s h ] refl
+
+pub single_unseen : (new es : List Entry) → Single es → Single (with_unseen new es)
+single_unseen [] es s = s
+single_unseen (e ∷ new) es s = single_unseen new (with_one e es) (single_one e es s)
+
+pub single_grown : (nodes : List CollectionNode) (defs : List FixtureDef) (item : ℕ) (bound : List ℕ) (es : List Entry) (p : ℕ) (end : List Entry) → Grown nodes defs item bound es p end → Single es → Single end
+single_grown nodes defs item bound _ _ _ (Done es p le) s = s
+single_grown nodes defs item bound _ _ _ (More es p e end at g) s = single_grown nodes defs item bound (with_unseen (asked nodes defs item bound e) es) (suc p) end g (single_unseen (asked nodes defs item bound e) es s)
+
+pub first_single : (nodes : List CollectionNode) (defs : List FixtureDef) (item : ℕ) (bound uses args : List ℕ) → Single (first_entries nodes defs item bound uses args)
+first_single nodes defs item bound uses args = single_unseen (entries_for nodes defs item bound (autouse_up defs (chain_of nodes item) ++ (uses ++ args))) [] tt
+
+-- two places of one entry are one
+pub one_at : (es : List Entry) → Single es → (p q : ℕ) → p < length es → q < length es → entry_at es p ≡ entry_at es q → p ≡ q
+one_at [] s p q l m e = absurd (omega (arith, l))
+one_at (x ∷ es) s zero zero l m e = refl
+one_at (x ∷ es) s zero (suc q) l m e = (let h = has_at es q (omega (arith, m)) in let z : true ≡ false = sym (subst (λ (y : Entry). has y es ≡ true) (sym e) h) ∙ s.0 in cc)
+one_at (x ∷ es) s (suc p) zero l m e = (let h = has_at es p (omega (arith, l)) in let z : true ≡ false = sym (subst (λ (y : Entry). has y es ≡ true) e h) ∙ s.0 in cc)
+one_at (x ∷ es) s (suc p) (suc q) l m e = ap suc (one_at es s.1 p q (omega (arith, l)) (omega (arith, m)) e)

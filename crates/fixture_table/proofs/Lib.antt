@@ -4,3 +4,8 @@ pub mod Grows
 pub mod Reached
 pub mod Asked
 pub mod Settles
+pub mod Index
+pub mod Nearest
+pub mod Positions
+pub mod Ends
+pub mod Deciding

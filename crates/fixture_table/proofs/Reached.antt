@@ -2,12 +2,9 @@
 use Rattle.std.proofs.Common.{◌≡◌, ℕ, ◌<◌, ◌≤◌, ◌+◌, inl, inr, refl, ap, sym, subst, ◌∙◌, Bool, true, false, List, [], ◌∷◌, ◌++◌, length, arith, suc, zero, get_or, set, take, nat_eq, ◌||◌, eq-eqb, get_or-set_same, get_or-set_other}
 use Rattle.std.proofs.lemmas.Bool.{cases_eq, ne_eqb, or_cases, eqb-true, cases_lt}
 use Rattle.std.proofs.Math.ListN.{get_or-eq_default}
-use Rattle.fixture_table.specs.Tree.{among}
-use Rattle.std.specs.declared.alloc.Global.{Global}
-use Rattle.std.specs.declared.vec.Vec.{Vec}
-use Rattle.std.proofs.lemmas.Option.{slice_get-get_or}
+use Rattle.session_types.specs.Numbers.{among}
 use Rattle.std.proofs.lemmas.List.Folds.{list_any_more}
-use Rattle.fixture_table.specs.Marks.{Marks, Keeps, row_of, items_or}
+use Rattle.fixture_table.specs.Marks.{Marks, Keeps}
 use Rattle.fixture_table.specs.Faults.{Reaches, Once, Then}
 
 pub or_true : (a b : Bool) → a ≡ true → (a || b) ≡ true
@@ -70,9 +67,6 @@ complete requests xs closed d e (Then _ c _ h r) first = complete requests xs cl
 pub reaches_more : (requests : ℕ → List ℕ) (d c e : ℕ) → Reaches requests d c → among e (requests c) ≡ true → Reaches requests d e
 reaches_more requests d c e (Once _ _ h) g = Then d c e h (Once c e g)
 reaches_more requests d c e (Then _ b _ h r) g = Then d b e h (reaches_more requests b c e r g)
-
-pub row_at : (asks : List (Vec ℕ Global)) (d : ℕ) (v : Vec ℕ Global) → d < length asks → v ≡ get_or asks d v → row_of asks d ≡ v.items
-row_at asks d v lt e = ap items_or (slice_get-get_or asks d v lt) ∙ ap (λ (x : Vec ℕ Global). x.items) (sym e)
 
 pub keeps_all : (xs ys zs : List ℕ) → Keeps xs ys → Keeps ys zs → Keeps xs zs
 keeps_all xs ys zs a b = record { longer = omega (arith, a.longer, b.longer); same = λ p lt. b.same p (omega (arith, a.longer)) ∙ a.same p lt }

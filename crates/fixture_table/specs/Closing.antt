@@ -2,11 +2,12 @@
 -- and its reference, "Fixture instantiation order").
 use Rattle.std.specs.Prelude.{◌≡◌, ℕ, ◌<◌, ◌≤◌, Bool, false, List, [], ◌∷◌, ◌++◌, length, Option, None, Some, slice_index_or, if◌then◌else◌, ◌==◌, ◌&&◌, map, suc, slice_get}
 use Rattle.std.specs.List.{filter, list_any}
-use Rattle.fixture_table.specs.declared.types.Node.{Node}
+use Rattle.fixture_table.specs.declared.types.CollectionNode.{CollectionNode}
 use Rattle.fixture_table.specs.declared.types.FixtureDef.{FixtureDef}
 use Rattle.fixture_table.specs.declared.entry.Entry.{Entry}
 use Rattle.fixture_table.specs.declared.entry.Entry.TheVariants.{Definition, Missing}
-use Rattle.fixture_table.specs.Tree.{among, chain_of}
+use Rattle.fixture_table.specs.Tree.{chain_of}
+use Rattle.session_types.specs.Numbers.{among}
 use Rattle.fixture_table.specs.Nearest.{nearest_of, def_at}
 
 abbrev pub same_entry : Entry → Entry → Bool
@@ -45,7 +46,7 @@ abbrev pub autouse_up : List FixtureDef → List ℕ → List ℕ
 autouse_up defs [] = []
 autouse_up defs (node ∷ up) = autouse_up defs up ++ autouse_at defs node
 
-module _ (nodes : List Node) (defs : List FixtureDef) (item : ℕ) (bound : List ℕ) where
+module _ (nodes : List CollectionNode) (defs : List FixtureDef) (item : ℕ) (bound : List ℕ) where
   -- a bound name is no entry
   abbrev pub entry_for : ℕ → List Entry
   entry_for name = if among name bound then [] else (entry_or name (nearest_of nodes defs name item None) ∷ [])

@@ -1,8 +1,6 @@
--- Marks on numbers, and the list of the marked ones.
-use Rattle.std.specs.Prelude.{◌≡◌, ℕ, ◌<◌, ◌≤◌, Bool, true, false, List, [], length, slice_index_or, slice_get, Option, None, Some}
-use Rattle.std.specs.declared.alloc.Global.{Global}
-use Rattle.std.specs.declared.vec.Vec.{Vec}
-use Rattle.fixture_table.specs.Tree.{among}
+-- Marks on numbers, the list of the marked ones, and rows of numbers.
+use Rattle.std.specs.Prelude.{◌≡◌, ℕ, ◌<◌, ◌≤◌, Bool, true, false, List, [], length, slice_index_or}
+use Rattle.session_types.specs.Numbers.{among}
 
 -- those that are marked are those that are listed
 abbrev pub Marks : List Bool → List ℕ → Type 0
@@ -16,10 +14,6 @@ pub record Keeps (xs ys : List ℕ) : Type 0 where
   pub longer : length xs ≤ length ys
   pub same : (p : ℕ) → p < length xs → slice_index_or ys p 0 ≡ slice_index_or xs p 0
 
--- the items of a row, none past the end
-abbrev pub items_or : Option (Vec ℕ Global) → List ℕ
-items_or None = []
-items_or (Some row) = row.items
-
-abbrev pub row_of : List (Vec ℕ Global) → ℕ → List ℕ
-row_of asks d = items_or (slice_get asks d)
+-- the row at a place, and none past the end
+abbrev pub row_of : List (List ℕ) → ℕ → List ℕ
+row_of rows d = slice_index_or rows d []

@@ -1,82 +1,78 @@
-ghost use Rattle.std.specs.Prelude.{◌≡◌, ◌<◌, ◌++◌, ℕ, [], length, true, IfOk, OnOk, if◌then◌else◌};
-ghost use Rattle.std.specs.Option.{option_to_list};
-ghost use Rattle.fixture_table.specs.declared.entry.Entry.TheVariants.{Definition};
-ghost use Rattle.fixture_table.specs.Closing.{Known, IsKnown, has, same_entry};
-ghost use Rattle.fixture_table.specs.Faults.{requests, definitions_of};
-ghost use Rattle.fixture_table.specs.Marks.{Below, row_of};
+ghost use Rattle.std.specs.Prelude.{◌≡◌, ◌<◌, ◌++◌, ◌∷◌, [], length, map, true, IfOk};
+ghost use Rattle.fixture_table.specs.declared.entry.Entry.{Entry};
+ghost use Rattle.fixture_table.specs.Closing.{IsKnown, Known, asked, asked_all, entry_at, has};
+ghost use Rattle.fixture_table.specs.Index.{AreRows, IsRow, IsShut};
+ghost use Rattle.fixture_table.specs.Marks.{Below};
+ghost use Rattle.fixture_table.specs.Nearest.{def_at};
 
-use crate::closing::Asking;
+use crate::closing::{View, same_entry};
 use crate::entry::Entry;
-use crate::fault::OutOfMemory;
+use seq::{OutOfMemory, Seq};
 use std::alloc::Global;
 
-/// Appends the definition that an entry is, if it is one.
-fn push_definition(requests: &mut Vec<usize>, entry: Option<Entry>) -> Result<(), OutOfMemory>
-    ensures { OnOk result (requests.new.items ≡ requests.old.items ++ definitions_of (option_to_list entry)) }
+/// Where an entry stands.
+fn place_of(entries: &[Entry], entry: Entry) -> usize
+    requires { has entry entries.now ≡ true }
+    ensures within { result < length entries.now }
+    ensures same { entry_at entries.now result ≡ entry }
 {
-    match entry {
-        Some(Entry::Definition(definition)) => requests.push(definition)?,
-        Some(Entry::Missing(_)) => {}
-        None => {}
+    for (place, one) in entries.iter().enumerate() {
+        if same_entry(*one, entry) {
+            return place;
+        }
     }
-    Ok(())
+    0
 }
 
-impl Asking<'_> {
-    /// The definitions that a definition asks for.
-    fn requests(&self, alloc: Global, place: usize) -> Result<Vec<usize>, OutOfMemory>
-        requires { place < length self.now.defs.now }
-        ensures items { IfOk result (λ v. v.items ≡ requests self.now.nodes.now self.now.defs.now self.now.item self.now.bound.now place) }
-        ensures below { IfOk result (λ v. Below v.items (length self.now.defs.now)) }
+impl View<'_> {
+    /// The places of what a definition asks for.
+    fn places_of(
+        &self,
+        alloc: Global,
+        entries: &[Entry],
+        place: usize,
+    ) -> Result<Seq<usize>, OutOfMemory>
+        requires place { place < length self.now.defs.now }
+        requires shut { (x : Entry) → has x (asked_all self.now.nodes.now self.now.defs.now self.now.item self.now.bound.now place (def_at self.now.defs.now place).args) ≡ true → has x entries.now ≡ true }
+        ensures same { IfOk result (λ row. map (entry_at entries.now) row ≡ asked_all self.now.nodes.now self.now.defs.now self.now.item self.now.bound.now place (def_at self.now.defs.now place).args) }
+        ensures below { IfOk result (λ row. Below row (length entries.now)) }
     {
-        let mut requests = Vec::new(alloc);
+        let mut row = Seq::new(alloc);
         for name in self.defs[place].args.items() {
-            push_definition(&mut requests, self.asked_one(place, *name))?;
+            if let Some(entry) = self.asked_one(place, *name) {
+                row.push(place_of(entries, entry))?;
+            }
         }
-        Ok(requests)
+        Ok(row)
     }
 
-    /// What each definition of the list asks for, by its place.
-    pub fn asks(&self, alloc: Global, entries: &[Entry]) -> Result<Vec<Vec<usize>>, OutOfMemory>
-        requires { Known self.now.defs.now entries.now }
-        ensures size { IfOk result (λ asks. length asks.items ≡ length self.now.defs.now) }
-        ensures same { IfOk result (λ asks. (d : ℕ) → has (Definition d) entries.now ≡ true → row_of asks.items d ≡ requests self.now.nodes.now self.now.defs.now self.now.item self.now.bound.now d) }
-        ensures below { IfOk result (λ asks. (d : ℕ) → Below (row_of asks.items d) (length self.now.defs.now)) }
+    /// The places of what an entry asks for.
+    fn row_of(
+        &self,
+        alloc: Global,
+        entries: &[Entry],
+        entry: Entry,
+    ) -> Result<Seq<usize>, OutOfMemory>
+        requires known { IsKnown self.now.defs.now entry }
+        requires shut { (x : Entry) → has x (asked self.now.nodes.now self.now.defs.now self.now.item self.now.bound.now entry) ≡ true → has x entries.now ≡ true }
+        ensures { IfOk result (λ row. IsRow self.now.nodes.now self.now.defs.now self.now.item self.now.bound.now entries.now entry row) }
     {
-        let mut asks = empty_rows(alloc, self.defs.len())?;
+        match entry {
+            Entry::Definition(place) => self.places_of(alloc, entries, place),
+            Entry::Missing(_) => Ok(Seq::new(alloc)),
+        }
+    }
+
+    /// What each entry asks for, by places.
+    pub fn asks(&self, alloc: Global, entries: &[Entry]) -> Result<Vec<Seq<usize>>, OutOfMemory>
+        requires known { Known self.now.defs.now entries.now }
+        requires shut { IsShut self.now.nodes.now self.now.defs.now self.now.item self.now.bound.now entries.now }
+        ensures { IfOk result (λ asks. AreRows self.now.nodes.now self.now.defs.now self.now.item self.now.bound.now entries.now asks.items) }
+    {
+        let mut asks = Vec::new(alloc);
         for entry in entries {
-            self.ask(alloc, &mut asks, *entry)?;
+            asks.push(self.row_of(alloc, entries, *entry)?)?;
         }
         Ok(asks)
     }
-
-    /// Writes down what one entry asks for.
-    fn ask(
-        &self,
-        alloc: Global,
-        asks: &mut Vec<Vec<usize>>,
-        entry: Entry,
-    ) -> Result<(), OutOfMemory>
-        requires known { IsKnown self.now.defs.now entry }
-        requires size { length asks.old.items ≡ length self.now.defs.now }
-        ensures size { OnOk result (length asks.new.items ≡ length asks.old.items) }
-        ensures rows { OnOk result ((d : ℕ) → row_of asks.new.items d ≡ (if same_entry entry (Definition d) then requests self.now.nodes.now self.now.defs.now self.now.item self.now.bound.now d else row_of asks.old.items d)) }
-        ensures below { OnOk result ((d : ℕ) → Below (row_of asks.old.items d) (length self.now.defs.now) → Below (row_of asks.new.items d) (length self.now.defs.now)) }
-    {
-        if let Entry::Definition(definition) = entry {
-            asks[definition] = self.requests(alloc, definition)?;
-        }
-        Ok(())
-    }
-}
-
-fn empty_rows(alloc: Global, many: usize) -> Result<Vec<Vec<usize>>, OutOfMemory>
-    ensures size { IfOk result (λ rows. length rows.items ≡ many) }
-    ensures empty { IfOk result (λ rows. (d : ℕ) → row_of rows.items d ≡ []) }
-{
-    let mut rows = Vec::new(alloc);
-    for _ in 0..many {
-        rows.push(Vec::new(alloc))?;
-    }
-    Ok(rows)
 }

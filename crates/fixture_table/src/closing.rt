@@ -1,34 +1,42 @@
-ghost use Rattle.std.specs.Prelude.{◌≡◌, ◌<◌, ◌≤◌, ◌++◌, ℕ, List, [], ◌∷◌, length, None, Some, IfSome, IfOk, OnOk, OnErr, slice_index_or};
-ghost use Rattle.std.specs.Option.{option_to_list};
-ghost use Rattle.fixture_table.specs.Tree.{IsTree, among, chain_of};
-ghost use Rattle.fixture_table.specs.Nearest.{Stand, def_at};
+ghost use Rattle.std.specs.Prelude.{◌≡◌, ◌<◌, ◌≤◌, ◌^◌, ◌++◌, length, IfSome, IfOk, OnOk, EachIndex, slice_index, if◌then◌else◌, []};
+ghost use Rattle.std.specs.Option.{ForSome, option_to_list};
+ghost use Rattle.fixture_table.specs.Tree.{IsTree, chain_of};
+ghost use Rattle.session_types.specs.Numbers.{among};
+ghost use Rattle.fixture_table.specs.Nearest.{Stand, def_at, nearest_of};
 ghost use Rattle.fixture_table.specs.Closing.{Known, IsKnown, entry_at, same_entry, has, with_one, with_unseen, entry_for, entries_for, asked_one, asked_all, asked, entry_or, definition_if, Grown, autouse_at, autouse_up, first_entries};
+ghost use Rattle.fixture_table.specs.Index.{IsIndex};
 
 use crate::entry::Entry;
-use crate::fault::OutOfMemory;
 use crate::looking::nearest;
-use crate::types::{FixtureDef, Node};
+use crate::types::{CollectionNode, FixtureDef};
+use seq::{OutOfMemory, Seq};
 use std::alloc::Global;
 
-/// What a closure is asked of.
+/// What an item sees of a table.
 #[derive(Clone, Copy)]
-pub struct Asking<'t> {
-    pub nodes: &'t [Node],
+pub struct View<'t> {
+    pub nodes: &'t [CollectionNode],
     pub defs: &'t [FixtureDef],
+    /// For each node the definitions that stand there.
+    pub at_nodes: &'t [Seq<u32>],
     pub item: u32,
     pub bound: &'t [u32],
     ghost tree: { IsTree nodes.now },
     ghost stand: { Stand nodes.now defs.now },
+    ghost index: { IsIndex nodes.now defs.now at_nodes.now },
     ghost item_in: { item < length nodes.now },
+    ghost few: { length defs.now ≤ 2 ^ 32 },
 }
 
+/// Whether a name is among these.
 pub fn among(names: &[u32], name: u32) -> bool
     ensures { result ≡ among name names.now }
 {
     names.iter().any(|one| *one == name)
 }
 
-fn same_entry(one: Entry, other: Entry) -> bool
+/// Whether two entries are the same.
+pub fn same_entry(one: Entry, other: Entry) -> bool
     ensures { result ≡ same_entry one other }
 {
     match (one, other) {
@@ -54,7 +62,23 @@ fn push_unseen(entries: &mut Vec<Entry>, entry: Entry) -> Result<(), OutOfMemory
     Ok(())
 }
 
-impl Asking<'_> {
+impl View<'_> {
+    /// The nearest definition of a name.
+    pub fn nearest(&self, name: u32, beyond: Option<usize>) -> Option<usize>
+        requires { ForSome beyond (λ b. b < length self.now.defs.now) }
+        ensures answer { result ≡ nearest_of self.now.nodes.now self.now.defs.now name self.now.item beyond }
+        ensures within { IfSome result (λ d. d < length self.now.defs.now) }
+    {
+        nearest(
+            self.nodes,
+            self.defs,
+            self.at_nodes,
+            name,
+            self.item,
+            beyond,
+        )
+    }
+
     /// What a name stands for, unless it is bound.
     fn entry_for(&self, name: u32) -> Option<Entry>
         ensures value { option_to_list result ≡ entry_for self.now.nodes.now self.now.defs.now self.now.item self.now.bound.now name }
@@ -63,7 +87,7 @@ impl Asking<'_> {
         if among(self.bound, name) {
             return None;
         }
-        Some(entry_or(name, nearest(self.nodes, self.defs, name, self.item, None)))
+        Some(entry_or(name, self.nearest(name, None)))
     }
 
     /// What a definition's argument stands for, unless it is bound or there is none further out.
@@ -78,7 +102,7 @@ impl Asking<'_> {
         if among(self.bound, name) {
             return None;
         }
-        definition_if(nearest(self.nodes, self.defs, name, self.item, Some(place)))
+        definition_if(self.nearest(name, Some(place)))
     }
 }
 
@@ -101,10 +125,11 @@ fn definition_if(found: Option<usize>) -> Option<Entry>
 }
 
 /// The node and those above it, inmost first.
-fn chain_up(alloc: Global, nodes: &[Node], item: u32) -> Result<Vec<u32>, OutOfMemory>
+fn chain_up(alloc: Global, nodes: &[CollectionNode], item: u32) -> Result<Vec<u32>, OutOfMemory>
     requires tree { IsTree nodes.now }
     requires item { item < length nodes.now }
-    ensures { IfOk result (λ chain. chain.items ≡ chain_of nodes.now item) }
+    ensures chain { IfOk result (λ chain. chain.items ≡ chain_of nodes.now item) }
+    ensures within { IfOk result (λ chain. EachIndex chain.items (λ q. slice_index chain.items q < length nodes.now)) }
 {
     let mut chain = Vec::new(alloc);
     let mut at = item;
@@ -116,7 +141,7 @@ fn chain_up(alloc: Global, nodes: &[Node], item: u32) -> Result<Vec<u32>, OutOfM
     Ok(chain)
 }
 
-impl Asking<'_> {
+impl View<'_> {
     fn push_name(&self, entries: &mut Vec<Entry>, name: u32) -> Result<(), OutOfMemory>
         requires { Known self.now.defs.now entries.old.items }
         ensures ok { OnOk result (entries.new.items ≡ with_unseen (entry_for self.now.nodes.now self.now.defs.now self.now.item self.now.bound.now name) entries.old.items) }
@@ -139,23 +164,36 @@ impl Asking<'_> {
         Ok(())
     }
 
+    /// A definition, if it is autouse.
+    fn push_if_autouse(&self, entries: &mut Vec<Entry>, place: usize) -> Result<(), OutOfMemory>
+        requires known { Known self.now.defs.now entries.old.items }
+        requires place { place < length self.now.defs.now }
+        ensures ok { OnOk result (entries.new.items ≡ with_unseen (if (def_at self.now.defs.now place).autouse then entry_for self.now.nodes.now self.now.defs.now self.now.item self.now.bound.now (def_at self.now.defs.now place).name else []) entries.old.items) }
+        ensures known { OnOk result (Known self.now.defs.now entries.new.items) }
+    {
+        if self.defs[place].autouse {
+            self.push_name(entries, self.defs[place].name)?;
+        }
+        Ok(())
+    }
+
     /// The autouse fixtures of one node.
     fn push_autouse_at(&self, entries: &mut Vec<Entry>, node: u32) -> Result<(), OutOfMemory>
-        requires { Known self.now.defs.now entries.old.items }
+        requires known { Known self.now.defs.now entries.old.items }
+        requires node { node < length self.now.nodes.now }
         ensures ok { OnOk result (entries.new.items ≡ with_unseen (entries_for self.now.nodes.now self.now.defs.now self.now.item self.now.bound.now (autouse_at self.now.defs.now node)) entries.old.items) }
         ensures known { OnOk result (Known self.now.defs.now entries.new.items) }
     {
-        for one in self.defs {
-            if one.autouse && one.node == node {
-                self.push_name(entries, one.name)?;
-            }
+        for place in self.at_nodes[node as usize].items() {
+            self.push_if_autouse(entries, *place as usize)?;
         }
         Ok(())
     }
 
     /// The autouse fixtures of these nodes, the last node first.
     fn push_autouse(&self, entries: &mut Vec<Entry>, chain: &[u32]) -> Result<(), OutOfMemory>
-        requires { Known self.now.defs.now entries.old.items }
+        requires known { Known self.now.defs.now entries.old.items }
+        requires chain { EachIndex chain.now (λ q. slice_index chain.now q < length self.now.nodes.now) }
         ensures ok { OnOk result (entries.new.items ≡ with_unseen (entries_for self.now.nodes.now self.now.defs.now self.now.item self.now.bound.now (autouse_up self.now.defs.now chain.now)) entries.old.items) }
         ensures known { OnOk result (Known self.now.defs.now entries.new.items) }
     {

@@ -1,26 +1,10 @@
 ghost use Rattle.std.specs.Prelude.{◌≡◌};
 ghost use Rattle.fixture_table.specs.declared.fault.FixtureFault.TheVariants.{OutOfMemory as NoMemory};
 
-use crate::types::DefId;
+use seq::OutOfMemory;
+use session_types::DefId;
 use std::alloc::{AllocError, AllocFailed};
 use thiserror::Error;
-
-/// Memory ran out.
-#[derive(Clone, Copy, Debug, PartialEq, Eq, Error)]
-#[error("out of memory")]
-pub struct OutOfMemory;
-
-impl<T: Drop> From<AllocFailed<T>> for OutOfMemory {
-    fn from(_error: AllocFailed<T>) -> OutOfMemory {
-        OutOfMemory
-    }
-}
-
-impl From<AllocError> for OutOfMemory {
-    fn from(_error: AllocError) -> OutOfMemory {
-        OutOfMemory
-    }
-}
 
 /// Why there is no closure.
 #[derive(Clone, Copy, Debug, PartialEq, Eq, Error)]

@@ -1,21 +1,21 @@
 ghost use Rattle.std.specs.Prelude.{◌≡◌, ◌<◌, ℕ, length, None, Some, IfSome, IfOk, true, if◌then◌else◌};
 ghost use Rattle.fixture_table.specs.Nearest.{def_at};
-ghost use Rattle.fixture_table.specs.Scopes.{rank_of};
 ghost use Rattle.fixture_table.specs.Faults.{asks_in_vain, rank_or, rank_at, is_narrower, first_narrower, requests, Reaches, IsRecursive, HasFault, IsSound, SoundTo, FirstFault};
 ghost use Rattle.fixture_table.specs.declared.entry.Entry.TheVariants.{Definition};
 ghost use Rattle.fixture_table.specs.declared.fault.FixtureFault.{FixtureFault};
-ghost use Rattle.fixture_table.specs.Closing.{Known, IsKnown, has};
+ghost use Rattle.fixture_table.specs.Closing.{Known, IsKnown, entry_at};
 ghost use Rattle.fixture_table.specs.Marks.{Below, row_of};
 
-use crate::closing::{Asking, among};
+use crate::closing::{View, among};
 use crate::entry::Entry;
-use crate::fault::{FixtureFault, OutOfMemory};
-use crate::looking::nearest;
+use crate::fault::FixtureFault;
 use crate::reaching::is_reached;
-use crate::types::{DefId, FixtureDef, Scope};
+use crate::types::FixtureDef;
+use seq::{OutOfMemory, Seq};
+use session_types::{DefId, Scope};
 use std::alloc::Global;
 
-fn rank_or(defs: &[FixtureDef], found: Option<usize>) -> u8
+fn rank_or(defs: &[FixtureDef], found: Option<usize>) -> usize
     requires { IfSome found (λ d. d < length defs.now) }
     ensures { result ≡ rank_or defs.now found }
 {
@@ -25,7 +25,7 @@ fn rank_or(defs: &[FixtureDef], found: Option<usize>) -> u8
     }
 }
 
-impl Asking<'_> {
+impl View<'_> {
     /// Whether it asks for its own name, and none stands further out.
     pub fn asks_in_vain(&self, place: usize) -> bool
         requires { place < length self.now.defs.now }
@@ -38,11 +38,11 @@ impl Asking<'_> {
         if among(self.bound, name) {
             return false;
         }
-        nearest(self.nodes, self.defs, name, self.item, Some(place)).is_none()
+        self.nearest(name, Some(place)).is_none()
     }
 
     /// The scope of what an argument gets; a bound name counts as function scope.
-    fn rank_at(&self, place: usize, name: u32) -> u8
+    fn rank_at(&self, place: usize, name: u32) -> usize
         requires { place < length self.now.defs.now }
         ensures { result ≡ rank_at self.now.nodes.now self.now.defs.now self.now.item self.now.bound.now place name }
     {
@@ -54,10 +54,7 @@ impl Asking<'_> {
         } else {
             None
         };
-        rank_or(
-            self.defs,
-            nearest(self.nodes, self.defs, name, self.item, beyond),
-        )
+        rank_or(self.defs, self.nearest(name, beyond))
     }
 
     fn is_narrower(&self, place: usize, name: u32) -> bool
@@ -81,52 +78,57 @@ impl Asking<'_> {
     }
 }
 
-impl Asking<'_> {
-    /// Whether a definition is reached from itself, or asks for its own name with none further out.
+impl View<'_> {
+    /// Whether the definition at a place of the entries is reached from itself, or asks for its own name with none further out.
     fn is_recursive(
         &self,
         alloc: Global,
-        asks: &[Vec<usize>],
+        asks: &[Seq<usize>],
+        at: usize,
         place: usize,
     ) -> Result<bool, OutOfMemory>
+        requires at { at < length asks.now }
         requires place { place < length self.now.defs.now }
-        requires size { length asks.now ≡ length self.now.defs.now }
-        requires below { (d : ℕ) → Below (row_of asks.now d) (length self.now.defs.now) }
-        requires out { Reaches (row_of asks.now) place place → Reaches (requests self.now.nodes.now self.now.defs.now self.now.item self.now.bound.now) place place }
-        requires back { Reaches (requests self.now.nodes.now self.now.defs.now self.now.item self.now.bound.now) place place → Reaches (row_of asks.now) place place }
+        requires below { (p : ℕ) → Below (row_of asks.now p) (length asks.now) }
+        requires out { Reaches (row_of asks.now) at at → Reaches (requests self.now.nodes.now self.now.defs.now self.now.item self.now.bound.now) place place }
+        requires back { Reaches (requests self.now.nodes.now self.now.defs.now self.now.item self.now.bound.now) place place → Reaches (row_of asks.now) at at }
         ensures yes { IfOk result (λ b. b ≡ true → IsRecursive self.now.nodes.now self.now.defs.now self.now.item self.now.bound.now place) }
         ensures no { IfOk result (λ b. IsRecursive self.now.nodes.now self.now.defs.now self.now.item self.now.bound.now place → b ≡ true) }
     {
         if self.asks_in_vain(place) {
             return Ok(true);
         }
-        is_reached(alloc, asks, place)
+        is_reached(alloc, asks, at)
     }
 
-    /// The fault of an entry, if it has one.
+    /// The fault of the entry at a place, if it has one.
     fn fault_of(
         &self,
         alloc: Global,
-        asks: &[Vec<usize>],
+        asks: &[Seq<usize>],
+        at: usize,
         entry: Entry,
     ) -> Result<Option<FixtureFault>, OutOfMemory>
         requires known { IsKnown self.now.defs.now entry }
-        requires size { length asks.now ≡ length self.now.defs.now }
-        requires below { (d : ℕ) → Below (row_of asks.now d) (length self.now.defs.now) }
-        requires out { (d : ℕ) → entry ≡ Definition d → Reaches (row_of asks.now) d d → Reaches (requests self.now.nodes.now self.now.defs.now self.now.item self.now.bound.now) d d }
-        requires back { (d : ℕ) → entry ≡ Definition d → Reaches (requests self.now.nodes.now self.now.defs.now self.now.item self.now.bound.now) d d → Reaches (row_of asks.now) d d }
+        requires at { at < length asks.now }
+        requires below { (p : ℕ) → Below (row_of asks.now p) (length asks.now) }
+        requires out { (d : ℕ) → entry ≡ Definition d → Reaches (row_of asks.now) at at → Reaches (requests self.now.nodes.now self.now.defs.now self.now.item self.now.bound.now) d d }
+        requires back { (d : ℕ) → entry ≡ Definition d → Reaches (requests self.now.nodes.now self.now.defs.now self.now.item self.now.bound.now) d d → Reaches (row_of asks.now) at at }
         ensures fault { IfOk result (λ found. (fault : FixtureFault) → found ≡ Some fault → HasFault self.now.nodes.now self.now.defs.now self.now.item self.now.bound.now entry fault) }
         ensures sound { IfOk result (λ found. found ≡ None → IsSound self.now.nodes.now self.now.defs.now self.now.item self.now.bound.now entry) }
     {
         match entry {
             Entry::Missing(name) => Ok(Some(FixtureFault::Unknown(name))),
             Entry::Definition(place) => {
-                if self.is_recursive(alloc, asks, place)? {
+                if self.is_recursive(alloc, asks, at, place)? {
                     return Ok(Some(FixtureFault::Recursive(self.defs[place].name)));
                 }
                 match self.first_narrower(place) {
                     None => Ok(None),
-                    Some(name) => Ok(Some(FixtureFault::ScopeMismatch(DefId::new(place), name))),
+                    Some(name) => Ok(Some(FixtureFault::ScopeMismatch(
+                        DefId::new(place as u32),
+                        name,
+                    ))),
                 }
             }
         }
@@ -136,19 +138,19 @@ impl Asking<'_> {
     pub fn judge(
         &self,
         alloc: Global,
-        asks: &[Vec<usize>],
+        asks: &[Seq<usize>],
         entries: &[Entry],
     ) -> Result<Option<FixtureFault>, OutOfMemory>
         requires known { Known self.now.defs.now entries.now }
-        requires size { length asks.now ≡ length self.now.defs.now }
-        requires below { (d : ℕ) → Below (row_of asks.now d) (length self.now.defs.now) }
-        requires out { (d : ℕ) → has (Definition d) entries.now ≡ true → Reaches (row_of asks.now) d d → Reaches (requests self.now.nodes.now self.now.defs.now self.now.item self.now.bound.now) d d }
-        requires back { (d : ℕ) → has (Definition d) entries.now ≡ true → Reaches (requests self.now.nodes.now self.now.defs.now self.now.item self.now.bound.now) d d → Reaches (row_of asks.now) d d }
+        requires many { length asks.now ≡ length entries.now }
+        requires below { (p : ℕ) → Below (row_of asks.now p) (length asks.now) }
+        requires out { (p d : ℕ) → p < length entries.now → entry_at entries.now p ≡ Definition d → Reaches (row_of asks.now) p p → Reaches (requests self.now.nodes.now self.now.defs.now self.now.item self.now.bound.now) d d }
+        requires back { (p d : ℕ) → p < length entries.now → entry_at entries.now p ≡ Definition d → Reaches (requests self.now.nodes.now self.now.defs.now self.now.item self.now.bound.now) d d → Reaches (row_of asks.now) p p }
         ensures fault { IfOk result (λ found. (fault : FixtureFault) → found ≡ Some fault → FirstFault self.now.nodes.now self.now.defs.now self.now.item self.now.bound.now entries.now fault) }
         ensures sound { IfOk result (λ found. found ≡ None → SoundTo self.now.nodes.now self.now.defs.now self.now.item self.now.bound.now entries.now (length entries.now)) }
     {
-        for entry in entries {
-            let found = self.fault_of(alloc, asks, *entry)?;
+        for (at, entry) in entries.iter().enumerate() {
+            let found = self.fault_of(alloc, asks, at, *entry)?;
             if found.is_some() {
                 return Ok(found);
             }

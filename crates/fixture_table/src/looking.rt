@@ -1,12 +1,14 @@
-ghost use Rattle.std.specs.Prelude.{◌≡◌, ◌<◌, ◌≤◌, ℕ, List, length, None, Some, IfSome, slice_index_or};
+ghost use Rattle.std.specs.Prelude.{◌≡◌, ◌<◌, length, IfNone, IfSome, EachIndex, slice_index};
 ghost use Rattle.std.specs.Option.{ForSome};
-ghost use Rattle.fixture_table.specs.Tree.{IsTree, covers, depth_of, chain_of};
-ghost use Rattle.fixture_table.specs.Nearest.{nearest_of, nearest_from, is_beyond, may_answer, Stand, def_at, deeper};
+ghost use Rattle.fixture_table.specs.Tree.{IsTree, covers};
+ghost use Rattle.fixture_table.specs.Nearest.{nearest_of, is_beyond, Stand, def_at};
+ghost use Rattle.fixture_table.specs.Index.{HoldsOfNone, IsIndex, IsLast, is_called};
 
-use crate::types::{FixtureDef, Node};
+use crate::types::{CollectionNode, FixtureDef};
+use seq::Seq;
 
 /// Whether the one node is the other or above it.
-pub fn covers(nodes: &[Node], outer: u32, inner: u32) -> bool
+pub fn covers(nodes: &[CollectionNode], outer: u32, inner: u32) -> bool
     requires tree { IsTree nodes.now }
     requires inner { inner < length nodes.now }
     ensures { result ≡ covers nodes.now outer inner }
@@ -21,23 +23,13 @@ pub fn covers(nodes: &[Node], outer: u32, inner: u32) -> bool
     true
 }
 
-/// How many nodes there are from this one up to the root.
-pub fn depth_of(nodes: &[Node], node: u32) -> u64
-    requires tree { IsTree nodes.now }
-    requires node { node < length nodes.now }
-    ensures { result ≡ depth_of nodes.now node }
-{
-    let mut at = node;
-    let mut depth = 1u64;
-    while at != 0 {
-        at = nodes[at as usize].parent;
-        depth += 1;
-    }
-    depth
-}
-
 /// Whether this definition stands further out than the other.
-fn is_beyond(nodes: &[Node], defs: &[FixtureDef], beyond: Option<usize>, place: usize) -> bool
+fn is_beyond(
+    nodes: &[CollectionNode],
+    defs: &[FixtureDef],
+    beyond: Option<usize>,
+    place: usize,
+) -> bool
     requires tree { IsTree nodes.now }
     requires stand { Stand nodes.now defs.now }
     requires beyond { ForSome beyond (λ b. b < length defs.now) }
@@ -57,69 +49,72 @@ fn is_beyond(nodes: &[Node], defs: &[FixtureDef], beyond: Option<usize>, place: 
     }
 }
 
-/// Whether this definition may answer for the name.
-fn may_answer(
-    nodes: &[Node],
+/// Whether this definition has the name, and stands further out than the other.
+fn is_called(
+    nodes: &[CollectionNode],
     defs: &[FixtureDef],
     name: u32,
-    item: u32,
     beyond: Option<usize>,
     place: usize,
 ) -> bool
     requires tree { IsTree nodes.now }
     requires stand { Stand nodes.now defs.now }
-    requires item { item < length nodes.now }
     requires beyond { ForSome beyond (λ b. b < length defs.now) }
     requires place { place < length defs.now }
-    ensures { result ≡ may_answer nodes.now defs.now name item beyond place (def_at defs.now place) }
+    ensures { result ≡ is_called nodes.now defs.now name beyond place }
 {
-    let one = &defs[place];
-    one.name == name && covers(nodes, one.node, item) && is_beyond(nodes, defs, beyond, place)
+    defs[place].name == name && is_beyond(nodes, defs, beyond, place)
 }
 
-/// Of two definitions the one with the deeper node, else the later one.
-fn deeper(nodes: &[Node], defs: &[FixtureDef], place: usize, later: Option<usize>) -> usize
+/// The last definition of a row that has the name, and stands further out than the other.
+fn last_called(
+    nodes: &[CollectionNode],
+    defs: &[FixtureDef],
+    row: &[u32],
+    name: u32,
+    beyond: Option<usize>,
+) -> Option<usize>
     requires tree { IsTree nodes.now }
     requires stand { Stand nodes.now defs.now }
-    requires place { place < length defs.now }
-    requires later { ForSome later (λ b. b < length defs.now) }
-    ensures answer { Some result ≡ deeper nodes.now defs.now place later }
-    ensures within { result < length defs.now }
+    requires beyond { ForSome beyond (λ b. b < length defs.now) }
+    requires row { EachIndex row.now (λ q. slice_index row.now q < length defs.now) }
+    ensures found { IfSome result (IsLast (is_called nodes.now defs.now name beyond) row.now) }
+    ensures none { IfNone result (HoldsOfNone (is_called nodes.now defs.now name beyond) row.now) }
 {
-    match later {
-        None => place,
-        Some(other) => {
-            if depth_of(nodes, defs[other].node) < depth_of(nodes, defs[place].node) {
-                place
-            } else {
-                other
-            }
+    let mut at = row.len();
+    while at > 0 {
+        at -= 1;
+        let place = row[at] as usize;
+        if is_called(nodes, defs, name, beyond, place) {
+            return Some(place);
         }
     }
+    None
 }
 
-/// The nearest definition of a name that the item sees.
+/// The nearest definition of a name that the item sees: the last one at the inmost node that has one.
 pub fn nearest(
-    nodes: &[Node],
+    nodes: &[CollectionNode],
     defs: &[FixtureDef],
+    at_nodes: &[Seq<u32>],
     name: u32,
     item: u32,
     beyond: Option<usize>,
 ) -> Option<usize>
     requires tree { IsTree nodes.now }
     requires stand { Stand nodes.now defs.now }
+    requires index { IsIndex nodes.now defs.now at_nodes.now }
     requires item { item < length nodes.now }
     requires beyond { ForSome beyond (λ b. b < length defs.now) }
     ensures answer { result ≡ nearest_of nodes.now defs.now name item beyond }
     ensures within { IfSome result (λ d. d < length defs.now) }
 {
-    let mut best = None;
-    let mut at = defs.len();
-    while at > 0 {
-        at -= 1;
-        if may_answer(nodes, defs, name, item, beyond, at) {
-            best = Some(deeper(nodes, defs, at, best));
+    let mut at = item;
+    while at != 0 {
+        match last_called(nodes, defs, at_nodes[at as usize].items(), name, beyond) {
+            Some(place) => return Some(place),
+            None => at = nodes[at as usize].parent,
         }
     }
-    best
+    last_called(nodes, defs, at_nodes[0].items(), name, beyond)
 }

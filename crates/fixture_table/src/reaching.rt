@@ -1,9 +1,9 @@
 ghost use Rattle.std.specs.Prelude.{◌≡◌, ◌<◌, ◌≤◌, ◌||◌, ◌==◌, ℕ, List, [], length, true, IfOk, OnOk, slice_index_or};
-ghost use Rattle.fixture_table.specs.Tree.{among};
+ghost use Rattle.session_types.specs.Numbers.{among};
 ghost use Rattle.fixture_table.specs.Marks.{Marks, Below, Keeps, row_of};
 ghost use Rattle.fixture_table.specs.Faults.{Reaches};
 
-use crate::fault::OutOfMemory;
+use seq::{OutOfMemory, Seq};
 use std::alloc::Global;
 
 /// Marks what isn't marked yet, and lists it.
@@ -45,7 +45,7 @@ fn mark_one(seen: &mut Vec<bool>, reached: &mut Vec<usize>, one: usize) -> Resul
 fn mark_asked(
     seen: &mut Vec<bool>,
     reached: &mut Vec<usize>,
-    asks: &[Vec<usize>],
+    asks: &[Seq<usize>],
     at: usize,
 ) -> Result<(), OutOfMemory>
     requires at { at < length asks.now }
@@ -56,11 +56,11 @@ fn mark_asked(
     ensures keeps { OnOk result (Keeps reached.old.items reached.new.items) }
     ensures size { length seen.new.items ≡ length seen.old.items }
 {
-    mark_all(seen, reached, &asks[at])
+    mark_all(seen, reached, asks[at].items())
 }
 
 /// Whether a definition is reached from itself.
-pub fn is_reached(alloc: Global, asks: &[Vec<usize>], from: usize) -> Result<bool, OutOfMemory>
+pub fn is_reached(alloc: Global, asks: &[Seq<usize>], from: usize) -> Result<bool, OutOfMemory>
     requires from { from < length asks.now }
     requires below { (d : ℕ) → Below (row_of asks.now d) (length asks.now) }
     ensures yes { IfOk result (λ b. b ≡ true → Reaches (row_of asks.now) from from) }

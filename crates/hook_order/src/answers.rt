@@ -3,7 +3,7 @@ ghost use Rattle.hook_order.specs.Answers.{handed};
 
 /// How a call ended.
 #[derive(Debug, Drop)]
-pub enum Ran<Got, Exc> {
+pub enum ImplEnd<Got, Exc> {
     /// A value, or nothing.
     Gave(Option<Got>),
     Raised(Exc),
@@ -23,7 +23,7 @@ pub enum Inner<Got, Exc> {
 
 /// How the beginning of a wrapper ended.
 #[derive(Debug, Drop)]
-pub enum Opened<Frozen, Exc> {
+pub enum WrapperStart<Frozen, Exc> {
     /// It stands at its `yield`.
     Yielded(Frozen),
     Raised(Exc),
@@ -31,12 +31,12 @@ pub enum Opened<Frozen, Exc> {
 }
 
 /// What a wrapper's answer is for the wrapper around it.
-pub(crate) fn handed<Got, Exc>(answer: Ran<Got, Exc>) -> Inner<Got, Exc>
+pub(crate) fn handed<Got, Exc>(answer: ImplEnd<Got, Exc>) -> Inner<Got, Exc>
     ensures { result ≡ handed answer }
 {
     match answer {
-        Ran::Gave(value) => Inner::Gave(value),
-        Ran::Raised(exception) => Inner::Raised(exception),
-        Ran::OutOfMemory => Inner::OutOfMemory,
+        ImplEnd::Gave(value) => Inner::Gave(value),
+        ImplEnd::Raised(exception) => Inner::Raised(exception),
+        ImplEnd::OutOfMemory => Inner::OutOfMemory,
     }
 }

@@ -3,14 +3,14 @@ use Rattle.std.proofs.Common.{◌≡◌, ℕ, ◌<◌, ◌+◌, ◌-◌, inl, in
 use Rattle.std.proofs.lemmas.Bool.{cases_eq}
 use Rattle.std.proofs.lemmas.List.{length-set}
 use Rattle.link_cells.specs.declared.id.CellId.{CellId}
-use Rattle.link_cells.specs.Rings.{Words, count, Fits, moved_front, moved_back}
+use Rattle.link_cells.specs.Rings.{CellWords, count, Fits, moved_front, moved_back}
 use Rattle.link_cells.specs.Arena.{IsArena, is_used, entries, shown, lists_of, row_of}
 use Rattle.link_cells.proofs.Around.{count_append, count_same, count_more}
 use Rattle.link_cells.proofs.Moves.{row_once, apart, count_alone}
 use Rattle.link_cells.proofs.Kept.{moved, moved_g, moved_h, moved_k, moved_sum, front_fits, back_fits, front_heads, front_cells, back_heads, back_cells, stood, cell_there}
 use Rattle.link_cells.proofs.Shown.{map_set, entries_append, entries_cons, entries_set, lists_is}
 
-module _ {T : Type 0} (w : Words) (values : List (Option T)) (used : List Bool) (free : List ℕ) (room spare : ℕ) (A : IsArena w values used free room spare) where
+module _ {T : Type 0} (w : CellWords) (values : List (Option T)) (used : List Bool) (free : List ℕ) (room spare : ℕ) (A : IsArena w values used free room spare) where
   -- a head in use isn't that of the spare cells
   pub not_own : (k : ℕ) → is_used used k ≡ true → k ≡ 0 → ⊥
   not_own k is z = let f : is_used used k ≡ false = subst (λ (n : ℕ). is_used used n ≡ false) (sym z) A.own in absurd cc
@@ -20,7 +20,7 @@ module _ {T : Type 0} (w : Words) (values : List (Option T)) (used : List Bool) 
   shown_same k false is more next e = ap (λ (c : Bool). cond c (Some (entries more (next k))) None) is ∙ sym (ap (λ (c : Bool). cond c (Some (entries values (A.rows k))) None) is)
 
   -- what is shown after a change of one list
-  pub shows : (v : Words) (more : List (Option T)) (next : ℕ → List ℕ) → length v.heads ≡ length w.heads → (h : ℕ) (list : List (CellId × T)) → h < length w.heads → is_used used h ≡ true → entries more (next h) ≡ list
+  pub shows : (v : CellWords) (more : List (Option T)) (next : ℕ → List ℕ) → length v.heads ≡ length w.heads → (h : ℕ) (list : List (CellId × T)) → h < length w.heads → is_used used h ≡ true → entries more (next h) ≡ list
       → ((k : ℕ) → k < length w.heads → (k ≡ h → ⊥) → is_used used k ≡ true → entries more (next k) ≡ entries values (A.rows k))
       → lists_of used more next (length v.heads) ≡ set (lists_of used values (row_of w) (length w.heads)) h (Some list)
   shows v more next heads h list lt is here others =
@@ -105,7 +105,7 @@ module _ {T : Type 0} (w : Words) (values : List (Option T)) (used : List Bool) 
     not_in : (k : ℕ) → k < length w.heads → is_used used k ≡ true → count c (A.rows k) ≡ 0
     not_in k below on = none_in 0 k c A.some_head below (not_own k on) spare_here
 
-    pub put_in : (v : Words) (row : List ℕ) → length row ≡ length (A.rows h) + 1 → ((x : ℕ) → (x ≡ c → ⊥) → count x row ≡ count x (A.rows h)) → length v.heads ≡ length w.heads → length v.cells ≡ length w.cells → Fits v (next row) → IsArena v given used free room (spare - 1)
+    pub put_in : (v : CellWords) (row : List ℕ) → length row ≡ length (A.rows h) + 1 → ((x : ℕ) → (x ≡ c → ⊥) → count x row ≡ count x (A.rows h)) → length v.heads ≡ length w.heads → length v.cells ≡ length w.cells → Fits v (next row) → IsArena v given used free room (spare - 1)
     put_in v row long same heads cells fits = record {
       rows = next row;
       fits = fits;
@@ -131,7 +131,7 @@ module _ {T : Type 0} (w : Words) (values : List (Option T)) (used : List Bool) 
         ]
       ]
 
-    pub put_shows : (v : Words) (row : List ℕ) (list : List (CellId × T)) → length v.heads ≡ length w.heads → entries given row ≡ list → lists_of used given (next row) (length v.heads) ≡ set (lists_of used values (row_of w) (length w.heads)) h (Some list)
+    pub put_shows : (v : CellWords) (row : List ℕ) (list : List (CellId × T)) → length v.heads ≡ length w.heads → entries given row ≡ list → lists_of used given (next row) (length v.heads) ≡ set (lists_of used values (row_of w) (length w.heads)) h (Some list)
     put_shows v row list heads e = shows v given (next row) heads h list lt yes (ap (entries given) (moved_h w A.rows A.fits 0 h c [] rest A.some_head lt aparth is row) ∙ e)
         (λ k below other on. ap (entries given) (moved_k w A.rows A.fits 0 h c [] rest A.some_head lt aparth is row k (not_own k on) other) ∙ entries_set values c (Some value) (A.rows k) (not_in k below on))
 

@@ -3,7 +3,7 @@ use Rattle.std.proofs.Common.{◌≡◌, ℕ, ◌<◌, ◌≤◌, ◌+◌, ◌�
 use Rattle.std.proofs.lemmas.Bool.{cases_eq}
 use Rattle.link_cells.specs.declared.link.Link.{Link}
 use Rattle.link_cells.specs.declared.link.Link.TheVariants.{Cell}
-use Rattle.link_cells.specs.Rings.{Words, ahead_of, back_of, Linked, count, total}
+use Rattle.link_cells.specs.Rings.{CellWords, ahead_of, back_of, Linked, count, total}
 use Rattle.link_cells.proofs.Store.{Changed}
 
 pub count_append : (x : ℕ) (xs ys : List ℕ) → count x (xs ++ ys) ≡ count x xs + count x ys
@@ -55,11 +55,11 @@ total_one f g h (suc m) lt others =
       | inr ne ↦ omega (arith, others m (omega arith), total_one f g h m (omega arith) others)
     ]
 
-pub split : (w : Words) (a : Link) (xs : List ℕ) (c : ℕ) (ys : List ℕ) (b : Link) → Linked w a (xs ++ c ∷ ys) b → Linked w a xs (Cell c) × Linked w (Cell c) ys b
+pub split : (w : CellWords) (a : Link) (xs : List ℕ) (c : ℕ) (ys : List ℕ) (b : Link) → Linked w a (xs ++ c ∷ ys) b → Linked w a xs (Cell c) × Linked w (Cell c) ys b
 split w a [] c ys b l = ((l.0, l.1), l.2)
 split w a (x ∷ xs) c ys b l = let h = split w (Cell x) xs c ys b l.2 in ((l.0, l.1, h.0), h.1)
 
-pub join : (w : Words) (a : Link) (xs : List ℕ) (c : ℕ) (ys : List ℕ) (b : Link) → Linked w a xs (Cell c) → Linked w (Cell c) ys b → Linked w a (xs ++ c ∷ ys) b
+pub join : (w : CellWords) (a : Link) (xs : List ℕ) (c : ℕ) (ys : List ℕ) (b : Link) → Linked w a xs (Cell c) → Linked w (Cell c) ys b → Linked w a (xs ++ c ∷ ys) b
 join w a [] c ys b l m = (l.0, l.1, m)
 join w a (x ∷ xs) c ys b l m = (l.0, l.1, join w (Cell x) xs c ys b l.2 m)
 
@@ -67,7 +67,7 @@ cell_of : (c d : ℕ) → Cell c ≡ Cell d → c ≡ d
 cell_of c d e = cc
 
 -- a ring that the change doesn't touch
-pub frame : (w v : Words) (p q z : Link) → Changed w v p q z → (a : Link) (xs : List ℕ) (b : Link) → (a ≡ p → ⊥) → (a ≡ z → ⊥) → (b ≡ q → ⊥) → (b ≡ z → ⊥)
+pub frame : (w v : CellWords) (p q z : Link) → Changed w v p q z → (a : Link) (xs : List ℕ) (b : Link) → (a ≡ p → ⊥) → (a ≡ z → ⊥) → (b ≡ q → ⊥) → (b ≡ z → ⊥)
     → ((x : ℕ) → 0 < count x xs → (Cell x ≡ p → ⊥) × (Cell x ≡ q → ⊥) × (Cell x ≡ z → ⊥)) → Linked w a xs b → Linked v a xs b
 frame w v p q z ch a [] b ap' az bq bz f l = (ch.ahead a ap' az ∙ l.0, ch.back b bq bz ∙ l.1)
 frame w v p q z ch a (c ∷ cs) b ap' az bq bz f l =
@@ -78,7 +78,7 @@ frame w v p q z ch a (c ∷ cs) b ap' az bq bz f l =
     )
 
 -- the word before the end
-pub last_of : (w : Words) (a : Link) (xs : List ℕ) (b : Link) → Linked w a xs b → (back_of w b ≡ a) ⊎ ((x : ℕ) × (0 < count x xs) × (back_of w b ≡ Cell x))
+pub last_of : (w : CellWords) (a : Link) (xs : List ℕ) (b : Link) → Linked w a xs b → (back_of w b ≡ a) ⊎ ((x : ℕ) × (0 < count x xs) × (back_of w b ≡ Cell x))
 last_of w a [] b l = inl l.1
 last_of w a (c ∷ cs) b l =
     elim (last_of w (Cell c) cs b l.2) [
@@ -87,12 +87,12 @@ last_of w a (c ∷ cs) b l =
     ]
 
 -- the word behind the beginning
-pub first_of : (w : Words) (a : Link) (xs : List ℕ) (b : Link) → Linked w a xs b → (ahead_of w a ≡ b) ⊎ ((x : ℕ) × (0 < count x xs) × (ahead_of w a ≡ Cell x))
+pub first_of : (w : CellWords) (a : Link) (xs : List ℕ) (b : Link) → Linked w a xs b → (ahead_of w a ≡ b) ⊎ ((x : ℕ) × (0 < count x xs) × (ahead_of w a ≡ Cell x))
 first_of w a [] b l = inl l.0
 first_of w a (c ∷ cs) b l = inr (c, count_here c cs, l.0)
 
 -- the last word before b leads to t in its place
-pub relink_end : (w v : Words) (p q z t : Link) → Changed w v p q z → ahead_of v p ≡ t → back_of v t ≡ p → (a : Link) (xs : List ℕ) (b : Link) → p ≡ back_of w b → (a ≡ z → ⊥)
+pub relink_end : (w v : CellWords) (p q z t : Link) → Changed w v p q z → ahead_of v p ≡ t → back_of v t ≡ p → (a : Link) (xs : List ℕ) (b : Link) → p ≡ back_of w b → (a ≡ z → ⊥)
     → ((x : ℕ) → 0 < count x xs → (Cell x ≡ q → ⊥) × (Cell x ≡ z → ⊥)) → ((x : ℕ) → count x xs ≤ 1) → ((x : ℕ) → 0 < count x xs → a ≡ Cell x → ⊥) → Linked w a xs b → Linked v a xs t
 relink_end w v p q z t ch leads returns a [] b is az f one apart l =
     let e : p ≡ a = is ∙ l.1 in
@@ -113,7 +113,7 @@ relink_end w v p q z t ch leads returns a (c ∷ cs) b is az f one apart l =
     again x h e = let P : ℕ → Type 0 = λ y. 0 < count y cs in let g : 0 < count c cs = subst P (sym e) h in absurd (omega (arith, one c, count_same c cs))
 
 -- s leads to the first word behind a in its place
-pub relink_start : (w v : Words) (p q z s : Link) → Changed w v p q z → ahead_of v s ≡ q → back_of v q ≡ s → (a : Link) (xs : List ℕ) (b : Link) → q ≡ ahead_of w a → (b ≡ z → ⊥) → ((x : ℕ) → b ≡ Cell x → ⊥)
+pub relink_start : (w v : CellWords) (p q z s : Link) → Changed w v p q z → ahead_of v s ≡ q → back_of v q ≡ s → (a : Link) (xs : List ℕ) (b : Link) → q ≡ ahead_of w a → (b ≡ z → ⊥) → ((x : ℕ) → b ≡ Cell x → ⊥)
     → ((x : ℕ) → 0 < count x xs → (Cell x ≡ p → ⊥) × (Cell x ≡ z → ⊥)) → ((x : ℕ) → count x xs ≤ 1) → Linked w a xs b → Linked v s xs b
 relink_start w v p q z s ch leads returns a [] b is bz head f one l =
     let e : q ≡ b = is ∙ l.0 in

@@ -3,7 +3,7 @@ use Rattle.std.proofs.Common.{◌≡◌, ℕ, ◌<◌, ◌≤◌, ◌+◌, ◌-�
 use Rattle.std.proofs.lemmas.List.{length-set}
 use Rattle.link_cells.specs.declared.link.Link.TheVariants.{Cell, Head}
 use Rattle.link_cells.specs.declared.id.CellId.{CellId}
-use Rattle.link_cells.specs.Rings.{Words, ahead_of, back_of, Linked, count, CanMove, moved_front, moved_back}
+use Rattle.link_cells.specs.Rings.{CellWords, ahead_of, back_of, Linked, count, CanMove, moved_front, moved_back}
 use Rattle.link_cells.specs.Arena.{Arena, IsArena, is_used, entries, lists_of, row_of, list_of, with_list, Stands, InUse, first_name, last_name, named}
 use Rattle.link_cells.proofs.Around.{count_append, count_same, count_more, one_le, split}
 use Rattle.link_cells.proofs.Moves.{apart}
@@ -19,10 +19,10 @@ some_of (Some x) h = (x, refl)
 pub some_same : {A : Type 0} {x y : A} → Some x ≡ Some y → x ≡ y
 some_same e = cc
 
-abbrev pub seen : {T : Type 0} → Words → List (Option T) → List Bool → ℕ → ℕ → Arena T
+abbrev pub seen : {T : Type 0} → CellWords → List (Option T) → List Bool → ℕ → ℕ → Arena T
 seen w values used spare heads = record { lists = lists_of used values (row_of w) (length w.heads); spare = spare; spare_heads = heads }
 
-module _ {T : Type 0} (w : Words) (values : List (Option T)) (used : List Bool) (free : List ℕ) (room spare : ℕ) (A : IsArena w values used free room spare) (heads : ℕ) where
+module _ {T : Type 0} (w : CellWords) (values : List (Option T)) (used : List Bool) (free : List ℕ) (room spare : ℕ) (A : IsArena w values used free room spare) (heads : ℕ) where
   abbrev pub all : Arena T
   all = seen w values used spare heads
 

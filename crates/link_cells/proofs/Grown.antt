@@ -8,7 +8,7 @@ use Rattle.link_cells.specs.declared.link.Link.{Link}
 use Rattle.link_cells.specs.declared.link.Link.TheVariants.{Cell, Head}
 use Rattle.link_cells.specs.declared.link.Links.{Links}
 use Rattle.link_cells.specs.declared.id.CellId.{CellId}
-use Rattle.link_cells.specs.Rings.{Words, alone, links_of, ahead_of, IsThere, Linked, count, total, Fits, attached}
+use Rattle.link_cells.specs.Rings.{CellWords, alone, links_of, ahead_of, IsThere, Linked, count, total, Fits, attached}
 use Rattle.link_cells.specs.Arena.{IsArena, is_used, entries, entry_onto, shown, lists_of, row_of}
 use Rattle.link_cells.proofs.Around.{count_append, count_same, count_here, count_more, total_same, total_one}
 use Rattle.link_cells.proofs.Moves.{Absent, fits_front, count_alone, there_place, ahead_place}
@@ -16,7 +16,7 @@ use Rattle.link_cells.proofs.Kept.{replaced, replaced_here, replaced_other, atta
 use Rattle.link_cells.proofs.Shown.{map_same, lists_is}
 
 -- links that agree on all words that are there
-same_ring : (w v : Words) → ((n : Link) → IsThere w n → links_of v n ≡ links_of w n) → (a : Link) (xs : List ℕ) (b : Link) → IsThere w a → IsThere w b → ((x : ℕ) → 0 < count x xs → x < length w.cells) → Linked w a xs b → Linked v a xs b
+same_ring : (w v : CellWords) → ((n : Link) → IsThere w n → links_of v n ≡ links_of w n) → (a : Link) (xs : List ℕ) (b : Link) → IsThere w a → IsThere w b → ((x : ℕ) → 0 < count x xs → x < length w.cells) → Linked w a xs b → Linked v a xs b
 same_ring w v same a [] b ha hb f l = (ap (λ (k : Links). k.ahead) (same a ha) ∙ l.0, ap (λ (k : Links). k.back) (same b hb) ∙ l.1)
 same_ring w v same a (c ∷ cs) b ha hb f l =
     let here = f c (count_here c cs) in (
@@ -25,17 +25,17 @@ same_ring w v same a (c ∷ cs) b ha hb f l =
       same_ring w v same (Cell c) cs b here hb (λ x h. f x (omega (arith, count_more x c cs))) l.2,
     )
 
-abbrev pub more_cells : Words → Words
+abbrev pub more_cells : CellWords → CellWords
 more_cells w = record w { cells = w.cells ++ alone 0 ∷ [] }
 
-abbrev pub more_heads : Words → Words
+abbrev pub more_heads : CellWords → CellWords
 more_heads w = record w { heads = w.heads ++ alone (length w.heads) ∷ [] }
 
-same_cells : (w : Words) (n : Link) → IsThere w n → links_of (more_cells w) n ≡ links_of w n
+same_cells : (w : CellWords) (n : Link) → IsThere w n → links_of (more_cells w) n ≡ links_of w n
 same_cells w (Cell c) h = get_or-append w.cells (alone 0 ∷ []) (alone 0) c h
 same_cells w (Head k) h = refl
 
-same_heads : (w : Words) (n : Link) → IsThere w n → links_of (more_heads w) n ≡ links_of w n
+same_heads : (w : CellWords) (n : Link) → IsThere w n → links_of (more_heads w) n ≡ links_of w n
 same_heads w (Cell c) h = refl
 same_heads w (Head k) h = get_or-append w.heads (alone (length w.heads) ∷ []) (alone 0) k h
 
@@ -45,11 +45,11 @@ entries_more values (c ∷ cs) f =
     ap (λ o. entry_onto o c (entries (values ++ None ∷ []) cs)) (get_or-append values (None ∷ []) None c (f c (count_here c cs)))
     ∙ ap (entry_onto (get_or values c None) c) (entries_more values cs (λ x h. f x (omega (arith, count_more x c cs))))
 
-module _ {T : Type 0} (w : Words) (values : List (Option T)) (used : List Bool) (free : List ℕ) (room spare : ℕ) (A : IsArena w values used free room spare) where
+module _ {T : Type 0} (w : CellWords) (values : List (Option T)) (used : List Bool) (free : List ℕ) (room spare : ℕ) (A : IsArena w values used free room spare) where
   abbrev pub cell : ℕ
   cell = length w.cells
 
-  abbrev one : Words
+  abbrev one : CellWords
   one = more_cells w
 
   pub one_cells : length one.cells ≡ length w.cells + 1
@@ -71,7 +71,7 @@ module _ {T : Type 0} (w : Words) (values : List (Option T)) (used : List Bool) 
   pub ahead_in : IsThere one (ahead_of one (Head 0))
   ahead_in = there_place one A.rows one_fits 0 (ahead_of one (Head 0)) A.some_head (ahead_place one A.rows one_fits 0 A.some_head)
 
-  abbrev pub grown : Words
+  abbrev pub grown : CellWords
   grown = attached one cell (Head 0) (ahead_of one (Head 0))
 
   abbrev with_cell : ℕ → List ℕ
@@ -128,7 +128,7 @@ module _ {T : Type 0} (w : Words) (values : List (Option T)) (used : List Bool) 
   abbrev pub head : ℕ
   head = length w.heads
 
-  abbrev two : Words
+  abbrev two : CellWords
   two = more_heads w
 
   abbrev wider : ℕ → List ℕ

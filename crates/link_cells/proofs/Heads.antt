@@ -3,7 +3,7 @@ use Rattle.std.proofs.Common.{◌≡◌, ℕ, ◌<◌, ◌≤◌, ◌+◌, inl, 
 use Rattle.std.proofs.lemmas.Bool.{cases_eq, cases_Bool}
 use Rattle.std.proofs.lemmas.List.{length-set}
 use Rattle.std.proofs.lemmas.List.FromFn.{get_or-map-range_with_len}
-use Rattle.link_cells.specs.Rings.{Words, count, total}
+use Rattle.link_cells.specs.Rings.{CellWords, count, total}
 use Rattle.link_cells.specs.Arena.{IsArena, is_used, entries, shown, lists_of, row_of}
 use Rattle.link_cells.proofs.Around.{count_append, count_same, count_here, count_more, total_one}
 use Rattle.link_cells.proofs.Moves.{count_alone}
@@ -32,7 +32,7 @@ total_bound f h (suc m) lt one none = elim (cases_eq h m) [
   most f zero one = omega arith
   most f (suc m) one = omega (arith, one m (omega arith), most f m (λ k below. one k (omega arith)))
 
-module _ {T : Type 0} (w : Words) (values : List (Option T)) (used : List Bool) (free : List ℕ) (room spare : ℕ) (A : IsArena w values used free room spare) where
+module _ {T : Type 0} (w : CellWords) (values : List (Option T)) (used : List Bool) (free : List ℕ) (room spare : ℕ) (A : IsArena w values used free room spare) where
   free_le : (h : ℕ) → h < length w.heads → count h free ≤ 1
   free_le h lt = elim (cases_eq h 0) [
     | inl e ↦ subst (λ (n : ℕ). count n free ≤ 1) (sym e) (elim (cases_eq (count 0 free) 0) [ inl z ↦ omega arith | inr some ↦ absurd (let f = A.free_in 0 (omega arith) in omega (arith, f.0)) ])

@@ -4,7 +4,7 @@ use Rattle.std.proofs.lemmas.Bool.{cases_eq, ne_eqb}
 use Rattle.link_cells.specs.declared.link.Link.{Link}
 use Rattle.link_cells.specs.declared.link.Link.TheVariants.{Cell, Head}
 use Rattle.link_cells.specs.declared.link.Links.{Links}
-use Rattle.link_cells.specs.Rings.{Words, alone, links_of, ahead_of, back_of, IsThere, Linked, count, total, Fits, put_ahead, put_back, joined}
+use Rattle.link_cells.specs.Rings.{CellWords, alone, links_of, ahead_of, back_of, IsThere, Linked, count, total, Fits, put_ahead, put_back, joined}
 use Rattle.link_cells.proofs.Store.{Changed, Turned, turned, there_put, put_alone}
 use Rattle.link_cells.proofs.Around.{count_append, two_le, total_one, frame, last_of, relink_end, relink_start}
 use Rattle.link_cells.proofs.Moves.{append_rest, row_once, off_head, off_cell, there_place, other_ring, back_place, ahead_place, two_heads, two_cells, heads_put, cells_put, cell_of, head_of, cell_head, head_cell}
@@ -22,13 +22,13 @@ total_moved f g from to m ne ltf ltt there none others =
     ]) in
     omega arith
 
-there_two : (w : Words) (n m x y at : Link) → IsThere w at → IsThere (put_back (put_ahead w n x) m y) at
+there_two : (w : CellWords) (n m x y at : Link) → IsThere w at → IsThere (put_back (put_ahead w n x) m y) at
 there_two w n m x y at h = there_put (put_ahead w n x) m (record { back = y; ahead = ahead_of (put_ahead w n x) m }) at (there_put w n (record { back = back_of w n; ahead = x }) at h)
 
-last_cell : (w : Words) (a : Link) (c : ℕ) (cs : List ℕ) (b : Link) → Linked w a (c ∷ cs) b → (h : ℕ) → Head h ≡ back_of w b → ⊥
+last_cell : (w : CellWords) (a : Link) (c : ℕ) (cs : List ℕ) (b : Link) → Linked w a (c ∷ cs) b → (h : ℕ) → Head h ≡ back_of w b → ⊥
 last_cell w a c cs b l h e = elim (last_of w (Cell c) cs b l.2) [ inl s ↦ head_cell h c (e ∙ s) | inr m ↦ head_cell h m.0 (e ∙ m.2) ]
 
-module _ (w : Words) (rows : ℕ → List ℕ) (fits : Fits w rows) (from to : ℕ) (ne : from ≡ to → ⊥) (ltf : from < length w.heads) (ltt : to < length w.heads)
+module _ (w : CellWords) (rows : ℕ → List ℕ) (fits : Fits w rows) (from to : ℕ) (ne : from ≡ to → ⊥) (ltf : from < length w.heads) (ltt : to < length w.heads)
     (c : ℕ) (cs : List ℕ) (is : rows from ≡ c ∷ cs) where
   abbrev z : Link
   z = Cell (length w.cells)
@@ -42,10 +42,10 @@ module _ (w : Words) (rows : ℕ → List ℕ) (fits : Fits w rows) (from to : �
   abbrev front : Link
   front = ahead_of w (Head to)
 
-  abbrev one : Words
+  abbrev one : CellWords
   one = put_back (put_ahead w last front) front last
 
-  abbrev two : Words
+  abbrev two : CellWords
   two = put_back (put_ahead one (Head to) first) first (Head to)
 
   not_z : (k x : ℕ) → k < length w.heads → 0 < count x (rows k) → Cell x ≡ z → ⊥

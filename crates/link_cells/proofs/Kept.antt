@@ -3,32 +3,32 @@ use Rattle.std.proofs.Common.{◌≡◌, ℕ, ◌<◌, ◌+◌, inl, inr, refl, 
 use Rattle.std.proofs.lemmas.Bool.{cases_eq, ne_eqb}
 use Rattle.link_cells.specs.declared.link.Link.{Link}
 use Rattle.link_cells.specs.declared.link.Link.TheVariants.{Cell, Head}
-use Rattle.link_cells.specs.Rings.{Words, ahead_of, back_of, count, total, Fits, put, detached, attached, moved_front, moved_back, CanMove}
+use Rattle.link_cells.specs.Rings.{CellWords, ahead_of, back_of, count, total, Fits, put, detached, attached, moved_front, moved_back, CanMove}
 use Rattle.link_cells.proofs.Around.{count_append, count_same, total_one}
 use Rattle.link_cells.proofs.Moves.{Absent, row_once, there_place, back_place, ahead_place, apart, fits_detach, fits_front, fits_back, back_there, ahead_there, two_heads, two_cells, heads_put, cells_put}
 
-detached_heads : (w : Words) (c : ℕ) → length (detached w c).heads ≡ length w.heads
+detached_heads : (w : CellWords) (c : ℕ) → length (detached w c).heads ≡ length w.heads
 detached_heads w c = two_heads w (back_of w (Cell c)) (ahead_of w (Cell c)) (ahead_of w (Cell c)) (back_of w (Cell c))
 
-detached_cells : (w : Words) (c : ℕ) → length (detached w c).cells ≡ length w.cells
+detached_cells : (w : CellWords) (c : ℕ) → length (detached w c).cells ≡ length w.cells
 detached_cells w c = two_cells w (back_of w (Cell c)) (ahead_of w (Cell c)) (ahead_of w (Cell c)) (back_of w (Cell c))
 
-pub attached_heads : (w : Words) (c : ℕ) (p q : Link) → length (attached w c p q).heads ≡ length w.heads
+pub attached_heads : (w : CellWords) (c : ℕ) (p q : Link) → length (attached w c p q).heads ≡ length w.heads
 attached_heads w c p q = two_heads (put w (Cell c) (record { back = p; ahead = q })) p q (Cell c) (Cell c) ∙ heads_put w (Cell c) (record { back = p; ahead = q })
 
-pub attached_cells : (w : Words) (c : ℕ) (p q : Link) → length (attached w c p q).cells ≡ length w.cells
+pub attached_cells : (w : CellWords) (c : ℕ) (p q : Link) → length (attached w c p q).cells ≡ length w.cells
 attached_cells w c p q = two_cells (put w (Cell c) (record { back = p; ahead = q })) p q (Cell c) (Cell c) ∙ cells_put w (Cell c) (record { back = p; ahead = q })
 
-pub front_heads : (w : Words) (c h : ℕ) → length (moved_front w c h).heads ≡ length w.heads
+pub front_heads : (w : CellWords) (c h : ℕ) → length (moved_front w c h).heads ≡ length w.heads
 front_heads w c h = attached_heads (detached w c) c (Head h) (ahead_of (detached w c) (Head h)) ∙ detached_heads w c
 
-pub front_cells : (w : Words) (c h : ℕ) → length (moved_front w c h).cells ≡ length w.cells
+pub front_cells : (w : CellWords) (c h : ℕ) → length (moved_front w c h).cells ≡ length w.cells
 front_cells w c h = attached_cells (detached w c) c (Head h) (ahead_of (detached w c) (Head h)) ∙ detached_cells w c
 
-pub back_heads : (w : Words) (c h : ℕ) → length (moved_back w c h).heads ≡ length w.heads
+pub back_heads : (w : CellWords) (c h : ℕ) → length (moved_back w c h).heads ≡ length w.heads
 back_heads w c h = attached_heads (detached w c) c (back_of (detached w c) (Head h)) (Head h) ∙ detached_heads w c
 
-pub back_cells : (w : Words) (c h : ℕ) → length (moved_back w c h).cells ≡ length w.cells
+pub back_cells : (w : CellWords) (c h : ℕ) → length (moved_back w c h).cells ≡ length w.cells
 back_cells w c h = attached_cells (detached w c) c (back_of (detached w c) (Head h)) (Head h) ∙ detached_cells w c
 
 -- a row put in place of another
@@ -43,7 +43,7 @@ pub replaced_other : (rows : ℕ → List ℕ) (h : ℕ) (row : List ℕ) (k : �
 unfolding replaced
 replaced_other rows h row k ne = rw (ne_eqb k h ne) refl
 
-module _ (w : Words) (rows : ℕ → List ℕ) (fits : Fits w rows) (g h c : ℕ) (xs ys : List ℕ) (ltg : g < length w.heads) (lth : h < length w.heads) (ne : g ≡ h → ⊥) (is : rows g ≡ xs ++ c ∷ ys) where
+module _ (w : CellWords) (rows : ℕ → List ℕ) (fits : Fits w rows) (g h c : ℕ) (xs ys : List ℕ) (ltg : g < length w.heads) (lth : h < length w.heads) (ne : g ≡ h → ⊥) (is : rows g ≡ xs ++ c ∷ ys) where
   abbrev pub taken : ℕ → List ℕ
   taken = replaced rows g (xs ++ ys)
 

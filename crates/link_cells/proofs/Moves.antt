@@ -5,7 +5,7 @@ use Rattle.std.proofs.lemmas.List.{append-nil, length-set}
 use Rattle.link_cells.specs.declared.link.Link.{Link}
 use Rattle.link_cells.specs.declared.link.Link.TheVariants.{Cell, Head}
 use Rattle.link_cells.specs.declared.link.Links.{Links}
-use Rattle.link_cells.specs.Rings.{Words, ahead_of, back_of, IsThere, Linked, count, total, Fits, put, put_ahead, put_back, detached, attached}
+use Rattle.link_cells.specs.Rings.{CellWords, ahead_of, back_of, IsThere, Linked, count, total, Fits, put, put_ahead, put_back, detached, attached}
 use Rattle.link_cells.proofs.Store.{Changed, Turned, turned, between}
 use Rattle.link_cells.proofs.Around.{count_append, count_same, count_here, count_more, total_le, one_le, two_le, total_one, split, join, frame, last_of, first_of, relink_end, relink_start}
 
@@ -26,7 +26,7 @@ abbrev pub PlaceIn : ℕ → List ℕ → Link → Type 0
 PlaceIn h row n = (n ≡ Head h) ⊎ ((x : ℕ) × (0 < count x row) × (n ≡ Cell x))
 
 -- what follows a is put behind cells that lead to it
-pub append_rest : (w v : Words) (p q z : Link) → Changed w v p q z → (a s : Link) (xs ys : List ℕ) (b : Link) → q ≡ ahead_of w a → Linked v s xs q → (b ≡ z → ⊥) → ((x : ℕ) → b ≡ Cell x → ⊥)
+pub append_rest : (w v : CellWords) (p q z : Link) → Changed w v p q z → (a s : Link) (xs ys : List ℕ) (b : Link) → q ≡ ahead_of w a → Linked v s xs q → (b ≡ z → ⊥) → ((x : ℕ) → b ≡ Cell x → ⊥)
     → ((x : ℕ) → 0 < count x ys → (Cell x ≡ p → ⊥) × (Cell x ≡ z → ⊥)) → ((x : ℕ) → count x ys ≤ 1) → Linked w a ys b → Linked v s (xs ++ ys) b
 append_rest w v p q z ch a s xs [] b is front bz head f one l =
     rw append-nil (subst (λ (n : Link). Linked v s xs n) (is ∙ l.0) front)
@@ -40,7 +40,7 @@ append_rest w v p q z ch a s xs (c ∷ cs) b is front bz head f one l =
     again : (x : ℕ) → 0 < count x cs → x ≡ c → ⊥
     again x h e = let P : ℕ → Type 0 = λ y. 0 < count y cs in let g : 0 < count c cs = subst P e h in absurd (omega (arith, one c, count_same c cs))
 
-module _ (w : Words) (rows : ℕ → List ℕ) (fits : Fits w rows) where
+module _ (w : CellWords) (rows : ℕ → List ℕ) (fits : Fits w rows) where
   pub row_once : (h x : ℕ) → h < length w.heads → count x (rows h) ≤ 1
   row_once h x lt = omega (arith, one_le (λ n. count x (rows n)) h (length w.heads) lt, fits.once x)
 
@@ -63,7 +63,7 @@ module _ (w : Words) (rows : ℕ → List ℕ) (fits : Fits w rows) where
       apart k h x ne ltk lt there (subst P (sym same) m.1)
 
   -- the ring of another head
-  pub other_ring : (v : Words) (h g k : ℕ) (p q z : Link) → Changed w v p q z → (k ≡ h → ⊥) → (k ≡ g → ⊥) → h < length w.heads → g < length w.heads → k < length w.heads → PlaceIn h (rows h) p → PlaceIn g (rows g) q
+  pub other_ring : (v : CellWords) (h g k : ℕ) (p q z : Link) → Changed w v p q z → (k ≡ h → ⊥) → (k ≡ g → ⊥) → h < length w.heads → g < length w.heads → k < length w.heads → PlaceIn h (rows h) p → PlaceIn g (rows g) q
       → (Head k ≡ z → ⊥) → ((x : ℕ) → 0 < count x (rows k) → Cell x ≡ z → ⊥) → Linked v (Head k) (rows k) (Head k)
   other_ring v h g k p q z ch nh ng lth ltg ltk hp hq hz f =
       frame w v p q z ch (Head k) (rows k) (Head k) (off_head h k p nh hp) hz (off_head g k q ng hq) hz
@@ -100,7 +100,7 @@ not_among h c xs n none (inr m) g =
     let P : ℕ → Type 0 = λ y. 0 < count y xs in
     let here : 0 < count c xs = subst P (sym same) m.1 in absurd (omega arith)
 
-module _ (w : Words) (rows : ℕ → List ℕ) (fits : Fits w rows) (h c : ℕ) (xs ys : List ℕ) (lt : h < length w.heads) (is : rows h ≡ xs ++ c ∷ ys) where
+module _ (w : CellWords) (rows : ℕ → List ℕ) (fits : Fits w rows) (h c : ℕ) (xs ys : List ℕ) (lt : h < length w.heads) (is : rows h ≡ xs ++ c ∷ ys) where
   whole : (x : ℕ) → count x xs + count x (c ∷ ys) ≤ 1
   whole x = omega (arith, row_once w rows fits h x lt, ap (count x) is, count_append x xs (c ∷ ys))
 
@@ -142,19 +142,19 @@ module _ (w : Words) (rows : ℕ → List ℕ) (fits : Fits w rows) (h c : ℕ) 
       ))
       (λ x. omega (arith, whole x, count_more x c ys)) halves.1
 
-pub heads_put : (w : Words) (n : Link) (l : Links) → length (put w n l).heads ≡ length w.heads
+pub heads_put : (w : CellWords) (n : Link) (l : Links) → length (put w n l).heads ≡ length w.heads
 heads_put w (Cell c) l = refl
 heads_put w (Head h) l = length-set w.heads h l
 
-pub cells_put : (w : Words) (n : Link) (l : Links) → length (put w n l).cells ≡ length w.cells
+pub cells_put : (w : CellWords) (n : Link) (l : Links) → length (put w n l).cells ≡ length w.cells
 cells_put w (Cell c) l = length-set w.cells c l
 cells_put w (Head h) l = refl
 
 -- two writes
-pub two_heads : (w : Words) (n m x y : Link) → length (put_back (put_ahead w n x) m y).heads ≡ length w.heads
+pub two_heads : (w : CellWords) (n m x y : Link) → length (put_back (put_ahead w n x) m y).heads ≡ length w.heads
 two_heads w n m x y = heads_put (put_ahead w n x) m _ ∙ heads_put w n _
 
-pub two_cells : (w : Words) (n m x y : Link) → length (put_back (put_ahead w n x) m y).cells ≡ length w.cells
+pub two_cells : (w : CellWords) (n m x y : Link) → length (put_back (put_ahead w n x) m y).cells ≡ length w.cells
 two_cells w n m x y = cells_put (put_ahead w n x) m _ ∙ cells_put w n _
 
 -- the rows differ at one head
@@ -162,7 +162,7 @@ abbrev pub SameBut : ℕ → (ℕ → List ℕ) → (ℕ → List ℕ) → Type 
 SameBut h rows next = (k : ℕ) → (k ≡ h → ⊥) → next k ≡ rows k
 
 -- a cell is taken out of its row
-pub fits_detach : (w : Words) (rows : ℕ → List ℕ) → Fits w rows → (h c : ℕ) (xs ys : List ℕ) → h < length w.heads → rows h ≡ xs ++ c ∷ ys
+pub fits_detach : (w : CellWords) (rows : ℕ → List ℕ) → Fits w rows → (h c : ℕ) (xs ys : List ℕ) → h < length w.heads → rows h ≡ xs ++ c ∷ ys
     → (next : ℕ → List ℕ) → next h ≡ xs ++ ys → SameBut h rows next → Fits (detached w c) next
 fits_detach w rows fits h c xs ys lt is next now same =
     let p = back_of w (Cell c) in
@@ -191,7 +191,7 @@ fits_detach w rows fits h c xs ys lt is next now same =
     ]
 
 -- no row has the cell
-abbrev pub Absent : Words → (ℕ → List ℕ) → ℕ → Type 0
+abbrev pub Absent : CellWords → (ℕ → List ℕ) → ℕ → Type 0
 Absent w rows c = (k : ℕ) → k < length w.heads → count c (rows k) ≡ 0
 
 total_zero : (f : ℕ → ℕ) (m : ℕ) → ((k : ℕ) → k < m → f k ≡ 0) → total f m ≡ 0
@@ -202,7 +202,7 @@ pub count_alone : (x c : ℕ) → (x ≡ c → ⊥) → count x (c ∷ []) ≡ 0
 count_alone x c ne = elim (cases_eq c x) [ inl e ↦ absurd (ne (sym e)) | inr other ↦ rw (ne_eqb c x other) refl ]
 
 -- one cell more in one row
-once_more : (w : Words) (rows : ℕ → List ℕ) → Fits w rows → (h c : ℕ) → h < length w.heads → Absent w rows c
+once_more : (w : CellWords) (rows : ℕ → List ℕ) → Fits w rows → (h c : ℕ) → h < length w.heads → Absent w rows c
     → (next : ℕ → List ℕ) → ((x : ℕ) → count x (next h) ≡ count x (rows h) + count x (c ∷ [])) → SameBut h rows next → (x : ℕ) → total (λ k. count x (next k)) (length w.heads) ≤ 1
 once_more w rows fits h c lt absent next more same x =
     let t = total_one (λ k. count x (rows k)) (λ k. count x (next k)) h (length w.heads) lt (λ k ne. ap (count x) (same k ne)) in
@@ -213,7 +213,7 @@ once_more w rows fits h c lt absent next more same x =
       | inr ne ↦ omega (arith, more x, count_alone x c ne, fits.once x)
     ]
 
-module _ (w : Words) (rows : ℕ → List ℕ) (fits : Fits w rows) (h c : ℕ) (lt : h < length w.heads) (there : c < length w.cells) (absent : Absent w rows c) where
+module _ (w : CellWords) (rows : ℕ → List ℕ) (fits : Fits w rows) (h c : ℕ) (lt : h < length w.heads) (there : c < length w.cells) (absent : Absent w rows c) where
   off : (n : Link) → PlaceIn h (rows h) n → Cell c ≡ n → ⊥
   off n place = not_among h c (rows h) n (absent h lt) place
 

@@ -8,16 +8,16 @@ use Rattle.std.proofs.lemmas.Bool.{cases_eq, cases_lt}
 use Rattle.link_cells.specs.declared.link.Link.{Link}
 use Rattle.link_cells.specs.declared.link.Link.TheVariants.{Cell, Head}
 use Rattle.link_cells.specs.declared.id.CellId.{CellId}
-use Rattle.link_cells.specs.Rings.{Words, ahead_of, back_of, Linked, count}
+use Rattle.link_cells.specs.Rings.{CellWords, ahead_of, back_of, Linked, count}
 use Rattle.link_cells.specs.Arena.{walk, row_of, entries, entry_onto, is_used, shown, lists_of, IsArena, first_name, last_name, named}
 use Rattle.link_cells.proofs.Around.{count_same, count_here, count_more, one_le}
 
-walk_head : (w : Words) (n h : ℕ) → walk w n (Head h) ≡ []
+walk_head : (w : CellWords) (n h : ℕ) → walk w n (Head h) ≡ []
 walk_head w zero h = refl
 walk_head w (suc n) h = refl
 
 -- the walk from a word on finds the cells that are linked there
-walk_linked : (w : Words) (n : ℕ) (a : Link) (xs : List ℕ) (h : ℕ) → Linked w a xs (Head h) → length xs ≤ n → walk w n (ahead_of w a) ≡ xs
+walk_linked : (w : CellWords) (n : ℕ) (a : Link) (xs : List ℕ) (h : ℕ) → Linked w a xs (Head h) → length xs ≤ n → walk w n (ahead_of w a) ≡ xs
 walk_linked w n a [] h l le = subst (λ (at : Link). walk w n at ≡ []) (sym l.0) (walk_head w n h)
 walk_linked w zero a (c ∷ cs) h l le = absurd (omega arith)
 walk_linked w (suc n) a (c ∷ cs) h l le = subst (λ (at : Link). walk w (suc n) at ≡ c ∷ cs) (sym l.0) (ap (λ (r : List ℕ). c ∷ r) (walk_linked w n (Cell c) cs h l.2 (omega arith)))
@@ -102,13 +102,13 @@ module _ {T : Type 0} where
       )
 
   -- the name of the first cell of a row is where its beginning leads
-  pub first_named : (w : Words) (values : List (Option T)) (a : Link) (row : List ℕ) (h : ℕ) → Full values row → Linked w a row (Head h) → named (ahead_of w a) ≡ first_name (entries values row)
+  pub first_named : (w : CellWords) (values : List (Option T)) (a : Link) (row : List ℕ) (h : ℕ) → Full values row → Linked w a row (Head h) → named (ahead_of w a) ≡ first_name (entries values row)
   first_named w values a [] h full l = ap named l.0
   first_named w values a (c ∷ cs) h full l =
       let val = value_of (get_or values c None) (full c (count_here c cs)) in
       ap named l.0 ∙ sym (ap first_name (entries_cons values c cs val.0 val.1))
 
-  last_behind : (w : Words) (values : List (Option T)) (c : ℕ) (v : T) (row : List ℕ) (b : Link) → Full values row → Linked w (Cell c) row b
+  last_behind : (w : CellWords) (values : List (Option T)) (c : ℕ) (v : T) (row : List ℕ) (b : Link) → Full values row → Linked w (Cell c) row b
       → named (back_of w b) ≡ last_name ((record { 0 = record { cell = c }; 1 = v }) ∷ entries values row)
   last_behind w values c v [] b full l = ap named l.1
   last_behind w values c v (d ∷ ds) b full l =
@@ -117,13 +117,13 @@ module _ {T : Type 0} where
       ∙ sym (ap (λ (r : List (CellId × T)). last_name ((record { 0 = record { cell = c }; 1 = v }) ∷ r)) (entries_cons values d ds val.0 val.1))
 
   -- the name of the last cell of a row is where its end leads back to
-  pub last_named : (w : Words) (values : List (Option T)) (h : ℕ) (row : List ℕ) (b : Link) → Full values row → Linked w (Head h) row b → named (back_of w b) ≡ last_name (entries values row)
+  pub last_named : (w : CellWords) (values : List (Option T)) (h : ℕ) (row : List ℕ) (b : Link) → Full values row → Linked w (Head h) row b → named (back_of w b) ≡ last_name (entries values row)
   last_named w values h [] b full l = ap named l.1
   last_named w values h (d ∷ ds) b full l =
       let val = value_of (get_or values d None) (full d (count_here d ds)) in
       last_behind w values d val.0 ds b (λ x here. full x (omega (arith, count_more x d ds))) l.2 ∙ sym (ap last_name (entries_cons values d ds val.0 val.1))
 
-module _ {T : Type 0} (w : Words) (values : List (Option T)) (used : List Bool) (free : List ℕ) (room spare : ℕ) (A : IsArena w values used free room spare) where
+module _ {T : Type 0} (w : CellWords) (values : List (Option T)) (used : List Bool) (free : List ℕ) (room spare : ℕ) (A : IsArena w values used free room spare) where
   pub row_is : (h : ℕ) → h < length w.heads → row_of w h ≡ A.rows h
   row_is h lt = walk_linked w (length w.cells) (Head h) (A.rows h) h (A.fits.ring h lt) (omega (arith, one_le (λ n. length (A.rows n)) h (length w.heads) lt, A.sum))
 

@@ -5,7 +5,7 @@ use Rattle.std.proofs.lemmas.List.{length-set, ext_get_or}
 use Rattle.std.proofs.lemmas.List.FromFn.{length-map-range_with_len}
 use Rattle.link_cells.specs.declared.link.Link.TheVariants.{Cell, Head}
 use Rattle.link_cells.specs.declared.id.CellId.{CellId}
-use Rattle.link_cells.specs.Rings.{Words, ahead_of, Linked, count, joined}
+use Rattle.link_cells.specs.Rings.{CellWords, ahead_of, Linked, count, joined}
 use Rattle.link_cells.specs.Arena.{IsArena, is_used, entries, shown, lists_of, row_of}
 use Rattle.link_cells.proofs.Around.{count_append}
 use Rattle.link_cells.proofs.Joined.{fits_join, total_moved, joined_heads, joined_cells}
@@ -19,18 +19,18 @@ set_same l i x d lt e = ext_get_or d (set l i x) l (length-set l i x) (λ k belo
 ])
 
 -- the row of a ring whose head leads to a cell
-pub row_some : (w : Words) (h c : ℕ) (row : List ℕ) → Linked w (Head h) row (Head h) → ahead_of w (Head h) ≡ Cell c → (cs : List ℕ) × (row ≡ c ∷ cs)
+pub row_some : (w : CellWords) (h c : ℕ) (row : List ℕ) → Linked w (Head h) row (Head h) → ahead_of w (Head h) ≡ Cell c → (cs : List ℕ) × (row ≡ c ∷ cs)
 row_some w h c [] l e = absurd (let g = sym l.0 ∙ e in cc)
 row_some w h c (d ∷ ds) l e = (ds, ap (λ (n : ℕ). n ∷ ds) (cell_is (sym l.0 ∙ e))) where
   cell_is : Cell d ≡ Cell c → d ≡ c
   cell_is g = cc
 
 -- the row of a ring whose head leads to none
-pub row_none : (w : Words) (h k : ℕ) (row : List ℕ) → Linked w (Head h) row (Head h) → ahead_of w (Head h) ≡ Head k → row ≡ []
+pub row_none : (w : CellWords) (h k : ℕ) (row : List ℕ) → Linked w (Head h) row (Head h) → ahead_of w (Head h) ≡ Head k → row ≡ []
 row_none w h k [] l e = refl
 row_none w h k (d ∷ ds) l e = absurd (let g = sym l.0 ∙ e in cc)
 
-module _ {T : Type 0} (w : Words) (values : List (Option T)) (used : List Bool) (free : List ℕ) (room spare : ℕ) (A : IsArena w values used free room spare)
+module _ {T : Type 0} (w : CellWords) (values : List (Option T)) (used : List Bool) (free : List ℕ) (room spare : ℕ) (A : IsArena w values used free room spare)
     (from to : ℕ) (ne : from ≡ to → ⊥) (xs ys : List (CellId × T))
     (ef : get_or (lists_of used values (row_of w) (length w.heads)) from None ≡ Some xs) (et : get_or (lists_of used values (row_of w) (length w.heads)) to None ≡ Some ys) where
   pub of_from : (0 < from) × (from < length w.heads) × (is_used used from ≡ true) × (entries values (A.rows from) ≡ xs)

@@ -6,7 +6,7 @@ use Rattle.link_cells.specs.declared.link.Link.{Link}
 use Rattle.link_cells.specs.declared.link.Link.TheVariants.{Cell, Head}
 use Rattle.link_cells.specs.declared.link.Links.{Links}
 use Rattle.link_cells.specs.declared.id.CellId.{CellId}
-use Rattle.link_cells.specs.Rings.{Words, alone, ahead_of, back_of, IsThere, Linked, joined, moved_front, attached}
+use Rattle.link_cells.specs.Rings.{CellWords, alone, ahead_of, back_of, IsThere, Linked, joined, moved_front, attached}
 use Rattle.link_cells.specs.Arena.{Arena, IsArena, shown, lists_of, row_of, list_of, with_list, InUse, Stands}
 use Rattle.link_cells.proofs.Around.{one_le}
 use Rattle.link_cells.proofs.Joined.{last_there, first_there, front_there}
@@ -15,7 +15,7 @@ use Rattle.link_cells.proofs.Spliced.{row_some, row_none, spliced_arena, spliced
 use Rattle.link_cells.proofs.Calls.{seen, some_of, head_there, cell_there, value_is, unlink_arena, unlink_result}
 use Rattle.link_cells.proofs.Grown.{more_cells, grown, grown_arena, grown_view}
 
-abbrev pub first_words : Words
+abbrev pub first_words : CellWords
 first_words = record { cells = []; heads = alone 0 ∷ [] }
 
 -- no cells, and the head of the spare ones
@@ -42,7 +42,7 @@ first_arena {T} = record {
   only : (h : ℕ) → h ≡ 0 → Linked first_words (Head h) [] (Head h)
   only h e = subst (λ (n : ℕ). Linked first_words (Head n) [] (Head n)) (sym e) (refl, refl)
 
-module _ {T : Type 0} (w : Words) (values : List (Option T)) (used : List Bool) (free : List ℕ) (room spare : ℕ) (A : IsArena w values used free room spare) where
+module _ {T : Type 0} (w : CellWords) (values : List (Option T)) (used : List Bool) (free : List ℕ) (room spare : ℕ) (A : IsArena w values used free room spare) where
   pub spare_le : spare ≤ length values
   spare_le = omega (arith, A.spare_is, A.sum, A.values_many, one_le (λ n. length (A.rows n)) 0 (length w.heads) A.some_head)
 
@@ -97,20 +97,20 @@ module _ {T : Type 0} (w : Words) (values : List (Option T)) (used : List Bool) 
     splice_none k leads xs ys ef et = ap (λ (l : List (Option (List (CellId × T)))). record { lists = l; spare = spare; spare_heads = heads })
         (spliced_none w values used free room spare A from to ne xs ys ef et (row_none w from k (A.rows from) (A.fits.ring from (head_there w values used free room spare A heads from f)) leads))
 
-module _ {T : Type 0} (w : Words) (values : List (Option T)) (used : List Bool) (free : List ℕ) (room spare : ℕ) (A : IsArena w values used free room spare) (heads : ℕ) where
+module _ {T : Type 0} (w : CellWords) (values : List (Option T)) (used : List Bool) (free : List ℕ) (room spare : ℕ) (A : IsArena w values used free room spare) (heads : ℕ) where
   abbrev pub whole : Arena T
   whole = seen w values used spare heads
 
-  pub at_unlink : (id : CellId) → InUse whole id → (v : Words) (n : ℕ) (o : Option T) → v ≡ moved_front w n 0 → n ≡ id.cell → o ≡ None → IsArena v (set values n o) used free room (spare + 1)
+  pub at_unlink : (id : CellId) → InUse whole id → (v : CellWords) (n : ℕ) (o : Option T) → v ≡ moved_front w n 0 → n ≡ id.cell → o ≡ None → IsArena v (set values n o) used free room (spare + 1)
   at_unlink id u v n o ev en eo =
-      subst (λ (x : Words). IsArena x (set values n o) used free room (spare + 1)) (sym (ev ∙ ap (λ (k : ℕ). moved_front w k 0) en))
+      subst (λ (x : CellWords). IsArena x (set values n o) used free room (spare + 1)) (sym (ev ∙ ap (λ (k : ℕ). moved_front w k 0) en))
       (subst (λ (x : List (Option T)). IsArena (moved_front w id.cell 0) x used free room (spare + 1)) (sym (ap (λ (k : ℕ). set values k o) en ∙ ap (set values id.cell) eo))
       (unlink_arena w values used free room spare A heads id u))
 
   pub at_unlink_result : (id : CellId) (h : ℕ) (front : List (CellId × T)) (x : T) (back : List (CellId × T)) → Stands whole id h front x back
-      → (v : Words) (n : ℕ) (o : Option T) → v ≡ moved_front w n 0 → n ≡ id.cell → o ≡ None → seen v (set values n o) used (spare + 1) heads ≡ record (with_list whole h (front ++ back)) { spare = spare + 1 }
+      → (v : CellWords) (n : ℕ) (o : Option T) → v ≡ moved_front w n 0 → n ≡ id.cell → o ≡ None → seen v (set values n o) used (spare + 1) heads ≡ record (with_list whole h (front ++ back)) { spare = spare + 1 }
   at_unlink_result id h front x back e v n o ev en eo =
-      ap (λ (y : Words). seen y (set values n o) used (spare + 1) heads) (ev ∙ ap (λ (k : ℕ). moved_front w k 0) en)
+      ap (λ (y : CellWords). seen y (set values n o) used (spare + 1) heads) (ev ∙ ap (λ (k : ℕ). moved_front w k 0) en)
       ∙ ap (λ (y : List (Option T)). seen (moved_front w id.cell 0) y used (spare + 1) heads) (ap (λ (k : ℕ). set values k o) en ∙ ap (set values id.cell) eo)
       ∙ unlink_result w values used free room spare A heads id h front x back e
 
@@ -123,20 +123,20 @@ module _ {T : Type 0} (w : Words) (values : List (Option T)) (used : List Bool) 
   pub at_some : (id : CellId) → InUse whole id → (n : ℕ) (o : Option T) → n ≡ id.cell → o ≡ get_or values n o → is_some o ≡ true
   at_some id u n o en eo = ap is_some (at_value id u.0 u.1 u.2 u.3 u.4 n o en eo)
 
-module _ {T : Type 0} (w : Words) (values : List (Option T)) (used : List Bool) (free : List ℕ) (room spare : ℕ) (A : IsArena w values used free room spare)
-    (v u : Words) (n : ℕ) (l : Links) (first : Link) (eu : u ≡ record w { cells = w.cells ++ l ∷ [] }) (el : l ≡ alone 0) (en : n ≡ length w.cells) (ef : first ≡ ahead_of u (Head 0)) (ev : v ≡ attached u n (Head 0) first) where
+module _ {T : Type 0} (w : CellWords) (values : List (Option T)) (used : List Bool) (free : List ℕ) (room spare : ℕ) (A : IsArena w values used free room spare)
+    (v u : CellWords) (n : ℕ) (l : Links) (first : Link) (eu : u ≡ record w { cells = w.cells ++ l ∷ [] }) (el : l ≡ alone 0) (en : n ≡ length w.cells) (ef : first ≡ ahead_of u (Head 0)) (ev : v ≡ attached u n (Head 0) first) where
   same_u : u ≡ more_cells w
   same_u = eu ∙ ap (λ (k : Links). record w { cells = w.cells ++ k ∷ [] }) el
 
   same_v : v ≡ grown w values used free room spare A
   same_v =
-      ev ∙ ap (λ (k : Link). attached u n (Head 0) k) ef ∙ ap (λ (x : Words). attached x n (Head 0) (ahead_of x (Head 0))) same_u
+      ev ∙ ap (λ (k : Link). attached u n (Head 0) k) ef ∙ ap (λ (x : CellWords). attached x n (Head 0) (ahead_of x (Head 0))) same_u
       ∙ ap (λ (k : ℕ). attached (more_cells w) k (Head 0) (ahead_of (more_cells w) (Head 0))) en
 
   pub at_grown : IsArena v (values ++ None ∷ []) used free room (spare + 1)
-  at_grown = subst (λ (x : Words). IsArena x (values ++ None ∷ []) used free room (spare + 1)) (sym same_v) (grown_arena w values used free room spare A)
+  at_grown = subst (λ (x : CellWords). IsArena x (values ++ None ∷ []) used free room (spare + 1)) (sym same_v) (grown_arena w values used free room spare A)
 
   pub at_grown_result : (heads : ℕ) → seen v (values ++ None ∷ []) used (spare + 1) heads ≡ record (seen w values used spare heads) { spare = spare + 1 }
   at_grown_result heads =
-      ap (λ (x : Words). seen x (values ++ None ∷ []) used (spare + 1) heads) same_v
+      ap (λ (x : CellWords). seen x (values ++ None ∷ []) used (spare + 1) heads) same_v
       ∙ ap (λ (x : List (Option (List (CellId × T)))). record { lists = x; spare = spare + 1; spare_heads = heads }) (grown_view w values used free room spare A)

@@ -5,7 +5,7 @@ use Rattle.std.proofs.lemmas.Bool.{cases_eq}
 use Rattle.link_cells.specs.declared.link.Link.{Link}
 use Rattle.link_cells.specs.declared.link.Link.TheVariants.{Cell, Head}
 use Rattle.link_cells.specs.declared.link.Links.{Links}
-use Rattle.link_cells.specs.Rings.{Words, alone, links_of, ahead_of, back_of, IsThere, put, put_ahead, put_back, attached}
+use Rattle.link_cells.specs.Rings.{CellWords, alone, links_of, ahead_of, back_of, IsThere, put, put_ahead, put_back, attached}
 
 pub same_link : (n m : Link) → (n ≡ m) ⊎ (n ≡ m → ⊥)
 same_link (Cell c) (Cell d) = elim (cases_eq c d) [ inl e ↦ inl (ap Cell e) | inr ne ↦ inr (λ e. ne (cell_of e)) ] where
@@ -17,42 +17,42 @@ same_link (Head h) (Head k) = elim (cases_eq h k) [ inl e ↦ inl (ap Head e) | 
 same_link (Cell c) (Head h) = inr (λ e. cc)
 same_link (Head h) (Cell c) = inr (λ e. cc)
 
-links_put_same : (w : Words) (n : Link) (l : Links) → IsThere w n → links_of (put w n l) n ≡ l
+links_put_same : (w : CellWords) (n : Link) (l : Links) → IsThere w n → links_of (put w n l) n ≡ l
 links_put_same w (Cell c) l h = get_or-set_same w.cells c l (alone 0) h
 links_put_same w (Head k) l h = get_or-set_same w.heads k l (alone 0) h
 
-links_put_other : (w : Words) (n : Link) (l : Links) (m : Link) → (m ≡ n → ⊥) → links_of (put w n l) m ≡ links_of w m
+links_put_other : (w : CellWords) (n : Link) (l : Links) (m : Link) → (m ≡ n → ⊥) → links_of (put w n l) m ≡ links_of w m
 links_put_other w (Cell c) l (Cell d) ne = get_or-set_other w.cells c d l (alone 0) (λ e. ne (ap Cell e))
 links_put_other w (Cell c) l (Head k) ne = refl
 links_put_other w (Head h) l (Cell d) ne = refl
 links_put_other w (Head h) l (Head k) ne = get_or-set_other w.heads h k l (alone 0) (λ e. ne (ap Head e))
 
-pub there_put : (w : Words) (n : Link) (l : Links) (m : Link) → IsThere w m → IsThere (put w n l) m
+pub there_put : (w : CellWords) (n : Link) (l : Links) (m : Link) → IsThere w m → IsThere (put w n l) m
 there_put w (Cell c) l (Cell d) h = rw length-set h
 there_put w (Cell c) l (Head k) h = h
 there_put w (Head c) l (Cell d) h = h
 there_put w (Head c) l (Head k) h = rw length-set h
 
-pub ahead_put_ahead_same : (w : Words) (n x : Link) → IsThere w n → ahead_of (put_ahead w n x) n ≡ x
+pub ahead_put_ahead_same : (w : CellWords) (n x : Link) → IsThere w n → ahead_of (put_ahead w n x) n ≡ x
 ahead_put_ahead_same w n x h = ap (λ (l : Links). l.ahead) (links_put_same w n (record { back = back_of w n; ahead = x }) h)
 
-pub ahead_put_ahead_other : (w : Words) (n x m : Link) → (m ≡ n → ⊥) → ahead_of (put_ahead w n x) m ≡ ahead_of w m
+pub ahead_put_ahead_other : (w : CellWords) (n x m : Link) → (m ≡ n → ⊥) → ahead_of (put_ahead w n x) m ≡ ahead_of w m
 ahead_put_ahead_other w n x m ne = ap (λ (l : Links). l.ahead) (links_put_other w n (record { back = back_of w n; ahead = x }) m ne)
 
-pub back_put_ahead : (w : Words) (n x m : Link) → IsThere w n → back_of (put_ahead w n x) m ≡ back_of w m
+pub back_put_ahead : (w : CellWords) (n x m : Link) → IsThere w n → back_of (put_ahead w n x) m ≡ back_of w m
 back_put_ahead w n x m h =
     elim (same_link m n) [
       | inl e ↦ subst (λ (y : Link). back_of (put_ahead w n x) y ≡ back_of w y) (sym e) (ap (λ (l : Links). l.back) (links_put_same w n (record { back = back_of w n; ahead = x }) h))
       | inr ne ↦ ap (λ (l : Links). l.back) (links_put_other w n (record { back = back_of w n; ahead = x }) m ne)
     ]
 
-pub back_put_back_same : (w : Words) (n x : Link) → IsThere w n → back_of (put_back w n x) n ≡ x
+pub back_put_back_same : (w : CellWords) (n x : Link) → IsThere w n → back_of (put_back w n x) n ≡ x
 back_put_back_same w n x h = ap (λ (l : Links). l.back) (links_put_same w n (record { back = x; ahead = ahead_of w n }) h)
 
-pub back_put_back_other : (w : Words) (n x m : Link) → (m ≡ n → ⊥) → back_of (put_back w n x) m ≡ back_of w m
+pub back_put_back_other : (w : CellWords) (n x m : Link) → (m ≡ n → ⊥) → back_of (put_back w n x) m ≡ back_of w m
 back_put_back_other w n x m ne = ap (λ (l : Links). l.back) (links_put_other w n (record { back = x; ahead = ahead_of w n }) m ne)
 
-pub ahead_put_back : (w : Words) (n x m : Link) → IsThere w n → ahead_of (put_back w n x) m ≡ ahead_of w m
+pub ahead_put_back : (w : CellWords) (n x m : Link) → IsThere w n → ahead_of (put_back w n x) m ≡ ahead_of w m
 ahead_put_back w n x m h =
     elim (same_link m n) [
       | inl e ↦ subst (λ (y : Link). ahead_of (put_back w n x) y ≡ ahead_of w y) (sym e) (ap (λ (l : Links). l.ahead) (links_put_same w n (record { back = x; ahead = ahead_of w n }) h))
@@ -60,17 +60,17 @@ ahead_put_back w n x m h =
     ]
 
 -- ahead changes at p alone, back at q alone; z may have changed too
-pub record Changed (w v : Words) (p q z : Link) : Type 0 where
+pub record Changed (w v : CellWords) (p q z : Link) : Type 0 where
   pub ahead : (n : Link) → (n ≡ p → ⊥) → (n ≡ z → ⊥) → ahead_of v n ≡ ahead_of w n
   pub back : (n : Link) → (n ≡ q → ⊥) → (n ≡ z → ⊥) → back_of v n ≡ back_of w n
 
 -- p leads to q, and q back to p
-pub record Turned (w v : Words) (p q z : Link) : Type 0 where
+pub record Turned (w v : CellWords) (p q z : Link) : Type 0 where
   pub changed : Changed w v p q z
   pub leads : ahead_of v p ≡ q
   pub returns : back_of v q ≡ p
 
-pub turned : (w : Words) (p q z : Link) → IsThere w p → IsThere w q → Turned w (put_back (put_ahead w p q) q p) p q z
+pub turned : (w : CellWords) (p q z : Link) → IsThere w p → IsThere w q → Turned w (put_back (put_ahead w p q) q p) p q z
 turned w p q z hp hq =
     let v = put_ahead w p q in
     let there : IsThere v q = there_put w p (record { back = back_of w p; ahead = q }) q hq in
@@ -84,14 +84,14 @@ turned w p q z hp hq =
     }
 
 -- a cell stands between p and q
-pub record Between (w v : Words) (c : ℕ) (p q : Link) : Type 0 where
+pub record Between (w v : CellWords) (c : ℕ) (p q : Link) : Type 0 where
   pub changed : Changed w v p q (Cell c)
   pub leads : ahead_of v p ≡ Cell c
   pub on : ahead_of v (Cell c) ≡ q
   pub returns : back_of v q ≡ Cell c
   pub from : back_of v (Cell c) ≡ p
 
-pub between : (w : Words) (c : ℕ) (p q : Link) → IsThere w (Cell c) → IsThere w p → IsThere w q → (Cell c ≡ p → ⊥) → (Cell c ≡ q → ⊥) → Between w (attached w c p q) c p q
+pub between : (w : CellWords) (c : ℕ) (p q : Link) → IsThere w (Cell c) → IsThere w p → IsThere w q → (Cell c ≡ p → ⊥) → (Cell c ≡ q → ⊥) → Between w (attached w c p q) c p q
 between w c p q hc hp hq np nq =
     let links : Links = record { back = p; ahead = q } in
     let u = put w (Cell c) links in
@@ -112,7 +112,7 @@ between w c p q hc hp hq np nq =
     }
 
 -- a word that is written to lead to itself
-pub put_alone : (w : Words) (h : ℕ) (z : Link) → IsThere w (Head h) → Changed w (put w (Head h) (alone h)) (Head h) (Head h) z × (links_of (put w (Head h) (alone h)) (Head h) ≡ alone h)
+pub put_alone : (w : CellWords) (h : ℕ) (z : Link) → IsThere w (Head h) → Changed w (put w (Head h) (alone h)) (Head h) (Head h) z × (links_of (put w (Head h) (alone h)) (Head h) ≡ alone h)
 put_alone w h z there = (
   record {
     ahead = λ n ne nz. ap (λ (l : Links). l.ahead) (links_put_other w (Head h) (alone h) n ne);

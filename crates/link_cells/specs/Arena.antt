@@ -4,7 +4,7 @@ use Rattle.std.specs.List.{range_with_len}
 use Rattle.link_cells.specs.declared.link.Link.{Link}
 use Rattle.link_cells.specs.declared.link.Link.TheVariants.{Cell, Head}
 use Rattle.link_cells.specs.declared.id.CellId.{CellId}
-use Rattle.link_cells.specs.Rings.{Words, ahead_of, count, total, Fits}
+use Rattle.link_cells.specs.Rings.{CellWords, ahead_of, count, total, Fits}
 
 -- one list per head in use, each value with the name of its cell; how many cells and heads are spare
 pub record Arena (T : Type 0) : Type 0 where
@@ -39,12 +39,12 @@ last_name (entry ∷ []) = Some entry.0
 last_name (entry ∷ (next ∷ rest)) = last_name (next ∷ rest)
 
 -- the cells from a word on, up to a head
-abbrev pub walk : Words → ℕ → Link → List ℕ
+abbrev pub walk : CellWords → ℕ → Link → List ℕ
 walk w zero at = []
 walk w (suc most) (Head h) = []
 walk w (suc most) (Cell c) = c ∷ walk w most (ahead_of w (Cell c))
 
-abbrev pub row_of : Words → ℕ → List ℕ
+abbrev pub row_of : CellWords → ℕ → List ℕ
 row_of w h = walk w (length w.cells) (ahead_of w (Head h))
 
 abbrev pub entry_onto : {T : Type 0} → Option T → ℕ → List (CellId × T) → List (CellId × T)
@@ -67,7 +67,7 @@ abbrev pub lists_of : {T : Type 0} → List Bool → List (Option T) → (ℕ �
 lists_of used values rows many = map (shown used values rows) (range_with_len 0 many)
 
 -- head 0 has the spare cells, and each other head is in use or spare
-pub record IsArena {T : Type 0} (w : Words) (values : List (Option T)) (used : List Bool) (free : List ℕ) (room spare : ℕ) : Type 0 where
+pub record IsArena {T : Type 0} (w : CellWords) (values : List (Option T)) (used : List Bool) (free : List ℕ) (room spare : ℕ) : Type 0 where
   pub rows : ℕ → List ℕ
   pub fits : Fits w rows
   pub sum : total (λ h. length (rows h)) (length w.heads) ≡ length w.cells

@@ -5,7 +5,8 @@ ghost use Rattle.link_cells.specs.declared.id.CellId.{CellId};
 use crate::id::CellId;
 use crate::link::{Link, Links};
 use crate::ring::{attach, join, links_of, move_back, move_front};
-use cell_words::{OutOfMemory, Steps, Words};
+use cell_words::{CellWords, Steps};
+use seq::OutOfMemory;
 use std::alloc::Global;
 use std::marker::{Brand, Model};
 use std::sync::ledger::{Blank, Ledger};
@@ -13,7 +14,7 @@ use std::sync::ledger::{Blank, Ledger};
 /// An arena of doubly linked cells, with a list per head.
 #[derive(Drop)]
 pub struct Cells<T> {
-    words: Words<Links, Links>,
+    words: CellWords<Links, Links>,
     values: Vec<Option<T>>,
     used: Vec<bool>,
     free_heads: Vec<usize>,
@@ -47,7 +48,7 @@ impl<T: Drop> Cells<T> {
         ensures spare { IfOk result (λ cells. cells.spare ≡ 0) }
         ensures spare_heads { IfOk result (λ cells. cells.spare_heads ≡ 0) }
     {
-        let mut words = Words::new(alloc)?;
+        let mut words = CellWords::new(alloc)?;
         words.grow_heads(alone(0))?;
         let mut used = Vec::new(alloc);
         used.push(false)?;

@@ -3,11 +3,11 @@ ghost use Rattle.link_cells.specs.Rings.{links_of, IsThere, put, put_ahead, put_
 ghost use Rattle.link_cells.specs.declared.link.Link.TheVariants.{Cell, Head};
 
 use crate::link::{Link, Links};
-use cell_words::{Steps, Words};
+use cell_words::{CellWords, Steps};
 use std::sync::ledger::Ledger;
 
 /// The links of a word.
-pub fn links_of(words: &Words<Links, Links>, at: Link) -> Links
+pub fn links_of(words: &CellWords<Links, Links>, at: Link) -> Links
     requires { IsThere words.now at }
     ensures { result ≡ links_of words.now at }
 {
@@ -18,7 +18,7 @@ pub fn links_of(words: &Words<Links, Links>, at: Link) -> Links
 }
 
 /// Writes one word.
-fn put<L: Ledger>(words: &mut Words<Links, Links>, at: Link, links: Links, steps: &mut Steps<L>)
+fn put<L: Ledger>(words: &mut CellWords<Links, Links>, at: Link, links: Links, steps: &mut Steps<L>)
     requires { IsThere words.old at }
     ensures words { words.new ≡ put words.old at links }
     ensures step { steps.new ≡ steps.old + 1 }
@@ -33,7 +33,12 @@ fn put<L: Ledger>(words: &mut Words<Links, Links>, at: Link, links: Links, steps
     }
 }
 
-fn put_ahead<L: Ledger>(words: &mut Words<Links, Links>, at: Link, to: Link, steps: &mut Steps<L>)
+fn put_ahead<L: Ledger>(
+    words: &mut CellWords<Links, Links>,
+    at: Link,
+    to: Link,
+    steps: &mut Steps<L>,
+)
     requires { IsThere words.old at }
     ensures words { words.new ≡ put_ahead words.old at to }
     ensures step { steps.new ≡ steps.old + 1 }
@@ -42,7 +47,12 @@ fn put_ahead<L: Ledger>(words: &mut Words<Links, Links>, at: Link, to: Link, ste
     put(words, at, Links { back, ahead: to }, steps);
 }
 
-fn put_back<L: Ledger>(words: &mut Words<Links, Links>, at: Link, to: Link, steps: &mut Steps<L>)
+fn put_back<L: Ledger>(
+    words: &mut CellWords<Links, Links>,
+    at: Link,
+    to: Link,
+    steps: &mut Steps<L>,
+)
     requires { IsThere words.old at }
     ensures words { words.new ≡ put_back words.old at to }
     ensures step { steps.new ≡ steps.old + 1 }
@@ -52,7 +62,7 @@ fn put_back<L: Ledger>(words: &mut Words<Links, Links>, at: Link, to: Link, step
 }
 
 /// Links the neighbours of a cell past it.
-fn detach<L: Ledger>(words: &mut Words<Links, Links>, cell: usize, steps: &mut Steps<L>)
+fn detach<L: Ledger>(words: &mut CellWords<Links, Links>, cell: usize, steps: &mut Steps<L>)
     requires cell { IsThere words.old (Cell cell) }
     requires back { IsThere words.old (back_of words.old (Cell cell)) }
     requires ahead { IsThere words.old (ahead_of words.old (Cell cell)) }
@@ -66,7 +76,7 @@ fn detach<L: Ledger>(words: &mut Words<Links, Links>, cell: usize, steps: &mut S
 
 /// Links a cell between two neighbours.
 pub fn attach<L: Ledger>(
-    words: &mut Words<Links, Links>,
+    words: &mut CellWords<Links, Links>,
     cell: usize,
     back: Link,
     ahead: Link,
@@ -85,7 +95,7 @@ pub fn attach<L: Ledger>(
 
 /// Moves a cell from where it stands to the front of the ring of a head.
 pub fn move_front<L: Ledger>(
-    words: &mut Words<Links, Links>,
+    words: &mut CellWords<Links, Links>,
     cell: usize,
     head: usize,
     steps: &mut Steps<L>,
@@ -101,7 +111,7 @@ pub fn move_front<L: Ledger>(
 
 /// Moves a cell from where it stands to the back of the ring of a head.
 pub fn move_back<L: Ledger>(
-    words: &mut Words<Links, Links>,
+    words: &mut CellWords<Links, Links>,
     cell: usize,
     head: usize,
     steps: &mut Steps<L>,
@@ -117,7 +127,7 @@ pub fn move_back<L: Ledger>(
 
 /// Puts the ring of `from`, which has cells, in front of that of `to`, and leaves `from` alone.
 pub fn join<L: Ledger>(
-    words: &mut Words<Links, Links>,
+    words: &mut CellWords<Links, Links>,
     from: usize,
     to: usize,
     steps: &mut Steps<L>,

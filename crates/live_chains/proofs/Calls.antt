@@ -8,14 +8,15 @@ use Rattle.link_cells.specs.declared.id.CellId.{CellId}
 use Rattle.link_cells.specs.Arena.{Arena, list_of, with_list, Stands, InUse}
 use Rattle.link_cells.proofs.Calls.{some_of}
 use Rattle.link_cells.proofs.Walks.{list_here, list_there}
-use Rattle.session_rules.specs.Events.{In}
-use Rattle.session_rules.specs.Live.{rank, find, numbered, without, number_of, numbers_in, down_order}
-use Rattle.session_rules.specs.declared.instance.Instance.{Instance}
-use Rattle.session_rules.proofs.Order.{rank_low}
+use Rattle.session_types.specs.Members.{In}
+use Rattle.session_types.specs.Scopes.{rank, scope_count}
+use Rattle.session_types.specs.Live.{find, numbered, without, number_of, numbers_in, down_order}
+use Rattle.session_types.specs.declared.instance.Instance.{Instance}
+use Rattle.session_types.proofs.Order.{rank_low}
 use Rattle.live_chains.specs.declared.id.LiveId.{LiveId}
 use Rattle.live_chains.specs.declared.dying.Dying.{Dying}
 use Rattle.live_chains.specs.Down.{dying}
-use Rattle.live_chains.specs.Chained.{scope_count, Entry, IsChains, RisingBy, Apart, instance_of, id_of, id_order, ids_without, or_empty, chain_at, chains_below, head_at, merged, shown, order_key, cell_key, place_key, place_of}
+use Rattle.live_chains.specs.Chained.{Entry, IsChains, RisingBy, Apart, instance_of, id_of, id_order, ids_without, or_empty, chain_at, chains_below, head_at, merged, shown, order_key, cell_key, place_key, place_of}
 use Rattle.live_chains.specs.Walked.{first_at, roots_of, going_below}
 use Rattle.live_chains.proofs.Sorted.{In-by_order, by_order-In, Sorted-by_order, Apart-by_order, Rising-sorted}
 use Rattle.live_chains.proofs.Changed.{In-below, split_at, good_linked, linked_order, good_unlinked, unlinked_order}

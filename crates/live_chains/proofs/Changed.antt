@@ -3,10 +3,10 @@ use Rattle.std.proofs.Common.{◌≡◌, ◌≢◌, ℕ, zero, suc, ◌<◌, Boo
 use Rattle.std.proofs.lemmas.Bool.{cases_eq, ne_eqb}
 use Rattle.std.proofs.lemmas.List.{append-nil}
 use Rattle.std.specs.List.{filter}
-use Rattle.session_rules.specs.Events.{In}
-use Rattle.session_rules.specs.Live.{rank}
-use Rattle.session_rules.proofs.Lists.{In-append, In-left, In-right}
-use Rattle.live_chains.specs.Chained.{scope_count, Entry, by_order, chains_below, RisingBy, Apart, Good, order_key, cell_key, place_key}
+use Rattle.session_types.specs.Members.{In}
+use Rattle.session_types.specs.Scopes.{rank, scope_count}
+use Rattle.session_types.proofs.Lists.{In-append, In-left, In-right}
+use Rattle.live_chains.specs.Chained.{Entry, by_order, chains_below, RisingBy, Apart, Good, order_key, cell_key, place_key}
 use Rattle.live_chains.proofs.Sorted.{by_order_last, filter_by_order, Apart-more, Apart-fewer}
 
 pub same_below : (one other : ℕ → List Entry) (n : ℕ) → ((r : ℕ) → r < n → one r ≡ other r) → chains_below one n ≡ chains_below other n

@@ -2,10 +2,10 @@
 use Rattle.std.proofs.Common.{◌≡◌, ◌≢◌, ℕ, true, false, cond, List, [], ◌∷◌, ◌++◌, inl, inr, refl, sym, ap, ◌∙◌, eqb, eq-eqb, map, Option, Some, None}
 use Rattle.std.proofs.lemmas.Bool.{ne_eqb}
 use Rattle.std.specs.Option.{option_map}
-use Rattle.session_rules.specs.Events.{In}
-use Rattle.session_rules.specs.Live.{is_at, find, numbered, number_of}
-use Rattle.session_rules.specs.declared.instance.Instance.{Instance}
-use Rattle.session_rules.proofs.Lists.{bool_cases, and_both, eqb_is}
+use Rattle.session_types.specs.Members.{In}
+use Rattle.session_types.specs.Live.{is_at, find, numbered, number_of}
+use Rattle.session_types.specs.declared.instance.Instance.{Instance}
+use Rattle.session_types.proofs.Lists.{bool_cases, and_both, eqb_is}
 use Rattle.live_chains.specs.Chained.{Entry, instance_of, id_of, id_order, by_order, Apart, order_key, place_key, place_of}
 use Rattle.live_chains.specs.Walked.{first_at}
 use Rattle.live_chains.proofs.Sorted.{In-by_order, by_order-In, Apart-by_order}

@@ -4,15 +4,16 @@ use Rattle.std.proofs.lemmas.Bool.{cases_eq, ne_eqb}
 use Rattle.std.proofs.lemmas.List.{append-nil, map-append, reverse-append}
 use Rattle.std.proofs.lemmas.List.Elements.{filter-append, filter_agree}
 use Rattle.std.specs.List.{filter, list_any}
-use Rattle.session_rules.specs.Events.{In}
-use Rattle.session_rules.specs.Live.{rank, is_off, rests_on, of_scope, below_rank, down_order, number_of, numbers_in}
-use Rattle.session_rules.specs.declared.instance.Instance.{Instance}
-use Rattle.session_rules.proofs.Lists.{In-append, In-left, In-right, In-reverse}
+use Rattle.session_types.specs.Members.{In}
+use Rattle.session_types.specs.Scopes.{rank, scope_count}
+use Rattle.session_types.specs.Live.{is_off, rests_on, of_scope, below_rank, down_order, number_of, numbers_in}
+use Rattle.session_types.specs.declared.instance.Instance.{Instance}
+use Rattle.session_types.proofs.Lists.{In-append, In-left, In-right, In-reverse}
 use Rattle.live_chains.specs.declared.id.LiveId.{LiveId}
 use Rattle.live_chains.specs.declared.dying.Dying.{Dying}
 use Rattle.live_chains.specs.declared.dying.Dying.TheVariants.{Dependents, NotOn}
 use Rattle.live_chains.specs.Down.{dies, dying}
-use Rattle.live_chains.specs.Chained.{scope_count, Apart, order_key, Entry, instance_of, id_of, id_order, by_order, chains_below, Good}
+use Rattle.live_chains.specs.Chained.{Apart, order_key, Entry, instance_of, id_of, id_order, by_order, chains_below, Good}
 use Rattle.live_chains.specs.Walked.{rests_any, resting_ids, off_orders, roots_of, going_below}
 use Rattle.live_chains.proofs.Sorted.{filter_by_order, by_order_same, any_by_order}
 use Rattle.live_chains.proofs.Changed.{below-In}

@@ -1,9 +1,9 @@
 -- Numbers above those of all live instances.
 use Rattle.std.proofs.Common.{◌≡◌, ℕ, ◌<◌, ◌+◌, List, [], ◌∷◌, ◌++◌, inl, inr, subst, ap, arith}
-use Rattle.session_rules.specs.Events.{In}
-use Rattle.session_rules.specs.Live.{number_of}
-use Rattle.session_rules.specs.declared.instance.Instance.{Instance}
-use Rattle.session_rules.proofs.Lists.{In-append}
+use Rattle.session_types.specs.Members.{In}
+use Rattle.session_types.specs.Live.{number_of}
+use Rattle.session_types.specs.declared.instance.Instance.{Instance}
+use Rattle.session_types.proofs.Lists.{In-append}
 
 pub still_below : (a b : List (Instance ℕ)) (n m : ℕ) → a ≡ b → n ≡ m → ((j : Instance ℕ) → In j b → j.order < n) → (j : Instance ℕ) → In j a → j.order < m
 still_below a b n m e q h j g = let lt = h j (subst (λ (l : List (Instance ℕ)). In j l) e g) in omega (arith, lt, q)

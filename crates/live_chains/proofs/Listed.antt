@@ -5,10 +5,11 @@ use Rattle.std.specs.Option.{option_map}
 use Rattle.std.specs.List.{filter, remove, HoldsAt}
 use Rattle.std.proofs.lemmas.List.{append-nil, reverse-append, map-append}
 use Rattle.std.proofs.lemmas.List.Elements.{filter-append}
-use Rattle.session_rules.specs.Events.{In}
-use Rattle.session_rules.specs.declared.instance.Instance.{Instance}
-use Rattle.session_rules.specs.Live.{is_at, find, rank, scope_numbers, number_of, without, numbered}
-use Rattle.session_rules.proofs.Lists.{In-append, In-filter}
+use Rattle.session_types.specs.Members.{In}
+use Rattle.session_types.specs.declared.instance.Instance.{Instance}
+use Rattle.session_types.specs.Live.{is_at, find, scope_numbers, number_of, without, numbered}
+use Rattle.session_types.specs.Scopes.{rank}
+use Rattle.session_types.proofs.Lists.{In-append, In-filter}
 use Rattle.live_chains.specs.Chained.{RisingBy}
 
 Rising-filter : (p : Instance ℕ → Bool) (xs : List (Instance ℕ)) → RisingBy number_of xs → RisingBy number_of (filter p xs)

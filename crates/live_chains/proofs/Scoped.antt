@@ -3,10 +3,11 @@ use Rattle.std.proofs.Common.{◌≡◌, ℕ, zero, suc, ◌<◌, List, [], ◌�
 use Rattle.std.proofs.lemmas.Bool.{cases_eq}
 use Rattle.std.specs.Option.{option_map}
 use Rattle.link_cells.specs.Arena.{Arena}
-use Rattle.session_rules.specs.declared.instance.Instance.{Instance}
-use Rattle.session_rules.proofs.Lists.{In-left}
+use Rattle.session_types.specs.declared.instance.Instance.{Instance}
+use Rattle.session_types.proofs.Lists.{In-left}
 use Rattle.live_chains.specs.declared.id.LiveId.{LiveId}
-use Rattle.live_chains.specs.Chained.{scope_count, Entry, chain_at, chains_below, head_at, id_of, Apart, IsChain, IsChains, cell_key}
+use Rattle.live_chains.specs.Chained.{Entry, chain_at, chains_below, head_at, id_of, Apart, IsChain, IsChains, cell_key}
+use Rattle.session_types.specs.Scopes.{scope_count}
 use Rattle.live_chains.specs.Walked.{first_at, off_orders, off_order}
 use Rattle.live_chains.proofs.Found.{first_front, first_back}
 

@@ -2,8 +2,8 @@
 use Rattle.std.proofs.Common.{◌≡◌, ◌≢◌, ◌<◌, ◌≤◌, Bool, true, false, cond, ◌||◌, List, [], ◌∷◌, ◌++◌, ◌⊎◌, inl, inr, refl, sym, ap, ◌∙◌, ltb, arith}
 use Rattle.std.proofs.lemmas.Bool.{ltb-true, ltb-false, lt-ltb, le-ltb}
 use Rattle.std.specs.List.{filter, list_any}
-use Rattle.session_rules.specs.Events.{In}
-use Rattle.session_rules.proofs.Lists.{In-append, In-left, In-right, In-filter}
+use Rattle.session_types.specs.Members.{In}
+use Rattle.session_types.proofs.Lists.{In-append, In-left, In-right, In-filter}
 use Rattle.live_chains.specs.Chained.{Entry, insert, by_order, RisingBy, Apart, order_key}
 
 pub In-insert : (y e : Entry) (l : List Entry) → In y (insert e l) → (y ≡ e) ⊎ In y l

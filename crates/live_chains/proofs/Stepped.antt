@@ -5,8 +5,8 @@ use Rattle.link_cells.specs.declared.id.CellId.{CellId}
 use Rattle.link_cells.specs.Arena.{Arena, list_of, Stands, InUse, first_name}
 use Rattle.link_cells.proofs.Calls.{some_of}
 use Rattle.link_cells.proofs.Walks.{Walks, walk_stands, walk_in_use}
-use Rattle.session_rules.proofs.Lists.{In-right}
-use Rattle.session_rules.specs.declared.instance.Instance.{Instance}
+use Rattle.session_types.proofs.Lists.{In-right}
+use Rattle.session_types.specs.declared.instance.Instance.{Instance}
 use Rattle.live_chains.specs.Chained.{Entry, Apart, cell_key, or_empty, list_at, IsChain}
 
 -- the entries from a cell on

@@ -3,9 +3,9 @@ use Rattle.std.specs.Prelude.{◌≡◌, ◌≢◌, ℕ, zero, suc, ◌<◌, ◌
 use Rattle.std.specs.List.{filter}
 use Rattle.link_cells.specs.declared.id.CellId.{CellId}
 use Rattle.link_cells.specs.Arena.{Arena, list_of}
-use Rattle.session_rules.specs.Events.{In}
-use Rattle.session_rules.specs.Live.{rank}
-use Rattle.session_rules.specs.declared.instance.Instance.{Instance}
+use Rattle.session_types.specs.Members.{In}
+use Rattle.session_types.specs.Scopes.{rank, scope_count}
+use Rattle.session_types.specs.declared.instance.Instance.{Instance}
 use Rattle.live_chains.specs.declared.id.LiveId.{LiveId}
 
 -- the live instances in order of set-up, their names in the same order, and how many more there is room for
@@ -59,10 +59,6 @@ insert e (x ∷ xs) = if nat_lt e.1.order x.1.order then e ∷ (x ∷ xs) else x
 abbrev pub by_order : List Entry → List Entry
 by_order [] = []
 by_order (e ∷ es) = insert e (by_order es)
-
--- how many scopes there are, each with a head
-abbrev pub scope_count : ℕ
-scope_count = 4
 
 -- the instances of all chains in order of set-up
 abbrev pub merged : Arena (Instance ℕ) → List ℕ → List Entry

@@ -1,8 +1,8 @@
 -- What goes down with an instance, or where a session goes on elsewhere.
 use Rattle.std.specs.Prelude.{ℕ, Bool, List}
 use Rattle.std.specs.List.{filter}
-use Rattle.session_rules.specs.Live.{rests_on, has_off}
-use Rattle.session_rules.specs.declared.instance.Instance.{Instance}
+use Rattle.session_types.specs.Live.{rests_on, has_off}
+use Rattle.session_types.specs.declared.instance.Instance.{Instance}
 use Rattle.live_chains.specs.declared.dying.Dying.{Dying}
 use Rattle.live_chains.specs.declared.dying.Dying.TheVariants.{Dependents, NotOn}
 

@@ -1,8 +1,8 @@
 -- What the walks over the chains give.
 use Rattle.std.specs.Prelude.{ℕ, zero, suc, Bool, List, [], ◌∷◌, ◌++◌, reverse, Option, None, Some, if◌then◌else◌}
 use Rattle.std.specs.List.{list_any}
-use Rattle.session_rules.specs.Live.{is_at, is_off, rests_on}
-use Rattle.session_rules.specs.declared.instance.Instance.{Instance}
+use Rattle.session_types.specs.Live.{is_at, is_off, rests_on}
+use Rattle.session_types.specs.declared.instance.Instance.{Instance}
 use Rattle.live_chains.specs.declared.id.LiveId.{LiveId}
 use Rattle.live_chains.specs.declared.dying.Dying.{Dying}
 use Rattle.live_chains.specs.declared.dying.Dying.TheVariants.{Dependents, NotOn}

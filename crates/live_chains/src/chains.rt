@@ -1,8 +1,8 @@
 ghost use Rattle.std.specs.Prelude.{◌≡◌, ℕ, ◌+◌, ◌-◌, ◌<◌, ◌≤◌, List, [], ◌∷◌, ◌++◌, map, max, None, Some, IfOk, OnOk, IfSome};
 ghost use Rattle.std.specs.Option.{option_map};
-ghost use Rattle.session_rules.specs.Events.{In};
-ghost use Rattle.session_rules.specs.Live.{find, numbered, without, number_of, numbers_in, down_order};
-ghost use Rattle.session_rules.specs.declared.instance.Instance.{Instance};
+ghost use Rattle.session_types.specs.Members.{In};
+ghost use Rattle.session_types.specs.Live.{find, numbered, without, number_of, numbers_in, down_order};
+ghost use Rattle.session_types.specs.declared.instance.Instance.{Instance};
 ghost use Rattle.live_chains.specs.declared.id.LiveId.{LiveId};
 ghost use Rattle.live_chains.specs.Down.{dying};
 ghost use Rattle.live_chains.specs.Chained.{Apart, RisingBy, id_order, ids_without, place_of};
@@ -10,9 +10,9 @@ ghost use Rattle.live_chains.specs.Chained.{Apart, RisingBy, id_order, ids_witho
 use crate::dying::Dying;
 use crate::heads::{find_in, going_in, roots_in, take_heads};
 use crate::id::LiveId;
-use crate::scopes::{SCOPES, rank_of};
-use link_cells::{Cells, OutOfMemory, Steps};
-use session_rules::Instance;
+use link_cells::{Cells, Steps};
+use seq::OutOfMemory;
+use session_types::{DefId, Instance, SCOPE_COUNT};
 use std::alloc::Global;
 use std::marker::Model;
 use std::sync::ledger::Ledger;
@@ -40,7 +40,7 @@ impl Chains {
         ensures { IfOk result (λ chains. chains ≡ record { live = []; ids = []; spare = 0 }) }
     {
         let mut cells = Cells::new(alloc)?;
-        cells.reserve(0, SCOPES)?;
+        cells.reserve(0, SCOPE_COUNT)?;
         let heads = take_heads(alloc, &mut cells)?;
         Ok(Chains { cells, heads })
     }
@@ -64,7 +64,7 @@ impl Chains {
         ensures cost { steps.new ≤ steps.old + 6 }
     {
         let order = instance.order;
-        let head = self.heads[rank_of(instance.scope)];
+        let head = self.heads[instance.scope.rank()];
         let cell = self.cells.push_back(head, instance, steps);
         LiveId::new(order, cell)
     }
@@ -88,7 +88,7 @@ impl Chains {
     }
 
     /// The instance of this definition on this node. There is at most one.
-    pub fn find(&self, def: u32, node: u32) -> Option<LiveId>
+    pub fn find(&self, def: DefId, node: u32) -> Option<LiveId>
         ensures same { option_map id_order result ≡ option_map number_of (find def node self.now.live) }
         ensures live { IfSome result (λ id. In id self.now.ids) }
     {

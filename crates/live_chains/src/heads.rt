@@ -1,15 +1,16 @@
 ghost use Rattle.std.specs.Prelude.{◌≡◌, ◌≢◌, ℕ, ◌<◌, ◌≤◌, ◌++◌, [], ◌∷◌, length, reverse, None, Some, IfOk, OnOk};
 ghost use Rattle.std.specs.Option.{option_map};
 ghost use Rattle.link_cells.specs.Arena.{list_of};
-ghost use Rattle.live_chains.specs.Chained.{scope_count, list_at, chain_at, chains_below, head_at, id_of, IsChain, IsChains, AreTaken};
+ghost use Rattle.live_chains.specs.Chained.{list_at, chain_at, chains_below, head_at, id_of, IsChain, IsChains, AreTaken};
+ghost use Rattle.session_types.specs.Scopes.{scope_count};
 ghost use Rattle.live_chains.specs.Walked.{first_at, resting_ids, off_orders, roots_of, going_below};
 
 use crate::dying::Dying;
 use crate::id::LiveId;
-use crate::scopes::SCOPES;
 use crate::walks::{first_at, push_off_in, push_reversed, resting_in};
-use link_cells::{Cells, OutOfMemory};
-use session_rules::Instance;
+use link_cells::Cells;
+use seq::OutOfMemory;
+use session_types::{DefId, Instance, SCOPE_COUNT};
 use std::alloc::Global;
 
 /// A head for each scope, with an empty chain.
@@ -19,18 +20,18 @@ pub fn take_heads(alloc: Global, cells: &mut Cells<Instance>) -> Result<Vec<usiz
     ensures spare { cells.new.spare ≡ cells.old.spare }
 {
     let mut heads = Vec::new(alloc);
-    while heads.len() < SCOPES {
+    while heads.len() < SCOPE_COUNT {
         heads.push(cells.take_head())?;
     }
     Ok(heads)
 }
 
 /// The instance of this definition on this node.
-pub fn find_in(cells: &Cells<Instance>, heads: &[usize], def: u32, node: u32) -> Option<LiveId>
+pub fn find_in(cells: &Cells<Instance>, heads: &[usize], def: DefId, node: u32) -> Option<LiveId>
     requires { IsChains cells.now heads.now }
     ensures { result ≡ option_map id_of (first_at def node (chains_below (chain_at cells.now heads.now) scope_count)) }
 {
-    let mut rank = SCOPES;
+    let mut rank = SCOPE_COUNT;
     while rank > 0 {
         rank -= 1;
         let found = first_at(cells, heads[rank], def, node);
@@ -52,7 +53,7 @@ fn off_in(
     ensures { IfOk result (λ v. v.items ≡ off_orders chain.now (chains_below (chain_at cells.now heads.now) scope_count)) }
 {
     let mut numbers = Vec::new(alloc);
-    let mut rank = SCOPES;
+    let mut rank = SCOPE_COUNT;
     while rank > 0 {
         rank -= 1;
         push_off_in(&mut numbers, cells, heads[rank], chain)?;
@@ -110,7 +111,7 @@ pub fn going_in(
     ensures { IfOk result (λ ids. ids.items ≡ going_below roots.now (chain_at cells.now heads.now) scope_count) }
 {
     let mut ids = Vec::new(alloc);
-    let mut rank = SCOPES;
+    let mut rank = SCOPE_COUNT;
     while rank > 0 {
         rank -= 1;
         push_going(alloc, &mut ids, cells, heads[rank], roots)?;

@@ -1,16 +1,15 @@
 ghost use Rattle.std.specs.Prelude.{◌≡◌, ℕ, ◌+◌, ◌-◌, ◌<◌, List, [], ◌∷◌, ◌++◌, length, max, None, Some, IfOk, OnOk, OnErr, IsSome, IfSome};
 ghost use Rattle.std.specs.List.{filter, HoldsAt};
 ghost use Rattle.std.specs.Option.{option_map};
-ghost use Rattle.session_rules.specs.Events.{In};
-ghost use Rattle.session_rules.specs.Live.{find, has_off, numbered, without, number_of, numbers_in, down_order, scope_numbers};
-ghost use Rattle.session_rules.specs.declared.instance.Instance.{Instance};
+ghost use Rattle.session_types.specs.Members.{In};
+ghost use Rattle.session_types.specs.Live.{find, has_off, numbered, without, number_of, numbers_in, down_order, scope_numbers};
+ghost use Rattle.session_types.specs.declared.instance.Instance.{Instance};
 ghost use Rattle.live_chains.specs.Down.{dies, dying};
 
 use crate::dying::Dying;
 use crate::resting::{is_at, is_off, rests_on};
-use crate::scopes::rank_of;
-use link_cells::OutOfMemory;
-use session_rules::Instance;
+use seq::OutOfMemory;
+use session_types::{DefId, Instance, SCOPE_COUNT};
 use std::alloc::Global;
 use std::marker::Model;
 
@@ -25,7 +24,7 @@ pub struct PlainChains {
 impl Model for PlainChains {
     ghost use Rattle.std.specs.Prelude.{vec_len, vec_capacity, ◌≤◌, ◌+◌};
     ghost use Rattle.live_chains.specs.Plain.{PlainList};
-    ghost use Rattle.session_rules.specs.Live.{number_of};
+    ghost use Rattle.session_types.specs.Live.{number_of};
     ghost use Rattle.live_chains.specs.Chained.{RisingBy};
 
     ghost Value = { PlainList };
@@ -92,7 +91,7 @@ impl PlainChains {
     }
 
     /// The number of the instance of this definition on this node.
-    pub fn find(&self, def: u32, node: u32) -> Option<u64>
+    pub fn find(&self, def: DefId, node: u32) -> Option<u64>
         ensures same { result ≡ option_map number_of (find def node self.now.live) }
         ensures live { IfSome result (λ n. IsSome (numbered n self.now.live)) }
     {
@@ -107,7 +106,7 @@ impl PlainChains {
     }
 }
 
-fn find_in(live: &[Instance], def: u32, node: u32) -> Option<u64>
+fn find_in(live: &[Instance], def: DefId, node: u32) -> Option<u64>
     ensures { result ≡ option_map number_of (find def node live.now) }
 {
     for one in live {
@@ -161,7 +160,7 @@ fn push_scope(
     while at > 0 {
         at -= 1;
         let one = &live[at];
-        if of == rank_of(one.scope) && dies(which, live, one) {
+        if of == one.scope.rank() && dies(which, live, one) {
             out.push(one.order)?;
         }
     }
@@ -172,9 +171,10 @@ fn down_in(alloc: Global, live: &[Instance], which: &Dying<'_>) -> Result<Vec<u6
     ensures { IfOk result (λ v. v.items ≡ numbers_in (down_order (dying which.now live.now))) }
 {
     let mut out = Vec::new(alloc);
-    push_scope(&mut out, live, which, 3)?;
-    push_scope(&mut out, live, which, 2)?;
-    push_scope(&mut out, live, which, 1)?;
-    push_scope(&mut out, live, which, 0)?;
+    let mut rank = SCOPE_COUNT;
+    while rank > 0 {
+        rank -= 1;
+        push_scope(&mut out, live, which, rank)?;
+    }
     Ok(out)
 }

@@ -1,14 +1,14 @@
 ghost use Rattle.std.specs.Prelude.{◌≡◌};
-ghost use Rattle.session_rules.specs.Numbers.{among};
-ghost use Rattle.session_rules.specs.Live.{is_at, is_off, rests_on};
+ghost use Rattle.session_types.specs.Numbers.{among};
+ghost use Rattle.session_types.specs.Live.{is_at, is_off, rests_on};
 
-use session_rules::Instance;
+use session_types::{DefId, Instance};
 
 /// Whether it is of this definition, on this node.
-pub fn is_at(instance: &Instance, def: u32, node: u32) -> bool
+pub fn is_at(instance: &Instance, def: DefId, node: u32) -> bool
     ensures { result ≡ is_at def node instance.now }
 {
-    def == instance.def && node == instance.node
+    def.number() == instance.def.number() && node == instance.node
 }
 
 fn has_number(numbers: &[u64], number: u64) -> bool

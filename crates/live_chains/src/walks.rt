@@ -5,12 +5,13 @@ ghost use Rattle.live_chains.specs.Walked.{first_at, rests_any, resting_id, rest
 
 use crate::id::LiveId;
 use crate::resting::{is_at, is_off, rests_on};
-use link_cells::{CellId, Cells, OutOfMemory};
-use session_rules::Instance;
+use link_cells::{CellId, Cells};
+use seq::OutOfMemory;
+use session_types::{DefId, Instance};
 use std::alloc::Global;
 
 /// The first instance of this definition on this node in a chain.
-pub fn first_at(cells: &Cells<Instance>, head: usize, def: u32, node: u32) -> Option<LiveId>
+pub fn first_at(cells: &Cells<Instance>, head: usize, def: DefId, node: u32) -> Option<LiveId>
     requires { IsChain cells.now head }
     ensures { result ≡ option_map id_of (first_at def node (list_at cells.now head)) }
 {

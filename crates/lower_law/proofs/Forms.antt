@@ -1,60 +1,79 @@
 -- Core code does what the source does that it stands for.
-use Rattle.std.proofs.Common.{◌≡◌, List, [], ◌∷◌, ◌++◌, map, Option, true, false, refl, sym, ap, ◌∙◌, subst}
+use Rattle.std.proofs.lemmas.List.{drop-drop}
+use Rattle.std.proofs.Common.{drop, Some, None, ◌≡◌, ℕ, suc, ◌+◌, arith, List, [], ◌∷◌, ◌++◌, map, Option, Bool, true, false, refl, sym, ap, ap₂, ◌∙◌, subst}
 use Rattle.std.specs.declared.alloc.Global.{Global}
 use Rattle.std.specs.declared.rc.Rc.{Rc}
 use Rattle.py_source.specs.declared.pos.Pos.{Pos}
+use Rattle.py_tree.specs.Trees as tree
 use Rattle.py_tree.specs.Trees.{Tree, Trees, Empty, More, Maybe}
+use Rattle.py_tree.specs.declared.expr.Expr.{Expr}
+use Rattle.py_world.specs.Explained.{kept_count, kept_count_all}
+use Rattle.source_meaning.specs.Watched.{watch, watch_all}
+use Rattle.py_core.specs.declared.stmt.Template.{Template}
 use Rattle.py_tree.specs.Statements as st
 use Rattle.py_tree.specs.Statements.{Statement, Block, Branches, Taker}
 use Rattle.py_values.specs.declared.value.Value.TheVariants as val
 use Rattle.py_core.specs.declared.expr.CoreExpr.{CoreExpr}
 use Rattle.py_core.specs.declared.expr.CoreExprKind.{CoreExprKind, Row_of-CoreExprKind-Call-1-1 as Row, end_of-CoreExprKind-Call-1-1 as end, more_of-CoreExprKind-Call-1-1 as more_of, items-the_row-CoreExprKind-Call-1-1 as row_items}
-use Rattle.py_core.specs.declared.stmt.Core.{Core}
+use Rattle.py_core.specs.Blocks.{stmts_in, explains_in}
+use Rattle.py_core.specs.declared.stmt.CoreBlock.{CoreBlock}
 use Rattle.py_core.specs.declared.stmt.CoreBranch as branch
-use Rattle.py_core.specs.declared.stmt.CoreFn as fn
 use Rattle.py_core.specs.declared.stmt.CoreFn.{CoreFn}
 use Rattle.py_core.specs.declared.stmt.CoreTarget.{CoreTarget}
 use Rattle.py_core.specs.declared.stmt.CoreStmt.{CoreStmt}
-use Rattle.py_core.specs.declared.stmt.Template.TheVariants.{Plain}
+use Rattle.py_core.specs.declared.stmt.Template.TheVariants.{Plain, Explain}
 use Rattle.py_core.specs.declared.stmt.CoreStmtKind.TheVariants as kind
-use Rattle.py_core.specs.declared.stmt.CoreStmtKind.{CoreStmtKind, Row_of-CoreStmt, Row_of-CoreBranch, items-the_row-CoreStmt, items-the_row-CoreBranch}
+use Rattle.py_core.specs.declared.stmt.CoreStmtKind.{CoreStmtKind, Row_of-CoreBranch, items-the_row-CoreBranch}
 use Rattle.py_core.specs.declared.stmt.CoreStmtKind as kinds
 use Rattle.source_meaning.specs.Requests as s
-use Rattle.source_meaning.specs.Requests.{Function}
+use Rattle.source_meaning.specs.Requests.{source_kinds, Script, Function}
 use Rattle.source_meaning.specs.Expressions as source
 use Rattle.source_meaning.specs.Statements as src
 use Rattle.core_meaning.specs.Requests as c
+use Rattle.core_meaning.specs.Requests.{core_kinds}
 use Rattle.core_meaning.specs.Expressions as core
 use Rattle.core_meaning.specs.Statements as cor
 use Rattle.py_world.specs.Site.{Scene, Site, site}
-use Rattle.py_world.specs.World.{World, state}
+use Rattle.py_world.specs.World.{State}
+use Rattle.py_world.specs.Arguments.{plain, with_plain, arguments_of, required}
+use Rattle.py_tree.specs.Names.{names_of, yields_in}
 use Rattle.py_world.specs.Outcome.{Outcome, Next, Rest, Then, on_next}
-use Rattle.py_world.specs.Statements.{asked, define}
-use Rattle.py_world.specs.Expressions.{compare_part}
+use Rattle.py_world.specs.Statements.{asked, choose, define, fail_explained}
+use Rattle.py_world.specs.Expressions.{call_part, compare_part, kept_part}
 use Rattle.py_tree.specs.declared.op.CmpOp.{CmpOp}
+use Rattle.py_tree.specs.declared.expr.ArgName.{ArgName}
+use Rattle.py_values.specs.declared.value.Value.{Value}
+use Rattle.source_meaning.specs.Statements.{listed}
+use Rattle.source_meaning.specs.Meaning.{source as source_meaning}
+use Rattle.core_meaning.specs.Meaning.{core as core_meaning, core_body}
+use Rattle.py_core.specs.declared.stmt.Core.{Core}
 use Rattle.lower_law.specs.Alike as alike
-use Rattle.lower_law.specs.Alike.{Temps, Locals, EndsWith, gave, next, returned, broke, continued}
+use Rattle.lower_law.specs.Alike.{StatesAlike, EndsAlike, gave, next, returned, broke, continued}
 use Rattle.lower_law.specs.Lowered as low
-use Rattle.lower_law.specs.Lowered.{Lowered, LoweredEach, LoweredExpr, LoweredSome, LoweredTargets, LoweredStatement, LoweredBlock, LoweredBranches, LoweredFunction, LoweredModule, trees_listed, branches_listed, choice_at, core_at}
-use Rattle.lower_law.specs.Law.{LoweredCode, LoweredTurn, statement, turn, LoweredWorld}
+use Rattle.lower_law.specs.Lowered.{Watched, WatchedEach, IsLeaf, Lowered, LoweredEach, LoweredExpr, LoweredSome, LoweredTargets, LoweredStatement, LoweredBlock, LoweredBody, LoweredLayers, LoweredRest, LoweredBranches, LoweredFunction, LoweredModule, Unnamed, trees_listed, branches_listed, choice_at, core_at}
+use Rattle.lower_law.specs.Law.{LoweredCode, LoweredTurn, statement, turn, Lowering}
+use Rattle.lower_law.specs.Sourced.{sources_in, module_of}
 use Rattle.lower_law.proofs.Parts as part
 use Rattle.lower_law.proofs.Parts.{none, more}
 use Rattle.lower_law.proofs.Blocks as block
 
 abbrev PartSame : source.SourcePart → core.CorePart → Type 0
-PartSame = part.PartSame LoweredCode LoweredModule LoweredTurn
+PartSame = part.PartSame Lowering
 
 abbrev PartsSame : List source.SourcePart → List core.CorePart → Type 0
-PartsSame = part.PartsSame LoweredCode LoweredModule LoweredTurn
+PartsSame = part.PartsSame Lowering
 
 abbrev BodySame : src.SourceBody → cor.CoreBody → Type 0
-BodySame = block.BodySame LoweredCode LoweredModule LoweredTurn
+BodySame = block.BodySame Lowering
 
-abbrev Wide : Then Function Block s.Turn → Then CoreFn Core c.Turn → Type 0
-Wide = block.Wide LoweredCode LoweredModule LoweredTurn
+abbrev States : State source_kinds → State core_kinds → Type 0
+States = StatesAlike Lowering
 
-abbrev pub Follow : Rest Function Block s.Turn → Rest CoreFn Core c.Turn → Type 0
-Follow = part.Follow LoweredCode LoweredModule LoweredTurn
+abbrev Behind : Then source_kinds → Then core_kinds → Type 0
+Behind = part.Behind Lowering
+
+abbrev pub Follow : Rest source_kinds → Rest core_kinds → Type 0
+Follow = part.Follow Lowering
 
 map_more : {A B : Type 0} (g : A → B) (xs : List A) (y : A) → map g (xs ++ y ∷ []) ≡ map g xs ++ g y ∷ []
 map_more g [] y = refl
@@ -72,49 +91,121 @@ listed_same : (es : Trees) {m : _} (row : Row m) → PartsSame (map source.eval 
 listed_same es row h = rw (parts_listed es, parts_row row) h
 
 compare_as : (ops cops : List CmpOp) → cops ≡ ops → {e : source.SourcePart} {f : core.CorePart} {es : List source.SourcePart} {fs : List core.CorePart} → PartSame e f → PartsSame es fs → PartSame (compare_part e ops es) (compare_part f cops fs)
-compare_as ops cops is {e = e} {f = f} {es = es} {fs = fs} x xs = subst (λ o. PartSame (compare_part e o es) (compare_part f cops fs)) is (part.compare_same _ _ _ cops x xs)
+compare_as ops cops is {e = e} {f = f} {es = es} {fs = fs} x xs = subst (λ o. PartSame (compare_part e o es) (compare_part f cops fs)) is (part.compare_same _ cops x xs)
+
+-- arguments without names
+unnamed_plain : (names : List (Option ArgName)) → Unnamed names → (vs : List Value) → arguments_of names vs ≡ plain vs
+unnamed_plain [] u [] = refl
+unnamed_plain (None ∷ names) u [] = refl
+unnamed_plain (Some n ∷ names) u [] = refl
+unnamed_plain [] u (v ∷ vs) = ap (with_plain v) (unnamed_plain [] u vs)
+unnamed_plain (None ∷ names) u (v ∷ vs) = ap (with_plain v) (unnamed_plain names u vs)
+unnamed_plain (Some n ∷ names) u (v ∷ vs) = absurd u
+
+unnamed_shape : (names : List (Option ArgName)) → Unnamed names → plain ≡ arguments_of names
+unnamed_shape names u = λ i vs. sym (unnamed_plain names u vs) i
+
+call_as : (names : List (Option ArgName)) → Unnamed names → {e : source.SourcePart} {f : core.CorePart} {es : List source.SourcePart} {fs : List core.CorePart} → PartSame e f → PartsSame es fs → PartSame (call_part e (arguments_of names) es) (call_part f plain fs)
+call_as names u {e = e} {f = f} {es = es} {fs = fs} x xs = subst (λ shape. PartSame (call_part e shape es) (call_part f plain fs)) (unnamed_shape names u) (part.call_same _ plain x xs)
 
 mutual
   eval_same : {e : Tree} {at : Pos} {x : CoreExprKind} → Lowered e at x → PartSame (source.eval e) (core.eval_at at x)
-  eval_same (low.name at n) = part.noted_same _ _ _ at (part.name_same _ _ _ n)
-  eval_same (low.number at n) = part.noted_same _ _ _ at (part.constant_same _ _ _ (val.Int n))
-  eval_same (low.text at n) = part.noted_same _ _ _ at (part.text_same _ _ _ n)
-  eval_same (low.true at) = part.noted_same _ _ _ at (part.constant_same _ _ _ (val.Bool true))
-  eval_same (low.false at) = part.noted_same _ _ _ at (part.constant_same _ _ _ (val.Bool false))
-  eval_same (low.none at) = part.noted_same _ _ _ at (part.constant_same _ _ _ val.None)
-  eval_same (low.paren at x) = part.noted_same _ _ _ at (eval_same x)
-  eval_same (low.call at {es = es} {row = row} u x xs) = part.noted_same _ _ _ at (part.call_same _ _ _ (eval_same x) (listed_same es row (each_same xs)))
-  eval_same (low.unary at op x) = part.noted_same _ _ _ at (part.unary_same _ _ _ op (eval_same x))
-  eval_same (low.binary at op x y) = part.noted_same _ _ _ at (part.binary_same _ _ _ op (eval_same x) (eval_same y))
-  eval_same (low.compare at {es = es} {row = row} is x xs) = part.noted_same _ _ _ at (compare_as _ _ is (eval_same x) (listed_same es row (each_same xs)))
-  eval_same (low.negation at x) = part.noted_same _ _ _ at (part.not_same _ _ _ (eval_same x))
-  eval_same (low.conjunction at {es = es} {row = row} x xs) = part.noted_same _ _ _ at (part.and_same _ _ _ (eval_same x) (listed_same es row (each_same xs)))
-  eval_same (low.disjunction at {es = es} {row = row} x xs) = part.noted_same _ _ _ at (part.or_same _ _ _ (eval_same x) (listed_same es row (each_same xs)))
-  eval_same (low.choice at x y z) = part.noted_same _ _ _ at (part.choice_same _ _ _ (eval_same x) (eval_same y) (eval_same z))
+  eval_same (low.name at n) = part.noted_same _ at (part.name_same _ n)
+  eval_same (low.number at n) = part.noted_same _ at (part.constant_same _ (val.Int n))
+  eval_same (low.text at n) = part.noted_same _ at (part.text_same _ n)
+  eval_same (low.true at) = part.noted_same _ at (part.constant_same _ (val.Bool true))
+  eval_same (low.false at) = part.noted_same _ at (part.constant_same _ (val.Bool false))
+  eval_same (low.none at) = part.noted_same _ at (part.constant_same _ val.None)
+  eval_same (low.paren at x) = part.noted_same _ at (eval_same x)
+  eval_same (low.call at {es = es} {row = row} u x xs) = part.noted_same _ at (call_as _ u (eval_same x) (listed_same es row (each_same xs)))
+  eval_same (low.unary at op x) = part.noted_same _ at (part.unary_same _ op (eval_same x))
+  eval_same (low.binary at op x y) = part.noted_same _ at (part.binary_same _ op (eval_same x) (eval_same y))
+  eval_same (low.compare at {es = es} {row = row} is x xs) = part.noted_same _ at (compare_as _ _ is (eval_same x) (listed_same es row (each_same xs)))
+  eval_same (low.negation at x) = part.noted_same _ at (part.not_same _ (eval_same x))
+  eval_same (low.conjunction at {es = es} {row = row} x xs) = part.noted_same _ at (part.and_same _ (eval_same x) (listed_same es row (each_same xs)))
+  eval_same (low.disjunction at {es = es} {row = row} x xs) = part.noted_same _ at (part.or_same _ (eval_same x) (listed_same es row (each_same xs)))
+  eval_same (low.choice at x y z) = part.noted_same _ at (part.choice_same _ (eval_same x) (eval_same y) (eval_same z))
 
   each_same : {es : List Tree} {xs : List (Rc CoreExpr Global)} → LoweredEach es xs → PartsSame (map source.eval es) (map (λ (e : Rc CoreExpr Global). core.eval e.value) xs)
   each_same low.nil = none
   each_same (low.cons x xs) = more (eval_same x) (each_same xs)
 
+-- the same of a condition whose parts are kept
+abbrev watch_list : ℕ → List Tree → List source.SourcePart
+watch_list n [] = []
+watch_list n (e ∷ es) = watch n e ∷ watch_list (n + kept_count e) es
+
+abbrev shown_each : List Tree → ℕ
+shown_each [] = 0
+shown_each (e ∷ es) = kept_count e + shown_each es
+
+shown_more : (xs : List Tree) (e : Tree) → shown_each (xs ++ e ∷ []) ≡ shown_each xs + kept_count e
+shown_more [] e = omega arith
+shown_more (x ∷ xs) e = let h : shown_each (xs ++ e ∷ []) ≡ shown_each xs + kept_count e = shown_more xs e in omega (arith, h)
+
+shown_listed : (es : Trees) → shown_each (trees_listed es) ≡ kept_count_all es
+shown_listed Empty = refl
+shown_listed (More es e) = shown_more (trees_listed es) e ∙ ap (λ n. n + kept_count e) (shown_listed es)
+
+watch_more : (n : ℕ) (xs : List Tree) (e : Tree) → watch_list n (xs ++ e ∷ []) ≡ watch_list n xs ++ watch (n + shown_each xs) e ∷ []
+watch_more n [] e = ap (λ m. watch m e ∷ []) (omega arith)
+watch_more n (x ∷ xs) e = ap (λ zs. watch n x ∷ zs) (watch_more (n + kept_count x) xs e ∙ ap (λ m. watch_list (n + kept_count x) xs ++ watch m e ∷ []) (omega arith))
+
+watch_listed : (n : ℕ) (es : Trees) → watch_all n es ≡ watch_list n (trees_listed es)
+watch_listed n Empty = refl
+watch_listed n (More es e) = ap₂ (λ zs m. zs ++ watch (n + m) e ∷ []) (watch_listed n es) (sym (shown_listed es)) ∙ sym (watch_more n (trees_listed es) e)
+
+watched_rows : (n : ℕ) (es : Trees) {m : _} (row : Row m) → PartsSame (watch_list n (trees_listed es)) (map (λ (e : Rc CoreExpr Global). core.eval e.value) (row_items m row)) → PartsSame (watch_all n es) (core.parts row)
+watched_rows n es row h = rw (watch_listed n es, parts_row row) h
+
+watch_leaf : (n : ℕ) (e : Tree) → IsLeaf e → watch n e ≡ kept_part n (source.eval e)
+watch_leaf n (tree.Paren at e) h = absurd h
+watch_leaf n (tree.Call at e es names) h = absurd h
+watch_leaf n (tree.Unary at op e) h = absurd h
+watch_leaf n (tree.Binary at l op r) h = absurd h
+watch_leaf n (tree.Compare at e ops es) h = absurd h
+watch_leaf n (tree.Not at e) h = absurd h
+watch_leaf n (tree.And at e es) h = absurd h
+watch_leaf n (tree.Or at e es) h = absurd h
+watch_leaf n _ h = refl
+
+mutual
+  watch_same : {n : ℕ} {e : Tree} {at : Pos} {x : CoreExprKind} → Watched n e at x → PartSame (watch n e) (core.eval_at at x)
+  watch_same (low.leaf n b {e = e} {a = a} {x = x} is h) = rw (watch_leaf n e is) (part.kept_same _ n (eval_same h))
+  watch_same (low.paren n at x) = part.noted_same _ at (watch_same x)
+  watch_same (low.call n at b {e = e} {es = es} {row = row} u x xs) = part.kept_same _ n (part.noted_same _ at (call_as _ u (watch_same x) (watched_rows (suc n + kept_count e) es row (watch_each xs))))
+  watch_same (low.unary n at op x) = part.noted_same _ at (part.unary_same _ op (watch_same x))
+  watch_same (low.binary n at op x y) = part.noted_same _ at (part.binary_same _ op (watch_same x) (watch_same y))
+  watch_same (low.compare n at {e = e} {es = es} {row = row} is x xs) = part.noted_same _ at (compare_as _ _ is (watch_same x) (watched_rows (n + kept_count e) es row (watch_each xs)))
+  watch_same (low.negation n at x) = part.noted_same _ at (part.not_same _ (watch_same x))
+  watch_same (low.conjunction n at {e = e} {es = es} {row = row} x xs) = part.noted_same _ at (part.and_same _ (watch_same x) (watched_rows (n + kept_count e) es row (watch_each xs)))
+  watch_same (low.disjunction n at {e = e} {es = es} {row = row} x xs) = part.noted_same _ at (part.or_same _ (watch_same x) (watched_rows (n + kept_count e) es row (watch_each xs)))
+
+  watch_each : {n : ℕ} {es : List Tree} {xs : List (Rc CoreExpr Global)} → WatchedEach n es xs → PartsSame (watch_list n es) (map (λ (e : Rc CoreExpr Global). core.eval e.value) xs)
+  watch_each (low.nil n) = none
+  watch_each (low.cons n x xs) = more (watch_same x) (watch_each xs)
+
 pub expression_same : {e : Tree} {x : CoreExpr} → LoweredExpr e x → PartSame (source.eval e) (core.eval x)
 expression_same h = eval_same h
 
-some_same : {m : Maybe} {y : Option (Rc CoreExpr Global)} → LoweredSome m y → block.SomeSame LoweredCode LoweredModule LoweredTurn (src.some_part m) (cor.some_part y)
+some_same : {m : Maybe} {y : Option (Rc CoreExpr Global)} → LoweredSome m y → block.SomeSame Lowering (src.some_part m) (cor.some_part y)
 some_same low.none = block.none
 some_same (low.some x) = block.some (eval_same x)
 
-targets_same : {ts : List Taker} {xs : List CoreTarget} → LoweredTargets ts xs → block.StoresSame LoweredCode LoweredModule LoweredTurn (src.stores ts) (cor.stores xs)
+targets_same : {ts : List Taker} {xs : List CoreTarget} → LoweredTargets ts xs → block.StoresSame Lowering (src.stores ts) (cor.stores xs)
 targets_same low.none = block.none
-targets_same (low.more at name h) = block.more (block.store_name_same _ _ _ name) (targets_same h)
+targets_same (low.more at name h) = block.more (block.store_name_same _ name) (targets_same h)
 
 -- a statement stands where its source does
-position_of : {s : Statement} {at : Pos} {x : CoreStmtKind} → LoweredStatement s at x → src.position s ≡ at
+position_of : {z : Bool} {s : Statement} {at : Pos} {x : CoreStmtKind} → LoweredStatement z s at x → src.position s ≡ at
 position_of (low.do_it at x) = refl
 position_of (low.assign at ts x) = refl
 position_of (low.augment at place name op x) = refl
 position_of (low.return_it at x) = refl
 position_of (low.assert_it at x m bs body other) = refl
+position_of (low.assert_explained at c x m bs body other) = refl
 position_of (low.globals at is) = refl
+position_of (low.yields at word x) = refl
 position_of (low.pass at) = refl
 position_of (low.leave at) = refl
 position_of (low.again at) = refl
@@ -123,82 +214,119 @@ position_of (low.loop at x b) = refl
 position_of (low.define at word name h) = refl
 
 -- it begins with a step: none is a failure
-begun_of : {s : Statement} {at : Pos} {x : CoreStmtKind} → LoweredStatement s at x → (st : CoreStmt) → cor.begun_at x st ≡ asked (c.StatementOf st)
-begun_of (low.do_it at x) st = refl
-begun_of (low.assign at ts x) st = refl
-begun_of (low.augment at place name op x) st = refl
-begun_of (low.return_it at x) st = refl
-begun_of (low.assert_it at x m bs body other) st = refl
-begun_of (low.globals at is) st = refl
-begun_of (low.pass at) st = refl
-begun_of (low.leave at) st = refl
-begun_of (low.again at) st = refl
-begun_of (low.choose at bs b) st = refl
-begun_of (low.loop at x b) st = refl
-begun_of (low.define at word name h) st = refl
+begun_of : {z : Bool} {s : Statement} {at : Pos} {x : CoreStmtKind} → LoweredStatement z s at x → (ls : List c.Layer) (st : CoreStmt) → cor.begun_at x ls st ≡ asked (c.StatementOf ls st)
+begun_of (low.do_it at x) ls st = refl
+begun_of (low.assign at ts x) ls st = refl
+begun_of (low.augment at place name op x) ls st = refl
+begun_of (low.return_it at x) ls st = refl
+begun_of (low.assert_it at x m bs body other) ls st = refl
+begun_of (low.assert_explained at c x m bs body other) ls st = refl
+begun_of (low.globals at is) ls st = refl
+begun_of (low.yields at word x) ls st = refl
+begun_of (low.pass at) ls st = refl
+begun_of (low.leave at) ls st = refl
+begun_of (low.again at) ls st = refl
+begun_of (low.choose at bs b) ls st = refl
+begun_of (low.loop at x b) ls st = refl
+begun_of (low.define at word name h) ls st = refl
 
-begun_same : {sm : Statement} {at : Pos} {x : CoreStmtKind} → LoweredStatement sm at x → (scene : Scene) (t u : Temps) (a : Locals) {w : World Function Block} {z : World CoreFn Core} → LoweredWorld w z → (k : Then Function Block s.Turn) (l : Then CoreFn Core c.Turn) → Wide k l → Follow (src.begun sm (site scene (src.position sm).line) (state a t w) k) (cor.begun (core_at at x) (site scene at.line) (state a u z) l)
-begun_same {sm = sm} {at = at} {x = x} h scene t u a {w = w} {z = z} ws k l g =
-    subst (λ (b : core.CorePart). Follow (src.begun sm (site scene (src.position sm).line) (state a t w) k) (b (site scene at.line) (state a u z) l)) (sym (begun_of h (core_at at x)))
-    (subst (λ (q : Pos). Follow (asked (s.StatementOf sm) (site scene q.line) (state a t w) k) (asked (c.StatementOf (core_at at x)) (site scene at.line) (state a u z) l)) (sym (position_of h))
-    (block.asked_same _ _ _ (site scene at.line) (statement refl h) t u a ws k l g))
+begun_same : {z : Bool} {ls : List s.Layer} {ks : List c.Layer} → LoweredLayers z ls ks → {sm : Statement} {at : Pos} {x : CoreStmtKind} → LoweredStatement z sm at x → (scene : Scene) {u : State source_kinds} {r : State core_kinds} → States u r → (k : Then source_kinds) (l : Then core_kinds) → Behind k l → Follow (src.begun z ls sm (site scene (src.position sm).line) u k) (cor.begun ks (core_at at x) (site scene at.line) r l)
+begun_same {z = z} {ls = ls} {ks = ks} hl {sm = sm} {at = at} {x = x} h scene {u = u} {r = r} ss k l g =
+    subst (λ (b : core.CorePart). Follow (src.begun z ls sm (site scene (src.position sm).line) u k) (b (site scene at.line) r l)) (sym (begun_of h ks (core_at at x)))
+    (subst (λ (q : Pos). Follow (asked (s.StatementOf z ls sm) (site scene q.line) u k) (asked (c.StatementOf ks (core_at at x)) (site scene at.line) r l)) (sym (position_of h))
+    (block.asked_same _ (site scene at.line) (statement refl hl h) ss k l g))
 
-pub sequence_same : {ss : List Statement} {xs : List CoreStmt} → LoweredBlock ss xs → BodySame (src.sequence ss) (cor.block xs)
-sequence_same low.ends = record { does = λ scene t u a w z ws k l h. h _ _ (t, u, next a ws) }
-sequence_same (low.goes_on h hs) =
-    record { does = λ scene t u a w z ws k l g. begun_same h scene t u a ws _ _ (λ o q n. block.next_same _ _ _ n.2 k l (block.narrow _ _ _ _ _ k l g) _ _ (λ a w z ws. (sequence_same hs).does scene _ _ a w z ws k l g)) }
+-- behind the first of what is left of a list
+drop_next : {A : Type 0} (n : ℕ) (xs : List A) {y : A} {ys : List A} → drop n xs ≡ y ∷ ys → drop (n + 1) xs ≡ ys
+drop_next n xs h = sym (drop-drop 1 n xs) ∙ ap (drop 1) h
 
-abbrev choice_of : low.Choice → src.SourceChoice
-choice_of (choice_at at e b) = (at.line, (source.eval e, src.block b))
+pub from_same : {z : Bool} {ls : List s.Layer} {ks : List c.Layer} → LoweredLayers z ls ks → (b : CoreBlock) (n : ℕ) → explains_in b ≡ z → {ss : List Statement} {xs : List CoreStmt} → drop n (sources_in b) ≡ ss → drop n (stmts_in b) ≡ xs → LoweredBlock z ss xs → BodySame (src.sequence z ls ss) (cor.block_from ks b n xs)
+from_same hl b n flag from is low.ends = record { does = λ scene ss k l h. h _ _ (next ss) }
+from_same {z = z} hl b n flag from is (low.goes_on {ss = ss} h hs) =
+    record {
+      does = λ scene us k l g. begun_same (low.LoweredLayers.more b (n + 1) flag (drop_next n (sources_in b) from) (subst (LoweredBlock z ss) (sym (drop_next n (stmts_in b) is)) hs) hl) h scene us _ _
+          (λ o q m. block.next_same _ m k l g _ _ (λ s r us. (from_same hl b (n + 1) flag (drop_next n (sources_in b) from) (drop_next n (stmts_in b) is) hs).does scene us k l g));
+    }
 
-choices_listed : (bs : Branches) → src.choices bs ≡ map choice_of (branches_listed bs)
-choices_listed st.NoBranch = refl
-choices_listed (st.Branch before at e b) = ap (λ xs. xs ++ (at.line, (source.eval e, src.block b)) ∷ []) (choices_listed before) ∙ sym (map_more choice_of (branches_listed before) (choice_at at e b))
+pub sequence_same : {z : Bool} {ls : List s.Layer} {ks : List c.Layer} → LoweredLayers z ls ks → {ss : List Statement} {b : CoreBlock} → LoweredBody z ss b → BodySame (src.sequence z ls ss) (cor.block ks b)
+sequence_same hl {b = b} (low.body flag from h) = from_same hl b 0 flag from refl h
 
-choices_same : {bs : List low.Choice} {xs : List branch.CoreBranch} → LoweredBranches bs xs → block.ChoicesSame LoweredCode LoweredModule LoweredTurn (map choice_of bs) (cor.choices xs)
-choices_same low.none = block.none
-choices_same (low.more at x b h) = block.more at.line (eval_same x) (sequence_same b) (choices_same h)
+layers_same : {z : Bool} {ls : List s.Layer} {ks : List c.Layer} → LoweredLayers z ls ks → PartSame (src.remains ls) (cor.remains ks)
+layers_same low.LoweredLayers.none = record { does = λ p ss k l h. h _ _ (next ss) }
+layers_same (low.LoweredLayers.more b n flag from h hl) = record { does = λ p ss k l g. (from_same hl b n flag from refl h).does p.scene ss _ _ (λ o q m. block.next_same _ m k l g _ _ (λ s r ss. (layers_same hl).does p ss k l g)) }
+
+remains_same : (ls : List s.Layer) (ks : List c.Layer) → LoweredRest ls ks → PartSame (src.remains ls) (cor.remains ks)
+remains_same ls ks h = layers_same h.1
+
+abbrev choice_of : Bool → List s.Layer → low.Choice → src.SourceChoice
+choice_of z ls (choice_at at e b) = (at.line, (source.eval e, src.block z ls b))
+
+choices_listed : (z : Bool) (ls : List s.Layer) (bs : Branches) → src.choices z ls bs ≡ map (choice_of z ls) (branches_listed bs)
+choices_listed z ls st.NoBranch = refl
+choices_listed z ls (st.Branch before at e b) = ap (λ xs. xs ++ (at.line, (source.eval e, src.block z ls b)) ∷ []) (choices_listed z ls before) ∙ sym (map_more (choice_of z ls) (branches_listed before) (choice_at at e b))
+
+choices_same : {z : Bool} {ls : List s.Layer} {ks : List c.Layer} → LoweredLayers z ls ks → {bs : List low.Choice} {xs : List branch.CoreBranch} → LoweredBranches z bs xs → block.ChoicesSame Lowering (map (choice_of z ls) bs) (cor.choices ks xs)
+choices_same hl low.LoweredBranches.none = block.none
+choices_same hl (low.LoweredBranches.more at x b h) = block.more at.line (eval_same x) (sequence_same hl b) (choices_same hl h)
 
 -- behind the one statement of a block
-through : {t u : Temps} {o : Outcome Function Block} {q : Outcome CoreFn Core} → EndsWith LoweredCode LoweredModule t u o q → (k : Then Function Block s.Turn) (l : Then CoreFn Core c.Turn) → block.Both LoweredCode LoweredModule LoweredTurn t u k l → Follow (k o) (on_next q l (λ s. l (Next s)))
-through (gave v a ws) k l h = h _ _ (gave v a ws)
-through (next a ws) k l h = h _ _ (next a ws)
-through (returned v a ws) k l h = h _ _ (returned v a ws)
-through (broke a ws) k l h = h _ _ (broke a ws)
-through (continued a ws) k l h = h _ _ (continued a ws)
-through (alike.raised e trace a ws) k l h = h _ _ (alike.raised e trace a ws)
+through : {o : Outcome source_kinds} {q : Outcome core_kinds} → EndsAlike Lowering o q → (k : Then source_kinds) (l : Then core_kinds) → Behind k l → Follow (k o) (on_next q l (λ s. l (Next s)))
+through (gave v ss) k l h = h _ _ (gave v ss)
+through (next ss) k l h = h _ _ (next ss)
+through (returned v ss) k l h = h _ _ (returned v ss)
+through (broke ss) k l h = h _ _ (broke ss)
+through (continued ss) k l h = h _ _ (continued ss)
+through (alike.raised e trace ss) k l h = h _ _ (alike.raised e trace ss)
 
 -- an assert and the `if` that stands for it
-asserted : (at : Pos) {e : Tree} {m : Maybe} {x : CoreExpr} {y : Option (Rc CoreExpr Global)} → LoweredExpr e x → LoweredSome m y → (scene : Scene) (t u : Temps) (a : Locals) (w : World Function Block) (z : World CoreFn Core) → LoweredWorld w z → (k : Then Function Block s.Turn) (l : Then CoreFn Core c.Turn) → Wide k l → Follow (src.assert (source.eval e) (src.some_part m) (site scene at.line) (state a t w) k) (cor.choose_unset ((at.line, (core.eval x, cor.block [])) ∷ []) (cor.block (core_at at (kind.FailWith Plain y) ∷ [])) (site scene at.line) (state a u z) l)
-asserted at x y scene t u a w z ws k l h =
-    (eval_same x).does (site scene at.line) t [] a w z ws _ _ (λ o q n. part.value_same _ _ _ n k l (block.narrow _ _ _ _ _ k l h) _ _ (λ v a w z ws. part.truth_same _ _ _ v ws _ _ _ _ (h _ _ (t, [], next a ws)) ((block.fail_same _ _ _ (some_same y)).does (site scene at.line) t [] a w z ws _ _ (λ o q n. through n k l (block.narrow _ _ _ _ _ k l h)))))
+asserted : (at : Pos) (ks : List c.Layer) {e : source.SourcePart} {f : source.SourcePart} (x : CoreExpr) (template : Template) (y : Option (Rc CoreExpr Global)) (body other : CoreBlock) → PartSame e (core.eval x) → PartSame f (cor.failure template y) → (scene : Scene) {u : State source_kinds} {r : State core_kinds} → States u r → (k : Then source_kinds) (l : Then core_kinds) → Behind k l
+    → Follow (src.assert e f (site scene at.line) u k) (choose ((at.line, (core.eval x, cor.block_from ks body 0 [])) ∷ []) (cor.block_from ks other 0 (core_at at (kind.FailWith template y) ∷ [])) (site scene at.line) r l)
+asserted at ks _ _ _ _ _ x y scene ss k l h =
+    x.does (site scene at.line) (block.unset_same Lowering ss) _ _ (λ o q n. part.value_same _ n k l h _ _ (λ v s r ss. part.truth_same _ v ss _ _ _ _ (h _ _ (next ss)) (y.does (site scene at.line) ss _ _ (λ o q n. through n k l h))))
 
-assert_at : (at : Pos) {e : Tree} {m : Maybe} {x : Rc CoreExpr Global} {y : Option (Rc CoreExpr Global)} (p n q i r j : _) (branches : Row_of-CoreBranch _) (other body : Row_of-CoreStmt _) → LoweredExpr e x.value → LoweredSome m y → items-the_row-CoreBranch _ branches ≡ branch.CoreBranch' at x r j body ∷ [] → items-the_row-CoreStmt _ body ≡ [] → items-the_row-CoreStmt _ other ≡ core_at at (kind.FailWith Plain y) ∷ [] → (scene : Scene) (t u : Temps) (a : Locals) (w : World Function Block) (z : World CoreFn Core) → LoweredWorld w z → (k : Then Function Block s.Turn) (l : Then CoreFn Core c.Turn) → Wide k l → Follow (src.assert (source.eval e) (src.some_part m) (site scene at.line) (state a t w) k) (cor.statement_at (kinds.If' p n branches q i other) (site scene at.line) (state a u z) l)
-assert_at at p n q i r j branches other body x y bs bb ob scene t u a w z ws k l g = rw (bs, bb, ob) (asserted at x y scene t u a w z ws k l g)
+assert_at : (at : Pos) (ks : List c.Layer) {e : source.SourcePart} {f : source.SourcePart} (x : Rc CoreExpr Global) (template : Template) (y : Option (Rc CoreExpr Global)) (p n q r : _) (branches : Row_of-CoreBranch _) (other body : CoreBlock) → PartSame e (core.eval x.value) → PartSame f (cor.failure template y) → items-the_row-CoreBranch _ branches ≡ branch.CoreBranch' at x r body ∷ [] → stmts_in body ≡ [] → stmts_in other ≡ core_at at (kind.FailWith template y) ∷ []
+    → (scene : Scene) {u : State source_kinds} {z : State core_kinds} → States u z → (k : Then source_kinds) (l : Then core_kinds) → Behind k l → Follow (src.assert e f (site scene at.line) u k) (cor.statement_at ks (kinds.If' p n branches q other) (site scene at.line) z l)
+assert_at at ks c template m p n q r branches other body x y bs bb ob scene ss k l g = rw (bs, bb, ob) (asserted at ks c.value template m body other x y scene ss k l g)
 
-define_same : (word : Pos) {f : Function} {x : CoreFn} → LoweredFunction word f x → PartSame (define (src.entry f).name word.line (src.entry f).params f) (cor.define_fn x)
-define_same word (low.made _ name {params = params} {body = body} {ps = ps} {ls = ls} {p = p} {n = n} {block = row} is own h) =
-    subst (λ names. PartSame (define name word.line names (src.function name params body)) (define name word.line ps (fn.CoreFn' word name ps ls p n row))) is (block.define_same _ _ _ name word.line ps (word, low.made word name is own h))
+explained_as : (c : Rc Expr Global) (e : Tree) (y : Option (Rc CoreExpr Global)) → tree.tree c.value ≡ e → {m : Option source.SourcePart} → block.SomeSame Lowering m (cor.some_part y) → PartSame (fail_explained e m) (cor.failure (Explain c) y)
+explained_as c e y is {m = m} h = subst (λ t. PartSame (fail_explained t m) (cor.failure (Explain c) y)) is (block.explained_same _ (tree.tree c.value) h)
+
+define_same : (word : Pos) {f : Function} {x : CoreFn} → LoweredFunction word f x → PartSame (define f.name word.line (map required (names_of f.params)) (yields_in f.body) f) (cor.define_fn x)
+define_same word (low.made {z = z} _ name {params = params} {body = body} {ps = ps} {ls = ls} {ys = ys} {source = source} {p = p} {block = b} plainly from is own yielding h) =
+    rw (sym is, sym yielding) (block.define_same _ name word.line (map required ps) ys (word, low.made word name plainly from is own yielding h))
 
 -- WHAT A STATEMENT DOES
-statement_same : {sm : Statement} {at : Pos} {x : CoreStmtKind} → LoweredStatement sm at x → (scene : Scene) (t u : Temps) (a : Locals) (w : World Function Block) (z : World CoreFn Core) → LoweredWorld w z → (k : Then Function Block s.Turn) (l : Then CoreFn Core c.Turn) → Wide k l → Follow (src.statement sm (site scene at.line) (state a t w) k) (cor.statement_at x (site scene at.line) (state a u z) l)
-statement_same (low.do_it at x) scene = (block.act_same _ _ _ (block.expression_same _ _ _ (eval_same x))).does (site scene at.line)
-statement_same (low.assign at ts x) scene = (block.act_same _ _ _ (block.assign_same _ _ _ (targets_same ts) (eval_same x))).does (site scene at.line)
-statement_same (low.augment at place name op x) scene = (block.act_same _ _ _ (block.augment_same _ _ _ name op (eval_same x))).does (site scene at.line)
-statement_same (low.return_it at x) scene = (block.act_same _ _ _ (block.return_same _ _ _ (some_same x))).does (site scene at.line)
-statement_same (low.assert_it at {p = p} {n = n} {q = q} {i = i} {r = r} {j = j} {branches = branches} {other = other} {body = body} x y bs bb ob) scene = assert_at at p n q i r j branches other body x y bs bb ob scene
-statement_same (low.globals at is) scene = (block.act_same _ _ _ (block.pass_same _ _ _)).does (site scene at.line)
-statement_same (low.pass at) scene = (block.act_same _ _ _ (block.pass_same _ _ _)).does (site scene at.line)
-statement_same (low.leave at) scene = (block.act_same _ _ _ (block.leave_same _ _ _)).does (site scene at.line)
-statement_same (low.again at) scene = (block.act_same _ _ _ (block.again_same _ _ _)).does (site scene at.line)
-statement_same (low.choose at {bs = bs} hs h) scene = λ t u a w z ws k l g. rw (choices_listed bs) ((block.branches_same _ _ _ (choices_same hs) (sequence_same h)).does scene t [] a w z ws k l g)
-statement_same (low.loop at x b) scene = (block.loop_same _ _ _ (λ n. turn x b) (eval_same x)).does (site scene at.line)
-statement_same (low.define at word name h) scene = (block.act_same _ _ _ (define_same word h)).does (site scene at.line)
+statement_same : {z : Bool} {ls : List s.Layer} {ks : List c.Layer} → LoweredLayers z ls ks → {sm : Statement} {at : Pos} {x : CoreStmtKind} → LoweredStatement z sm at x → (scene : Scene) {u : State source_kinds} {r : State core_kinds} → States u r → (k : Then source_kinds) (l : Then core_kinds) → Behind k l → Follow (src.statement z ls sm (site scene at.line) u k) (cor.statement_at ks x (site scene at.line) r l)
+statement_same hl (low.do_it at x) scene = (block.expression_same _ (eval_same x)).does (site scene at.line)
+statement_same hl (low.assign at ts x) scene = (block.assign_same _ (targets_same ts) (eval_same x)).does (site scene at.line)
+statement_same hl (low.augment at place name op x) scene = (block.augment_same _ name op (eval_same x)).does (site scene at.line)
+statement_same hl (low.return_it at x) scene = (block.return_same _ (some_same x)).does (site scene at.line)
+statement_same {ks = ks} hl (low.assert_it at {x = c} {y = m} {p = p} {n = n} {q = q} {r = r} {branches = branches} {other = other} {body = body} x y bs bb ob) scene = assert_at at ks c Plain m p n q r branches other body (eval_same x) (block.fail_same _ (some_same y)) bs bb ob scene
+statement_same {ks = ks} hl (low.assert_explained at {e = e} {x = c} {d = d} {y = m} {p = p} {n = n} {q = q} {r = r} {branches = branches} {other = other} {body = body} is x y bs bb ob) scene = assert_at at ks c (Explain d) m p n q r branches other body (watch_same x) (explained_as d e m is (some_same y)) bs bb ob scene
+statement_same hl (low.globals at is) scene = (block.pass_same _).does (site scene at.line)
+statement_same hl (low.yields at word x) scene = (block.yield_same _ (some_same x) (_, hl)).does (site scene at.line)
+statement_same hl (low.pass at) scene = (block.pass_same _).does (site scene at.line)
+statement_same hl (low.leave at) scene = (block.leave_same _).does (site scene at.line)
+statement_same hl (low.again at) scene = (block.again_same _).does (site scene at.line)
+statement_same {z = z} {ls = ls} hl (low.choose at {bs = bs} hs h) scene = λ ss k l g. rw (choices_listed z ls bs) ((block.choose_same _ (choices_same hl hs) (sequence_same hl h)).does (site scene at.line) ss k l g)
+statement_same hl (low.loop at x b) scene = (block.loop_same _ (λ n. turn x b) (eval_same x)).does (site scene at.line)
+statement_same hl (low.define at word name h) scene = (define_same word h).does (site scene at.line)
 
-pub acts_same : (what : s.Turn) (other : c.Turn) (p : Site) → LoweredTurn p.line what other → (t u : Temps) (a : Locals) (w : World Function Block) (z : World CoreFn Core) → LoweredWorld w z → (k : Then Function Block s.Turn) (l : Then CoreFn Core c.Turn) → Wide k l → Follow (src.act what p (state a t w) k) (cor.act other p (state a u z) l)
-acts_same _ _ p (statement {st = sm} {at = at} {x = x} is h) t u a w z ws k l g =
-    subst (λ n. Follow (src.statement sm (site p.scene n) (state a t w) k) (cor.statement_at x (site p.scene n) (state a u z) l)) (sym is) (statement_same h p.scene t u a w z ws k l g)
-acts_same _ _ p (turn x b) t u a w z ws k l g = (block.turn_of_same _ _ _ (λ n. turn x b) (eval_same x) (sequence_same b)).does p t u a w z ws k l g
+pub acts_same : (what : s.Turn) (other : c.Turn) (p : Site) → LoweredTurn p.line what other → (u : State source_kinds) (r : State core_kinds) → States u r → (k : Then source_kinds) (l : Then core_kinds) → Behind k l → Follow (src.act what p u k) (cor.act other p r l)
+acts_same _ _ p (statement {z = z} {ls = ls} {ks = ks} {st = sm} {at = at} {x = x} is hl h) u r ss k l g =
+    subst (λ n. Follow (src.statement z ls sm (site p.scene n) u k) (cor.statement_at ks x (site p.scene n) r l)) (sym is) (statement_same hl h p.scene ss k l g)
+acts_same _ _ p (turn x b) u r ss k l g = (block.turn_of_same _ (λ n. turn x b) (eval_same x) (sequence_same low.LoweredLayers.none b)).does p ss k l g
 
-pub entries_same : (f : Function) (x : CoreFn) → LoweredCode f x → block.EntrySame LoweredCode LoweredModule LoweredTurn (src.entry f) (cor.entry x)
-entries_same _ _ (word, low.made _ name is own h) = record { name = refl; params = is; own = own; body = sequence_same h }
+pub entries_same : (f : Function) (x : CoreFn) → LoweredCode f x → block.EntrySame Lowering (src.entry f) (cor.entry x)
+entries_same _ _ (word, low.made _ name plainly from is own yielding h) = record { name = refl; own = own; body = sequence_same low.LoweredLayers.none h }
+
+-- a module's code
+module_same : (m : Script) (code : Core) → module_of code ≡ m → LoweredBlock m.explains (listed m.body) (stmts_in code.body.value) → LoweredBody m.explains (listed m.body) code.body.value
+module_same m code is h = low.body (ap (λ (m : Script). m.explains) is) (ap (λ (m : Script). listed m.body) is) h
+
+bodies_same : (m : Script) (code : Core) → LoweredModule m code → BodySame (src.script_body m) (core_body code)
+bodies_same m code h = sequence_same low.LoweredLayers.none (module_same m code h.0 h.1)
+
+-- THE TWO MEANINGS
+pub meanings_same : block.MeaningsSame Lowering source_meaning core_meaning
+meanings_same = record { entries = entries_same; acts = acts_same; bodies = bodies_same; remains = remains_same }

@@ -1,6 +1,6 @@
 -- WHICH CORE CODE STANDS FOR WHICH SOURCE: the same form with lowered parts, at the same place. An assert stands for an `if` with
 -- an empty block, whose `else` is the failure.
-use Rattle.std.specs.Prelude.{ℕ, ◌≡◌, ℤ, List, [], ◌∷◌, ◌++◌, Option, Some, None, Vec}
+use Rattle.std.specs.Prelude.{ℕ, suc, ◌+◌, ◌≡◌, ℤ, Bool, true as explained, false as plain, List, [], ◌∷◌, ◌++◌, drop, Option, Some, None, Vec}
 use Rattle.std.specs.declared.alloc.Global.{Global}
 use Rattle.std.specs.declared.rc.Rc.{Rc}
 use Rattle.py_source.specs.declared.pos.Pos.{Pos}
@@ -12,7 +12,10 @@ use Rattle.py_tree.specs.Trees as t
 use Rattle.py_tree.specs.Trees.{Tree, Trees, Empty, More, Maybe, Absent, Present}
 use Rattle.py_tree.specs.Statements as st
 use Rattle.py_tree.specs.Statements.{Statement, Block, Branches, NoBranch, Branch, Place, NamePlace, Taker, One, Parameter}
-use Rattle.py_tree.specs.Names.{names_of, locals_of}
+use Rattle.py_tree.specs.Names.{names_of, locals_of, yields_in}
+use Rattle.py_tree.specs.declared.expr.Expr.{Expr}
+use Rattle.py_tree.specs.Trees.{tree}
+use Rattle.py_world.specs.Explained.{kept_count}
 use Rattle.py_core.specs.declared.expr.CoreExpr.{CoreExpr}
 use Rattle.py_core.specs.declared.expr.CoreExprKind as f
 use Rattle.py_core.specs.declared.expr.CoreExprKind.{CoreExprKind, Row_of-CoreExprKind-Call-1-1 as Row, items-the_row-CoreExprKind-Call-1-1 as row_items}
@@ -24,12 +27,18 @@ use Rattle.py_core.specs.declared.stmt.Core.{Core}
 use Rattle.py_core.specs.declared.stmt.CoreSingleKind.TheVariants as single
 use Rattle.py_core.specs.declared.stmt.CoreTarget.{CoreTarget}
 use Rattle.py_core.specs.declared.stmt.CoreTarget.TheVariants as target
-use Rattle.py_core.specs.declared.stmt.Template.TheVariants.{Plain}
+use Rattle.py_core.specs.declared.stmt.Template.TheVariants.{Plain, Explain}
 use Rattle.py_core.specs.declared.stmt.CoreStmt.{CoreStmt}
 use Rattle.py_core.specs.declared.stmt.CoreStmtKind as c
-use Rattle.py_core.specs.declared.stmt.CoreStmtKind.{CoreStmtKind, Row_of-CoreStmt, Row_of-CoreBranch, items-the_row-CoreStmt, items-the_row-CoreBranch}
+use Rattle.py_core.specs.declared.stmt.CoreStmtKind.{CoreStmtKind, Row_of-CoreBranch, items-the_row-CoreBranch}
+use Rattle.py_core.specs.declared.stmt.CoreBlock.{CoreBlock}
+use Rattle.py_core.specs.Blocks.{stmts_in, explains_in}
 use Rattle.py_core.specs.declared.stmt.CoreStmtKind.TheVariants as k
-use Rattle.source_meaning.specs.Requests.{Function}
+use Rattle.py_tree.specs.declared.stmt.Function as f_tree
+use Rattle.lower_law.specs.Sourced.{function_in, module_of, sources_in}
+use Rattle.source_meaning.specs.Requests as s
+use Rattle.source_meaning.specs.Requests.{Script, Function}
+use Rattle.core_meaning.specs.Requests as r
 use Rattle.source_meaning.specs.Statements.{listed, function}
 
 -- expressions, the first one first
@@ -42,6 +51,12 @@ abbrev pub Unnamed : List (Option ArgName) → Type 0
 Unnamed [] = Unit {0}
 Unnamed (None ∷ rest) = Unnamed rest
 Unnamed (Some n ∷ rest) = ⊥
+
+-- parameters without annotation and without default
+abbrev pub PlainParameters : List Parameter → Type 0
+PlainParameters [] = Unit {0}
+PlainParameters (st.Parameter_at at name Absent Absent ∷ rest) = PlainParameters rest
+PlainParameters (_ ∷ rest) = ⊥
 
 mutual
   pub data Lowered : Tree → Pos → CoreExprKind → Type 0 where
@@ -64,6 +79,34 @@ mutual
   pub data LoweredEach : List Tree → List (Rc CoreExpr Global) → Type 0 where
     nil : LoweredEach [] []
     cons : {e : Tree} {es : List Tree} {x : Rc CoreExpr Global} {xs : List (Rc CoreExpr Global)} → Lowered e x.value.at x.value.kind → LoweredEach es xs → LoweredEach (e ∷ es) (x ∷ xs)
+
+-- A PART OF A CONDITION THAT IS EXPLAINED, whose parts are numbered from n on: what stands for the whole of it is kept
+abbrev pub IsLeaf : Tree → Type 0
+IsLeaf (t.Paren at e) = ⊥
+IsLeaf (t.Call at e es names) = ⊥
+IsLeaf (t.Unary at op e) = ⊥
+IsLeaf (t.Binary at l op r) = ⊥
+IsLeaf (t.Compare at e ops es) = ⊥
+IsLeaf (t.Not at e) = ⊥
+IsLeaf (t.And at e es) = ⊥
+IsLeaf (t.Or at e es) = ⊥
+IsLeaf _ = Unit {0}
+
+mutual
+  pub data Watched : ℕ → Tree → Pos → CoreExprKind → Type 0 where
+    leaf : (n : ℕ) (b : Pos) {e : Tree} {p : _} {a : Pos} {x : CoreExprKind} → IsLeaf e → Lowered e a x → Watched n e b (f.SetTemp' n p a x)
+    paren : (n : ℕ) (at : Pos) {e : Tree} {p : _} {a : Pos} {x : CoreExprKind} → Watched n e a x → Watched n (t.Paren at e) at (f.Paren' p a x)
+    call : (n : ℕ) (at b : Pos) {e : Tree} {es : Trees} {names : List (Option ArgName)} {p q r m : _} {a : Pos} {x : CoreExprKind} {row : Row _} → Unnamed names → Watched (suc n) e a x → WatchedEach (suc n + kept_count e) (trees_listed es) (row_items _ row) → Watched n (t.Call at e es names) b (f.SetTemp' n r at (f.Call' p a x q m row))
+    unary : (n : ℕ) (at : Pos) (op : UnOp) {e : Tree} {p : _} {a : Pos} {x : CoreExprKind} → Watched n e a x → Watched n (t.Unary at op e) at (f.Unary' op p a x)
+    binary : (n : ℕ) (at : Pos) (op : BinOp) {l r : Tree} {p q : _} {a b : Pos} {x y : CoreExprKind} → Watched n l a x → Watched (n + kept_count l) r b y → Watched n (t.Binary at l op r) at (f.Binary' p a x op q b y)
+    compare : (n : ℕ) (at : Pos) {e : Tree} {ops : List CmpOp} {es : Trees} {p q m : _} {a : Pos} {x : CoreExprKind} {cops : Rc (Vec CmpOp Global) Global} {row : Row _} → cops.value.items ≡ ops → Watched n e a x → WatchedEach (n + kept_count e) (trees_listed es) (row_items _ row) → Watched n (t.Compare at e ops es) at (f.Compare' p a x cops q m row)
+    negation : (n : ℕ) (at : Pos) {e : Tree} {p : _} {a : Pos} {x : CoreExprKind} → Watched n e a x → Watched n (t.Not at e) at (f.Not' p a x)
+    conjunction : (n : ℕ) (at : Pos) {e : Tree} {es : Trees} {p q m : _} {a : Pos} {x : CoreExprKind} {row : Row _} → Watched n e a x → WatchedEach (n + kept_count e) (trees_listed es) (row_items _ row) → Watched n (t.And at e es) at (f.And' p a x q m row)
+    disjunction : (n : ℕ) (at : Pos) {e : Tree} {es : Trees} {p q m : _} {a : Pos} {x : CoreExprKind} {row : Row _} → Watched n e a x → WatchedEach (n + kept_count e) (trees_listed es) (row_items _ row) → Watched n (t.Or at e es) at (f.Or' p a x q m row)
+
+  pub data WatchedEach : ℕ → List Tree → List (Rc CoreExpr Global) → Type 0 where
+    nil : (n : ℕ) → WatchedEach n [] []
+    cons : (n : ℕ) {e : Tree} {es : List Tree} {x : Rc CoreExpr Global} {xs : List (Rc CoreExpr Global)} → Watched n e x.value.at x.value.kind → WatchedEach (n + kept_count e) es xs → WatchedEach n (e ∷ es) (x ∷ xs)
 
 abbrev pub LoweredExpr : Tree → CoreExpr → Type 0
 LoweredExpr e x = Lowered e x.at x.kind
@@ -88,32 +131,47 @@ branches_listed NoBranch = []
 branches_listed (Branch before at condition body) = branches_listed before ++ choice_at at condition body ∷ []
 
 mutual
-  pub data LoweredStatement : Statement → Pos → CoreStmtKind → Type 0 where
-    do_it : (at : Pos) {e : Tree} {x : Rc CoreExpr Global} → LoweredExpr e x.value → LoweredStatement (st.Do at e) at (k.Expr x)
-    assign : (at : Pos) {ts : List Taker} {e : Tree} {xs : Rc (Vec CoreTarget Global) Global} {x : Rc CoreExpr Global} → LoweredTargets ts xs.value.items → LoweredExpr e x.value → LoweredStatement (st.Assign at ts e) at (k.Assign xs x)
-    augment : (at place : Pos) (name : List ℕ) (op : BinOp) {e : Tree} {x : Rc CoreExpr Global} → LoweredExpr e x.value → LoweredStatement (st.AugAssign at (NamePlace place name) op e) at (k.AugAssign (record { at = place; kind = single.Name name }) op x)
-    return_it : (at : Pos) {e : Maybe} {x : Option (Rc CoreExpr Global)} → LoweredSome e x → LoweredStatement (st.Return at e) at (k.Return x)
-    assert_it : (at : Pos) {e : Tree} {m : Maybe} {x : Rc CoreExpr Global} {y : Option (Rc CoreExpr Global)} {p n q i r j : _} {branches : Row_of-CoreBranch _} {other body : Row_of-CoreStmt _} → LoweredExpr e x.value → LoweredSome m y → items-the_row-CoreBranch _ branches ≡ branch.CoreBranch' at x r j body ∷ [] → items-the_row-CoreStmt _ body ≡ [] → items-the_row-CoreStmt _ other ≡ core_at at (k.FailWith Plain y) ∷ [] → LoweredStatement (st.Assert at e m) at (c.If' p n branches q i other)
-    globals : (at : Pos) {names : List (List ℕ)} {xs : Rc (Vec (List ℕ) Global) Global} → xs.value.items ≡ names → LoweredStatement (st.GlobalOf at names) at (k.Global xs)
-    pass : (at : Pos) → LoweredStatement (st.Pass at) at k.Pass
-    leave : (at : Pos) → LoweredStatement (st.Break at) at k.Break
-    again : (at : Pos) → LoweredStatement (st.Continue at) at k.Continue
-    choose : (at : Pos) {bs : Branches} {other : Block} {p n q i : _} {branches : Row_of-CoreBranch _} {block : Row_of-CoreStmt _} → LoweredBranches (branches_listed bs) (items-the_row-CoreBranch _ branches) → LoweredBlock (listed other) (items-the_row-CoreStmt _ block) → LoweredStatement (st.If at bs other) at (c.If' p n branches q i block)
-    loop : (at : Pos) {e : Tree} {body : Block} {x : Rc CoreExpr Global} {p n : _} {block : Row_of-CoreStmt _} → LoweredExpr e x.value → LoweredBlock (listed body) (items-the_row-CoreStmt _ block) → LoweredStatement (st.While at e body) at (c.While' x p n block)
-    define : (at word : Pos) (name : List ℕ) {params : List Parameter} {body : Block} {p : _} {x : CoreFn} → LoweredFunction word (function name params body) x → LoweredStatement (st.Def at Empty word name params Absent body) at (c.Def' p x)
+  pub data LoweredStatement : Bool → Statement → Pos → CoreStmtKind → Type 0 where
+    do_it : {z : Bool} (at : Pos) {e : Tree} {x : Rc CoreExpr Global} → LoweredExpr e x.value → LoweredStatement z (st.Do at e) at (k.Expr x)
+    assign : {z : Bool} (at : Pos) {ts : List Taker} {e : Tree} {xs : Rc (Vec CoreTarget Global) Global} {x : Rc CoreExpr Global} → LoweredTargets ts xs.value.items → LoweredExpr e x.value → LoweredStatement z (st.Assign at ts e) at (k.Assign xs x)
+    augment : {z : Bool} (at place : Pos) (name : List ℕ) (op : BinOp) {e : Tree} {x : Rc CoreExpr Global} → LoweredExpr e x.value → LoweredStatement z (st.AugAssign at (NamePlace place name) op e) at (k.AugAssign (record { at = place; kind = single.Name name }) op x)
+    return_it : {z : Bool} (at : Pos) {e : Maybe} {x : Option (Rc CoreExpr Global)} → LoweredSome e x → LoweredStatement z (st.Return at e) at (k.Return x)
+    assert_it : (at : Pos) {e : Tree} {m : Maybe} {x : Rc CoreExpr Global} {y : Option (Rc CoreExpr Global)} {p n q r : _} {branches : Row_of-CoreBranch _} {other body : CoreBlock} → LoweredExpr e x.value → LoweredSome m y → items-the_row-CoreBranch _ branches ≡ branch.CoreBranch' at x r body ∷ [] → stmts_in body ≡ [] → stmts_in other ≡ core_at at (k.FailWith Plain y) ∷ [] → LoweredStatement plain (st.Assert at e m) at (c.If' p n branches q other)
+    assert_explained : (at : Pos) {e : Tree} {m : Maybe} {x : Rc CoreExpr Global} {d : Rc Expr Global} {y : Option (Rc CoreExpr Global)} {p n q r : _} {branches : Row_of-CoreBranch _} {other body : CoreBlock} → tree d.value ≡ e → Watched 0 e x.value.at x.value.kind → LoweredSome m y → items-the_row-CoreBranch _ branches ≡ branch.CoreBranch' at x r body ∷ [] → stmts_in body ≡ [] → stmts_in other ≡ core_at at (k.FailWith (Explain d) y) ∷ [] → LoweredStatement explained (st.Assert at e m) at (c.If' p n branches q other)
+    globals : {z : Bool} (at : Pos) {names : List (List ℕ)} {xs : Rc (Vec (List ℕ) Global) Global} → xs.value.items ≡ names → LoweredStatement z (st.GlobalOf at names) at (k.Global xs)
+    yields : {z : Bool} (at word : Pos) {e : Maybe} {x : Option (Rc CoreExpr Global)} → LoweredSome e x → LoweredStatement z (st.YieldOf at word e) at (k.Yield x)
+    pass : {z : Bool} (at : Pos) → LoweredStatement z (st.Pass at) at k.Pass
+    leave : {z : Bool} (at : Pos) → LoweredStatement z (st.Break at) at k.Break
+    again : {z : Bool} (at : Pos) → LoweredStatement z (st.Continue at) at k.Continue
+    choose : {z : Bool} (at : Pos) {bs : Branches} {other : Block} {p n q : _} {branches : Row_of-CoreBranch _} {block : CoreBlock} → LoweredBranches z (branches_listed bs) (items-the_row-CoreBranch _ branches) → LoweredBody z (listed other) block → LoweredStatement z (st.If at bs other) at (c.If' p n branches q block)
+    loop : {z : Bool} (at : Pos) {e : Tree} {body : Block} {x : Rc CoreExpr Global} {p : _} {block : CoreBlock} → LoweredExpr e x.value → LoweredBody z (listed body) block → LoweredStatement z (st.While at e body) at (c.While' x p block)
+    define : {z : Bool} (at word : Pos) (name : List ℕ) {params : List Parameter} {body : Block} {p : _} {x : CoreFn} → LoweredFunction word (function z name params body) x → LoweredStatement z (st.Def at Empty word name params Absent body) at (c.Def' p x)
 
-  pub data LoweredBlock : List Statement → List CoreStmt → Type 0 where
-    ends : LoweredBlock [] []
-    goes_on : {s : Statement} {ss : List Statement} {at : Pos} {x : CoreStmtKind} {xs : List CoreStmt} → LoweredStatement s at x → LoweredBlock ss xs → LoweredBlock (s ∷ ss) (core_at at x ∷ xs)
+  pub data LoweredBlock : Bool → List Statement → List CoreStmt → Type 0 where
+    ends : {z : Bool} → LoweredBlock z [] []
+    goes_on : {z : Bool} {s : Statement} {ss : List Statement} {at : Pos} {x : CoreStmtKind} {xs : List CoreStmt} → LoweredStatement z s at x → LoweredBlock z ss xs → LoweredBlock z (s ∷ ss) (core_at at x ∷ xs)
 
-  pub data LoweredBranches : List Choice → List branch.CoreBranch → Type 0 where
-    none : LoweredBranches [] []
-    more : (at : Pos) {e : Tree} {body : Block} {bs : List Choice} {x : Rc CoreExpr Global} {p n : _} {block : Row_of-CoreStmt _} {xs : List branch.CoreBranch} → LoweredExpr e x.value → LoweredBlock (listed body) (items-the_row-CoreStmt _ block) → LoweredBranches bs xs → LoweredBranches (choice_at at e body ∷ bs) (branch.CoreBranch' at x p n block ∷ xs)
+  -- a block of core carries the statements of its source
+  pub data LoweredBody : Bool → List Statement → CoreBlock → Type 0 where
+    body : {z : Bool} {ss : List Statement} {b : CoreBlock} → explains_in b ≡ z → sources_in b ≡ ss → LoweredBlock z ss (stmts_in b) → LoweredBody z ss b
+
+  pub data LoweredBranches : Bool → List Choice → List branch.CoreBranch → Type 0 where
+    none : {z : Bool} → LoweredBranches z [] []
+    more : {z : Bool} (at : Pos) {e : Tree} {body : Block} {bs : List Choice} {x : Rc CoreExpr Global} {p : _} {block : CoreBlock} {xs : List branch.CoreBranch} → LoweredExpr e x.value → LoweredBody z (listed body) block → LoweredBranches z bs xs → LoweredBranches z (choice_at at e body ∷ bs) (branch.CoreBranch' at x p block ∷ xs)
 
   -- a function has the parameters and the local names of its source
   pub data LoweredFunction : Pos → Function → CoreFn → Type 0 where
-    made : (word : Pos) (name : List ℕ) {params : List Parameter} {body : Block} {ps ls : List (List ℕ)} {p n : _} {block : Row_of-CoreStmt _} → ps ≡ names_of params → ls ≡ locals_of params body → LoweredBlock (listed body) (items-the_row-CoreStmt _ block) → LoweredFunction word (function name params body) (fn.CoreFn' word name ps ls p n block)
+    made : {z : Bool} (word : Pos) (name : List ℕ) {params : List Parameter} {body : Block} {ps ls : List (List ℕ)} {ys : Bool} {source : Rc f_tree.Function Global} {p : _} {block : CoreBlock} → PlainParameters params → function_in z source.value ≡ function z name params body → ps ≡ names_of params → ls ≡ locals_of params body → ys ≡ yields_in body → LoweredBody z (listed body) block → LoweredFunction word (function z name params body) (fn.CoreFn' source word name ps ls ys p block)
+
+-- what stands behind a statement, the innermost block first
+pub data LoweredLayers (z : Bool) : List s.Layer → List r.Layer → Type 0 where
+  none : LoweredLayers z [] []
+  more : {ss : List Statement} {ls : List s.Layer} {ks : List r.Layer} (b : CoreBlock) (at : ℕ) → explains_in b ≡ z → drop at (sources_in b) ≡ ss → LoweredBlock z ss (drop at (stmts_in b)) → LoweredLayers z ls ks → LoweredLayers z (s.Statements z ss ∷ ls) (r.Statements b at ∷ ks)
+
+-- what remains of a body
+abbrev pub LoweredRest : List s.Layer → List r.Layer → Type 0
+LoweredRest ls ks = (z : Bool) × LoweredLayers z ls ks
 
 -- a source
-abbrev pub LoweredModule : Block → Core → Type 0
-LoweredModule body code = LoweredBlock (listed body) code.body.value.items
+abbrev pub LoweredModule : Script → Core → Type 0
+LoweredModule m code = (module_of code ≡ m) × LoweredBlock m.explains (listed m.body) (stmts_in code.body.value)

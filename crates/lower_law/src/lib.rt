@@ -1,18 +1,29 @@
 //! Lowering keeps the meaning: which core code stands for which source, and the law that both do the same.
+//!
+//! `Lowered` says which core code stands for which source: the same form with lowered parts at the same place; an assert stands for an `if`
+//! with an empty block whose `else` is the failure; where asserts are explained, the parts of the condition that are shown are kept in
+//! temporaries, numbered in the order of the text. Core code carries its source, and a world is sound where each code stands for the source
+//! that it carries (`Sound`); `source_view` forgets the core side.
+//!
+//! Proved (`lowering_keeps_meaning`): in a sound world a call and a load are equations of the meaning of sources, with every budget
+//! (`calls`, `loads`, `tapes`), and leave a sound world (`sound_calls`, `sound_loads`), for plain and explained code alike.
 #![tactic(auto)]
 
 ghost use Rattle.std.specs.Prelude.{ℕ, ◌≡◌, List};
 ghost use Rattle.py_values.specs.declared.value.Value.{Value as PyValue};
-ghost use Rattle.source_meaning.specs.Meaning.{SourceWorld, source, source_call, source_module};
+ghost use Rattle.source_meaning.specs.Meaning.{source, source_call, source_module};
 ghost use Rattle.core_meaning.specs.Meaning.{CoreWorld, core, core_call, core_module};
-ghost use Rattle.lower_law.specs.Law.{LoweredWorld, SameTold, call_tape};
+ghost use Rattle.lower_law.specs.Law.{call_tape};
+ghost use Rattle.lower_law.specs.View.{Sound, source_view, view_told};
 
-/// In worlds that are alike but for their codes, of which each core code stands for its source, every call and every load of a
-/// module ends alike with every budget: the same value or exception with the same trace, the same steps, or exhausted at the same
-/// step with the same trace; and the worlds behind it are alike again, in objects, modules and printed text. The expressions that
-/// began are the same, in the same order.
+/// In a world in which each core code stands for the source that it carries, a call and a load of a module do what the sources
+/// say, with every budget: the same value or exception with the same trace, the same steps, or exhausted at the same step with the
+/// same trace, and the world behind it, seen as a world of sources, is the one that the sources lead to. The expressions that began
+/// are the same, in the same order. And each core code of that world stands for its source again.
 pub fn lowering_keeps_meaning()
-    ensures calls { (w : SourceWorld) (z : CoreWorld) → LoweredWorld w z → (f : PyValue) (args : List PyValue) (budget : ℕ) → SameTold (source_call f args budget w) (core_call f args budget z) }
-    ensures loads { (w : SourceWorld) (z : CoreWorld) → LoweredWorld w z → (path : List ℕ) (budget : ℕ) → SameTold (source_module path budget w) (core_module path budget z) }
-    ensures tapes { (w : SourceWorld) (z : CoreWorld) → LoweredWorld w z → (f : PyValue) (args : List PyValue) (budget : ℕ) → call_tape source f args budget w ≡ call_tape core f args budget z }
+    ensures calls { (w : CoreWorld) → Sound w → (f : PyValue) (args : List PyValue) (budget : ℕ) → view_told (core_call f args budget w) ≡ source_call f args budget (source_view w) }
+    ensures loads { (w : CoreWorld) → Sound w → (path : List ℕ) (budget : ℕ) → view_told (core_module path budget w) ≡ source_module path budget (source_view w) }
+    ensures tapes { (w : CoreWorld) → Sound w → (f : PyValue) (args : List PyValue) (budget : ℕ) → call_tape core f args budget w ≡ call_tape source f args budget (source_view w) }
+    ensures sound_calls { (w : CoreWorld) → Sound w → (f : PyValue) (args : List PyValue) (budget : ℕ) → Sound (core_call f args budget w).1 }
+    ensures sound_loads { (w : CoreWorld) → Sound w → (path : List ℕ) (budget : ℕ) → Sound (core_module path budget w).1 }
 {}

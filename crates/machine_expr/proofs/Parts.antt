@@ -1,5 +1,5 @@
 -- The part of a list at a place.
-use Rattle.std.proofs.Common.{◌≡◌, ℕ, List, [], ◌∷◌, map, refl, sym, ap, ◌∙◌, ◌+◌, suc, add-one, drop-cons, drop, get_or, length, ◌<◌, ◌≤◌, Option, Some, None}
+use Rattle.std.proofs.Common.{◌≡◌, ℕ, List, ◌∷◌, map, sym, ap, ◌∙◌, ◌+◌, suc, add-one, drop-cons, drop, get_or, length, ◌<◌, ◌≤◌, Some, None}
 use Rattle.std.proofs.Math.ListN.{drop_of_length-le}
 use Rattle.std.specs.declared.alloc.Global.{Global}
 use Rattle.std.specs.declared.rc.Rc.{Rc}

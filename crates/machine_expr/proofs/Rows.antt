@@ -1,5 +1,5 @@
 -- The parts of an expression as a list.
-use Rattle.std.proofs.Common.{◌≡◌, ℕ, List, [], ◌∷◌, map, refl, sym, ap, ◌∙◌, ◌+◌, ◌<◌, arith}
+use Rattle.std.proofs.Common.{◌≡◌, ℕ, List, ◌∷◌, map, refl, sym, ap, ◌∙◌, ◌+◌, arith}
 use Rattle.run_tree.specs.Todo.{Note}
 use Rattle.std.specs.declared.alloc.Global.{Global}
 use Rattle.std.specs.declared.rc.Rc.{Rc}
@@ -15,6 +15,7 @@ use Rattle.py_tree.specs.declared.op.BinOp.{BinOp}
 use Rattle.py_tree.specs.declared.op.CmpOp.{CmpOp}
 use Rattle.py_tree.specs.declared.op.UnOp.{UnOp}
 use Rattle.py_world.specs.Site.{Site}
+use Rattle.py_world.specs.Arguments.{plain}
 use Rattle.py_world.specs.Expressions.{call_part, and_part, or_part, compare_part, unary_part, binary_part, choice_part, kept_part}
 use Rattle.core_meaning.specs.Expressions.{CorePart, eval, eval_at, parts}
 use Rattle.machine_state.specs.Frames.{CoreState, CoreThen, parts_from}
@@ -38,8 +39,8 @@ pub weights_items : (es : Vec (Rc CoreExpr Global) Global) → weights (hidden e
 weights_items es = weights_row (hidden es) ∙ ap (sum_by (λ (e : Rc CoreExpr Global). weight e.value + 1)) (items_hidden es)
 
 module _ (kind : CoreExprKind) (at : Pos) (a : Rc CoreExpr Global) (es : Rc (Vec (Rc CoreExpr Global) Global) Global) (p : Site) (s : CoreState) (k : CoreThen) where
-  pub call_begins : kind ≡ v.Call a es → with_note at kind (call_part (eval a.value) (parts_from 0 es) p s k) ≡ eval_at at kind p s k
-  call_begins is = rw is (ap (λ (ps : List CorePart). Note at (call_part (eval a.value) ps p s k)) (sym (parts_items es.value)))
+  pub call_begins : kind ≡ v.Call a es → with_note at kind (call_part (eval a.value) plain (parts_from 0 es) p s k) ≡ eval_at at kind p s k
+  call_begins is = rw is (ap (λ (ps : List CorePart). Note at (call_part (eval a.value) plain ps p s k)) (sym (parts_items es.value)))
 
   pub and_begins : kind ≡ v.And a es → with_note at kind (and_part (eval a.value) (parts_from 0 es) p s k) ≡ eval_at at kind p s k
   and_begins is = rw is (ap (λ (ps : List CorePart). Note at (and_part (eval a.value) ps p s k)) (sym (parts_items es.value)))

@@ -1,3 +1,3 @@
 pub mod Noting
 pub mod Parts
-pub mod Looked
+pub mod AtOnce

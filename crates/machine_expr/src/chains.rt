@@ -9,7 +9,7 @@ ghost use Rattle.machine_expr.specs.Parts.{IsNext, IsNextOp};
 
 use crate::operate::compare;
 use machine_state::frame::{ChainFrame, End, Frame};
-use machine_state::machine::{Doing, Machine, Turned};
+use machine_state::machine::{Doing, Machine, TurnEnd};
 use py_core::{CmpOp, CoreExpr};
 use py_text::OutOfMemory;
 use py_values::truth::truth;
@@ -30,7 +30,7 @@ pub fn part_at(es: &Rc<Vec<Rc<CoreExpr>>>, at: usize) -> Result<Option<Rc<CoreEx
 
 /// The operator at a place, where there is one.
 #[tactic(auto, using(crate::proofs::Parts::next_op_some, crate::proofs::Parts::next_op_none))]
-fn op_at(ops: &Rc<Vec<CmpOp>>, at: usize) -> Option<CmpOp>
+pub fn op_at(ops: &Rc<Vec<CmpOp>>, at: usize) -> Option<CmpOp>
     ensures { IsNextOp result at ops.now.value.items }
 {
     if at >= ops.len() {
@@ -133,21 +133,21 @@ fn take_compared(
 }
 
 /// Goes on with the value of an operand of a chain.
-pub fn take_chain(m: &mut Machine, frame: ChainFrame, v: Value) -> Result<Turned, OutOfMemory>
+pub fn take_chain(m: &mut Machine, frame: ChainFrame, v: Value) -> Result<TurnEnd, OutOfMemory>
     ensures next { IfOk result (λ t. Follows t m.new m.old.left (on_chain frame (site_now m.old) (Gave v (state_of m.old)) (rest_of m.old))) }
     ensures work { IfOk result (λ t. Falls t m.new m.old.left (chain_work frame + stack_work m.old)) }
 {
     match frame {
-        ChainFrame::And(es, at) => Ok(Turned::Go(next_and(m, es, at, v)?)),
-        ChainFrame::Or(es, at) => Ok(Turned::Go(next_or(m, es, at, v)?)),
-        ChainFrame::First(ops, es) => Ok(Turned::Go(next_compare(m, v, ops, es, 0)?)),
+        ChainFrame::And(es, at) => Ok(TurnEnd::Go(next_and(m, es, at, v)?)),
+        ChainFrame::Or(es, at) => Ok(TurnEnd::Go(next_or(m, es, at, v)?)),
+        ChainFrame::First(ops, es) => Ok(TurnEnd::Go(next_compare(m, v, ops, es, 0)?)),
         ChainFrame::Compare(x, op, ops, es, next) => {
             let frame = ChainFrame::Compared(v, ops, es, next);
             m.stack.push(Frame::Chain(frame))?;
             compare(m, op, x, v)
         }
         ChainFrame::Compared(y, ops, es, at) => {
-            Ok(Turned::Go(take_compared(m, y, ops, es, at, v)?))
+            Ok(TurnEnd::Go(take_compared(m, y, ops, es, at, v)?))
         }
     }
 }

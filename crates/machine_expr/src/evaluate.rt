@@ -1,15 +1,19 @@
 // Expressions begin.
 
-ghost use Rattle.std.specs.Prelude.{◌≡◌, ◌+◌, ◌<◌, ◌∷◌, IfOk, OnOk};
+ghost use Rattle.std.specs.Prelude.{◌≡◌, ◌+◌, ◌<◌, ◌≤◌, ◌∷◌, IfOk, OnOk, length};
 ghost use Rattle.py_world.specs.World.{set_at, temp};
 ghost use Rattle.py_world.specs.Outcome.{Gave};
+ghost use Rattle.py_world.specs.Arguments.{plain};
 ghost use Rattle.py_world.specs.Expressions as world;
 ghost use Rattle.core_meaning.specs.Expressions.{eval};
-ghost use Rattle.machine_state.specs.Frames.{after, outer_of, parts_from, rest_of, site_now, site_of, state_of, todo};
+ghost use Rattle.machine_state.specs.Frames.{after, ends, outer_of, parts_from, rest_of, site_now, site_of, state_of, todo};
 ghost use Rattle.machine_state.specs.Work.{doing_work, frame_work, stack_work, weight, weight_from};
 ghost use Rattle.machine_expr.specs.Noting.{with_note};
+ghost use Rattle.machine_expr.specs.Parts.{IsNext};
 
-use crate::names::{Looked, look_up};
+use crate::chains::part_at;
+use crate::immediate::at_once;
+use crate::names::look_up;
 use machine_state::frame::{CallFrame, ChainFrame, End, Frame, OperandFrame};
 use machine_state::machine::{Doing, Machine, Origin};
 use py_core::{CmpOp, CoreExpr, CoreExprKind, SrcText};
@@ -41,10 +45,8 @@ fn name_value(m: &mut Machine, name: &SrcText) -> Result<Doing, OutOfMemory>
     ensures work { IfOk result (λ d. doing_work d ≡ 0) }
     ensures stack { m.new.stack ≡ m.old.stack }
 {
-    match look_up(m, name)? {
-        Looked::Value(v) => Ok(Doing::Back(End::Value(v))),
-        Looked::Fails(raise) => m.raise(raise, Origin::Code),
-    }
+    let made = look_up(m, name)?;
+    m.make(made, Origin::Code)
 }
 
 /// A text, which is a new object at each evaluation.
@@ -64,7 +66,7 @@ fn text_made(m: &mut Machine, text: &SrcText) -> Result<Doing, OutOfMemory>
 }
 
 /// The value of a temporary.
-fn temp_value(m: &Machine, t: u32) -> Value
+pub fn temp_value(m: &Machine, t: u32) -> Value
     ensures { Gave result (state_of m.now) ≡ world.temp_found (temp t (state_of m.now)) (state_of m.now) }
 {
     match m.temps.get(t as usize) {
@@ -91,7 +93,7 @@ fn begin_call(
     f: &Rc<CoreExpr>,
     es: &Rc<Vec<Rc<CoreExpr>>>,
 ) -> Result<Doing, OutOfMemory>
-    ensures next { IfOk result (λ d. todo d m.new ≡ world.call_part (eval f.now.value) (parts_from 0 es.now) (site_now m.old) (state_of m.old) (rest_of m.old)) }
+    ensures next { IfOk result (λ d. todo d m.new ≡ world.call_part (eval f.now.value) plain (parts_from 0 es.now) (site_now m.old) (state_of m.old) (rest_of m.old)) }
     ensures left { m.new.left ≡ m.old.left }
     ensures work { IfOk result (λ d. doing_work d + stack_work m.new ≡ weight f.now.value + (weight_from 0 es.now + 3 + stack_work m.old)) }
 {
@@ -145,7 +147,7 @@ fn begin_compare(
 }
 
 /// Begins an expression.
-pub fn evaluate(m: &mut Machine, e: &CoreExpr) -> Result<Doing, OutOfMemory>
+fn begin(m: &mut Machine, e: &CoreExpr) -> Result<Doing, OutOfMemory>
     ensures next { IfOk result (λ d. with_note e.now.at e.now.kind (todo d m.new) ≡ eval e.now (site_now m.old) (state_of m.old) (rest_of m.old)) }
     ensures left { m.new.left ≡ m.old.left }
     ensures work { IfOk result (λ d. doing_work d + stack_work m.new < weight e.now + stack_work m.old) }
@@ -174,5 +176,104 @@ pub fn evaluate(m: &mut Machine, e: &CoreExpr) -> Result<Doing, OutOfMemory>
         }
         CoreExprKind::SetTemp(t, a) => descend(m, Frame::Operand(OperandFrame::Keep(*t)), a),
         CoreExprKind::Temp(t) => Ok(Doing::Back(End::Value(temp_value(m, *t)))),
+    }
+}
+
+/// The argument behind those whose values are there.
+fn next_argument(
+    es: &Rc<Vec<Rc<CoreExpr>>>,
+    so_far: &Vec<Value>,
+) -> Result<Option<Rc<CoreExpr>>, OutOfMemory>
+    ensures { IfOk result (λ e. IsNext e (length so_far.now.items) es.now) }
+{
+    part_at(es, so_far.len())
+}
+
+/// Begins the argument of a call behind those whose values are there.
+fn argument(
+    m: &mut Machine,
+    callee: Value,
+    so_far: Vec<Value>,
+    es: Rc<Vec<Rc<CoreExpr>>>,
+) -> Result<Doing, OutOfMemory>
+    ensures next { IfOk result (λ d. todo d m.new ≡ world.call_on callee plain (parts_from (length so_far.items) es) so_far.items (site_now m.old) (state_of m.old) (rest_of m.old)) }
+    ensures left { m.new.left ≡ m.old.left }
+    ensures work { IfOk result (λ d. doing_work d + stack_work m.new ≤ weight_from (length so_far.items) es + 1 + stack_work m.old) }
+{
+    match next_argument(&es, &so_far)? {
+        Some(e) => {
+            m.stack
+                .push(Frame::Call(CallFrame::Argument(callee, so_far, es)))?;
+            Ok(Doing::Evaluate(e))
+        }
+        None => Ok(Doing::Apply(callee, so_far)),
+    }
+}
+
+/// Goes on with the arguments of a call behind those whose values are there.
+pub fn arguments(
+    m: &mut Machine,
+    callee: Value,
+    so_far: Vec<Value>,
+    es: Rc<Vec<Rc<CoreExpr>>>,
+) -> Result<Doing, OutOfMemory>
+    ensures next { IfOk result (λ d. ends m.new.left (todo d m.new) ≡ ends m.old.left (world.call_on callee plain (parts_from (length so_far.items) es) so_far.items (site_now m.old) (state_of m.old) (rest_of m.old))) }
+    ensures left { m.new.left ≤ m.old.left }
+    ensures work { IfOk result (λ d. doing_work d + stack_work m.new ≤ weight_from (length so_far.items) es + 1 + stack_work m.old) }
+{
+    let mut so_far = so_far;
+    'each: while so_far.len() < es.len() {
+        let e = &es[so_far.len()];
+        match at_once(m, e)? {
+            Some(there) => {
+                m.left = there.left;
+                so_far.push(there.value)?;
+            }
+            None => return argument(m, callee, so_far, es),
+        }
+    }
+    Ok(Doing::Apply(callee, so_far))
+}
+
+/// Begins a call, with its callee and its first arguments where they are there at once.
+fn call(m: &mut Machine, f: &Rc<CoreExpr>, es: &Rc<Vec<Rc<CoreExpr>>>) -> Result<Doing, OutOfMemory>
+    ensures next { IfOk result (λ d. ends m.new.left (todo d m.new) ≡ ends m.old.left (world.call_part (eval f.now.value) plain (parts_from 0 es.now) (site_now m.old) (state_of m.old) (rest_of m.old))) }
+    ensures left { m.new.left ≤ m.old.left }
+    ensures work { IfOk result (λ d. doing_work d + stack_work m.new ≤ weight f.now.value + (weight_from 0 es.now + 3 + stack_work m.old)) }
+{
+    match at_once(m, f)? {
+        Some(there) => {
+            m.left = there.left;
+            let none = Vec::new(m.alloc);
+            arguments(m, there.value, none, es.clone()?)
+        }
+        None => begin_call(m, f, es),
+    }
+}
+
+/// Begins an expression that isn't there at once.
+fn begin_parts(m: &mut Machine, e: &CoreExpr) -> Result<Doing, OutOfMemory>
+    ensures next { IfOk result (λ d. ends m.new.left (todo d m.new) ≡ ends m.old.left (eval e.now (site_now m.old) (state_of m.old) (rest_of m.old))) }
+    ensures left { m.new.left ≤ m.old.left }
+    ensures work { IfOk result (λ d. doing_work d + stack_work m.new < weight e.now + stack_work m.old) }
+{
+    if let CoreExprKind::Call(f, es) = &e.kind {
+        return call(m, f, es);
+    }
+    begin(m, e)
+}
+
+/// Evaluates an expression: its value, where that is there at once, or else its first part that isn't.
+pub fn evaluate(m: &mut Machine, e: &CoreExpr) -> Result<Doing, OutOfMemory>
+    ensures next { IfOk result (λ d. ends m.new.left (todo d m.new) ≡ ends m.old.left (eval e.now (site_now m.old) (state_of m.old) (rest_of m.old))) }
+    ensures left { m.new.left ≤ m.old.left }
+    ensures work { IfOk result (λ d. doing_work d + stack_work m.new < weight e.now + stack_work m.old) }
+{
+    match at_once(m, e)? {
+        Some(there) => {
+            m.left = there.left;
+            Ok(Doing::Back(End::Value(there.value)))
+        }
+        None => begin_parts(m, e),
     }
 }

@@ -1,20 +1,20 @@
 // Names and their values.
 
-ghost use Rattle.std.specs.Prelude.{◌≡◌, ◌++◌, IfOk, slice_get};
+ghost use Rattle.std.specs.Prelude.{◌≡◌, ◌++◌, IfOk, IfSome, Some, slice_get};
+ghost use Rattle.py_values.specs.Builtins.{builtin_names};
 ghost use Rattle.py_values.specs.Names.{find_name};
 ghost use Rattle.py_values.specs.Raises as raises;
 ghost use Rattle.py_world.specs.Names as world;
-ghost use Rattle.py_world.specs.Site.{Site};
-ghost use Rattle.machine_state.specs.Frames.{site_now, state_of, CoreState};
-ghost use Rattle.machine_expr.specs.Looked.{looked};
+ghost use Rattle.machine_state.specs.Frames.{home_in, site_now};
 
 use machine_state::machine::Machine;
 use py_core::SrcText;
 use py_text::OutOfMemory;
+use py_values::builtins::builtin_value;
 use py_values::class::ExcClass;
-use py_values::end::{Raise, push_ascii};
+use py_values::end::{Made, Raise, push_ascii};
 use py_values::heap::Heap;
-use py_values::names::Name;
+use py_values::names::{Name, Names};
 use py_values::object::Obj;
 use py_values::value::{ObjId, Value};
 use std::alloc::Global;
@@ -37,103 +37,112 @@ pub fn raise_about(
     Ok(raise)
 }
 
-/// A built-in name's value, whose object stands in every heap from the start.
-fn builtin_value(name: &[char]) -> Option<Value>
-    ensures { result ≡ find_name name.now world.builtin_names }
+/// How many names of a module are looked through before their table is asked.
+const EARLY: usize = 8;
+
+/// The value of a name among the first ones.
+#[tactic(auto, using(crate::proofs::EarlyNames::early_found, crate::proofs::EarlyNames::early_more))]
+fn early_value(names: &Names, name: &SrcText) -> Option<Value>
+    ensures { IfSome result (λ v. find_name name.now names.now ≡ Some v) }
 {
-    let print = ['p', 'r', 'i', 'n', 't'];
-    let len = ['l', 'e', 'n'];
-    let str = ['s', 't', 'r'];
-    if name == print.as_slice() {
-        Some(Value::Ref(ObjId { at: 0 }))
-    } else if name == len.as_slice() {
-        Some(Value::Ref(ObjId { at: 1 }))
-    } else if name == str.as_slice() {
-        Some(Value::Ref(ObjId { at: 2 }))
-    } else {
-        None
+    for at in 0..EARLY {
+        let Some((key, v)) = names.entry(at) else {
+            return None;
+        };
+        if name.chars() == key.text().chars() {
+            return Some(*v);
+        }
     }
+    None
+}
+
+/// The value of a name among others.
+fn value_among(alloc: Global, names: &Names, name: &SrcText) -> Result<Option<Value>, OutOfMemory>
+    ensures { IfOk result (λ v. v ≡ find_name name.now names.now) }
+{
+    if let Some(v) = early_value(names, name) {
+        return Ok(Some(v));
+    }
+    let key = Name::from_chars(alloc, name.chars())?;
+    Ok(names.find(&key))
 }
 
 /// The value of a name of a module.
-fn module_value(heap: &Heap, home: usize, name: &Name) -> Option<Value>
-    ensures { result ≡ find_name name.now (world.names_in (slice_get heap.now home)) }
+fn module_value(
+    alloc: Global,
+    heap: &Heap,
+    home: usize,
+    name: &SrcText,
+) -> Result<Option<Value>, OutOfMemory>
+    ensures { IfOk result (λ v. v ≡ find_name name.now (world.names_in (slice_get heap.now home))) }
 {
     match heap.get(ObjId { at: home }) {
-        Some(Obj::Module(module)) => module.names.find(name),
-        _ => None,
+        Some(Obj::Module(module)) => value_among(alloc, &module.names, name),
+        _ => Ok(None),
     }
 }
 
-/// What a look-up of a name gives: its value, or what is raised.
-#[derive(Drop)]
-pub enum Looked {
-    Value(Value),
-    Fails(Raise),
-}
-
 /// A name that is neither the module's nor built in.
-fn not_defined(alloc: Global, name: &Name) -> Result<Raise, OutOfMemory>
+fn not_defined(alloc: Global, name: &SrcText) -> Result<Raise, OutOfMemory>
     ensures { IfOk result (λ r. r ≡ raises.raise ExcClass.NameError (world.not_defined name.now)) }
 {
     raise_about(
         alloc,
         ExcClass::NameError,
         "name '",
-        name.text().chars(),
+        name.chars(),
         "' is not defined",
     )
 }
 
 /// A local name that has no value yet.
-fn unbound(alloc: Global, name: &Name) -> Result<Raise, OutOfMemory>
+fn unbound(alloc: Global, name: &SrcText) -> Result<Raise, OutOfMemory>
     ensures { IfOk result (λ r. r ≡ raises.raise ExcClass.UnboundLocalError (world.unbound_local name.now)) }
 {
     raise_about(
         alloc,
         ExcClass::UnboundLocalError,
         "local variable '",
-        name.text().chars(),
+        name.chars(),
         "' is unbound",
     )
 }
 
-fn builtin_found(alloc: Global, name: &Name) -> Result<Looked, OutOfMemory>
-    ensures { IfOk result (λ l. (p : Site) → (s : CoreState) → looked l p s ≡ world.builtin_found (find_name name.now world.builtin_names) name.now p s) }
+fn builtin_found(alloc: Global, name: &SrcText) -> Result<Made, OutOfMemory>
+    ensures { IfOk result (λ made. made ≡ world.builtin_found (find_name name.now builtin_names) name.now) }
 {
-    match builtin_value(name.text().chars()) {
-        Some(v) => Ok(Looked::Value(v)),
-        None => Ok(Looked::Fails(not_defined(alloc, name)?)),
+    match builtin_value(name.chars()) {
+        Some(v) => Ok(Made::Give(v, 0)),
+        None => Ok(Made::Fail(not_defined(alloc, name)?, 0)),
     }
 }
 
-fn global_found(m: &Machine, name: &Name) -> Result<Looked, OutOfMemory>
-    ensures { IfOk result (λ l. looked l (site_now m.now) (state_of m.now) ≡ world.global name.now (site_now m.now) (state_of m.now)) }
+fn global_found(m: &Machine, name: &SrcText) -> Result<Made, OutOfMemory>
+    ensures { IfOk result (λ made. made ≡ world.global name.now (home_in m.now.here.place) m.now.heap) }
 {
-    match module_value(&m.heap, m.here.home(), name) {
-        Some(v) => Ok(Looked::Value(v)),
+    match module_value(m.alloc, &m.heap, m.here.home(), name)? {
+        Some(v) => Ok(Made::Give(v, 0)),
         None => builtin_found(m.alloc, name),
     }
 }
 
-fn local_found(m: &Machine, name: &Name) -> Result<Looked, OutOfMemory>
-    ensures { IfOk result (λ l. looked l (site_now m.now) (state_of m.now) ≡ world.local_found (find_name name.now m.now.locals) name.now (site_now m.now) (state_of m.now)) }
+fn local_found(m: &Machine, name: &SrcText) -> Result<Made, OutOfMemory>
+    ensures { IfOk result (λ made. made ≡ world.local_found (find_name name.now m.now.locals) name.now) }
 {
     match m.locals.find(name) {
-        Some(v) => Ok(Looked::Value(v)),
-        None => Ok(Looked::Fails(unbound(m.alloc, name)?)),
+        Some(v) => Ok(Made::Give(v, 0)),
+        None => Ok(Made::Fail(unbound(m.alloc, name)?, 0)),
     }
 }
 
-/// Looks a name up (Language Reference, naming and binding).
+/// What a name's look-up gives, which costs nothing (Language Reference, naming and binding).
 #[tactic(auto, using(crate::proofs::Naming::named_own, crate::proofs::Naming::named_other))]
-pub fn look_up(m: &Machine, name: &SrcText) -> Result<Looked, OutOfMemory>
-    ensures { IfOk result (λ l. looked l (site_now m.now) (state_of m.now) ≡ world.named name.now (site_now m.now) (state_of m.now)) }
+pub fn look_up(m: &Machine, name: &SrcText) -> Result<Made, OutOfMemory>
+    ensures { IfOk result (λ made. made ≡ world.named name.now (site_now m.now).scene m.now.locals m.now.heap) }
 {
-    let key = Name::from_chars(m.alloc, name.chars())?;
     if m.here.is_own(name) {
-        local_found(m, &key)
+        local_found(m, name)
     } else {
-        global_found(m, &key)
+        global_found(m, name)
     }
 }

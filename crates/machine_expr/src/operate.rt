@@ -9,7 +9,7 @@ ghost use Rattle.machine_state.specs.Frames.{rest_of, site_now, state_of, Follow
 ghost use Rattle.machine_state.specs.Work.{Falls};
 ghost use Rattle.py_values.specs.Ends.{within};
 
-use machine_state::machine::{Machine, Origin, Turned};
+use machine_state::machine::{Machine, Origin, TurnEnd};
 use py_core::{BinOp, CmpOp, UnOp};
 use py_ops::binary::binary_made;
 use py_ops::compare::compare_made;
@@ -21,12 +21,12 @@ use py_values::value::Value;
 use std::alloc::Global;
 
 /// An operator between two values: its step, its cost, and its end.
-pub fn operate(m: &mut Machine, op: BinOp, x: Value, y: Value) -> Result<Turned, OutOfMemory>
+pub fn operate(m: &mut Machine, op: BinOp, x: Value, y: Value) -> Result<TurnEnd, OutOfMemory>
     ensures next { IfOk result (λ t. Follows t m.new m.old.left (operated (binary_of op m.old.heap x y) (site_now m.old) (state_of m.old) (rest_of m.old))) }
     ensures work { IfOk result (λ t. (work : ℕ) → Falls t m.new m.old.left work) }
 {
     if !m.spend() {
-        return Ok(Turned::Exhausted(m.trace(Origin::Code)?));
+        return Ok(TurnEnd::Exhausted(m.trace(Origin::Code)?));
     }
     let made = binary_made(m.alloc, &m.heap, op, x, y, m.left)?;
     m.pay(made, Origin::Code)
@@ -47,24 +47,24 @@ fn unary_within(
 }
 
 /// An operator before a value.
-pub fn operate_before(m: &mut Machine, op: UnOp, x: Value) -> Result<Turned, OutOfMemory>
+pub fn operate_before(m: &mut Machine, op: UnOp, x: Value) -> Result<TurnEnd, OutOfMemory>
     ensures next { IfOk result (λ t. Follows t m.new m.old.left (operated (unary_of op m.old.heap x) (site_now m.old) (state_of m.old) (rest_of m.old))) }
     ensures work { IfOk result (λ t. (work : ℕ) → Falls t m.new m.old.left work) }
 {
     if !m.spend() {
-        return Ok(Turned::Exhausted(m.trace(Origin::Code)?));
+        return Ok(TurnEnd::Exhausted(m.trace(Origin::Code)?));
     }
     let made = unary_within(m.alloc, &m.heap, op, x, m.left)?;
     m.pay(made, Origin::Code)
 }
 
 /// A comparison of two values.
-pub fn compare(m: &mut Machine, op: CmpOp, x: Value, y: Value) -> Result<Turned, OutOfMemory>
+pub fn compare(m: &mut Machine, op: CmpOp, x: Value, y: Value) -> Result<TurnEnd, OutOfMemory>
     ensures next { IfOk result (λ t. Follows t m.new m.old.left (operated (compare_of op m.old.heap x y) (site_now m.old) (state_of m.old) (rest_of m.old))) }
     ensures work { IfOk result (λ t. (work : ℕ) → Falls t m.new m.old.left work) }
 {
     if !m.spend() {
-        return Ok(Turned::Exhausted(m.trace(Origin::Code)?));
+        return Ok(TurnEnd::Exhausted(m.trace(Origin::Code)?));
     }
     let made = compare_made(m.alloc, &m.heap, op, x, y, m.left)?;
     m.pay(made, Origin::Code)

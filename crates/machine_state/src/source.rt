@@ -31,9 +31,12 @@ impl Model for SourceFile {
     ghost Value = { Source Core };
 
     ghost use Rattle.py_core.specs.contracts.stmt.CoreStmtKind as kind;
+    ghost use Rattle.py_core.specs.contracts.stmt.CoreBlock as block;
+    ghost use Rattle.py_tree.specs.contracts.expr.ExprKind as source_expression;
+    ghost use Rattle.py_tree.specs.contracts.stmt.StmtKind as statement;
     ghost use Rattle.std.specs.Coded.{codes};
 
-    ghost coded = { Prim.hlevel (codes, kind.the_row.coded) };
+    ghost coded = { Prim.hlevel (codes, kind.the_row.coded, block.the_row.coded, source_expression.the_row.coded, statement.the_row.coded) };
 
     ghost use Rattle.machine_state.specs.Coded.{coded_of};
 

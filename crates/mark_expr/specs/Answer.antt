@@ -8,20 +8,24 @@ use Rattle.mark_expr.specs.declared.fault.ExprFault.TheVariants as faults
 use Rattle.mark_expr.specs.Expression.{Tree, view, Within}
 use Rattle.mark_expr.specs.Text.{tokens_of, column_of}
 
--- The text with the characters cs is this expression, with at most 100 parentheses and `not`s open at once.
+-- so many parentheses and `not`s may be open at once
+abbrev pub most_nested : ℕ
+most_nested = 100
+
+-- The text with the characters cs is this expression, with at most `most_nested` parentheses and `not`s open at once.
 abbrev pub IsExpression : List ℕ → Tree → Type 0
-IsExpression cs t = Within 100 (tokens_of cs) t
+IsExpression cs t = Within most_nested (tokens_of cs) t
 
 -- The first token at which no reading goes on, however deep, stands at this column; the end is a token.
 pub record IsWrongAt (cs : List ℕ) (column : ℕ) : Type 0 where
   pub rest : List Token
-  pub fault : FirstFault (Within 100) (Ever Within) (tokens_of cs) rest
+  pub fault : FirstFault (Within most_nested) (Ever Within) (tokens_of cs) rest
   pub column_is : column ≡ column_of cs rest
 
--- Before any such token there is one with which the 101st parenthesis or `not` is open.
+-- Before any such token there is one with which a parenthesis or `not` more than `most_nested` is open.
 pub record IsTooDeep (cs : List ℕ) : Type 0 where
   pub rest : List Token
-  pub deep : FirstDeep (Within 100) (Ever Within) (tokens_of cs) rest
+  pub deep : FirstDeep (Within most_nested) (Ever Within) (tokens_of cs) rest
 
 pub data Answer : Type 0 where
   Reads : Tree → Answer

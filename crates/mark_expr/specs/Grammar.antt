@@ -28,7 +28,12 @@ kind t = number_of t.kind
 
 abbrev pub name_in : Kind → List ℕ
 name_in (kinds.Ident n) = n
-name_in _ = []
+name_in kinds.Or = []
+name_in kinds.And = []
+name_in kinds.Not = []
+name_in kinds.Open = []
+name_in kinds.Close = []
+name_in kinds.Other = []
 
 abbrev pub leaf : Token → Tree
 leaf t = Name (name_in t.kind)

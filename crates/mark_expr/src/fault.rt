@@ -3,25 +3,9 @@ ghost use Rattle.mark_expr.specs.declared.fault.Stop.TheVariants.{Memory};
 ghost use Rattle.mark_expr.specs.declared.fault.ExprFault.TheVariants.{OutOfMemory as NoMemory};
 
 use crate::token::Token;
-use std::alloc::{AllocError, AllocFailed};
+use seq::OutOfMemory;
+use std::alloc::AllocFailed;
 use thiserror::Error;
-
-/// Memory ran out.
-#[derive(Clone, Copy, Debug, Error)]
-#[error("out of memory")]
-pub struct OutOfMemory;
-
-impl<T: Drop> From<AllocFailed<T>> for OutOfMemory {
-    fn from(_error: AllocFailed<T>) -> OutOfMemory {
-        OutOfMemory
-    }
-}
-
-impl From<AllocError> for OutOfMemory {
-    fn from(_error: AllocError) -> OutOfMemory {
-        OutOfMemory
-    }
-}
 
 /// Why a text is no expression.
 #[derive(Clone, Copy, Debug, PartialEq, Eq, Error)]
@@ -35,14 +19,6 @@ pub enum ExprFault {
     Nesting,
     #[error("out of memory")]
     OutOfMemory,
-}
-
-impl From<AllocError> for ExprFault {
-    ghost from_gives = { λ _ fault. fault ≡ NoMemory };
-
-    fn from(_error: AllocError) -> ExprFault {
-        ExprFault::OutOfMemory
-    }
 }
 
 impl From<OutOfMemory> for ExprFault {
@@ -61,14 +37,6 @@ pub enum Stop<'t> {
     /// A reading goes on with the first of them, but in more levels than are left.
     Deep(&'t [Token]),
     Memory,
-}
-
-impl<'t> From<AllocError> for Stop<'t> {
-    ghost from_gives = { λ _ stop. stop ≡ Memory };
-
-    fn from(_error: AllocError) -> Stop<'t> {
-        Stop::Memory
-    }
 }
 
 impl<'t, T: Drop> From<AllocFailed<T>> for Stop<'t> {

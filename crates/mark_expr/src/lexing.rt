@@ -1,9 +1,9 @@
 ghost use Rattle.std.specs.Prelude.{◌≡◌, ◌∷◌, List, ℕ, IfOk, MatchOption, take_while};
 ghost use Rattle.mark_expr.specs.Text.{is_ident, is_blank, begins, word_kind, sign_kind, kind_at, tokens_of};
 
-use crate::fault::OutOfMemory;
-use crate::name::PyName;
 use crate::token::{Kind, Token};
+use crate::tree::PyName;
+use seq::OutOfMemory;
 use std::alloc::{AllocError, Global};
 
 /// Whether the character may stand in an ident.

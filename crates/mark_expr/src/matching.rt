@@ -3,8 +3,7 @@ ghost use Rattle.std.specs.List.{list_any};
 ghost use Rattle.mark_expr.specs.Expression.{view};
 ghost use Rattle.mark_expr.specs.Matching.{Holds, begins, has_part, names_it, truth, all_true, any_true};
 
-use crate::name::PyName;
-use crate::tree::MarkExpr;
+use crate::tree::{MarkExpr, PyName};
 
 /// How an ident names a name.
 #[derive(Clone, Copy, Debug)]

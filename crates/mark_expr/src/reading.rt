@@ -7,15 +7,15 @@ ghost use Rattle.mark_expr.specs.Expression.{Conjunction, Disjunction, joined, v
 ghost use Rattle.mark_expr.specs.Grammar.{Gives, IsExact, closed_at, is, not_at, and_at, or_at};
 ghost use Rattle.mark_expr.specs.Text.{column_of, place_of};
 
-use crate::fault::{ExprFault, OutOfMemory, Stop};
+use crate::fault::{ExprFault, Stop};
 use crate::lexing::tokens;
-use crate::name::PyName;
 use crate::token::{Kind, Token};
-use crate::tree::MarkExpr;
-use std::alloc::{AllocError, Global};
+use crate::tree::{MarkExpr, PyName};
+use seq::OutOfMemory;
+use std::alloc::Global;
 
-/// How many parentheses and `not`s may be open at once.
-const LEVELS: u32 = 100;
+/// So many parentheses and `not`s may be open at once in an expression.
+pub const MOST_NESTED: u32 = 100;
 
 /// The `and` of the parts.
 fn conjunction(first: Box<MarkExpr>, more: Vec<MarkExpr>) -> MarkExpr
@@ -172,7 +172,7 @@ fn or_expr(alloc: Global, levels: u32, tokens: &[Token]) -> Result<(MarkExpr, &[
 fn whole_expr(alloc: Global, tokens: &[Token]) -> Result<MarkExpr, Stop<'_>>
     ensures { Gives (λ expr. (view expr, [])) result (finish (or_at 100 tokens.now)) }
 {
-    let (expr, rest) = or_expr(alloc, LEVELS, tokens)?;
+    let (expr, rest) = or_expr(alloc, MOST_NESTED, tokens)?;
     if !rest.is_empty() {
         return Err(Stop::Bad(rest));
     }
@@ -199,14 +199,6 @@ fn read_tokens(alloc: Global, length: usize, tokens: &[Token]) -> Result<MarkExp
     }
 }
 
-/// The text's characters.
-#[tactic(auto, using(std::proofs::lemmas::Str::chars_from_encodes))]
-fn characters(alloc: Global, text: &str) -> Result<Vec<char>, AllocError>
-    ensures { IfOk result (λ all. all.items ≡ chars text.now) }
-{
-    text.chars().collect(alloc)
-}
-
 /// The expression that the text is (pytest's reference, "Command-line Flags", `-k` and `-m`).
 pub fn read_expr(alloc: Global, text: &str) -> Result<MarkExpr, ExprFault>
     // What is read is the text's expression.
@@ -216,7 +208,7 @@ pub fn read_expr(alloc: Global, text: &str) -> Result<MarkExpr, ExprFault>
     // A text has one answer at most, and where it has it, this is given, unless memory runs out.
     ensures only { (answer : Answer) → IsAnswer (chars text.now) answer → Gave result answer }
 {
-    let chars = characters(alloc, text)?;
-    let tokens = tokens(alloc, chars.as_slice())?;
-    read_tokens(alloc, chars.len(), tokens.as_slice())
+    let written = PyName::from_str(alloc, text)?;
+    let tokens = tokens(alloc, written.chars())?;
+    read_tokens(alloc, written.len(), tokens.as_slice())
 }

@@ -1,4 +1,4 @@
-use crate::name::PyName;
+use crate::tree::PyName;
 
 /// What a token is.
 #[derive(Debug, Drop)]

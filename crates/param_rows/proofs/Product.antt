@@ -15,7 +15,7 @@ use Rattle.param_rows.specs.Ids.{Id}
 use Rattle.param_rows.specs.Rows.{Choice, row_of, product, param_choice, fixture_choices, set_choice, mark_choices}
 use Rattle.param_rows.specs.declared.param.ParamMark.{ParamMark}
 use Rattle.param_rows.specs.Steps.{with_choice, rows_in}
-use Rattle.param_rows.specs.declared.param.Row.{Row}
+use Rattle.param_rows.specs.declared.param.ParamRow.{ParamRow}
 
 map-flat_map : {A B C : Type 0} (f : B → C) (g : A → List B) (xs : List A) → map f (flat_map g xs) ≡ flat_map (λ x. map f (g x)) xs
 map-flat_map f g [] = refl
@@ -41,7 +41,7 @@ pub rows_in-cons : (named : Bool) (xs : List Choice) (lists : List (List Choice)
 rows_in-cons named xs lists = map-flat_map (row_of named) (λ choice. map (λ choices. choice ∷ choices) (product lists)) xs ∙ with_all named xs (product lists)
 
 -- the rows with one list of values more
-pub rows_in_more : {A : Type 0} (named : Bool) (f : A → List Choice) (xs : List A) (i j : ℕ) (x : A) (behind : List (List Choice)) (old new : List Row) → j < length xs → i ≡ j + 1 → x ≡ get_or xs j x → old ≡ rows_in named (map f (drop i xs) ++ behind) → new ≡ flat_map (λ choice. map (with_choice named choice) old) (f x) → new ≡ rows_in named (map f (drop j xs) ++ behind)
+pub rows_in_more : {A : Type 0} (named : Bool) (f : A → List Choice) (xs : List A) (i j : ℕ) (x : A) (behind : List (List Choice)) (old new : List ParamRow) → j < length xs → i ≡ j + 1 → x ≡ get_or xs j x → old ≡ rows_in named (map f (drop i xs) ++ behind) → new ≡ flat_map (λ choice. map (with_choice named choice) old) (f x) → new ≡ rows_in named (map f (drop j xs) ++ behind)
 rows_in_more named f xs i j x behind old new lt next at so_far step =
     let left : drop j xs ≡ x ∷ drop i xs = drop_more xs j x lt ∙ (rw (next, ← at) refl) in
     step ∙ ap (λ rows. flat_map (λ choice. map (with_choice named choice) rows) (f x)) so_far
@@ -116,7 +116,7 @@ pushed_more f xs i x start old new lt at so_far is =
     ∙ ap (λ ys. start ++ ys) (sym (map-append f (take i xs) (x ∷ [])) ∙ ap (λ ys. map f ys) (sym (read_more xs i x lt at)))
 
 -- what a loop appends for each element
-pub each_more : {A : Type 0} (g : Choice → List Row) (f : A → Choice) (xs : List A) (i : ℕ) (x : A) (old new : List Row) → i < length xs → x ≡ get_or xs i x → old ≡ flat_map g (map f (take i xs)) → new ≡ old ++ g (f x) → new ≡ flat_map g (map f (take (i + 1) xs))
+pub each_more : {A : Type 0} (g : Choice → List ParamRow) (f : A → Choice) (xs : List A) (i : ℕ) (x : A) (old new : List ParamRow) → i < length xs → x ≡ get_or xs i x → old ≡ flat_map g (map f (take i xs)) → new ≡ old ++ g (f x) → new ≡ flat_map g (map f (take (i + 1) xs))
 each_more g f xs i x old new lt at so_far is =
     is ∙ ap (λ ys. ys ++ g (f x)) so_far
     ∙ sym (ap (λ ys. flat_map g (map f ys)) (read_more xs i x lt at)
@@ -124,7 +124,7 @@ each_more g f xs i x old new lt at so_far is =
     ∙ flat_map-append g (map f (take i xs)) (f x ∷ [])
     ∙ ap (λ ys. flat_map g (map f (take i xs)) ++ ys) (append-nil (g (f x))))
 
-pub each_all : {A : Type 0} (g : Choice → List Row) (f : A → Choice) (xs : List A) (i : ℕ) (all : List Row) → length xs ≤ i → all ≡ flat_map g (map f (take i xs)) → all ≡ flat_map g (map f xs)
+pub each_all : {A : Type 0} (g : Choice → List ParamRow) (f : A → Choice) (xs : List A) (i : ℕ) (all : List ParamRow) → length xs ≤ i → all ≡ flat_map g (map f (take i xs)) → all ≡ flat_map g (map f xs)
 each_all g f xs i all le so_far = so_far ∙ ap (λ ys. flat_map g (map f ys)) (take_all i xs le)
 
 -- a numbered element
@@ -134,7 +134,7 @@ numbered_at ids i id lt at = sym (get_or-enumerate_from 0 ids i (i, id) lt ∙ s
     same : (a b : ℕ) (x y : Id) → a ≡ b → x ≡ y → ◌≡◌ {A = ℕ × Id} (a, x) (b, y)
     same a b x y e f = rw (e, f) refl
 
-pub rows_in_last : {A : Type 0} (named : Bool) (f : A → List Choice) (xs : List A) (i j : ℕ) (x : A) (old new : List Row) → j < length xs → i ≡ j + 1 → x ≡ get_or xs j x → old ≡ rows_in named (map f (drop i xs)) → new ≡ flat_map (λ choice. map (with_choice named choice) old) (f x) → new ≡ rows_in named (map f (drop j xs))
+pub rows_in_last : {A : Type 0} (named : Bool) (f : A → List Choice) (xs : List A) (i j : ℕ) (x : A) (old new : List ParamRow) → j < length xs → i ≡ j + 1 → x ≡ get_or xs j x → old ≡ rows_in named (map f (drop i xs)) → new ≡ flat_map (λ choice. map (with_choice named choice) old) (f x) → new ≡ rows_in named (map f (drop j xs))
 rows_in_last named f xs i j x old new lt next at so_far step =
     rows_in_more named f xs i j x [] old new lt next at (so_far ∙ ap (λ ys. rows_in named ys) (sym (append-nil (map f (drop i xs))))) step
     ∙ ap (λ ys. rows_in named ys) (append-nil (map f (drop j xs)))

@@ -7,8 +7,8 @@ use Rattle.std.proofs.lemmas.List.{map-id}
 use Rattle.std.proofs.lemmas.List.FromFn.{map-range_with_len_more}
 use Rattle.std.proofs.lemmas.List.Sorted.{IsPermutation-trans}
 use Rattle.std.proofs.lemmas.Slice.Eq.{slice_eq-Decides}
-use Rattle.session_rules.specs.declared.scope.Scope.{Scope}
-use Rattle.session_rules.specs.declared.scope.Scope.TheVariants.{Session, Module, Class}
+use Rattle.session_types.specs.declared.scope.Scope.{Scope}
+use Rattle.session_types.specs.declared.scope.Scope.TheVariants.{Session, Module, Class}
 use Rattle.param_rows.specs.declared.keys.ItemKeys.{ItemKeys}
 use Rattle.param_rows.specs.Grouping.{same_pair, same_key, keys_of, grouped, are_neighbours, pass, regrouped}
 use Rattle.param_rows.proofs.Shuffled.{grouped_permutes, stretches_permute}

@@ -3,9 +3,9 @@
 use Rattle.std.specs.Prelude.{ℕ, Bool, true, false, List, [], ◌∷◌, ◌++◌, length, Option, None, Some, map, slice_get, slice_index_or, ◌==◌, ◌&&◌, if◌then◌else◌}
 use Rattle.std.specs.List.{flat_map, filter, list_any, range_with_len}
 use Rattle.std.specs.Cmp.Lexicographic.{pointwise}
-use Rattle.session_rules.specs.declared.scope.Scope.{Scope}
-use Rattle.session_rules.specs.declared.scope.Scope.TheVariants.{Session, Module, Class, Function}
-use Rattle.session_rules.specs.Live.{rank}
+use Rattle.session_types.specs.declared.scope.Scope.{Scope}
+use Rattle.session_types.specs.declared.scope.Scope.TheVariants.{Session, Module, Class, Function}
+use Rattle.session_types.specs.Scopes.{rank}
 use Rattle.param_rows.specs.declared.keys.ItemKeys.{ItemKeys}
 
 module _ {A : Type 0} (same : A → A → Bool) where

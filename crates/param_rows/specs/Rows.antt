@@ -6,7 +6,7 @@ use Rattle.std.specs.declared.alloc.Global.{Global}
 use Rattle.std.specs.declared.vec.Vec.{Vec}
 use Rattle.param_rows.specs.declared.param.ParamMark.{ParamMark}
 use Rattle.param_rows.specs.declared.param.ParamSet.{ParamSet}
-use Rattle.param_rows.specs.declared.param.Row.{Row}
+use Rattle.param_rows.specs.declared.param.ParamRow.{ParamRow}
 use Rattle.param_rows.specs.Ids.{Id}
 
 -- one value of a list: the names that it binds, with their values; which parameter of which fixture it is; its id and its marks
@@ -51,7 +51,7 @@ joined [] = None
 joined (id ∷ ids) = joined_with id (joined ids)
 
 -- the row of what was chosen; without id where not all ids are made
-abbrev pub row_of : Bool → List Choice → Row
+abbrev pub row_of : Bool → List Choice → ParamRow
 row_of named choices = record {
   bound = flat_map (λ choice. choice.bound) choices;
   fixture_params = flat_map (λ choice. choice.fixture_params) choices;
@@ -63,5 +63,5 @@ row_of named choices = record {
 abbrev pub is_named : List ParamMark → Bool
 is_named marks = list_all (λ mark. list_all (λ set. is_some set.id) mark.sets) marks
 
-abbrev pub rows_of : List (ℕ × Vec Id Global) → List ParamMark → List Row
+abbrev pub rows_of : List (ℕ × Vec Id Global) → List ParamMark → List ParamRow
 rows_of fixtures marks = map (row_of (is_named marks)) (product (choice_lists fixtures marks))

@@ -1,10 +1,10 @@
 -- What a value adds to the rows of the lists behind its own.
 use Rattle.std.specs.Prelude.{Bool, List, ◌++◌, None, map, if◌then◌else◌}
-use Rattle.param_rows.specs.declared.param.Row.{Row}
+use Rattle.param_rows.specs.declared.param.ParamRow.{ParamRow}
 use Rattle.param_rows.specs.Rows.{Choice, joined_with, row_of, product}
 
 -- the row with a value chosen before it
-abbrev pub with_choice : Bool → Choice → Row → Row
+abbrev pub with_choice : Bool → Choice → ParamRow → ParamRow
 with_choice named choice row = record {
   bound = choice.bound ++ row.bound;
   fixture_params = choice.fixture_params ++ row.fixture_params;
@@ -13,5 +13,5 @@ with_choice named choice row = record {
 }
 
 -- the rows of lists of values
-abbrev pub rows_in : Bool → List (List Choice) → List Row
+abbrev pub rows_in : Bool → List (List Choice) → List ParamRow
 rows_in named lists = map (row_of named) (product lists)

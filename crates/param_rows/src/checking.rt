@@ -2,8 +2,9 @@ ghost use Rattle.std.specs.Prelude.{◌≡◌, ◌++◌, ◌⊎◌, ◌≤◌, �
 ghost use Rattle.param_rows.specs.declared.fault.RowFault.TheVariants.{OutOfMemory as NoMemory};
 ghost use Rattle.param_rows.specs.Faults.{among, width_fault, first_repeated, first_unknown, mark_fault, marks_fault};
 
-use crate::fault::{OutOfMemory, RowFault};
+use crate::fault::RowFault;
 use crate::param::{ParamMark, ParamSet};
+use seq::OutOfMemory;
 use std::alloc::Global;
 
 fn among(names: &[u32], name: u32) -> bool

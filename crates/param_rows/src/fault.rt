@@ -1,25 +1,8 @@
 ghost use Rattle.std.specs.Prelude.{◌≡◌};
 ghost use Rattle.param_rows.specs.declared.fault.RowFault.TheVariants.{OutOfMemory as NoMemory};
 
-use std::alloc::{AllocError, AllocFailed};
+use seq::OutOfMemory;
 use thiserror::Error;
-
-/// Memory ran out.
-#[derive(Clone, Copy, Debug, PartialEq, Eq, Error)]
-#[error("out of memory")]
-pub struct OutOfMemory;
-
-impl<T: Drop> From<AllocFailed<T>> for OutOfMemory {
-    fn from(_error: AllocFailed<T>) -> OutOfMemory {
-        OutOfMemory
-    }
-}
-
-impl From<AllocError> for OutOfMemory {
-    fn from(_error: AllocError) -> OutOfMemory {
-        OutOfMemory
-    }
-}
 
 /// Why a test has no rows. Names are the numbers that the marks have.
 #[derive(Clone, Copy, Debug, PartialEq, Eq, Error)]

@@ -1,26 +1,13 @@
 ghost use Rattle.std.specs.Prelude.{◌≡◌, ◌++◌, ◌∷◌, ◌<◌, ◌≤◌, ℕ, [], length, IfOk, OnOk, if◌then◌else◌, slice_index_or, IsPermutation};
 ghost use Rattle.std.specs.List.{filter, range_with_len};
-ghost use Rattle.session_rules.specs.Live.{rank};
 ghost use Rattle.param_rows.specs.Grouping.{firsts, is_seen, grouped, pair_of, key_of, keys_of, same_key, same_class, same_node, are_neighbours, pass, regrouped};
 ghost use Rattle.param_rows.specs.Cuts.{run_len};
 
-use crate::fault::OutOfMemory;
 use crate::keys::ItemKeys;
 use crate::param::Pairs;
-use session_rules::Scope;
+use seq::OutOfMemory;
+use session_types::Scope;
 use std::alloc::Global;
-
-/// The place of a scope in the order from broad to narrow.
-fn rank(scope: Scope) -> u8
-    ensures { result ≡ rank scope }
-{
-    match scope {
-        Scope::Session => 0,
-        Scope::Module => 1,
-        Scope::Class => 2,
-        Scope::Function => 3,
-    }
-}
 
 fn push_pair(
     pairs: &mut Vec<(u32, u32)>,
@@ -29,7 +16,7 @@ fn push_pair(
 ) -> Result<(), OutOfMemory>
     ensures { OnOk result (pairs.new.items ≡ pairs.old.items ++ pair_of scope param) }
 {
-    if rank(param.0) == rank(scope) {
+    if param.0.rank() == scope.rank() {
         pairs.push((param.1, param.2))?;
     }
     Ok(())

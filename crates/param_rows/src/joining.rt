@@ -4,9 +4,9 @@ ghost use Rattle.std.specs.Option.{option_copied};
 ghost use Rattle.param_rows.specs.Rows.{joined_with, set_choice, param_choice};
 ghost use Rattle.param_rows.specs.Steps.{with_choice};
 
-use crate::fault::OutOfMemory;
 use crate::id::PyId;
-use crate::param::{Numbers, Pairs, ParamSet, Row};
+use crate::param::{Pairs, ParamNumbers, ParamRow, ParamSet};
+use seq::OutOfMemory;
 use std::alloc::Global;
 
 /// Two ids with `-` between them.
@@ -52,12 +52,12 @@ fn set_id_before(
     }
 }
 
-fn numbers_before(alloc: Global, one: &[u32], other: &[u32]) -> Result<Numbers, OutOfMemory>
+fn numbers_before(alloc: Global, one: &[u32], other: &[u32]) -> Result<ParamNumbers, OutOfMemory>
     ensures { IfOk result (λ new. new ≡ one.now ++ other.now) }
 {
     let mut numbers = Vec::from_slice(alloc, one)?;
     numbers.extend_from_slice(other)?;
-    Ok(Numbers::from_vec(numbers))
+    Ok(ParamNumbers::from_vec(numbers))
 }
 
 /// The names with their values.
@@ -96,15 +96,20 @@ fn pair_before(alloc: Global, pair: (u32, u32), rest: &[(u32, u32)]) -> Result<P
 
 /// How rows are made.
 #[derive(Clone, Copy)]
-pub struct Making {
+pub struct RowMaker {
     pub alloc: Global,
     /// Whether they have ids.
     pub named: bool,
 }
 
-impl Making {
+impl RowMaker {
     /// A row with a set of a mark before it.
-    pub fn with_set(&self, names: &[u32], set: &ParamSet, row: &Row) -> Result<Row, OutOfMemory>
+    pub fn with_set(
+        &self,
+        names: &[u32],
+        set: &ParamSet,
+        row: &ParamRow,
+    ) -> Result<ParamRow, OutOfMemory>
         ensures { IfOk result (λ new. new ≡ with_choice self.now.named (set_choice names.now set.now) row.now) }
     {
         let id = if self.named {
@@ -112,16 +117,21 @@ impl Making {
         } else {
             None
         };
-        Ok(Row {
+        Ok(ParamRow {
             bound: bound_before(self.alloc, names, set.values.items(), row.bound.items())?,
-            fixture_params: Pairs::copied(self.alloc, &row.fixture_params)?,
+            fixture_params: row.fixture_params.copied(self.alloc)?,
             id,
             marks: numbers_before(self.alloc, set.marks.items(), row.marks.items())?,
         })
     }
 
     /// A row with a parameter of a fixture before it.
-    pub fn with_param(&self, param: (u32, u32), id: &PyId, row: &Row) -> Result<Row, OutOfMemory>
+    pub fn with_param(
+        &self,
+        param: (u32, u32),
+        id: &PyId,
+        row: &ParamRow,
+    ) -> Result<ParamRow, OutOfMemory>
         ensures { IfOk result (λ new. new ≡ with_choice self.now.named (param_choice param.0 (param.1, id.now)) row.now) }
     {
         let id = if self.named {
@@ -129,11 +139,11 @@ impl Making {
         } else {
             None
         };
-        Ok(Row {
-            bound: Pairs::copied(self.alloc, &row.bound)?,
+        Ok(ParamRow {
+            bound: row.bound.copied(self.alloc)?,
             fixture_params: pair_before(self.alloc, param, row.fixture_params.items())?,
             id,
-            marks: Numbers::copied(self.alloc, &row.marks)?,
+            marks: row.marks.copied(self.alloc)?,
         })
     }
 }

@@ -7,20 +7,21 @@ ghost use Rattle.param_rows.specs.Faults.{first_fault};
 
 use crate::checking::check_marks;
 use crate::counting::{MOST_ROWS, count};
-use crate::fault::{OutOfMemory, RowFault};
+use crate::fault::RowFault;
 use crate::id::PyId;
-use crate::joining::Making;
-use crate::param::{Numbers, Pairs, ParamMark, ParamSet, Row};
+use crate::joining::RowMaker;
+use crate::param::{Pairs, ParamMark, ParamNumbers, ParamRow, ParamSet};
+use seq::OutOfMemory;
 use std::alloc::Global;
 
-impl Making {
+impl RowMaker {
     /// Appends the rows with one set before them.
     fn push_set(
         &self,
-        rows: &mut Vec<Row>,
+        rows: &mut Vec<ParamRow>,
         names: &[u32],
         set: &ParamSet,
-        rest: &[Row],
+        rest: &[ParamRow],
     ) -> Result<(), OutOfMemory>
         ensures { OnOk result (rows.new.items ≡ rows.old.items ++ map (with_choice self.now.named (set_choice names.now set.now)) rest.now) }
     {
@@ -33,10 +34,10 @@ impl Making {
     /// Appends the rows with one parameter before them.
     fn push_param(
         &self,
-        rows: &mut Vec<Row>,
+        rows: &mut Vec<ParamRow>,
         param: (u32, u32),
         id: &PyId,
-        rest: &[Row],
+        rest: &[ParamRow],
     ) -> Result<(), OutOfMemory>
         ensures { OnOk result (rows.new.items ≡ rows.old.items ++ map (with_choice self.now.named (param_choice param.0 (param.1, id.now))) rest.now) }
     {
@@ -47,7 +48,7 @@ impl Making {
     }
 
     /// The rows with each set of a mark before them.
-    fn with_mark(&self, mark: &ParamMark, rest: &[Row]) -> Result<Vec<Row>, OutOfMemory>
+    fn with_mark(&self, mark: &ParamMark, rest: &[ParamRow]) -> Result<Vec<ParamRow>, OutOfMemory>
         ensures { IfOk result (λ rows. rows.items ≡ flat_map (λ choice. map (with_choice self.now.named choice) rest.now) (mark_choices mark.now)) }
     {
         let mut rows = Vec::new(self.alloc);
@@ -62,8 +63,8 @@ impl Making {
         &self,
         fixture: u32,
         ids: &[PyId],
-        rest: &[Row],
-    ) -> Result<Vec<Row>, OutOfMemory>
+        rest: &[ParamRow],
+    ) -> Result<Vec<ParamRow>, OutOfMemory>
         requires { length ids.now ≤ 65536 }
         ensures { IfOk result (λ rows. rows.items ≡ flat_map (λ choice. map (with_choice self.now.named choice) rest.now) (map (param_choice fixture) (enumerate_from 0 ids.now))) }
     {
@@ -75,20 +76,20 @@ impl Making {
     }
 
     /// The one row of no lists.
-    fn no_choice(&self) -> Result<Vec<Row>, OutOfMemory>
+    fn no_choice(&self) -> Result<Vec<ParamRow>, OutOfMemory>
         ensures { IfOk result (λ rows. rows.items ≡ rows_in self.now.named []) }
     {
         let mut rows = Vec::new(self.alloc);
-        rows.push(Row {
+        rows.push(ParamRow {
             bound: Pairs::from_vec(Vec::new(self.alloc)),
             fixture_params: Pairs::from_vec(Vec::new(self.alloc)),
             id: None,
-            marks: Numbers::from_vec(Vec::new(self.alloc)),
+            marks: ParamNumbers::from_vec(Vec::new(self.alloc)),
         })?;
         Ok(rows)
     }
 
-    fn rows_of_marks(&self, marks: &[ParamMark]) -> Result<Vec<Row>, OutOfMemory>
+    fn rows_of_marks(&self, marks: &[ParamMark]) -> Result<Vec<ParamRow>, OutOfMemory>
         ensures { IfOk result (λ rows. rows.items ≡ rows_in self.now.named (map mark_choices marks.now)) }
     {
         let mut rows = self.no_choice()?;
@@ -104,7 +105,7 @@ impl Making {
         &self,
         fixtures: &[(u32, Vec<PyId>)],
         marks: &[ParamMark],
-    ) -> Result<Vec<Row>, OutOfMemory>
+    ) -> Result<Vec<ParamRow>, OutOfMemory>
         requires { All (λ fixture. length (fixture_choices fixture) ≤ 65536) fixtures.now }
         ensures { IfOk result (λ rows. rows.items ≡ rows_in self.now.named (choice_lists fixtures.now marks.now)) }
     {
@@ -139,7 +140,7 @@ pub fn rows(
     fixtures: &[(u32, Vec<PyId>)],
     marks: &[ParamMark],
     known: &[u32],
-) -> Result<Vec<Row>, RowFault>
+) -> Result<Vec<ParamRow>, RowFault>
     ensures sound { OnOk result (first_fault fixtures.now marks.now known.now ≡ None) }
     ensures rows { IfOk result (λ rows. rows.items ≡ rows_of fixtures.now marks.now) }
     ensures fault { IfErr result (λ fault. fault ≡ NoMemory ⊎ first_fault fixtures.now marks.now known.now ≡ Some fault) }
@@ -152,7 +153,7 @@ pub fn rows(
     if many == 0 {
         return Ok(Vec::new(alloc));
     }
-    let making = Making {
+    let making = RowMaker {
         alloc,
         named: is_named(marks),
     };

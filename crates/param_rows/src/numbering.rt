@@ -3,8 +3,8 @@ ghost use Rattle.std.specs.Fmt.{decimal};
 ghost use Rattle.param_rows.specs.Taken.{TakenTo, AllTaken};
 ghost use Rattle.param_rows.specs.Ids.{same_id, has_id, count_of, ends_in_digit, joint, numbered, first_free, made_of, unique_of};
 
-use crate::fault::OutOfMemory;
-use crate::id::PyId;
+use crate::id::{PyId, is_same};
+use seq::OutOfMemory;
 use std::alloc::Global;
 
 /// Appends a number in decimal digits.
@@ -51,14 +51,14 @@ fn numbered(alloc: Global, id: &PyId, number: usize) -> Result<PyId, OutOfMemory
 fn has_id(ids: &[PyId], id: &PyId) -> bool
     ensures { result ≡ has_id id.now ids.now }
 {
-    ids.iter().any(|one| one.is(id))
+    ids.iter().any(|one| is_same(one, id))
 }
 
 /// How often an id stands among others.
 fn count_of(ids: &[PyId], id: &PyId) -> usize
     ensures { result ≡ count_of id.now ids.now }
 {
-    ids.iter().filter(|one| one.is(id)).count()
+    ids.iter().filter(|one| is_same(one, id)).count()
 }
 
 /// Whether the id is neither among the ids given nor already made.

@@ -7,6 +7,7 @@ use Rattle.py_calls.specs.declared.made.TextMade.{TextMade}
 use Rattle.py_calls.specs.declared.made.TextMade.TheVariants.{Text, Refused}
 use Rattle.py_values.specs.Ends.{cost_of}
 use Rattle.py_values.specs.Kinds.{kind_name}
+use Rattle.py_values.specs.Lengths.{length_of}
 use Rattle.py_values.specs.Raises.{raise}
 use Rattle.py_values.specs.declared.builtin.Builtin.{Builtin}
 use Rattle.py_values.specs.declared.builtin.Builtin.TheVariants as builtin
@@ -32,21 +33,13 @@ abbrev pub str_made : List Obj → Option Value → Made
 str_made heap (Some v) = str_by (text_of heap v)
 str_made heap None = Fail (wrong builtin.Str) 0
 
--- `len(v)`: the number of a text's characters
-abbrev pub obj_len : Option Obj → Option ℕ
-obj_len (Some (obj.Text t)) = Some (length t)
-obj_len _ = None
-
-abbrev pub len_of : List Obj → Value → Option ℕ
-len_of heap (val.Ref id) = obj_len (slice_get heap id.at)
-len_of heap _ = None
-
+-- `len(v)`: the number of elements
 abbrev pub len_by : List ℕ → Option ℕ → Made
 len_by kind (Some n) = Give (val.Int (pos n)) 0
 len_by kind None = Fail (raise TypeError (codes "'" ++ (kind ++ codes "' object is not iterable"))) 0
 
 abbrev pub len_made : List Obj → Option Value → Made
-len_made heap (Some v) = len_by (kind_name heap v) (len_of heap v)
+len_made heap (Some v) = len_by (kind_name heap v) (length_of heap v)
 len_made heap None = Fail (wrong builtin.Len) 0
 
 -- `print(v, ..)`: the bytes of the text, at the cost of its length

@@ -1,16 +1,17 @@
 -- Texts of values, or why there is none.
 use Rattle.std.specs.Prelude.{ℕ, List, ◌++◌, if◌then◌else◌, codes, Option, Some, None}
+use Rattle.py_values.specs.Limits.{most_elements}
 use Rattle.py_calls.specs.declared.made.TextMade.{TextMade}
 use Rattle.py_calls.specs.declared.made.TextMade.TheVariants.{Text, Refused}
-use Rattle.py_values.specs.Kinds.{builtin_name}
+use Rattle.py_values.specs.Builtins.{builtin_name}
 use Rattle.py_values.specs.Raises.{raise}
-use Rattle.py_values.specs.Repr.{str_of}
-use Rattle.py_values.specs.Symbols.{shown}
+use Rattle.py_repr.specs.Repr.{str_of}
+use Rattle.py_repr.specs.Symbols.{shown}
 use Rattle.py_values.specs.declared.builtin.Builtin.{Builtin}
 use Rattle.py_values.specs.declared.class.ExcClass.TheVariants.{TypeError, RecursionError, MemoryError}
 use Rattle.py_values.specs.declared.end.Raise.{Raise}
 use Rattle.py_values.specs.declared.object.Obj.{Obj}
-use Rattle.py_values.specs.declared.shown.Shown.{Shown}
+use Rattle.py_repr.specs.declared.shown.Shown.{Shown}
 use Rattle.py_values.specs.declared.value.Value.{Value}
 
 abbrev pub wrong : Builtin → Raise
@@ -24,8 +25,8 @@ text_by s =
     else Text s.text
 
 -- the text of a value
-abbrev pub text_of : List Obj → Value → TextMade
-text_of heap v = text_by (shown 65536 (str_of heap v))
+unfoldable pub text_of : List Obj → Value → TextMade
+text_of heap v = text_by (shown most_elements (str_of heap v))
 
 -- one text behind another; the first refusal where there is one
 abbrev pub joined : TextMade → TextMade → TextMade

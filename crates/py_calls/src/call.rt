@@ -12,6 +12,7 @@ use py_values::class::ExcClass;
 use py_values::end::{Made, OpEnd, Raise, finish, made_within, push_ascii};
 use py_values::heap::Heap;
 use py_values::kinds::kind_name;
+use py_values::length::length_of;
 use py_values::object::Obj;
 use py_values::value::Value;
 use py_values::{OutOfMemory, PyText};
@@ -42,19 +43,7 @@ fn str_made(alloc: Global, heap: &Heap, arg: Option<Value>) -> Result<Made, OutO
     }
 }
 
-fn len_of(heap: &Heap, v: Value) -> Option<usize>
-    ensures { result ≡ calls.len_of heap.now v }
-{
-    let Value::Ref(id) = v else {
-        return None;
-    };
-    match heap.get(id) {
-        Some(Obj::Text(text)) => Some(text.chars().len()),
-        _ => None,
-    }
-}
-
-fn len_by(alloc: Global, kind: &str, len: Option<usize>) -> Result<Made, OutOfMemory>
+fn len_by(alloc: Global, kind: &[char], len: Option<usize>) -> Result<Made, OutOfMemory>
     ensures { IfOk result (λ m. m ≡ calls.len_by kind.now len) }
 {
     match len {
@@ -62,7 +51,7 @@ fn len_by(alloc: Global, kind: &str, len: Option<usize>) -> Result<Made, OutOfMe
         None => {
             let mut text = Vec::new(alloc);
             push_ascii(&mut text, "'")?;
-            push_ascii(&mut text, kind)?;
+            text.extend_from_slice(kind)?;
             push_ascii(&mut text, "' object is not iterable")?;
             let raise = Raise::from_chars(alloc, ExcClass::TypeError, &text)?;
             Ok(Made::Fail(raise, 0))
@@ -74,7 +63,10 @@ fn len_made(alloc: Global, heap: &Heap, arg: Option<Value>) -> Result<Made, OutO
     ensures { IfOk result (λ m. m ≡ calls.len_made heap.now arg) }
 {
     match arg {
-        Some(v) => len_by(alloc, kind_name(heap, v), len_of(heap, v)),
+        Some(v) => {
+            let kind = kind_name(alloc, heap, v)?;
+            len_by(alloc, kind.chars(), length_of(heap, v))
+        }
         None => {
             let raise = wrong(alloc, Builtin::Len)?;
             Ok(Made::Fail(raise, 0))

@@ -4,19 +4,17 @@ ghost use Rattle.std.specs.Prelude.{◌≡◌, IfOk};
 ghost use Rattle.py_calls.specs.Texts as texts;
 
 use crate::made::TextMade;
+use py_repr::repr::str;
+use py_repr::shown::Shown;
 use py_values::OutOfMemory;
 use py_values::builtin::Builtin;
+use py_values::builtins::builtin_name;
 use py_values::class::ExcClass;
 use py_values::end::{Raise, push_ascii};
 use py_values::heap::Heap;
-use py_values::kinds::builtin_name;
-use py_values::repr::str;
-use py_values::shown::Shown;
+use py_values::limits::MOST_ELEMENTS;
 use py_values::value::Value;
 use std::alloc::Global;
-
-/// The greatest length of a text.
-const MOST: usize = 65536;
 
 /// The error that a call's arguments don't fit it.
 pub fn wrong(alloc: Global, which: Builtin) -> Result<Raise, OutOfMemory>
@@ -44,9 +42,10 @@ fn text_by(alloc: Global, shown: Shown) -> Result<TextMade, OutOfMemory>
 }
 
 /// The text of a value.
+#[tactic(auto, unfolding(crate::specs::Texts::text_of))]
 pub fn text_of(alloc: Global, heap: &Heap, v: Value) -> Result<TextMade, OutOfMemory>
     ensures { IfOk result (λ t. t ≡ texts.text_of heap.now v) }
 {
-    let shown = str(alloc, heap, v, MOST)?;
+    let shown = str(alloc, heap, v, MOST_ELEMENTS)?;
     text_by(alloc, shown)
 }

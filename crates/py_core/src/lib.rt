@@ -1,15 +1,22 @@
 //! Core forms: what a source's tree is lowered to before it runs.
 //!
-//! Core has the forms of the language but for `assert`, which becomes an `if` and a failure. Each core form stands at its source
-//! form's place. Lists and parts are shared by `Rc`, as in the trees of sources.
+//! # What it is for
+//!
+//! Core has the forms of the language but for `assert`, which becomes an `if` and a failure, and temporaries beside. Each core form
+//! stands at its source form's place. Core code carries its source: a block the statements for which its own stand, and whether asserts
+//! are explained there, a function the function of the source. Lists and parts are shared by `Rc`, as in the trees of sources.
+//!
+//! # What is proved
+//!
+//! `CoreBlock::len` and `stmt` are the number of its statements and the one at a place. The rest are types.
 #![tactic(auto)]
 
 mod expr;
 mod stmt;
 
 pub use expr::{CoreExpr, CoreExprKind};
-pub use py_tree::{BinOp, CmpOp, Names, Pos, SrcText, UnOp};
+pub use py_tree::{BinOp, CmpOp, Expr, Function, Names, Pos, SrcText, Stmt, UnOp};
 pub use stmt::{
-    Core, CoreBranch, CoreFn, CoreSingle, CoreSingleKind, CoreStmt, CoreStmtKind, CoreTarget,
-    Template,
+    Core, CoreBlock, CoreBranch, CoreFn, CoreSingle, CoreSingleKind, CoreStmt, CoreStmtKind,
+    CoreTarget, Template,
 };

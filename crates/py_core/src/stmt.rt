@@ -1,12 +1,43 @@
+// Core statements.
+
+ghost use Rattle.std.specs.Prelude.{◌≡◌, ◌<◌, length, get_or};
+ghost use Rattle.py_core.specs.Blocks.{stmts_in};
+
 use crate::expr::CoreExpr;
 use py_source::{Pos, SrcText};
-use py_tree::{BinOp, Names};
+use py_tree::{BinOp, Expr, Function, Names, Stmt};
 use std::rc::Rc;
 
-/// The core code of a source: its statements.
+/// The core code of a source.
 #[derive(Drop)]
 pub struct Core {
-    pub body: Rc<Vec<CoreStmt>>,
+    pub body: Rc<CoreBlock>,
+}
+
+/// The core statements of a block, the source's statements for which they stand, and whether asserts are explained there.
+#[derive(Drop)]
+#[cycle(statement)]
+pub struct CoreBlock {
+    pub source: Rc<Vec<Stmt>>,
+    pub explains: bool,
+    pub stmts: Vec<CoreStmt>,
+}
+
+impl CoreBlock {
+    /// The number of its statements.
+    pub fn len(&self) -> usize
+        ensures { result ≡ length (stmts_in self.now) }
+    {
+        self.stmts.len()
+    }
+
+    /// The statement at a place.
+    pub fn stmt(&self, at: usize) -> &CoreStmt
+        requires { at < length (stmts_in self.now) }
+        ensures { result.now ≡ get_or (stmts_in self.now) at result.now }
+    {
+        &self.stmts[at]
+    }
 }
 
 /// A core statement, at its first token.
@@ -33,8 +64,10 @@ pub enum CoreStmtKind {
     Break,
     Continue,
     /// The branches `if` and `elif`, and the block behind `else`.
-    If(Rc<Vec<CoreBranch>>, Rc<Vec<CoreStmt>>),
-    While(Rc<CoreExpr>, Rc<Vec<CoreStmt>>),
+    If(Rc<Vec<CoreBranch>>, Rc<CoreBlock>),
+    /// A `yield`, and what it gives.
+    Yield(Option<Rc<CoreExpr>>),
+    While(Rc<CoreExpr>, Rc<CoreBlock>),
     Def(Rc<CoreFn>),
 }
 
@@ -44,13 +77,15 @@ pub enum CoreStmtKind {
 pub struct CoreBranch {
     pub at: Pos,
     pub condition: Rc<CoreExpr>,
-    pub body: Rc<Vec<CoreStmt>>,
+    pub body: Rc<CoreBlock>,
 }
 
 /// A function (Language Reference, function definitions).
 #[derive(Drop)]
 #[cycle(statement)]
 pub struct CoreFn {
+    /// The function of the source.
+    pub source: Rc<Function>,
     /// Where the word `def` stands.
     pub at: Pos,
     pub name: SrcText,
@@ -58,7 +93,9 @@ pub struct CoreFn {
     pub params: Names,
     /// Its parameters and the names that it binds, but for those that it declares global.
     pub locals: Names,
-    pub body: Rc<Vec<CoreStmt>>,
+    /// Whether its body has a `yield`.
+    pub yields: bool,
+    pub body: Rc<CoreBlock>,
 }
 
 /// What takes a value.
@@ -81,8 +118,10 @@ pub enum CoreSingleKind {
 }
 
 /// What the failure of an assert shows beside its message.
-#[derive(Clone, Copy)]
+#[derive(Drop)]
 pub enum Template {
     /// Nothing.
     Plain,
+    /// What its condition was, whose parts are kept as temporaries.
+    Explain(Rc<Expr>),
 }

@@ -1,317 +1,208 @@
--- The lines whose parts stand one level deeper, and the levels.
-use Rattle.std.proofs.Common.{◌≡◌, ℕ, zero, suc, ◌<◌, ◌≤◌, max, true, false, cond, nat_le, inl, inr, List, [], ◌∷◌, refl, arith}
-use Rattle.py_tokens.specs.declared.op.Op.TheVariants as op
+-- THE LEVELS OF EXPRESSIONS in a reading are those of its tree: a fact an action.
+use Rattle.std.proofs.Common.{◌≡◌, ℕ, ◌≤◌, ◌+◌, max, List, [], ◌∷◌, ◌++◌, Option, Some, None, refl, sym, ap, ◌∙◌, arith}
+use Rattle.py_source.specs.declared.pos.Pos.{Pos}
 use Rattle.py_tokens.specs.declared.token.Token.{Token}
-use Rattle.py_tokens.specs.declared.token.TokenKind.TheVariants as kinds
-use Rattle.py_tree.specs.declared.op.UnOp.TheVariants as unary
-use Rattle.py_tree.specs.Trees.{Tree, Unary, Binary, Not, IfElse}
-use Rattle.parsing.specs.Reading.{Found, Then, Or, Nothing, many_at, guard_at, has, CanStart, CanGoOn, Never}
-use Rattle.parsing.proofs.Sets.{has_either}
-use Rattle.parsing.proofs.Rules.{Rule, Step, step, nothing, one, «then», bind, loop_fit, guard, or_step, wanting, asking, wider, wider_step, deep_reader, start_then, go_then, start_nothing, start_loop, start_one, go_one, go_left, go_right, start_left, start_right, go_when, never_facts}
-use Rattle.py_grammar.specs.Kinds.{kind}
-use Rattle.py_grammar.specs.Numbers as k
-use Rattle.py_grammar.specs.Parts.{Reader, ◌⨟◌, ◌▸◌, As, made, Any, starts}
-use Rattle.py_grammar.specs.Shapes.{height, at_of, room, compare_more, and_more, or_more, first_compared, first_and, first_or}
-use Rattle.py_grammar.specs.Expressions.{binary_of, comparison_of, AtomAt, PrimaryAt, P1, S1, C1, CompareAt, Choice, level}
-use Rattle.py_grammar.specs.Reading.{A1, U1, E1, atom_at, arguments, primary, operator_at, behind_at, comparison_at, compare_step, compare_at, and_step, or_step as or_step_at, choice, readers}
-use Rattle.py_grammar.proofs.Lines.{some, token, behind, made_rule, GE, leaf_rule, group_step, arguments_step}
-use Rattle.py_grammar.proofs.Fits.{le_of, of_le, first_compared_low, first_and_low, first_or_low, atom_fits, arguments_fits, primary_fits, behind_fits, compare_fits, and_fits, or_fits, loop_keeps}
+use Rattle.py_tree.specs.Trees as t
+use Rattle.py_tree.specs.Trees.{Tree, Trees, Maybe, Empty, More}
+use Rattle.py_tree.specs.Statements.{Place, Taker, One, Unpack, Parameter, Parameter_at, Block, NoStatement, Next}
+use Rattle.grammar.specs.Table.{one_of, Line}
+use Rattle.grammar.specs.Measures.{Measured}
+use Rattle.grammar.proofs.Measures.{is_low, in_limit}
+use Rattle.py_expressions.specs.Sorts as e
+use Rattle.py_expressions.specs.Values.{at_of, height, heights, high, place_height, places_height, taker_height, place_in, places_in, behind_places, taker_in, one_taker, several_taker}
+use Rattle.py_expressions.proofs.Heights.{reading_height}
+use Rattle.py_grammar.specs.Depth.{takers_height, params_height, expression_level, expression_levels, expression_levels_of, handler_levels}
+use Rattle.py_grammar.specs.Sorts.{Simple, Alone, Assigned, statement_of, targets_in, next_target, changed_in, at_place, Attempt, Head, Sort, nothing, position, twice, read, plain, targeted, changing, change, yielding, tested, names, listing, aliasing, statement, run, block, opening, testing, choice, other, repeated, aiming, looped, looping, context, holding, attempt, catching, classing, catch, otherwise, trying, begun, decor, head, param, noted, signed, function, titled, based, classed, El, Name, simple, simples, stmt, stmts, body, source, sort}
+use Rattle.py_grammar.specs.Lines.{behind, changes, defining, naming, statements}
+use Rattle.py_grammar.specs.Sources.{limited, unlimited}
 
--- what goes on behind what a line reads
-abbrev pub GU : List ℕ
-GU = k.left_paren ∷ k.text ∷ []
+-- the highest expression in a value
+abbrev attempt_level : Attempt → ℕ
+attempt_level a = max (expression_levels a.tried) (handler_levels a.handlers)
 
-abbrev pub GP : List ℕ
-GP = k.star ∷ k.double_slash ∷ k.percent ∷ GU
+abbrev head_level : Head → ℕ
+head_level h = max (heights h.begun.decorators) (params_height h.params)
 
-abbrev pub GS : List ℕ
-GS = k.plus ∷ k.minus ∷ GP
+abbrev level : (S : Sort) → El S → ℕ
+level nothing x = 0
+level position x = 0
+level twice x = 0
+level (read S) x = e.size S x.0
+level plain x = expression_level (statement_of x)
+level targeted x = takers_height x.1
+level changing x = place_height x.1
+level change x = place_height x.0.1
+level yielding x = takers_height x.0.1
+level tested x = height x.1
+level names x = 0
+level listing x = 0
+level aliasing x = 0
+level statement x = expression_level x
+level run x = expression_levels x.all
+level block x = expression_levels x
+level opening x = expression_levels_of x.before
+level testing x = max (expression_levels_of x.0.before) (height x.1)
+level choice x = max (max (expression_levels_of x.before) (height x.test)) (expression_levels x.body)
+level other x = max (max (max (expression_levels_of x.0.before) (height x.0.test)) (expression_levels x.0.body)) (expression_levels x.1)
+level repeated x = max (height x.0.1) (expression_levels x.1)
+level aiming x = taker_height x.1
+level looped x = max (taker_height x.0.1) (height x.1)
+level looping x = max (max (taker_height x.0.0.1) (height x.0.1)) (expression_levels x.1)
+level context x = height x.of
+level holding x = max (height x.0.of) (expression_levels x.1)
+level attempt x = attempt_level x
+level catching x = attempt_level x.0
+level classing x = max (attempt_level x.0.0) (height x.1)
+level catch x = max (attempt_level x.of) (high x.class)
+level otherwise x = max (attempt_level x.0) (expression_levels x.1)
+level trying x = max (max (attempt_level x.0.0) (expression_levels x.0.1)) (expression_levels x.1)
+level begun x = heights x.decorators
+level decor x = heights x.1
+level head x = head_level x
+level param x = head_level x.head
+level noted x = max (head_level x.0.head) (high x.1)
+level signed x = max (head_level x.0) (high x.1)
+level function x = max (max (head_level x.0.0) (high x.0.1)) (expression_levels x.1)
+level titled x = heights x.0.decorators
+level based x = max (heights x.0.0.decorators) (high x.1)
+level classed x = max (max (heights x.0.0.0.decorators) (high x.0.1)) (expression_levels x.1)
 
-abbrev pub GC : List ℕ
-GC = k.equal_equal ∷ k.not_equal ∷ k.less ∷ k.less_equal ∷ k.greater ∷ k.greater_equal ∷ GS
+-- what is read by a line of expressions
+abbrev far_level : (q : e.Name) → e.El (e.sort q) × ℕ → ℕ
+far_level q x = e.size (e.sort q) x.0
 
-abbrev pub GA : List ℕ
-GA = k.and ∷ GC
+only : (h : ℕ) → h ≡ max 0 h
+only h = omega arith
 
-abbrev pub GO : List ℕ
-GO = k.or ∷ GA
+end : (h : ℕ) → max h 0 ≡ h
+end h = omega arith
 
--- what is known of the expressions with n levels left, against those with m
-pub record Known (A : Type 0) (n m : ℕ) : Type 0 where
-  pub unary_rule : Rule A (0 < n) kind (level n).unary (level m).unary (readers n).unary false U1 GU
-  pub prod_rule : Rule A (0 < n) kind (level n).prod (level m).prod (readers n).prod false U1 GP
-  pub sum_rule : Rule A (0 < n) kind (level n).sum (level m).sum (readers n).sum false U1 GS
-  pub negation_rule : Rule A (0 < n) kind (level n).negation (level m).negation (readers n).negation false E1 GC
-  pub conjunct_rule : Rule A (0 < n) kind (level n).conjunct (level m).conjunct (readers n).conjunct false E1 GA
-  pub disjunct_rule : Rule A (0 < n) kind (level n).disjunct (level m).disjunct (readers n).disjunct false E1 GO
-  pub expr_rule : Rule A (0 < n) kind (level n).expr (level m).expr (readers n).expr false E1 GE
-  pub expr_step : Step A (Unit {0}) kind (level n).expr (level m).expr (readers n).expr false E1 GE
-  pub left : (w : List Token) (t : Tree) → (level n).expr w t → 0 < n
-  pub unary_low : (w : List Token) (t : Tree) → (level n).unary w t → height t ≤ n
-  pub prod_low : (w : List Token) (t : Tree) → (level n).prod w t → height t ≤ n
-  pub sum_low : (w : List Token) (t : Tree) → (level n).sum w t → height t ≤ n
-  pub negation_low : (w : List Token) (t : Tree) → (level n).negation w t → height t ≤ n
-  pub conjunct_low : (w : List Token) (t : Tree) → (level n).conjunct w t → height t ≤ n
-  pub disjunct_low : (w : List Token) (t : Tree) → (level n).disjunct w t → height t ≤ n
-  pub expr_low : (w : List Token) (t : Tree) → (level n).expr w t → height t ≤ n
+last : (h : ℕ) → h ≡ max h 0
+last h = omega arith
 
-module _ (A : Type 0) (n m : ℕ) (lt : A → n < m) (p : Known A n m) where
-  open p use {unary_rule, prod_rule, sum_rule, negation_rule, conjunct_rule, disjunct_rule, expr_rule, expr_step, left, unary_low, prod_low, sum_low, negation_low, conjunct_low, disjunct_low, expr_low}
+first_block : (h : ℕ) → max h 0 ≡ max 0 h
+first_block h = omega arith
 
-  -- how high what a line reads is
-  unary_fits : (w : List Token) (t : Tree) → (level (suc n)).unary w t → height t ≤ suc n
-  unary_fits w t (inl x) = let r = x.1.right in let k = unary_low r.front r.value r.left in rw r.right.1 (omega arith)
-  unary_fits w t (inr x) = primary_fits (level n).expr n expr_low w t x
+no_other : (h k : ℕ) → max (max h 0) k ≡ max h k
+no_other h k = omega arith
 
-  prod_fits : (w : List Token) (t : Tree) → (level (suc n)).prod w t → height t ≤ suc n
-  prod_fits w t r = loop_keeps (λ s. height s ≤ suc n) (λ s w t h l. behind_fits n P1 (level n).unary unary_low s w t l) r.value r.back t (unary_fits r.front r.value r.left) r.right
+group : (a b c : ℕ) → max a (max b c) ≡ max (max a b) c
+group a b c = omega arith
 
-  sum_fits : (w : List Token) (t : Tree) → (level (suc n)).sum w t → height t ≤ suc n
-  sum_fits w t r = loop_keeps (λ s. height s ≤ suc n) (λ s w t h l. behind_fits n S1 (level n).prod prod_low s w t l) r.value r.back t (prod_fits r.front r.value r.left) r.right
+handler : (t h c b : ℕ) → max t (max (max h c) b) ≡ max (max (max t h) c) b
+handler t h c b = omega arith
 
-  chain_fits : (w : List Token) (t : Tree) → CompareAt n (level n).unary (level n).prod (level n).sum (level n).expr w t → height t ≤ suc n
-  chain_fits w t r = loop_keeps (λ s. height s ≤ suc n) (λ s w t h l. compare_fits n (level n).sum sum_low s w t h l) r.value r.back t (sum_fits r.front r.value r.left) r.right
+-- TARGETS are as high as the expressions that they are
+place_high : (x : Tree) (p : Place) → place_in x ≡ Some p → place_height p ≡ height x
+place_high (t.Name at n) p e = sym (ap (high_of 1) e)
+  where
+    high_of : ℕ → Option Place → ℕ
+    high_of h None = h
+    high_of h (Some p) = place_height p
+place_high (t.Attribute at x n) p e = sym (ap high_of e)
+  where
+    high_of : Option Place → ℕ
+    high_of None = 0
+    high_of (Some p) = place_height p
+place_high (t.Subscript at x i) p e = sym (ap high_of e)
+  where
+    high_of : Option Place → ℕ
+    high_of None = 0
+    high_of (Some p) = place_height p
+place_high x p e = absurd (cc)
 
-  negation_fits : (w : List Token) (t : Tree) → (level (suc n)).negation w t → height t ≤ suc n
-  negation_fits w t (inl x) = let r = x.1.right in let k = negation_low r.front r.value r.left in rw r.right.1 (omega arith)
-  negation_fits w t (inr x) = chain_fits w t x
+one_high : (x : Tree) (o : Option Place) (u : Taker) → place_in x ≡ o → one_taker o ≡ Some u → taker_height u ≡ height x
+one_high x None u d e = absurd (cc)
+one_high x (Some p) u d e = let q : One p ≡ u = cc in sym (ap taker_height q) ∙ place_high x p d
 
-  conjunct_fits : (w : List Token) (t : Tree) → (level (suc n)).conjunct w t → height t ≤ suc n
-  conjunct_fits w t r = loop_keeps (λ s. height s ≤ suc n) (λ s w t h l. and_fits n (level n).negation negation_low s w t h l) r.value r.back t (negation_fits r.front r.value r.left) r.right
+places_end : (ps : List Place) (p : Place) → places_height (ps ++ p ∷ []) ≡ max (places_height ps) (place_height p)
+places_end [] p = first_block (place_height p)
+places_end (q ∷ ps) p = ap (λ v. max (place_height q) v) (places_end ps p) ∙ group (place_height q) (places_height ps) (place_height p)
 
-  disjunct_fits : (w : List Token) (t : Tree) → (level (suc n)).disjunct w t → height t ≤ suc n
-  disjunct_fits w t r = loop_keeps (λ s. height s ≤ suc n) (λ s w t h l. or_fits n (level n).conjunct conjunct_low s w t h l) r.value r.back t (conjunct_fits r.front r.value r.left) r.right
+places_high : (es : Trees) (ps : List Place) → places_in es ≡ Some ps → places_height ps ≡ heights es
+places_high Empty ps e = let d : [] ≡ ps = cc in sym (ap places_height d)
+places_high (More es x) ps e = go (places_in es) (place_in x) refl refl (λ qs c. places_high es qs c) e
+  where
+    go : (o : Option (List Place)) (q : Option Place) → places_in es ≡ o → place_in x ≡ q → ((qs : List Place) → places_in es ≡ Some qs → places_height qs ≡ heights es) → behind_places o q ≡ Some ps → places_height ps ≡ max (heights es) (height x)
+    go None q c d r e = absurd (cc)
+    go (Some qs) None c d r e = absurd (cc)
+    go (Some qs) (Some p) c d r e = let f : qs ++ p ∷ [] ≡ ps = cc in
+        sym (ap places_height f) ∙ places_end qs p ∙ ap (λ v. max v (place_height p)) (r qs c) ∙ ap (λ v. max (heights es) v) (place_high x p d)
 
-  expr_fits : (w : List Token) (t : Tree) → (level (suc n)).expr w t → height t ≤ suc n
-  expr_fits w t r = go r.back (disjunct_fits r.front r.value r.left) r.right
-    where
-      go : (v : List Token) → height r.value ≤ suc n → Or (Choice n (level n).disjunct (level n).expr r.value) (Nothing r.value) v t → height t ≤ suc n
-      go v h (inr y) = rw y.1 h
-      go v h (inl y) = let a = le_of (max 1 (height r.value)) n y.0 in let c = y.1.right in let i = disjunct_low c.front c.value c.left in let e = c.right.right in let j = expr_low e.front e.value e.left in rw e.right.1 (omega arith)
+several_high : (es : Trees) (o : Option (List Place)) (u : Taker) → places_in es ≡ o → several_taker o ≡ Some u → taker_height u ≡ 1 + heights es
+several_high es None u d e = absurd (cc)
+several_high es (Some ps) u d e = let q : Unpack ps ≡ u = cc in sym (ap taker_height q) ∙ ap (λ v. 1 + v) (places_high es ps d)
 
-  -- room
-  wide : A → (s : Tree) → height s ≤ suc n → nat_le (height s) m ≡ true
-  wide al s h = let l = lt al in of_le (height s) m (omega arith)
+taker_high : (x : Tree) (u : Taker) → taker_in x ≡ Some u → taker_height u ≡ height x
+taker_high (t.Tuple at Empty) u e = absurd (cc)
+taker_high (t.Tuple at (More es x)) u e = several_high (More es x) (places_in (More es x)) u refl e
+taker_high x u e = one_high x (place_in x) u refl e
 
-  room_wide : A → (s f : Tree) → height f ≤ height s → height s ≤ suc n → room m f ≡ true
-  room_wide al s f g h = let l = lt al in of_le (max 1 (height f)) m (omega arith)
+takers_end : (us : List Taker) (u : Taker) → takers_height (us ++ u ∷ []) ≡ max (takers_height us) (taker_height u)
+takers_end [] u = first_block (taker_height u)
+takers_end (w ∷ us) u = ap (λ v. max (taker_height w) v) (takers_end us u) ∙ group (taker_height w) (takers_height us) (taker_height u)
 
-  room_left : (s : Tree) → room n s ≡ true → 0 < n
-  room_left s e = let h = le_of (max 1 (height s)) n e in omega arith
+next_high : (at : Pos) (us : List Taker) (x : Tree) (o : Option Taker) (b : Pos × List Taker) → taker_in x ≡ o → next_target at us o ≡ Some b → takers_height b.1 ≡ max (takers_height us) (height x)
+next_high at us x None b d e = absurd (cc)
+next_high at us x (Some u) b d e = let q : (at, us ++ u ∷ []) ≡ b = cc in sym (ap (λ v. takers_height v.1) q) ∙ takers_end us u ∙ ap (λ v. max (takers_height us) v) (taker_high x u d)
 
-  same : (s : Tree) → height s ≤ height s
-  same s = omega arith
+targets_high : (s : Simple) (b : Pos × List Taker) → targets_in s ≡ Some b → takers_height b.1 ≡ expression_level (statement_of s)
+targets_high (Alone x) b e = next_high (at_of x) [] x (taker_in x) b refl e ∙ sym (only (height x))
+targets_high (Assigned at us x) b e = next_high at us x (taker_in x) b refl e
+targets_high s b e = absurd (cc)
 
-  one_wide : A → nat_le 1 m ≡ true
-  one_wide al = let l = lt al in of_le 1 m (omega arith)
+at_high : (at : Pos) (x : Tree) (o : Option Place) (b : Pos × Place) → place_in x ≡ o → at_place at o ≡ Some b → place_height b.1 ≡ height x
+at_high at x None b d e = absurd (cc)
+at_high at x (Some p) b d e = let q : (at, p) ≡ b = cc in sym (ap (λ v. place_height v.1) q) ∙ place_high x p d
 
-  -- lines
-  atom_line : Rule A (Unit {0}) kind (AtomAt n (level n).expr) (AtomAt m (level m).expr) (atom_at n (readers n).expr) false A1 (k.text ∷ [])
-  atom_line = wider _ refl (or_step (wanting (λ al _. (one_wide al, λ e. le_of 1 n e)) (guard (nat_le 1 n) (nat_le 1 m) (group_step A (0 < n) _ _ _ expr_step expr_rule left)
-      (λ al h e. go_then (go_one e) (λ o. start_then (expr_rule.able_wide al) (λ e. start_then (start_one (some (kinds.Op op.RightParen)) refl) (λ _. start_nothing)))))) leaf_rule refl)
+changed_high : (s : Simple) (b : Pos × Place) → changed_in s ≡ Some b → place_height b.1 ≡ expression_level (statement_of s)
+changed_high (Alone x) b e = at_high (at_of x) x (place_in x) b refl e
+changed_high s b e = absurd (cc)
 
-  primary_line : Rule A (Unit {0}) kind (PrimaryAt n (level n).expr) (PrimaryAt m (level m).expr) (primary n (readers n).expr) false A1 GU
-  primary_line = wider _ refl (bind {Y = λ a. height a ≤ suc n} (many_at (λ _ h. has (kind h) (k.left_paren ∷ [])) (λ x. guard_at (nat_le (height x.0) n) (λ h. has (kind h) (k.left_paren ∷ [])) (arguments (readers n).expr x.0) x.1))
-      atom_line
-      (λ a. loop_fit {Fits = λ s. height s ≤ suc n} {F = λ _. k.left_paren ∷ []} (k.left_paren ∷ []) _ a (λ s. wanting (λ al f. (wide al s f, λ _. tt)) (guard (nat_le (height s) n) (nat_le (height s) m) (arguments_step A (0 < n) _ _ _ expr_step expr_rule left s) (λ al. ((arguments_step A (0 < n) _ _ _ expr_step expr_rule left s).reader al tt).starts)))
-      (λ _. refl) (λ s k e. e) (λ al s w t f l. arguments_fits (level n).expr n expr_low s w t l))
-      (λ a. refl) (λ al u a w l. atom_fits (level n).expr n expr_low w a l))
+-- PARAMETERS
+param_end : (n a d : ℕ) → max (max a d) 0 ≡ max a d
+param_end n a d = omega arith
 
-  unary_line : Rule A (Unit {0}) kind (level (suc n)).unary (level (suc m)).unary (readers (suc n)).unary false U1 GU
-  unfolding readers
-  unary_line = wider _ refl (or_step (wanting (λ al _. (one_wide al, λ e. le_of 1 n e)) (guard (nat_le 1 n) (nat_le 1 m)
-      (step («then» (λ o. made (Unary o.0.at unary.Minus) (readers n).unary o.1) (token k.minus (some (kinds.Op op.Minus)) refl) (λ o. made_rule (Unary o.at unary.Minus) unary_rule) (λ _. refl)))
-      (λ al h e. go_then (go_one e) (λ o. start_then (unary_rule.able_wide al) (λ t. start_nothing))))) primary_line refl)
+params_end : (ps : List Parameter) (at : Pos) (name : List ℕ) (a d : Maybe) → params_height (ps ++ Parameter_at at name a d ∷ []) ≡ max (params_height ps) (max (high a) (high d))
+params_end [] at name a d = first_block (max (high a) (high d))
+params_end (Parameter_at p n b c ∷ ps) at name a d = ap (λ v. max (max (high b) (high c)) v) (params_end ps at name a d) ∙ group (max (high b) (high c)) (params_height ps) (max (high a) (high d))
 
-  times_step : (s : Tree) → Step A (0 < n) kind (Then (Any P1 binary_of) (λ o. As (Binary (at_of s) s o) (level n).unary)) (Then (Any P1 binary_of) (λ o. As (Binary (at_of s) s o) (level m).unary)) (operator_at P1 (readers n).unary s) false P1 GU
-  times_step s = step («then» (λ o. made (Binary (at_of s) s o.0) (readers n).unary o.1) (one (some (kinds.Op op.Star)) refl) (λ o. made_rule (Binary (at_of s) s o) unary_rule) (λ _. refl))
+with_param_high : (h : Head) (at : Pos) (name : List ℕ) (a d : Maybe) → max (heights h.begun.decorators) (params_height (h.params ++ Parameter_at at name a d ∷ [])) ≡ max (max (head_level h) (high a)) (high d)
+with_param_high h at name a d = ap (λ v. max (heights h.begun.decorators) v) (params_end h.params at name a d) ∙ four (heights h.begun.decorators) (params_height h.params) (high a) (high d)
+  where
+    four : (u p a d : ℕ) → max u (max p (max a d)) ≡ max (max (max u p) a) d
+    four u p a d = omega arith
 
-  prod_line : Rule A (Unit {0}) kind (level (suc n)).prod (level (suc m)).prod (readers (suc n)).prod false U1 GP
-  unfolding readers
-  prod_line = wider _ refl (bind {Y = λ a. height a ≤ suc n} _ unary_line
-      (λ a. loop_fit {Fits = λ s. height s ≤ suc n} {F = λ _. P1} P1 (behind_at n P1 (readers n).unary) a
-      (λ s. wanting (λ al f. (room_wide al s s (same s) f, room_left s)) (guard (room n s) (room m s) (times_step s) (λ al h e. go_then (go_one e) (λ o. start_then (unary_rule.able_wide al) (λ t. start_nothing)))))
-      (λ _. refl) (λ s k e. e) (λ al s w t f l. behind_fits n P1 (level n).unary unary_low s w t l))
-      (λ a. refl) (λ al u a w l. unary_fits w a l))
+behind_level : (b c : Block) → expression_levels (behind b c) ≡ max (expression_levels b) (expression_levels c)
+behind_level b NoStatement = last (expression_levels b)
+behind_level b (Next c s) = ap (λ v. max v (expression_level s)) (behind_level b c) ∙ sym (group (expression_levels b) (expression_levels c) (expression_level s))
 
-  plus_step : (s : Tree) → Step A (0 < n) kind (Then (Any S1 binary_of) (λ o. As (Binary (at_of s) s o) (level n).prod)) (Then (Any S1 binary_of) (λ o. As (Binary (at_of s) s o) (level m).prod)) (operator_at S1 (readers n).prod s) false S1 GP
-  plus_step s = step («then» (λ o. made (Binary (at_of s) s o.0) (readers n).prod o.1) (one (some (kinds.Op op.Plus)) refl) (λ o. made_rule (Binary (at_of s) s o) prod_rule) (λ _. refl))
+defining_measured : Measured statements level far_level defining
+defining_measured = (((((((λ d _. end (heights d.decorators)), (λ _ _. refl)), ((λ _ _. refl), (((((λ _ _. refl), (((λ _ _. refl), (λ _ _. refl)), (λ p. end (head_level p.head)))), (((λ _ _. refl), (λ p x. with_param_high p.0.head p.0.at p.0.name p.1 (t.Present x.0))), (λ p. with_param_high p.0.head p.0.at p.0.name p.1 t.Absent ∙ end (max (head_level p.0.head) (high p.1))))), ((λ _ _. refl), ((((λ _ _. refl), (((λ _ _. refl), (λ _ _. refl)), (λ p. end (head_level p.head)))), (((λ _ _. refl), (λ p x. with_param_high p.0.head p.0.at p.0.name p.1 (t.Present x.0))), (λ p. with_param_high p.0.head p.0.at p.0.name p.1 t.Absent ∙ end (max (head_level p.0.head) (high p.1))))), (λ _. refl)))), (λ _ _. refl)))), (((λ _ _. refl), (λ _ _. refl)), (λ h. end (head_level h)))), (λ _ _. refl)), (λ _ _. refl)), (λ x. sym (only (max (max (head_level x.0.0) (high x.0.1)) (expression_levels x.1)))))
 
-  sum_line : Rule A (Unit {0}) kind (level (suc n)).sum (level (suc m)).sum (readers (suc n)).sum false U1 GS
-  unfolding readers
-  sum_line = wider _ refl (bind {Y = λ a. height a ≤ suc n} _ prod_line
-      (λ a. loop_fit {Fits = λ s. height s ≤ suc n} {F = λ _. S1} S1 (behind_at n S1 (readers n).prod) a
-      (λ s. wanting (λ al f. (room_wide al s s (same s) f, room_left s)) (guard (room n s) (room m s) (plus_step s) (λ al h e. go_then (go_one e) (λ o. start_then (prod_rule.able_wide al) (λ t. start_nothing)))))
-      (λ _. refl) (λ s k e. e) (λ al s w t f l. behind_fits n S1 (level n).prod prod_low s w t l))
-      (λ a. refl) (λ al u a w l. prod_fits w a l))
+naming_measured : Measured statements level far_level naming
+naming_measured = (((((λ _ _. refl), (((λ _ _. refl), ((λ d _. end (heights d.0.decorators)), ((λ _ _. refl), (λ _ _. refl)))), (λ d. end (heights d.0.decorators)))), (λ _ _. refl)), (λ _ _. refl)), (λ x. sym (only (max (max (heights x.0.0.0.decorators) (high x.0.1)) (expression_levels x.1)))))
 
-  comparison_step : (s : Tree) → Step A (0 < n) kind (Then (Any C1 comparison_of) (λ o. As (compare_more s o) (level n).sum)) (Then (Any C1 comparison_of) (λ o. As (compare_more s o) (level m).sum)) (comparison_at (readers n).sum s) false C1 GS
-  comparison_step s = step («then» (λ o. made (compare_more s o.0) (readers n).sum o.1) (one (some (kinds.Op op.EqualEqual)) refl) (λ o. made_rule (compare_more s o) sum_rule) (λ _. refl))
+changes_measured : Measured statements level far_level (one_of {S = changing} {A = change} (λ p _ o. (p, o)) changes.0 changes.1)
+changes_measured = ((λ _ _. refl), ((λ _ _. refl), ((λ _ _. refl), ((λ _ _. refl), ((λ _ _. refl), ((λ _ _. refl), ((λ _ _. refl), ((λ _ _. refl), ((λ _ _. refl), ((λ _ _. refl), (λ _ _. refl)))))))))))
 
-  compare_line : Rule A (Unit {0}) kind (CompareAt n (level n).unary (level n).prod (level n).sum (level n).expr) (CompareAt m (level m).unary (level m).prod (level m).sum (level m).expr) (compare_at n (readers n).unary (readers n).prod (readers n).sum (readers n).expr) false U1 GC
-  unfolding readers
-  compare_line = wider _ refl (bind {Y = λ a. height a ≤ suc n} _ sum_line
-      (λ a. loop_fit {Fits = λ s. height s ≤ suc n} {F = λ _. C1} C1 (compare_step n (readers n).sum) a
-      (λ s. wanting (λ al f. (room_wide al s (first_compared s) (first_compared_low s) f, room_left (first_compared s))) (guard (room n (first_compared s)) (room m (first_compared s)) (comparison_step s) (λ al h e. go_then (go_one e) (λ o. start_then (sum_rule.able_wide al) (λ t. start_nothing)))))
-      (λ _. refl) (λ s k e. e) (λ al s w t f l. compare_fits n (level n).sum sum_low s w t f l))
-      (λ a. refl) (λ al u a w l. sum_fits w a l))
+measured : (r : Name) → Measured statements level far_level (statements.body r)
+measured simple = ((((λ _ _. refl), (λ _. refl)), (((λ _ _. refl), (λ _. refl)), (((λ _ _. refl), (λ _. refl)), (((λ _ _. refl), (((λ _ _ _. refl), ((((λ _ x. only (height x.0)), (λ _ _. refl)), (λ _ _. refl)), (λ _ x. only (height x.0)))), (λ _. refl))), (((λ _ _. refl), ((λ _ x. only (height x.0)), (λ _. refl))), ((((λ _ _. refl), (λ _ x. only (height x.0))), (((λ _ _. refl), (λ _ _. refl)), (λ x. end (height x.1)))), (((λ _ _. refl), (λ _ x. only (place_height x.0))), ((((λ _ _. refl), ((λ _ _. refl), ((λ _ _. refl), (λ _ _. refl)))), (λ _. refl)), (((λ _ _. refl), ((λ _ x. only (height x.0)), (λ _. refl))), ((((λ _ _. refl), ((λ _ _. refl), ((λ _ _. refl), (λ _ _. refl)))), (((λ _ _. refl), (λ _ _. refl)), (λ _. refl))), ((((((λ _ _. refl), ((λ _ _. refl), ((λ _ _. refl), (λ _ _. refl)))), (λ _ _. refl)), ((((λ _ _. refl), (((λ _ _. refl), (λ _ _. refl)), (λ _. refl))), ((λ _ _. refl), ((λ _ _. refl), (((λ _ _. refl), (λ _ _. refl)), (λ _. refl))))), ((((λ _ _. refl), ((λ _ _. refl), (((λ _ _. refl), (λ _ _. refl)), (λ _. refl)))), ((λ _ _. refl), (((λ _ _. refl), (((λ _ _. refl), (λ _ _. refl)), (λ _. refl))), (λ _. refl)))), (λ _ _. refl)))), (λ _. refl)), ((λ _ x. only (height x.0)), ((changed_high, (changes_measured, (λ _ _. refl))), (targets_high, ((λ _ _. refl), ((λ _ _. refl), ((λ _ _. refl), ((λ _ _. refl), (λ y. end (takers_height y.0.1)))))))))))))))))))), (λ _. refl))
+measured simples = (((λ _ s. refl), ((λ _ _. refl), ((λ r s. refl), (λ _. refl)))), (λ _ _. refl))
+measured stmt = (((((((λ _ _. refl), (((λ _ _. refl), (λ _ _. refl)), (λ _ _. refl))), ((λ _ _. refl), (((λ _ _. refl), (λ _ _. refl)), (λ _ _. refl)))), ((((λ _ _. refl), (λ _ _. refl)), (λ _ _. refl)), (λ c. end (max (max (expression_levels_of c.before) (height c.test)) (expression_levels c.body))))), (λ x. sym (only (max (max (max (expression_levels_of x.0.before) (height x.0.test)) (expression_levels x.0.body)) (expression_levels x.1))))), ((((((λ _ _. refl), (λ _ x. only (height x.0))), (λ _ _. refl)), (λ _ _. refl)), (λ x. sym (only (max (height x.0.1) (expression_levels x.1))))), ((((((((λ _ _. refl), (λ _ x. only (taker_height x.0))), (λ _ _. refl)), (λ _ _. refl)), (λ _ _. refl)), (λ _ _. refl)), (λ x. sym (only (max (max (taker_height x.0.0.1) (height x.0.1)) (expression_levels x.1))))), ((((((λ _ _. refl), (λ _ _. refl)), (λ _ b. first_block (expression_levels b))), ((((((((λ _ _. refl), (((λ _ _. refl), (((λ _ _. refl), (λ _ _. refl)), (λ _. refl))), (λ c. end (attempt_level c.0)))), (λ _ _. refl)), (λ c b. handler (expression_levels c.of.tried) (handler_levels c.of.handlers) (high c.class) (expression_levels b))), ((((λ _ _. refl), (((λ _ _. refl), (((λ _ _. refl), (λ _ _. refl)), (λ _. refl))), (λ c. end (attempt_level c.0)))), (λ _ _. refl)), (λ c b. handler (expression_levels c.of.tried) (handler_levels c.of.handlers) (high c.class) (expression_levels b)))), ((((λ _ _. refl), (λ _ _. refl)), (λ _ _. refl)), (λ a. end (attempt_level a)))), ((((λ _ _. refl), (λ _ _. refl)), (λ _ _. refl)), (λ x. end (max (attempt_level x.0) (expression_levels x.1))))), (((λ _ _. refl), (λ _ _. refl)), (λ a b. no_other (attempt_level a) (expression_levels b))))), (λ x. sym (only (max (max (attempt_level x.0.0) (expression_levels x.0.1)) (expression_levels x.1))))), (((((((λ _ _. refl), (λ _ x. only (height x.0))), (((λ _ _. refl), (λ _ _. refl)), (λ _. refl))), (λ _ _. refl)), (λ _ _. refl)), (λ x. sym (only (max (height x.0.of) (expression_levels x.1))))), ((((λ _ _. refl), defining_measured), ((λ _ _. refl), naming_measured)), (((((λ _ _. refl), (λ _ _. refl)), (λ _ _. refl)), (((λ _ _. refl), (λ _ _. refl)), (λ _ _. refl))), (((λ _ _. refl), defining_measured), ((λ _ _. refl), naming_measured))))))))), (λ _ b. only (expression_levels b)))
+measured stmts = ((λ _ b. only (expression_levels b)), behind_level)
+measured body = (((((λ _ _. refl), (λ _ _. refl)), (λ _ b. only (expression_levels b))), (λ _ _. refl)), (λ _ b. only (expression_levels b)))
+measured source = (((λ _ _. refl), (λ _. refl)), ((λ _ b. only (expression_levels b)), (λ _ _. refl)))
 
-  negation_line : Rule A (Unit {0}) kind (level (suc n)).negation (level (suc m)).negation (readers (suc n)).negation false E1 GC
-  unfolding readers
-  negation_line = wider _ refl (or_step (wanting (λ al _. (one_wide al, λ e. le_of 1 n e)) (guard (nat_le 1 n) (nat_le 1 m)
-      (step («then» (λ o. made (Not o.0.at) (readers n).negation o.1) (token k.not (some (kinds.Op op.Not)) refl) (λ o. made_rule (Not o.at) negation_rule) (λ _. refl)))
-      (λ al h e. go_then (go_one e) (λ o. start_then (negation_rule.able_wide al) (λ t. start_nothing))))) compare_line refl)
+-- WHAT IS READ WITHIN A LIMIT is read, and has no deeper expression; and the other way round
+of_limited : (n : ℕ) (q : e.Name) (w : List Token) (x : e.El (e.sort q) × ℕ) → limited n q w x → unlimited q w x × (far_level q x ≤ n)
+of_limited n q w x d = let h = reading_height q w x d.0 in let i = d.1 in (d.0, omega (arith, h, i))
 
-  conjunct_line : Rule A (Unit {0}) kind (level (suc n)).conjunct (level (suc m)).conjunct (readers (suc n)).conjunct false E1 GA
-  unfolding readers
-  conjunct_line = wider _ refl (bind {Y = λ a. height a ≤ suc n} _ negation_line
-      (λ a. loop_fit {Fits = λ s. height s ≤ suc n} {F = λ _. k.and ∷ []} (k.and ∷ []) (and_step n (readers n).negation) a
-      (λ s. wanting (λ al f. (room_wide al s (first_and s) (first_and_low s) f, room_left (first_and s))) (guard (room n (first_and s)) (room m (first_and s)) (step (behind k.and (some (kinds.Op op.And)) refl (made_rule (and_more s) negation_rule))) (λ al h e. go_then (go_one e) (λ o. start_then (negation_rule.able_wide al) (λ t. start_nothing)))))
-      (λ _. refl) (λ s k e. e) (λ al s w t f l. and_fits n (level n).negation negation_low s w t f l))
-      (λ a. refl) (λ al u a w l. negation_fits w a l))
+to_limited : (n : ℕ) (q : e.Name) (w : List Token) (x : e.El (e.sort q) × ℕ) → unlimited q w x → far_level q x ≤ n → limited n q w x
+to_limited n q w x d i = let h = reading_height q w x d in (d, omega (arith, h, i))
 
-  disjunct_line : Rule A (Unit {0}) kind (level (suc n)).disjunct (level (suc m)).disjunct (readers (suc n)).disjunct false E1 GO
-  unfolding readers
-  disjunct_line = wider _ refl (bind {Y = λ a. height a ≤ suc n} _ conjunct_line
-      (λ a. loop_fit {Fits = λ s. height s ≤ suc n} {F = λ _. k.or ∷ []} (k.or ∷ []) (or_step_at n (readers n).conjunct) a
-      (λ s. wanting (λ al f. (room_wide al s (first_or s) (first_or_low s) f, room_left (first_or s))) (guard (room n (first_or s)) (room m (first_or s)) (step (behind k.or (some (kinds.Op op.Or)) refl (made_rule (or_more s) conjunct_rule))) (λ al h e. go_then (go_one e) (λ o. start_then (conjunct_rule.able_wide al) (λ t. start_nothing)))))
-      (λ _. refl) (λ s k e. e) (λ al s w t f l. or_fits n (level n).conjunct conjunct_low s w t f l))
-      (λ a. refl) (λ al u a w l. conjunct_fits w a l))
+pub limited_low : (n : ℕ) (r : Name) (w : List Token) (x : El (sort r) × ℕ) → Line statements (limited n) r w x → Line statements unlimited r w x × (level (sort r) x.0 ≤ n)
+limited_low n = is_low statements level far_level (refl, measured) n (limited n) unlimited (of_limited n)
 
-  choice_step : (a : Tree) → Step A (0 < n) kind (k.if ⨟ Then (level n).disjunct (λ c. k.else ⨟ As (IfElse (at_of a) a c) (level n).expr)) (k.if ⨟ Then (level m).disjunct (λ c. k.else ⨟ As (IfElse (at_of a) a c) (level m).expr)) (choice (readers n).disjunct (readers n).expr a) false (k.if ∷ []) GE
-  choice_step a = wider_step _ refl (step (behind k.if (some (kinds.Op op.If)) refl («then» (λ c. (k.else ▸ made (IfElse (at_of a) a c.0) (readers n).expr) c.1) disjunct_rule (λ c. behind k.else (some (kinds.Op op.Else)) refl (made_rule (IfElse (at_of a) a c) expr_rule)) (λ _. refl))))
-
-  expr_line : Rule A (Unit {0}) kind (level (suc n)).expr (level (suc m)).expr (readers (suc n)).expr false E1 GE
-  unfolding readers
-  expr_line = wider _ refl (bind {Y = λ a. height a ≤ suc n} (λ x. cond (starts (k.if ∷ []) x.1) (guard_at (room n x.0) (λ h. has (kind h) (k.if ∷ [])) (choice (readers n).disjunct (readers n).expr x.0) x.1) (Found x.0 x.1)) disjunct_line
-      (λ a. or_step (wanting (λ al f. (room_wide al a a (same a) f, room_left a)) (guard (room n a) (room m a) (choice_step a)
-      (λ al h e. go_then (go_one e) (λ o. start_then (disjunct_rule.able_wide al) (λ c. start_then (start_one (some (kinds.Op op.Else)) refl) (λ _. start_then (expr_rule.able_wide al) (λ t. start_nothing))))))) (nothing a) refl)
-      (λ a. refl) (λ al u a w l. disjunct_fits w a l))
-
-  next_level : Known A (suc n) (suc m)
-  next_level = record {
-    unary_rule = asking (λ al _. tt) unary_line;
-    prod_rule = asking (λ al _. tt) prod_line;
-    sum_rule = asking (λ al _. tt) sum_line;
-    negation_rule = asking (λ al _. tt) negation_line;
-    conjunct_rule = asking (λ al _. tt) conjunct_line;
-    disjunct_rule = asking (λ al _. tt) disjunct_line;
-    expr_rule = asking (λ al _. tt) expr_line;
-    expr_step = step expr_line;
-    left = λ w t l. omega arith;
-    unary_low = unary_fits;
-    prod_low = prod_fits;
-    sum_low = sum_fits;
-    negation_low = negation_fits;
-    conjunct_low = conjunct_fits;
-    disjunct_low = disjunct_fits;
-    expr_low = expr_fits;
-  }
-
--- the facts of each level
-pub never_rule : {V : Type 0} {F G : List ℕ} {p : Reader V} {X : Type 0} → Rule ⊥ X kind Never Never p false F G
-never_rule = record { facts = never_facts; reader = λ a x. absurd a; able = λ a x. absurd a; able_wide = λ a. absurd a }
-
-zero_facts : Known ⊥ 0 0
-zero_facts = record {
-  unary_rule = never_rule;
-  prod_rule = never_rule;
-  sum_rule = never_rule;
-  negation_rule = never_rule;
-  conjunct_rule = never_rule;
-  disjunct_rule = never_rule;
-  expr_rule = never_rule;
-  expr_step = step never_rule;
-  left = λ w t l. absurd l;
-  unary_low = λ w t l. absurd l;
-  prod_low = λ w t l. absurd l;
-  sum_low = λ w t l. absurd l;
-  negation_low = λ w t l. absurd l;
-  conjunct_low = λ w t l. absurd l;
-  disjunct_low = λ w t l. absurd l;
-  expr_low = λ w t l. absurd l;
-}
-
-pub facts_of : (m : ℕ) → Known ⊥ m m
-facts_of zero = zero_facts
-facts_of (suc m) = next_level ⊥ m m (λ a. absurd a) (facts_of m)
-
--- what each line of a level may begin with
-able_unary : (m : ℕ) → CanStart (level (suc m)).unary []
-able_unary m = start_right (start_then (start_right (start_left (start_one (some (kinds.Name [])) refl))) (λ a. start_loop))
-
-able_prod : (m : ℕ) → CanStart (level (suc m)).prod []
-able_prod m = start_then (able_unary m) (λ a. start_loop)
-
-able_sum : (m : ℕ) → CanStart (level (suc m)).sum []
-able_sum m = start_then (able_prod m) (λ a. start_loop)
-
-able_negation : (m : ℕ) → CanStart (level (suc m)).negation []
-able_negation m = start_right (start_then (able_sum m) (λ a. start_loop))
-
-able_conjunct : (m : ℕ) → CanStart (level (suc m)).conjunct []
-able_conjunct m = start_then (able_negation m) (λ a. start_loop)
-
-able_disjunct : (m : ℕ) → CanStart (level (suc m)).disjunct []
-able_disjunct m = start_then (able_conjunct m) (λ a. start_loop)
-
-able_expr : (m : ℕ) → CanStart (level (suc m)).expr []
-able_expr m = start_then (able_disjunct m) (λ a. start_right start_nothing)
-
-one_more : (m : ℕ) → nat_le 1 (suc m) ≡ true
-one_more m = of_le 1 (suc m) (omega arith)
-
-atom_starts : (m : ℕ) (h : Token) → has (kind h) A1 ≡ true → CanGoOn (AtomAt (suc m) (level (suc m)).expr) [] h
-atom_starts m h e = elim (has_either (kind h) (k.left_paren ∷ []) (k.name ∷ k.number ∷ k.true ∷ k.false ∷ k.none ∷ k.text ∷ []) e) [
-  | inl x ↦ go_left (go_when (one_more m) (go_then (go_one x) (λ o. start_then (able_expr m) (λ e. start_then (start_one (some (kinds.Op op.RightParen)) refl) (λ _. start_nothing)))))
-  | inr y ↦ go_right (((leaf_rule {A = Unit {0}} {X = Unit {0}}).reader tt tt).starts h y)
-]
-
-unary_starts : (m : ℕ) (h : Token) → has (kind h) U1 ≡ true → CanGoOn (level (suc (suc m))).unary [] h
-unary_starts m h e = elim (has_either (kind h) (k.minus ∷ []) A1 e) [
-  | inl x ↦ go_left (go_when (one_more m) (go_then (go_one x) (λ o. start_then (able_unary m) (λ t. start_nothing))))
-  | inr y ↦ go_right (go_then (atom_starts m h y) (λ a. start_loop))
-]
-
-sum_starts : (m : ℕ) (h : Token) → has (kind h) U1 ≡ true → CanGoOn (level (suc (suc m))).sum [] h
-sum_starts m h e = go_then (go_then (unary_starts m h e) (λ a. start_loop)) (λ a. start_loop)
-
-negation_starts : (m : ℕ) (h : Token) → has (kind h) E1 ≡ true → CanGoOn (level (suc (suc m))).negation [] h
-negation_starts m h e = elim (has_either (kind h) (k.not ∷ []) U1 e) [
-  | inl x ↦ go_left (go_when (one_more m) (go_then (go_one x) (λ o. start_then (able_negation m) (λ t. start_nothing))))
-  | inr y ↦ go_right (go_then (sum_starts m h y) (λ a. start_loop))
-]
-
-pub expr_starts : (m : ℕ) (h : Token) → has (kind h) E1 ≡ true → CanGoOn (level (suc (suc m))).expr [] h
-expr_starts m h e = go_then (go_then (go_then (negation_starts m h e) (λ a. start_loop)) (λ a. start_loop)) (λ a. start_right start_nothing)
-
-pub no_level : 0 < 0 → ⊥
-no_level h = omega arith
-
-zero_level : (m : ℕ) → Known (Unit {0}) 0 (suc (suc m))
-unfolding readers
-zero_level m = let f = facts_of (suc (suc m)) in record {
-  unary_rule = record { facts = f.unary_rule.facts; reader = λ a x. absurd (no_level x); able = λ a x. absurd (no_level x); able_wide = λ a. able_unary (suc m) };
-  prod_rule = record { facts = f.prod_rule.facts; reader = λ a x. absurd (no_level x); able = λ a x. absurd (no_level x); able_wide = λ a. able_prod (suc m) };
-  sum_rule = record { facts = f.sum_rule.facts; reader = λ a x. absurd (no_level x); able = λ a x. absurd (no_level x); able_wide = λ a. able_sum (suc m) };
-  negation_rule = record { facts = f.negation_rule.facts; reader = λ a x. absurd (no_level x); able = λ a x. absurd (no_level x); able_wide = λ a. able_negation (suc m) };
-  conjunct_rule = record { facts = f.conjunct_rule.facts; reader = λ a x. absurd (no_level x); able = λ a x. absurd (no_level x); able_wide = λ a. able_conjunct (suc m) };
-  disjunct_rule = record { facts = f.disjunct_rule.facts; reader = λ a x. absurd (no_level x); able = λ a x. absurd (no_level x); able_wide = λ a. able_disjunct (suc m) };
-  expr_rule = record { facts = f.expr_rule.facts; reader = λ a x. absurd (no_level x); able = λ a x. absurd (no_level x); able_wide = λ a. able_expr (suc m) };
-  expr_step = record { facts = f.expr_step.facts; reader = λ a x. deep_reader kind (level (suc (suc m))).expr E1 _ f.expr_step.facts (expr_starts m) };
-  left = λ w t l. absurd l;
-  unary_low = λ w t l. absurd l;
-  prod_low = λ w t l. absurd l;
-  sum_low = λ w t l. absurd l;
-  negation_low = λ w t l. absurd l;
-  conjunct_low = λ w t l. absurd l;
-  disjunct_low = λ w t l. absurd l;
-  expr_low = λ w t l. absurd l;
-}
-
--- the expressions with n levels left, against those with more
-pub levels : (n m : ℕ) → suc n < m → Known (Unit {0}) n m
-levels n zero h = absurd (omega arith)
-levels zero (suc zero) h = absurd (omega arith)
-levels zero (suc (suc m)) h = zero_level m
-levels (suc n) (suc m) h = next_level (Unit {0}) n m (λ a. omega arith) (levels n m (omega arith))
+pub low_limited : (n : ℕ) (r : Name) (w : List Token) (x : El (sort r) × ℕ) → Line statements unlimited r w x → level (sort r) x.0 ≤ n → Line statements (limited n) r w x
+low_limited n = in_limit statements level far_level (refl, measured) n (limited n) unlimited (to_limited n)

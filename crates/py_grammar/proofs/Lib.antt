@@ -1,20 +1,7 @@
-pub mod Lines
-pub mod Fits
-pub mod Levels
-pub mod Equations
-pub mod Ranks
-pub mod Statements
-pub mod Blocks
-pub mod Examples
-pub mod Pieces
-pub mod Same
-pub mod Back
-pub mod Numbered
-pub mod StatementsSame
-pub mod StatementsBack
-pub mod Down
-pub mod StatementsDown
-pub mod Sources
-pub mod ContextExamples
-pub mod EndToken
-pub mod ContextRows
+pub mod Good
+pub mod Heights
+mod Levels
+mod Forks
+pub mod Laws
+pub mod Verdicts
+mod Examples

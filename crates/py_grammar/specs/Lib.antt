@@ -1,12 +1,6 @@
-pub mod Kinds
-pub mod Shapes
-pub mod Numbers
-pub mod Parts
-pub mod Expressions
-pub mod Reading
-pub mod Statements
-pub mod Reads
-pub mod ReadsStatements
-pub mod Context
 pub mod Depth
+pub mod Sorts
+pub mod Lines
 pub mod Sources
+pub mod Context
+pub mod Verdict

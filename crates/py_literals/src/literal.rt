@@ -6,7 +6,8 @@ ghost use Rattle.py_literals.specs.Literals.{has_three, closes, item_len, closin
 use crate::chars::{behind, line_end_len};
 use crate::escape::read_item;
 use py_source::{LexKind, SrcText};
-use std::alloc::{AllocError, AllocFailed, Global};
+use seq::OutOfMemory;
+use std::alloc::Global;
 
 /// A text literal at the head of a text.
 #[derive(Debug, Drop)]
@@ -30,24 +31,13 @@ pub enum ReadFault {
     OutOfMemory,
 }
 
-impl From<AllocError> for ReadFault {
+impl From<OutOfMemory> for ReadFault {
     ghost use Rattle.std.specs.Prelude.{◌≡◌};
     ghost use Rattle.py_literals.specs.declared.literal.ReadFault.TheVariants.{OutOfMemory};
 
     ghost from_gives = { λ _ fault. fault ≡ OutOfMemory };
 
-    fn from(_error: AllocError) -> ReadFault {
-        ReadFault::OutOfMemory
-    }
-}
-
-impl<T: Drop> From<AllocFailed<T>> for ReadFault {
-    ghost use Rattle.std.specs.Prelude.{◌≡◌};
-    ghost use Rattle.py_literals.specs.declared.literal.ReadFault.TheVariants.{OutOfMemory};
-
-    ghost from_gives = { λ _ fault. fault ≡ OutOfMemory };
-
-    fn from(_error: AllocFailed<T>) -> ReadFault {
+    fn from(_error: OutOfMemory) -> ReadFault {
         ReadFault::OutOfMemory
     }
 }
@@ -110,11 +100,11 @@ fn closing_quote(is_long: bool, quote: char, text: &[char]) -> Option<usize>
     None
 }
 
-fn push_char(chars: &mut Vec<char>, ch: Option<char>) -> Result<(), AllocError>
-    ensures { OnOk result (chars.new.items ≡ chars.old.items ++ option_to_list ch) }
+fn push_char(text: &mut SrcText, ch: Option<char>) -> Result<(), OutOfMemory>
+    ensures { OnOk result (text.new ≡ text.old ++ option_to_list ch) }
 {
     if let Some(ch) = ch {
-        chars.push(ch)?;
+        text.push(ch)?;
     }
     Ok(())
 }
@@ -124,17 +114,17 @@ fn body_text(alloc: Global, is_raw: bool, body: &[char]) -> Result<SrcText, Read
     ensures within { IfErr result (IsMissWithin (length body.now)) }
     ensures value { IsReading (text_from is_raw 0 0 body.now) result }
 {
-    let mut chars = Vec::new(alloc);
+    let mut text = SrcText::new(alloc);
     let mut at = 0;
     while at < body.len() {
         let item = match read_item(is_raw, behind(body, at)) {
             Ok(item) => item,
             Err(kind) => return Err(ReadFault::Bad(Miss { at, kind })),
         };
-        push_char(&mut chars, item.stands_for)?;
+        push_char(&mut text, item.stands_for)?;
         at += item.len;
     }
-    Ok(SrcText::from_vec(chars))
+    Ok(text)
 }
 
 /// The literal whose opening quote the text begins with (Language Reference, string literals).

@@ -2,32 +2,47 @@
 use Rattle.std.specs.Prelude.{ℕ, List, [], ◌∷◌, ◌++◌, Option, Some, None, Result, Ok, Err}
 use Rattle.std.specs.Borrow.{Bor}
 use Rattle.py_source.specs.declared.fault.SourceFault.{SourceFault}
+use Rattle.source_meaning.specs.Requests.{Script}
 use Rattle.py_core.specs.declared.stmt.Core.{Core}
 use Rattle.py_values.specs.declared.object.Obj.{Obj}
 use Rattle.py_values.specs.declared.object.Obj.TheVariants as obj
 use Rattle.py_values.specs.declared.value.Value.{Value}
-use Rattle.py_world.specs.World.{World, Source, Coded, Code, Fault}
-use Rattle.py_world.specs.Names.{first_heap}
-use Rattle.core_meaning.specs.Meaning.{CoreWorld}
+use Rattle.py_world.specs.World.{Source, Coded, Code, Fault}
+use Rattle.py_values.specs.Builtins.{first_heap}
+use Rattle.source_meaning.specs.Meaning.{SourceWorld}
+use Rattle.lower_law.specs.Sourced.{module_of}
+use Rattle.lower_law.specs.Lowered.{LoweredModule}
 
-abbrev pub empty : CoreWorld
-empty = record { sources = []; modules = []; heap = first_heap; codes = []; printed = [] }
+abbrev pub empty : SourceWorld
+empty = record { sources = []; modules = []; heap = first_heap; codes = []; printed = []; frozen = [] }
 
-abbrev pub given : Result Core SourceFault → Coded Core
-given (Ok core) = Code core
+-- the source that a core code carries, or why there is none
+abbrev pub given : Result Core SourceFault → Coded Script
+given (Ok core) = Code (module_of core)
 given (Err fault) = Fault fault
 
-abbrev pub with_source : Source Core → CoreWorld → CoreWorld
-with_source x w = record { sources = w.sources ++ x ∷ []; modules = w.modules; heap = w.heap; codes = w.codes; printed = w.printed }
+-- a core code that stands for the source that it carries
+abbrev pub IsLowered : Result Core SourceFault → Type 0
+IsLowered (Ok core) = LoweredModule (module_of core) core
+IsLowered (Err fault) = Unit {0}
 
--- the fault of a source, where it has one
-abbrev pub fault_in : Coded Core → Option SourceFault
-fault_in (Code core) = None
-fault_in (Fault fault) = Some fault
+-- a code that stands for the source that it carries
+abbrev pub Stands : Coded Core → Type 0
+Stands (Code core) = LoweredModule (module_of core) core
+Stands (Fault fault) = Unit {0}
 
-abbrev pub fault_of : Option (Source Core) → Option SourceFault
-fault_of (Some x) = fault_in x.code
-fault_of None = None
+abbrev pub with_source : Source Script → SourceWorld → SourceWorld
+with_source x w = record { sources = w.sources ++ x ∷ []; modules = w.modules; heap = w.heap; codes = w.codes; printed = w.printed; frozen = w.frozen }
+
+module _ {M : Type 0} where
+  -- the fault of a source, where it has one
+  abbrev pub fault_in : Coded M → Option SourceFault
+  fault_in (Code code) = None
+  fault_in (Fault fault) = Some fault
+
+  abbrev pub fault_of : Option (Source M) → Option SourceFault
+  fault_of (Some x) = fault_in x.code
+  fault_of None = None
 
 -- a module's object
 abbrev pub IsModule : Option Obj → Type 0

@@ -1,14 +1,15 @@
 // The world.
 
 ghost use Rattle.std.specs.Prelude.{◌≡◌, [], None, IfOk, OnOk, chars, length, slice_get, option_map};
-ghost use Rattle.py_world.specs.Names.{first_heap, names_in};
+ghost use Rattle.py_world.specs.Names.{names_in};
 ghost use Rattle.py_world.specs.Runs.{source_at};
 ghost use Rattle.py_world.specs.World as seen;
-ghost use Rattle.core_meaning.specs.Meaning.{core_call, core_module};
-ghost use Rattle.py_machine.specs.Worlds.{empty, fault_of, given, with_source};
+ghost use Rattle.source_meaning.specs.Meaning.{source_call, source_module};
+ghost use Rattle.py_machine.specs.Worlds.{empty, fault_of, given, with_source, IsLowered};
 
 use crate::sources::text_of;
 use crate::{begin, lines, load, sources};
+use machine_state::locals::Locals;
 use machine_state::machine::Machine;
 use machine_state::place::{Here, Place};
 use machine_state::source::{SourceCode, SourceFile};
@@ -16,9 +17,8 @@ use machine_state::stack::ControlStack;
 use py_core::Core;
 use py_source::SourceFault;
 use py_text::{OutOfMemory, PyText};
-use py_values::builtin::Builtin;
+use py_values::builtins::first_heap;
 use py_values::heap::Heap;
-use py_values::names::Names;
 use py_values::object::Obj;
 use py_values::value::{ObjId, Value};
 use py_world::Ended;
@@ -33,33 +33,23 @@ pub struct World {
 }
 
 impl Model for World {
-    ghost use Rattle.core_meaning.specs.Meaning.{CoreWorld};
+    ghost use Rattle.source_meaning.specs.Meaning.{SourceWorld};
+    ghost use Rattle.lower_law.proofs.Codes.{world_code};
 
-    ghost Value = { CoreWorld };
+    ghost Value = { SourceWorld };
 
-    ghost use Rattle.py_core.specs.contracts.stmt.CoreStmtKind as kind;
-    ghost use Rattle.py_core.specs.contracts.stmt.CoreFn as function;
-    ghost use Rattle.std.specs.Coded.{codes};
-
-    ghost coded = { Prim.hlevel (codes, kind.the_row.coded, function.the_row.coded) };
+    ghost coded = { world_code };
 
     ghost use Rattle.machine_state.specs.Frames.{world_of};
+    ghost use Rattle.lower_law.specs.View.{Sound, source_view};
 
-    ghost view = { λ w. world_of w.machine };
+    ghost view = { λ w. source_view (world_of w.machine) };
+
+    ghost invariant = { λ w. Sound (world_of w.machine) };
 }
 
 /// The place of a module's object.
 pub type ModuleId = ObjId;
-
-fn first_objects(alloc: Global) -> Result<Heap, OutOfMemory>
-    ensures { IfOk result (λ h. h ≡ first_heap) }
-{
-    let mut heap = Heap::new(alloc)?;
-    heap.add(Obj::Builtin(Builtin::Print))?;
-    heap.add(Obj::Builtin(Builtin::Len))?;
-    heap.add(Obj::Builtin(Builtin::Str))?;
-    Ok(heap)
-}
 
 impl World {
     /// A world without sources. Its heap has the objects of the built-in names.
@@ -76,11 +66,12 @@ impl World {
                 alloc,
                 sources: Vec::new(alloc),
                 modules: Vec::new(alloc),
-                heap: first_objects(alloc)?,
+                heap: first_heap(alloc)?,
                 codes: Vec::new(alloc),
                 printed: Vec::new(alloc),
+                frozen: Vec::new(alloc),
                 stack: ControlStack::new(alloc),
-                locals: Names::new(alloc),
+                locals: Locals::new(alloc),
                 temps: Vec::new(alloc),
                 here,
                 left: 0,
@@ -96,16 +87,14 @@ pub fn add_source(
     bytes: &[u8],
     code: Result<Core, SourceFault>,
 ) -> Result<(), OutOfMemory>
-    requires { source_at (chars path.now) world.old.sources ≡ None }
+    requires absent { source_at (chars path.now) world.old.sources ≡ None }
+    requires lowered { IsLowered code }
     ensures { OnOk result (world.new ≡ with_source (record { path = chars path.now; bytes = bytes.now; code = given code }) world.old) }
 {
     let alloc = world.machine.alloc;
     let path = text_of(alloc, path)?;
     let bytes = Vec::from_slice(alloc, bytes)?;
-    let code = match code {
-        Ok(core) => SourceCode::Code(core),
-        Err(fault) => SourceCode::Fault(fault),
-    };
+    let code = source_code(code);
     world
         .machine
         .sources
@@ -113,11 +102,32 @@ pub fn add_source(
     Ok(())
 }
 
+fn source_code(code: Result<Core, SourceFault>) -> SourceCode
+    requires { IsLowered code }
+    ensures code { coded_view (coded_of result) ≡ given code }
+    ensures lowered { Stands (coded_of result) }
+{
+    match code {
+        Ok(core) => SourceCode::Code(core),
+        Err(fault) => SourceCode::Fault(fault),
+    }
+}
+
+ghost use Rattle.lower_law.specs.View.{coded_view};
+ghost use Rattle.machine_state.specs.Coded.{coded_of};
+ghost use Rattle.py_machine.specs.Worlds.{Stands};
+
 /// The fault of the source of a path, where it has one.
 pub fn fault(world: &World, path: &str) -> Option<SourceFault>
     ensures { result ≡ fault_of (source_at (chars path.now) world.now.sources) }
 {
-    match sources::find(&world.machine.sources, path) {
+    fault_in(&world.machine.sources, path)
+}
+
+fn fault_in(all: &[SourceFile], path: &str) -> Option<SourceFault>
+    ensures { result ≡ fault_of (source_at (chars path.now) all.now) }
+{
+    match sources::find(all, path) {
         Some(source) => sources::fault(source),
         None => None,
     }
@@ -127,7 +137,13 @@ pub fn fault(world: &World, path: &str) -> Option<SourceFault>
 pub fn line<'w>(world: &'w World, path: &str, number: u32) -> Option<&'w str>
     ensures { option_map told_line result ≡ line_at (chars path.now) number world.now.sources }
 {
-    match sources::find(&world.machine.sources, path) {
+    line_in(&world.machine.sources, path, number)
+}
+
+fn line_in<'w>(all: &'w [SourceFile], path: &str, number: u32) -> Option<&'w str>
+    ensures { option_map told_line result ≡ line_at (chars path.now) number all.now }
+{
+    match sources::find(all, path) {
         Some(source) => lines::source_line(source.bytes(), number),
         None => None,
     }
@@ -169,19 +185,40 @@ ghost use Rattle.py_machine.specs.Worlds.{IsModule, told_name};
 
 /// Calls a value with arguments, within a budget of steps.
 pub fn call(world: &mut World, f: Value, args: &[Value], budget: u64) -> Result<Ended, OutOfMemory>
-    ensures { IfOk result (λ e. (e, world.new) ≡ core_call f args.now budget world.old) }
+    ensures { IfOk result (λ e. (e, world.new) ≡ source_call f args.now budget world.old) }
 {
-    let ended = begin::call(&mut world.machine, f, args, budget)?;
-    Ok(ended)
+    match begin::call(&mut world.machine, f, args, budget) {
+        Ok(ended) => Ok(ended),
+        Err(fault) => {
+            forget_code(&mut world.machine);
+            Err(fault)
+        }
+    }
+}
+
+/// Gives up all code, in a machine that want of memory stopped.
+fn forget_code(m: &mut Machine)
+    ensures sources { m.new.sources.items ≡ [] }
+    ensures codes { m.new.codes.items ≡ [] }
+    ensures frozen { m.new.frozen.items ≡ [] }
+{
+    m.sources = Vec::new(m.alloc);
+    m.codes = Vec::new(m.alloc);
+    m.frozen = Vec::new(m.alloc);
 }
 
 /// Executes a module, at most once per world, within a budget of steps.
 pub fn run_module(world: &mut World, path: &str, budget: u64) -> Result<Ended, OutOfMemory>
     requires { IsSome (coded (source_at (chars path.now) world.old.sources)) }
-    ensures { IfOk result (λ e. (e, world.new) ≡ core_module (chars path.now) budget world.old) }
+    ensures { IfOk result (λ e. (e, world.new) ≡ source_module (chars path.now) budget world.old) }
 {
-    let ended = load::load(&mut world.machine, path, budget)?;
-    Ok(ended)
+    match load::load(&mut world.machine, path, budget) {
+        Ok(ended) => Ok(ended),
+        Err(fault) => {
+            forget_code(&mut world.machine);
+            Err(fault)
+        }
+    }
 }
 
 ghost use Rattle.std.specs.Prelude.{IsSome};

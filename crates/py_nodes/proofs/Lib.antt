@@ -1,4 +1,1 @@
-pub mod Places
 pub mod Forms
-pub mod Blocks
-pub mod Steps

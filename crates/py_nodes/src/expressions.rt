@@ -1,12 +1,12 @@
-ghost use Rattle.std.specs.Prelude.{◌≡◌, ◌<◌, ◌+◌, max, false, IfOk, MatchOption, replicate, None, length};
-ghost use Rattle.py_tree.specs.Trees.{tree, trees, tree_at, Name, Paren, Unary, Binary, Not, IfElse};
-ghost use Rattle.py_grammar.specs.Shapes.{height, at_of};
-ghost use Rattle.py_grammar.specs.Expressions.{call};
-ghost use Rattle.py_grammar.specs.Statements.{is_name};
+ghost use Rattle.std.specs.Prelude.{◌≡◌, ◌<◌, ◌+◌, max, IfOk};
+ghost use Rattle.py_tree.specs.Trees.{tree, trees, some_tree, tree_at, Paren, Tuple, Listed, Dict, Attribute, Call, Subscript, Slice, Unary, Binary, Compare, Not, And, Or, IfElse};
+ghost use Rattle.py_expressions.specs.Values.{height, at_of, call, name_in};
+ghost use Rattle.py_nodes.specs.Parts.{args_of, maybe_of, high_of};
 
-use crate::node::{Node, Nodes};
+use crate::node::Node;
+use crate::parts::{Arguments, Bounds, Chain, Pairs, Row};
 use py_source::{Pos, SrcText};
-use py_tree::{ArgName, BinOp, Expr, ExprKind, UnOp};
+use py_tree::{ArgName, BinOp, CmpOp, Expr, ExprKind, UnOp};
 use std::alloc::{AllocError, Global};
 use std::rc::Rc;
 
@@ -54,7 +54,7 @@ pub fn not_node(alloc: Global, at: Pos, operand: Node) -> Result<Node, AllocErro
 }
 
 /// An operator between two operands, at the first token of the left one.
-#[tactic(auto, using(crate::proofs::Places::place_is))]
+#[tactic(auto, using(crate::proofs::Forms::place_is))]
 pub fn binary_node(alloc: Global, left: Node, op: BinOp, right: Node) -> Result<Node, AllocError>
     requires left { left.height < u32.MAX }
     requires right { right.height < u32.MAX }
@@ -69,7 +69,7 @@ pub fn binary_node(alloc: Global, left: Node, op: BinOp, right: Node) -> Result<
 }
 
 /// `value if condition else other`
-#[tactic(auto, using(crate::proofs::Places::place_is))]
+#[tactic(auto, using(crate::proofs::Forms::place_is))]
 pub fn if_else_node(
     alloc: Global,
     value: Node,
@@ -80,66 +80,284 @@ pub fn if_else_node(
     requires condition { condition.height < u32.MAX }
     requires other { other.height < u32.MAX }
     ensures tree { IfOk result (λ node. tree node.expr.value ≡ IfElse (at_of (tree value.expr.value)) (tree value.expr.value) (tree condition.expr.value) (tree other.expr.value)) }
-    ensures height { IfOk result (λ node. node.height ≡ 1 + max value.height (max condition.height other.height)) }
+    ensures height { IfOk result (λ node. node.height ≡ 1 + max (max value.height condition.height) other.height) }
 {
-    let height = 1 + value.height.max(condition.height.max(other.height));
+    let height = 1 + value.height.max(condition.height).max(other.height);
     let at = value.expr.at;
     let kind = ExprKind::IfElse(value.expr, condition.expr, other.expr);
     let expr = Rc::new(alloc, Expr { at, kind })?;
     Ok(Node { expr, height })
 }
 
-/// The names of so many arguments that have none.
-#[tactic(auto, using(std::proofs::lemmas::Grind::replicate_next))]
-fn no_names(alloc: Global, count: usize) -> Result<Vec<Option<ArgName>>, AllocError>
-    ensures { IfOk result (λ names. names.items ≡ replicate count None) }
+/// The name that an expression is, which may name an argument.
+pub fn name_in(expr: &Expr) -> Result<Option<ArgName>, AllocError>
+    ensures { IfOk result (λ name. name_in (tree expr.now) ≡ name) }
 {
-    let mut names = Vec::new(alloc);
-    for _place in 0..count {
-        names.push(None)?;
+    match &expr.kind {
+        ExprKind::Name(name) => Ok(Some(ArgName {
+            at: expr.at,
+            name: name.clone()?,
+        })),
+        _ => Ok(None),
     }
-    Ok(names)
+}
+
+fn tuple_form(at: Pos, all: Rc<Vec<Rc<Expr>>>) -> Expr
+    ensures { tree result ≡ Tuple at (trees all.value.items) }
+{
+    Expr {
+        at,
+        kind: ExprKind::Tuple(all),
+    }
+}
+
+/// A tuple's elements.
+pub fn tuple_node(alloc: Global, row: Row) -> Result<Node, AllocError>
+    requires { row.all.height < u32.MAX }
+    ensures tree { IfOk result (λ node. tree node.expr.value ≡ Tuple row.at (trees row.all.items.items)) }
+    ensures height { IfOk result (λ node. node.height ≡ 1 + row.all.height) }
+{
+    let height = 1 + row.all.height;
+    let all = Rc::new(alloc, row.all.items)?;
+    let expr = Rc::new(alloc, tuple_form(row.at, all))?;
+    Ok(Node { expr, height })
+}
+
+fn list_form(at: Pos, all: Rc<Vec<Rc<Expr>>>) -> Expr
+    ensures { tree result ≡ Listed at (trees all.value.items) }
+{
+    Expr {
+        at,
+        kind: ExprKind::List(all),
+    }
+}
+
+/// A list's elements.
+pub fn list_node(alloc: Global, row: Row) -> Result<Node, AllocError>
+    requires { row.all.height < u32.MAX }
+    ensures tree { IfOk result (λ node. tree node.expr.value ≡ Listed row.at (trees row.all.items.items)) }
+    ensures height { IfOk result (λ node. node.height ≡ 1 + row.all.height) }
+{
+    let height = 1 + row.all.height;
+    let all = Rc::new(alloc, row.all.items)?;
+    let expr = Rc::new(alloc, list_form(row.at, all))?;
+    Ok(Node { expr, height })
+}
+
+fn dict_form(at: Pos, names: Rc<Vec<Rc<Expr>>>, values: Rc<Vec<Rc<Expr>>>) -> Expr
+    ensures { tree result ≡ Dict at (trees names.value.items) (trees values.value.items) }
+{
+    Expr {
+        at,
+        kind: ExprKind::Dict(names, values),
+    }
+}
+
+/// A dictionary's keys and values.
+pub fn dict_node(alloc: Global, pairs: Pairs) -> Result<Node, AllocError>
+    requires names { pairs.names.height < u32.MAX }
+    requires values { pairs.values.height < u32.MAX }
+    ensures tree { IfOk result (λ node. tree node.expr.value ≡ Dict pairs.at (trees pairs.names.items.items) (trees pairs.values.items.items)) }
+    ensures height { IfOk result (λ node. node.height ≡ 1 + max pairs.names.height pairs.values.height) }
+{
+    let height = 1 + pairs.names.height.max(pairs.values.height);
+    let names = Rc::new(alloc, pairs.names.items)?;
+    let values = Rc::new(alloc, pairs.values.items)?;
+    let expr = Rc::new(alloc, dict_form(pairs.at, names, values))?;
+    Ok(Node { expr, height })
+}
+
+/// `of.name`, at the first token of what it is an attribute of.
+#[tactic(auto, using(crate::proofs::Forms::place_is))]
+pub fn attribute_node(alloc: Global, of: Node, name: SrcText) -> Result<Node, AllocError>
+    requires { of.height < u32.MAX }
+    ensures tree { IfOk result (λ node. tree node.expr.value ≡ Attribute (at_of (tree of.expr.value)) (tree of.expr.value) name) }
+    ensures height { IfOk result (λ node. node.height ≡ 1 + of.height) }
+{
+    let height = 1 + of.height;
+    let at = of.expr.at;
+    let kind = ExprKind::Attribute(of.expr, name);
+    let expr = Rc::new(alloc, Expr { at, kind })?;
+    Ok(Node { expr, height })
+}
+
+/// `of[index]`, at the first token of what it is a part of.
+#[tactic(auto, using(crate::proofs::Forms::place_is))]
+pub fn subscript_node(alloc: Global, of: Node, index: Node) -> Result<Node, AllocError>
+    requires of { of.height < u32.MAX }
+    requires index { index.height < u32.MAX }
+    ensures tree { IfOk result (λ node. tree node.expr.value ≡ Subscript (at_of (tree of.expr.value)) (tree of.expr.value) (tree index.expr.value)) }
+    ensures height { IfOk result (λ node. node.height ≡ 1 + max of.height index.height) }
+{
+    let height = 1 + of.height.max(index.height);
+    let at = of.expr.at;
+    let kind = ExprKind::Subscript(of.expr, index.expr);
+    let expr = Rc::new(alloc, Expr { at, kind })?;
+    Ok(Node { expr, height })
+}
+
+/// The height of a part that may be absent.
+fn height_of(part: &Option<Node>) -> u32
+    ensures { result ≡ high_of part.now }
+{
+    match part {
+        Some(node) => node.height,
+        None => 0,
+    }
+}
+
+fn expr_of(part: Option<Node>) -> Option<Rc<Expr>>
+    ensures { some_tree result ≡ maybe_of part }
+{
+    match part {
+        Some(node) => Some(node.expr),
+        None => None,
+    }
+}
+
+fn slice_form(
+    at: Pos,
+    of: Rc<Expr>,
+    from: Option<Rc<Expr>>,
+    to: Option<Rc<Expr>>,
+    by: Option<Rc<Expr>>,
+) -> Expr
+    ensures { tree result ≡ Slice at (tree of.value) (some_tree from) (some_tree to) (some_tree by) }
+{
+    Expr {
+        at,
+        kind: ExprKind::Slice(of, from, to, by),
+    }
+}
+
+/// `of[from:to:by]`, at the first token of what it is a part of.
+#[tactic(auto, using(crate::proofs::Forms::place_is))]
+pub fn slice_node(
+    alloc: Global,
+    of: Node,
+    from: Option<Node>,
+    bounds: Bounds,
+) -> Result<Node, AllocError>
+    requires of { of.height < u32.MAX }
+    requires from { high_of from < u32.MAX }
+    requires to { high_of bounds.to < u32.MAX }
+    requires by { high_of bounds.by < u32.MAX }
+    ensures tree { IfOk result (λ node. tree node.expr.value ≡ Slice (at_of (tree of.expr.value)) (tree of.expr.value) (maybe_of from) (maybe_of bounds.to) (maybe_of bounds.by)) }
+    ensures height { IfOk result (λ node. node.height ≡ 1 + max (max of.height (high_of from)) (max (high_of bounds.to) (high_of bounds.by))) }
+{
+    let ends = height_of(&bounds.to).max(height_of(&bounds.by));
+    let height = 1 + of.height.max(height_of(&from)).max(ends);
+    let at = of.expr.at;
+    let form = slice_form(
+        at,
+        of.expr,
+        expr_of(from),
+        expr_of(bounds.to),
+        expr_of(bounds.by),
+    );
+    let expr = Rc::new(alloc, form)?;
+    Ok(Node { expr, height })
 }
 
 fn call_form(
     at: Pos,
     function: Rc<Expr>,
-    arguments: Rc<Vec<Rc<Expr>>>,
+    all: Rc<Vec<Rc<Expr>>>,
     names: Rc<Vec<Option<ArgName>>>,
 ) -> Expr
-    requires place { at ≡ at_of (tree function.value) }
-    requires none { names.value.items ≡ replicate (length arguments.value.items) None }
-    ensures { tree result ≡ call (tree function.value) (trees arguments.value.items) }
+    ensures { tree result ≡ Call at (tree function.value) (trees all.value.items) names.value.items }
 {
     Expr {
         at,
-        kind: ExprKind::Call(function, arguments, names),
+        kind: ExprKind::Call(function, all, names),
     }
 }
 
-/// A call with arguments that have no names, at its function's first token.
-#[tactic(auto, using(crate::proofs::Places::place_is))]
-pub fn call_node(alloc: Global, function: Node, arguments: Nodes) -> Result<Node, AllocError>
+/// A call, at its function's first token.
+#[tactic(auto, using(crate::proofs::Forms::place_is))]
+pub fn call_node(alloc: Global, function: Node, arguments: Arguments) -> Result<Node, AllocError>
     requires function { function.height < u32.MAX }
-    requires arguments { arguments.height < u32.MAX }
-    ensures tree { IfOk result (λ node. tree node.expr.value ≡ call (tree function.expr.value) (trees arguments.items.items)) }
-    ensures height { IfOk result (λ node. node.height ≡ 1 + max function.height arguments.height) }
+    requires arguments { arguments.all.height < u32.MAX }
+    ensures tree { IfOk result (λ node. tree node.expr.value ≡ call (tree function.expr.value) (args_of arguments)) }
+    ensures height { IfOk result (λ node. node.height ≡ 1 + max function.height arguments.all.height) }
 {
-    let height = 1 + function.height.max(arguments.height);
+    let height = 1 + function.height.max(arguments.all.height);
     let at = function.expr.at;
-    let names = no_names(alloc, arguments.items.len())?;
-    let names = Rc::new(alloc, names)?;
-    let items = Rc::new(alloc, arguments.items)?;
-    let expr = Rc::new(alloc, call_form(at, function.expr, items, names))?;
+    let names = Rc::new(alloc, arguments.names)?;
+    let all = Rc::new(alloc, arguments.all.items)?;
+    let expr = Rc::new(alloc, call_form(at, function.expr, all, names))?;
     Ok(Node { expr, height })
 }
 
-/// The name that an expression is.
-pub fn name_of(expr: &Expr) -> Option<&SrcText>
-    ensures { MatchOption result (is_name (tree expr.now) ≡ false) (λ name. tree expr.now ≡ Name expr.now.at name.now) }
+fn compare_form(at: Pos, head: Rc<Expr>, ops: Rc<Vec<CmpOp>>, more: Rc<Vec<Rc<Expr>>>) -> Expr
+    ensures { tree result ≡ Compare at (tree head.value) ops.value.items (trees more.value.items) }
 {
-    match &expr.kind {
-        ExprKind::Name(name) => Some(name),
-        _ => None,
+    Expr {
+        at,
+        kind: ExprKind::Compare(head, ops, more),
     }
+}
+
+/// The comparison of operands.
+#[tactic(auto, using(crate::proofs::Forms::place_is))]
+pub fn compare_node(alloc: Global, chain: Chain) -> Result<Node, AllocError>
+    requires head { chain.head.height < u32.MAX }
+    requires more { chain.more.height < u32.MAX }
+    ensures tree { IfOk result (λ node. tree node.expr.value ≡ Compare (at_of (tree chain.head.expr.value)) (tree chain.head.expr.value) chain.ops.items (trees chain.more.items.items)) }
+    ensures height { IfOk result (λ node. node.height ≡ 1 + max chain.head.height chain.more.height) }
+{
+    let height = 1 + chain.head.height.max(chain.more.height);
+    let at = chain.head.expr.at;
+    let ops = Rc::new(alloc, chain.ops)?;
+    let more = Rc::new(alloc, chain.more.items)?;
+    let expr = Rc::new(alloc, compare_form(at, chain.head.expr, ops, more))?;
+    Ok(Node { expr, height })
+}
+
+fn and_form(at: Pos, head: Rc<Expr>, more: Rc<Vec<Rc<Expr>>>) -> Expr
+    ensures { tree result ≡ And at (tree head.value) (trees more.value.items) }
+{
+    Expr {
+        at,
+        kind: ExprKind::And(head, more),
+    }
+}
+
+/// Operands with `and` between them.
+#[tactic(auto, using(crate::proofs::Forms::place_is))]
+pub fn and_node(alloc: Global, chain: Chain) -> Result<Node, AllocError>
+    requires head { chain.head.height < u32.MAX }
+    requires more { chain.more.height < u32.MAX }
+    ensures tree { IfOk result (λ node. tree node.expr.value ≡ And (at_of (tree chain.head.expr.value)) (tree chain.head.expr.value) (trees chain.more.items.items)) }
+    ensures height { IfOk result (λ node. node.height ≡ 1 + max chain.head.height chain.more.height) }
+{
+    let height = 1 + chain.head.height.max(chain.more.height);
+    let at = chain.head.expr.at;
+    let more = Rc::new(alloc, chain.more.items)?;
+    let expr = Rc::new(alloc, and_form(at, chain.head.expr, more))?;
+    Ok(Node { expr, height })
+}
+
+fn or_form(at: Pos, head: Rc<Expr>, more: Rc<Vec<Rc<Expr>>>) -> Expr
+    ensures { tree result ≡ Or at (tree head.value) (trees more.value.items) }
+{
+    Expr {
+        at,
+        kind: ExprKind::Or(head, more),
+    }
+}
+
+/// Operands with `or` between them.
+#[tactic(auto, using(crate::proofs::Forms::place_is))]
+pub fn or_node(alloc: Global, chain: Chain) -> Result<Node, AllocError>
+    requires head { chain.head.height < u32.MAX }
+    requires more { chain.more.height < u32.MAX }
+    ensures tree { IfOk result (λ node. tree node.expr.value ≡ Or (at_of (tree chain.head.expr.value)) (tree chain.head.expr.value) (trees chain.more.items.items)) }
+    ensures height { IfOk result (λ node. node.height ≡ 1 + max chain.head.height chain.more.height) }
+{
+    let height = 1 + chain.head.height.max(chain.more.height);
+    let at = chain.head.expr.at;
+    let more = Rc::new(alloc, chain.more.items)?;
+    let expr = Rc::new(alloc, or_form(at, chain.head.expr, more))?;
+    Ok(Node { expr, height })
 }

@@ -1,6 +1,6 @@
-ghost use Rattle.std.specs.Prelude.{◌≡◌, max, IfOk};
+ghost use Rattle.std.specs.Prelude.{◌≡◌, ◌<◌, max, IfOk};
 ghost use Rattle.py_tree.specs.Trees.{tree, trees, Empty, More};
-ghost use Rattle.py_grammar.specs.Shapes.{height as height_of, heights};
+ghost use Rattle.py_expressions.specs.Values.{height as height_of, heights};
 
 use py_tree::Expr;
 use std::alloc::{AllocError, Global};
@@ -12,6 +12,7 @@ pub struct Node {
     pub expr: Rc<Expr>,
     pub height: u32,
     pub ghost is_height: { height ≡ height_of (tree expr.value) },
+    pub ghost some: { 0 < height },
 }
 
 /// Expressions side by side, and the height of the highest of them.

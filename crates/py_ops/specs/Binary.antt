@@ -1,19 +1,21 @@
 -- Operators between two values (Language Reference, binary arithmetic operations).
-use Rattle.std.specs.Prelude.{ℕ, ℤ, ◌+ℤ◌, ◌-ℤ◌, ◌*ℤ◌, List, ◌++◌, Option, Some, None, codes, slice_get}
+use Rattle.std.specs.Prelude.{ℕ, ℤ, ◌+ℤ◌, ◌-ℤ◌, ◌*ℤ◌, Bool, true, false, ◌&&◌, ◌||◌, not, List, ◌++◌, Option, Some, None, codes, slice_get, if◌then◌else◌}
 use Rattle.py_tree.specs.declared.op.BinOp.{BinOp}
 use Rattle.py_tree.specs.declared.op.BinOp.TheVariants as op
-use Rattle.py_values.specs.Equal.{number_of}
+use Rattle.py_values.specs.Numbers.{number_of}
 use Rattle.py_values.specs.Kinds.{kind_name}
 use Rattle.py_values.specs.Raises.{raise}
+use Rattle.py_values.specs.declared.change.Change.TheVariants.{Whole}
 use Rattle.py_values.specs.declared.class.ExcClass.TheVariants.{TypeError}
 use Rattle.py_values.specs.declared.end.Made.{Made}
-use Rattle.py_values.specs.declared.end.Made.TheVariants.{Fail}
+use Rattle.py_values.specs.declared.end.Made.TheVariants.{Give, New, Put, Fail}
 use Rattle.py_values.specs.declared.object.Obj.{Obj}
 use Rattle.py_values.specs.declared.object.Obj.TheVariants as obj
+use Rattle.py_values.specs.declared.value.ObjId.{ObjId}
 use Rattle.py_values.specs.declared.value.Value.{Value}
 use Rattle.py_values.specs.declared.value.Value.TheVariants as val
-use Rattle.py_ops.specs.Numbers.{number, floor_div, floor_mod, divided}
-use Rattle.py_ops.specs.Texts.{joined, repeated}
+use Rattle.py_ops.specs.Numbers.{number, floor_div, floor_mod, divided, power, shift_left, shift_right, int_and, int_or, int_xor}
+use Rattle.py_ops.specs.Sequences.{objs_added, obj_times}
 
 abbrev pub binary_text : BinOp → List ℕ
 binary_text op.Add = codes "+"
@@ -33,49 +35,103 @@ abbrev pub unsupported : List ℕ → List ℕ → List ℕ → Made
 unsupported o a b =
     Fail (raise TypeError (codes "unsupported operand type(s) for " ++ (o ++ (codes ": '" ++ (a ++ (codes "' and '" ++ (b ++ codes "'"))))))) 0
 
--- numbers; `**`, the shifts and the bitwise operators aren't there yet
-abbrev pub numbers_by : BinOp → ℤ → ℤ → Option Made
-numbers_by op.Add x y = Some (number (x +ℤ y))
-numbers_by op.Sub x y = Some (number (x -ℤ y))
-numbers_by op.Mul x y = Some (number (x *ℤ y))
-numbers_by op.FloorDiv x y = Some (divided y (floor_div x y))
-numbers_by op.Mod x y = Some (divided y (floor_mod x y))
-numbers_by _ x y = None
+-- two numbers
+abbrev pub numbers_by : BinOp → ℤ → ℤ → Made
+numbers_by op.Add x y = number (x +ℤ y)
+numbers_by op.Sub x y = number (x -ℤ y)
+numbers_by op.Mul x y = number (x *ℤ y)
+numbers_by op.FloorDiv x y = divided y (floor_div x y)
+numbers_by op.Mod x y = divided y (floor_mod x y)
+numbers_by op.Pow x y = power x y
+numbers_by op.LShift x y = shift_left x y
+numbers_by op.RShift x y = shift_right x y
+numbers_by op.BitAnd x y = number (int_and x y)
+numbers_by op.BitOr x y = number (int_or x y)
+numbers_by op.BitXor x y = number (int_xor x y)
 
 abbrev pub plain_by : BinOp → Option ℤ → Option ℤ → Option Made
-plain_by o (Some x) (Some y) = numbers_by o x y
+plain_by o (Some x) (Some y) = Some (numbers_by o x y)
 plain_by o _ _ = None
 
--- two texts
-abbrev pub texts_added : Option Obj → Option Obj → Option Made
-texts_added (Some (obj.Text a)) (Some (obj.Text b)) = Some (joined a b)
-texts_added _ _ = None
+-- `&`, `|` and `^` of two booleans give a boolean (Python library reference, boolean type)
+abbrev pub bools_by : BinOp → Bool → Bool → Option Bool
+bools_by op.BitAnd a b = Some (a && b)
+bools_by op.BitOr a b = Some (a || b)
+bools_by op.BitXor a b = Some (if a then not b else b)
+bools_by op.Add a b = None
+bools_by op.Sub a b = None
+bools_by op.Mul a b = None
+bools_by op.FloorDiv a b = None
+bools_by op.Mod a b = None
+bools_by op.Pow a b = None
+bools_by op.LShift a b = None
+bools_by op.RShift a b = None
 
--- a text and a number
-abbrev pub text_times : Option Obj → Option ℤ → Option Made
-text_times (Some (obj.Text t)) (Some z) = Some (repeated t z)
-text_times _ _ = None
+abbrev pub or_made : Option Bool → Option Made → Option Made
+or_made (Some b) m = Some (Give (val.Bool b) 0)
+or_made None m = m
 
--- numbers are added, and texts are joined
+abbrev pub bool_by : BinOp → Value → Value → Option Bool
+bool_by o (val.Bool a) (val.Bool b) = bools_by o a b
+bool_by o _ _ = None
+
+abbrev pub values_by : BinOp → Value → Value → Option Made
+values_by o a b = or_made (bool_by o a b) (plain_by o (number_of a) (number_of b))
+
+-- numbers are added, and texts, lists and tuples are joined
 abbrev pub added : List Obj → Value → Value → Option Made
-added heap (val.Ref i) (val.Ref j) = texts_added (slice_get heap i.at) (slice_get heap j.at)
+added heap (val.Ref i) (val.Ref j) = objs_added (slice_get heap i.at) (slice_get heap j.at)
 added heap a b = plain_by op.Add (number_of a) (number_of b)
 
--- numbers are multiplied, and a text is repeated, either way round
+-- numbers are multiplied, and texts, lists and tuples are repeated, either way round
 abbrev pub multiplied : List Obj → Value → Value → Option Made
-multiplied heap (val.Ref i) b = text_times (slice_get heap i.at) (number_of b)
-multiplied heap a (val.Ref j) = text_times (slice_get heap j.at) (number_of a)
+multiplied heap (val.Ref i) b = obj_times (slice_get heap i.at) (number_of b)
+multiplied heap a (val.Ref j) = obj_times (slice_get heap j.at) (number_of a)
 multiplied heap a b = plain_by op.Mul (number_of a) (number_of b)
 
 -- what an operator gives on kinds that have it
 abbrev pub supported : BinOp → List Obj → Value → Value → Option Made
 supported op.Add heap a b = added heap a b
 supported op.Mul heap a b = multiplied heap a b
-supported o heap a b = plain_by o (number_of a) (number_of b)
+supported op.Sub heap a b = values_by op.Sub a b
+supported op.FloorDiv heap a b = values_by op.FloorDiv a b
+supported op.Mod heap a b = values_by op.Mod a b
+supported op.Pow heap a b = values_by op.Pow a b
+supported op.LShift heap a b = values_by op.LShift a b
+supported op.RShift heap a b = values_by op.RShift a b
+supported op.BitAnd heap a b = values_by op.BitAnd a b
+supported op.BitOr heap a b = values_by op.BitOr a b
+supported op.BitXor heap a b = values_by op.BitXor a b
 
 abbrev pub or_fail : Made → Option Made → Made
 or_fail none (Some m) = m
 or_fail none None = none
 
-abbrev pub binary_of : BinOp → List Obj → Value → Value → Made
+-- AN OPERATOR BETWEEN TWO VALUES
+unfoldable pub binary_of : BinOp → List Obj → Value → Value → Made
 binary_of o heap a b = or_fail (unsupported (binary_text o) (kind_name heap a) (kind_name heap b)) (supported o heap a b)
+
+-- what `+=` and `*=` do to a list: the result becomes its content
+abbrev pub put_whole : ObjId → Made → Made
+put_whole id (New o n) = Put id (Whole o) (val.Ref id) n
+put_whole id (Give v n) = Give v n
+put_whole id (Put i c v n) = Put i c v n
+put_whole id (Fail r n) = Fail r n
+
+abbrev pub put_some : ObjId → Option Made → Option Made
+put_some id (Some m) = Some (put_whole id m)
+put_some id None = None
+
+abbrev pub changes_list : BinOp → Option Obj → Bool
+changes_list op.Add (Some (obj.List vs)) = true
+changes_list op.Mul (Some (obj.List vs)) = true
+changes_list _ _ = false
+
+abbrev pub in_place_by : Bool → ObjId → Made → Made
+in_place_by true id m = put_whole id m
+in_place_by false id m = m
+
+-- AN OPERATOR OF AN AUGMENTED ASSIGNMENT (Language Reference, augmented assignment statements): a list is changed in place
+abbrev pub augmented_of : BinOp → List Obj → Value → Value → Made
+augmented_of o heap (val.Ref id) b = in_place_by (changes_list o (slice_get heap id.at)) id (binary_of o heap (val.Ref id) b)
+augmented_of o heap a b = binary_of o heap a b

@@ -1,20 +1,38 @@
 -- Comparisons (Language Reference, comparisons).
-use Rattle.std.specs.Prelude.{ℕ, Bool, true, false, not, List, ◌++◌, Option, Some, None, codes}
+use Rattle.std.specs.Prelude.{ℕ, ◌+◌, ◌-◌, Bool, true, false, not, ℤ, List, [], ◌∷◌, ◌++◌, length, Option, Some, None, codes, slice_get, is_some, nat_eq, ◌||◌, if◌then◌else◌}
+use Rattle.std.specs.List.{list_any, starts_with}
+use Rattle.std.specs.Ordering.{int_eq}
 use Rattle.py_tree.specs.declared.op.CmpOp.{CmpOp}
 use Rattle.py_tree.specs.declared.op.CmpOp.TheVariants as op
-use Rattle.py_values.specs.Equal.{Found, found, Verdict, Holds, Fails, Deep, Unordered, equal_of}
+use Rattle.py_compare.specs.Equal.{Found, found, after, Verdict, Holds, Fails, Deep, Unordered, equal_of, holds_if}
+use Rattle.py_compare.specs.Order.{Placed, Place, order_of}
+use Rattle.py_compare.specs.Order as place
+use Rattle.py_compare.specs.Same.{is_same}
+use Rattle.py_compare.specs.declared.tested.Ordered.{Ordered}
+use Rattle.py_compare.specs.declared.tested.Ordered.TheVariants as ordered
+use Rattle.py_compare.specs.declared.tested.Tested.{Tested}
+use Rattle.py_compare.specs.declared.tested.Tested.TheVariants as tested
+use Rattle.py_values.specs.Keys.{key_of}
 use Rattle.py_values.specs.Kinds.{kind_name}
-use Rattle.py_values.specs.Less.{less_of}
+use Rattle.py_values.specs.Numbers.{number_of}
+use Rattle.py_values.specs.Pairs.{find_pair}
 use Rattle.py_values.specs.Raises.{raise}
+use Rattle.py_values.specs.Ranges.{range_items}
 use Rattle.py_values.specs.declared.class.ExcClass.TheVariants.{TypeError, RecursionError}
+use Rattle.py_values.specs.declared.dict.Pair.{Pair}
 use Rattle.py_values.specs.declared.end.Made.{Made}
 use Rattle.py_values.specs.declared.end.Made.TheVariants.{Give, Fail}
 use Rattle.py_values.specs.declared.end.Raise.{Raise}
+use Rattle.py_values.specs.declared.key.Atom.{Atom}
+use Rattle.py_values.specs.declared.keys.Keyed.{Keyed}
+use Rattle.py_values.specs.declared.keys.Keyed.TheVariants as keyed
 use Rattle.py_values.specs.declared.object.Obj.{Obj}
-use Rattle.py_values.specs.declared.tested.Tested.{Tested}
-use Rattle.py_values.specs.declared.tested.Tested.TheVariants as tested
+use Rattle.py_values.specs.declared.object.Obj.TheVariants as obj
 use Rattle.py_values.specs.declared.value.Value.{Value}
 use Rattle.py_values.specs.declared.value.Value.TheVariants as val
+use Rattle.py_ops.specs.declared.compare.Places.{Places}
+use Rattle.py_ops.specs.Binary.{unsupported}
+use Rattle.py_ops.specs.Faults.{too_deep, not_iterable, key_fault}
 
 abbrev pub compare_text : CmpOp → List ℕ
 compare_text op.Equal = codes "=="
@@ -32,41 +50,123 @@ abbrev pub not_supported : List ℕ → List ℕ → List ℕ → Raise
 not_supported o a b =
     raise TypeError (codes "'" ++ (o ++ (codes "' not supported between instances of '" ++ (a ++ (codes "' and '" ++ (b ++ codes "'"))))))
 
--- what a verdict gives: `wanted` where it holds; a raise where the pair isn't ordered
-abbrev pub judged : Raise → Bool → Verdict → ℕ → Made
-judged r wanted Holds n = Give (val.Bool wanted) n
-judged r wanted Fails n = Give (val.Bool (not wanted)) n
-judged r wanted Deep n = Fail (raise RecursionError (codes "nesting too deep")) n
-judged r wanted Unordered n = Fail r n
+-- what a verdict gives: `wanted` where it holds; equality orders everything
+abbrev pub judged : Bool → Verdict → ℕ → Made
+judged wanted Holds n = Give (val.Bool wanted) n
+judged wanted Fails n = Give (val.Bool (not wanted)) n
+judged wanted Deep n = Fail too_deep n
+judged wanted Unordered n = Fail too_deep n
 
--- what is looked at: a <= b is that b < a fails; `in` and `is` aren't there yet
-abbrev pub found_by : CmpOp → List Obj → Value → Value → Found
-found_by op.Equal heap a b = equal_of heap a b
-found_by op.NotEqual heap a b = equal_of heap a b
-found_by op.Less heap a b = less_of heap a b
-found_by op.LessEqual heap a b = less_of heap b a
-found_by op.Greater heap a b = less_of heap b a
-found_by op.GreaterEqual heap a b = less_of heap a b
-found_by _ heap a b = found Unordered 0
-
--- whether it is to hold
-abbrev pub wanted_by : CmpOp → Bool
-wanted_by op.Equal = true
-wanted_by op.Less = true
-wanted_by op.Greater = true
-wanted_by _ = false
-
-abbrev pub judged_found : Raise → Bool → Found → Made
-judged_found r wanted f = judged r wanted f.verdict f.cost
-
-abbrev pub compare_of : CmpOp → List Obj → Value → Value → Made
-compare_of o heap a b =
-    judged_found (not_supported (compare_text o) (kind_name heap a) (kind_name heap b)) (wanted_by o) (found_by o heap a b)
+abbrev pub judged_found : Bool → Found → Made
+judged_found wanted f = judged wanted f.verdict f.cost
 
 -- the same of what is told under a budget
-abbrev pub judged_told : Raise → Bool → Tested → Option Made
-judged_told r wanted (tested.Yes n) = Some (judged r wanted Holds n)
-judged_told r wanted (tested.No n) = Some (judged r wanted Fails n)
-judged_told r wanted (tested.TooDeep n) = Some (judged r wanted Deep n)
-judged_told r wanted (tested.NotOrdered n) = Some (judged r wanted Unordered n)
-judged_told r wanted tested.Exhausted = None
+abbrev pub judged_told : Bool → Tested → Option Made
+judged_told wanted (tested.Yes n) = Some (judged wanted Holds n)
+judged_told wanted (tested.No n) = Some (judged wanted Fails n)
+judged_told wanted (tested.TooDeep n) = Some (judged wanted Deep n)
+judged_told wanted (tested.NotOrdered n) = Some (judged wanted Unordered n)
+judged_told wanted tested.Exhausted = None
+
+-- whether an order holds at a place; a raise where the pair isn't ordered
+abbrev pub placed_by : Raise → Places → Place → ℕ → Made
+placed_by r holds place.Less n = Give (val.Bool holds.less) n
+placed_by r holds place.Same n = Give (val.Bool holds.same) n
+placed_by r holds place.More n = Give (val.Bool holds.more) n
+placed_by r holds place.Deep n = Fail too_deep n
+placed_by r holds place.Unordered n = Fail r n
+
+abbrev pub ordered_by : Raise → Places → Placed → Made
+ordered_by r holds f = placed_by r holds f.place f.cost
+
+abbrev pub placed_told : Raise → Places → Ordered → Option Made
+placed_told r holds (ordered.Less n) = Some (placed_by r holds place.Less n)
+placed_told r holds (ordered.Same n) = Some (placed_by r holds place.Same n)
+placed_told r holds (ordered.More n) = Some (placed_by r holds place.More n)
+placed_told r holds (ordered.TooDeep n) = Some (placed_by r holds place.Deep n)
+placed_told r holds (ordered.NotOrdered n) = Some (placed_by r holds place.Unordered n)
+placed_told r holds ordered.Exhausted = None
+
+abbrev pub places : Bool → Bool → Bool → Places
+places less same more = record { less = less; same = same; more = more }
+
+-- behind an element that was compared, the search goes on where it was unequal
+abbrev pub or_next : Verdict → ℕ → Found → Found
+or_next Holds n g = found Holds n
+or_next Fails n g = after n g
+or_next Deep n g = found Deep n
+or_next Unordered n g = found Unordered n
+
+-- the first equal element, at a step for each that is tested, and what equality costs on it
+abbrev pub search_in : (Value → Found) → List Value → Found
+search_in f [] = holds_if false
+search_in f (x ∷ xs) = after 1 (or_next (f x).verdict (f x).cost (search_in f xs))
+
+-- whether what was found is what is asked for
+abbrev pub found_is : Bool → Bool → Bool
+found_is true found = found
+found_is false found = not found
+
+abbrev pub in_numbers : List ℤ → ℤ → Bool
+in_numbers zs x = list_any (λ z. int_eq z x) zs
+
+abbrev pub is_number : ℤ → Option ℤ → Bool
+is_number z (Some x) = int_eq z x
+is_number z None = false
+
+-- a number of a range; all else isn't in it
+abbrev pub in_range : List ℤ → Option ℤ → Bool
+in_range zs (Some x) = in_numbers zs x
+in_range zs None = false
+
+-- a key of a dict
+abbrev pub in_pairs : List Obj → List (List Atom × Pair) → Bool → Keyed → Made
+in_pairs heap es wanted (keyed.Key k) = Give (val.Bool (found_is wanted (is_some (find_pair k es)))) (length k - 1)
+in_pairs heap es wanted (keyed.Fault x n) = Fail (key_fault heap x) n
+
+-- a text has another as a part, which begins at one of its characters, or is empty
+abbrev pub has_part : List ℕ → List ℕ → Bool
+has_part part [] = starts_with nat_eq [] part
+has_part part (c ∷ cs) = starts_with nat_eq (c ∷ cs) part || has_part part cs
+
+-- the characters of a value, where it is a text
+abbrev pub obj_text : Option Obj → Option (List ℕ)
+obj_text (Some (obj.Text t)) = Some t
+obj_text _ = None
+
+abbrev pub text_of : List Obj → Value → Option (List ℕ)
+text_of heap (val.Ref id) = obj_text (slice_get heap id.at)
+text_of heap val.None = None
+text_of heap (val.Bool b) = None
+text_of heap (val.Int z) = None
+
+abbrev pub in_text : Made → Bool → List ℕ → Option (List ℕ) → Made
+in_text none wanted t (Some part) = Give (val.Bool (found_is wanted (has_part part t))) (length t)
+in_text none wanted t None = none
+
+-- an element of a list, tuple or range, a key of a dict, a part of a text
+abbrev pub in_object : Made → Raise → Bool → List Obj → Value → Option Obj → Made
+in_object none r wanted heap a (Some (obj.List vs)) = judged_found wanted (search_in (equal_of heap a) vs)
+in_object none r wanted heap a (Some (obj.Tuple vs)) = judged_found wanted (search_in (equal_of heap a) vs)
+in_object none r wanted heap a (Some (obj.Dict es)) = in_pairs heap es wanted (key_of heap a)
+in_object none r wanted heap a (Some (obj.Range x)) = Give (val.Bool (found_is wanted (in_range (range_items x) (number_of a)))) 0
+in_object none r wanted heap a (Some (obj.Text t)) = in_text none wanted t (text_of heap a)
+in_object none r wanted heap a _ = Fail r 0
+
+abbrev pub contains_of : List ℕ → Bool → List Obj → Value → Value → Made
+contains_of o wanted heap a (val.Ref id) =
+    in_object (unsupported o (kind_name heap a) (codes "str")) (not_iterable (kind_name heap (val.Ref id))) wanted heap a (slice_get heap id.at)
+contains_of o wanted heap a b = Fail (not_iterable (kind_name heap b)) 0
+
+-- A COMPARISON
+unfoldable pub compare_of : CmpOp → List Obj → Value → Value → Made
+compare_of op.Equal heap a b = judged_found true (equal_of heap a b)
+compare_of op.NotEqual heap a b = judged_found false (equal_of heap a b)
+compare_of op.Less heap a b = ordered_by (not_supported (codes "<") (kind_name heap a) (kind_name heap b)) (places true false false) (order_of heap a b)
+compare_of op.LessEqual heap a b = ordered_by (not_supported (codes "<=") (kind_name heap a) (kind_name heap b)) (places true true false) (order_of heap a b)
+compare_of op.Greater heap a b = ordered_by (not_supported (codes ">") (kind_name heap a) (kind_name heap b)) (places false false true) (order_of heap a b)
+compare_of op.GreaterEqual heap a b = ordered_by (not_supported (codes ">=") (kind_name heap a) (kind_name heap b)) (places false true true) (order_of heap a b)
+compare_of op.In heap a b = contains_of (codes "in") true heap a b
+compare_of op.NotIn heap a b = contains_of (codes "not in") false heap a b
+compare_of op.Is heap a b = Give (val.Bool (is_same heap a b)) 0
+compare_of op.IsNot heap a b = Give (val.Bool (not (is_same heap a b))) 0

@@ -1,6 +1,8 @@
 pub mod Numbers
-pub mod Texts
-pub mod Tried
+pub mod Sequences
+pub mod Attempts
+pub mod Faults
 pub mod Binary
 pub mod Unary
 pub mod Compare
+pub mod Ranges

@@ -2,7 +2,7 @@
 use Rattle.std.specs.Prelude.{ℕ, ℤ, pos, negsuc, neg_ℤ, List, ◌++◌, Option, Some, None, codes}
 use Rattle.py_tree.specs.declared.op.UnOp.{UnOp}
 use Rattle.py_tree.specs.declared.op.UnOp.TheVariants as op
-use Rattle.py_values.specs.Equal.{number_of}
+use Rattle.py_values.specs.Numbers.{number_of}
 use Rattle.py_values.specs.Kinds.{kind_name}
 use Rattle.py_values.specs.Raises.{raise}
 use Rattle.py_values.specs.declared.class.ExcClass.TheVariants.{TypeError}

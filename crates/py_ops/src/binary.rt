@@ -3,22 +3,27 @@
 ghost use Rattle.std.specs.Prelude.{◌≡◌, ◌≤◌, IfOk, slice_get};
 ghost use Rattle.py_ops.specs.Binary as binary;
 ghost use Rattle.py_ops.specs.Numbers as numbers;
-ghost use Rattle.py_ops.specs.Tried.{tried_within};
-ghost use Rattle.py_values.specs.Equal.{number_of};
+ghost use Rattle.py_ops.specs.Attempts.{attempted};
+ghost use Rattle.py_values.specs.Numbers.{number_of};
 ghost use Rattle.py_values.specs.Ends.{finished, within, steps_of};
 ghost use Rattle.py_values.specs.Kinds as kinds;
+ghost use Rattle.py_values.specs.declared.value.Value.TheVariants as val;
 
-use crate::numbers::{difference, floor_div, floor_mod, number_made, product, sum};
-use crate::raised::{failed, kinds_error};
-use crate::texts::{joined, repeated};
-use crate::tried::{Tried, try_within};
+use crate::attempt::{Attempt, attempt_within};
+use crate::faults::{failed, kinds_error};
+use crate::numbers::{
+    difference, floor_div, floor_mod, int_and, int_or, int_xor, itself, number_made, power,
+    product, shift_left, shift_right, sum,
+};
+use crate::sequences::{obj_times, objs_added};
 use py_tree::BinOp;
 use py_values::OutOfMemory;
+use py_values::change::Change;
 use py_values::class::ExcClass;
-use py_values::compare::number;
 use py_values::end::{Made, OpEnd, finish};
 use py_values::heap::Heap;
 use py_values::kinds::kind_name;
+use py_values::number::number;
 use py_values::object::Obj;
 use py_values::value::{ObjId, Value};
 use std::alloc::Global;
@@ -51,13 +56,15 @@ fn unsupported(
 ) -> Result<Made, OutOfMemory>
     ensures { IfOk result (λ m. m ≡ binary.unsupported (binary.binary_text op) (kinds.kind_name heap.now a) (kinds.kind_name heap.now b)) }
 {
+    let left = kind_name(alloc, heap, a)?;
+    let right = kind_name(alloc, heap, b)?;
     let raise = kinds_error(
         alloc,
         "unsupported operand type(s) for ",
         binary_text(op),
         ": '",
-        kind_name(heap, a),
-        kind_name(heap, b),
+        left.chars(),
+        right.chars(),
     )?;
     Ok(Made::Fail(raise, 0))
 }
@@ -80,71 +87,133 @@ fn rest(alloc: Global, x: i128, y: i128) -> Result<Made, OutOfMemory>
     number_made(alloc, floor_mod(x, y))
 }
 
+fn negative_count(alloc: Global) -> Result<Made, OutOfMemory>
+    ensures { IfOk result (λ m. m ≡ numbers.negative_count) }
+{
+    failed(alloc, ExcClass::ValueError, "negative count")
+}
+
+fn power_made(alloc: Global, x: i128, n: i128) -> Result<Made, OutOfMemory>
+    ensures { IfOk result (λ m. m ≡ numbers.power x n) }
+{
+    if n < 0 {
+        return negative_count(alloc);
+    }
+    number_made(alloc, power(x, n as u128))
+}
+
+fn left_made(alloc: Global, x: i128, n: i128) -> Result<Made, OutOfMemory>
+    ensures { IfOk result (λ m. m ≡ numbers.shift_left x n) }
+{
+    if n < 0 {
+        return negative_count(alloc);
+    }
+    number_made(alloc, shift_left(x, n as u128))
+}
+
+fn right_made(alloc: Global, x: i128, n: i128) -> Result<Made, OutOfMemory>
+    ensures { IfOk result (λ m. m ≡ numbers.shift_right x n) }
+{
+    if n < 0 {
+        return negative_count(alloc);
+    }
+    number_made(alloc, shift_right(x, n as u128))
+}
+
 /// An operator on two numbers.
-fn numbers_by(alloc: Global, op: BinOp, x: i128, y: i128) -> Result<Option<Made>, OutOfMemory>
+fn numbers_by(alloc: Global, op: BinOp, x: i128, y: i128) -> Result<Made, OutOfMemory>
     ensures { IfOk result (λ m. m ≡ binary.numbers_by op x y) }
 {
-    let made = match op {
-        BinOp::Add => number_made(alloc, sum(x, y))?,
-        BinOp::Sub => number_made(alloc, difference(x, y))?,
-        BinOp::Mul => number_made(alloc, product(x, y))?,
-        BinOp::FloorDiv => whole_part(alloc, x, y)?,
-        BinOp::Mod => rest(alloc, x, y)?,
-        _ => return Ok(None),
-    };
-    Ok(Some(made))
+    match op {
+        BinOp::Add => number_made(alloc, sum(x, y)),
+        BinOp::Sub => number_made(alloc, difference(x, y)),
+        BinOp::Mul => number_made(alloc, product(x, y)),
+        BinOp::FloorDiv => whole_part(alloc, x, y),
+        BinOp::Mod => rest(alloc, x, y),
+        BinOp::Pow => power_made(alloc, x, y),
+        BinOp::LShift => left_made(alloc, x, y),
+        BinOp::RShift => right_made(alloc, x, y),
+        BinOp::BitAnd => number_made(alloc, itself(int_and(x, y))),
+        BinOp::BitOr => number_made(alloc, itself(int_or(x, y))),
+        BinOp::BitXor => number_made(alloc, itself(int_xor(x, y))),
+    }
 }
 
 /// An operator on two values, where they are numbers.
-fn plain_by(alloc: Global, op: BinOp, a: Value, b: Value, budget: u64) -> Result<Tried, OutOfMemory>
-    ensures { IfOk result (λ t. t ≡ tried_within budget (binary.plain_by op (number_of a) (number_of b))) }
+fn plain_by(
+    alloc: Global,
+    op: BinOp,
+    a: Value,
+    b: Value,
+    budget: u64,
+) -> Result<Attempt, OutOfMemory>
+    ensures { IfOk result (λ t. t ≡ attempted budget (binary.plain_by op (number_of a) (number_of b))) }
 {
     match (number(a), number(b)) {
         (Some(x), Some(y)) => {
             let made = numbers_by(alloc, op, x, y)?;
-            Ok(try_within(made, budget))
+            Ok(attempt_within(Some(made), budget))
         }
-        _ => Ok(Tried::Unsupported),
+        _ => Ok(Attempt::Unsupported),
     }
 }
 
-/// Objects added, where they are texts.
-fn texts_added(
-    alloc: Global,
-    heap: &Heap,
-    i: ObjId,
-    j: ObjId,
-    budget: u64,
-) -> Result<Tried, OutOfMemory>
-    ensures { IfOk result (λ t. t ≡ tried_within budget (binary.texts_added (slice_get heap.now i.at) (slice_get heap.now j.at))) }
+/// What `&`, `|` and `^` make of two booleans.
+fn bools_by(op: BinOp, a: bool, b: bool) -> Option<bool>
+    ensures { result ≡ binary.bools_by op a b }
 {
-    match (heap.get(i), heap.get(j)) {
-        (Some(Obj::Text(a)), Some(Obj::Text(b))) => joined(alloc, a.chars(), b.chars(), budget),
-        _ => Ok(Tried::Unsupported),
+    match op {
+        BinOp::BitAnd => Some(a && b),
+        BinOp::BitOr => Some(a || b),
+        BinOp::BitXor => Some(if a { !b } else { b }),
+        BinOp::Add
+        | BinOp::Sub
+        | BinOp::Mul
+        | BinOp::FloorDiv
+        | BinOp::Mod
+        | BinOp::Pow
+        | BinOp::LShift
+        | BinOp::RShift => None,
     }
 }
 
-/// An object repeated, where it is a text.
-fn text_times(
-    alloc: Global,
-    heap: &Heap,
-    id: ObjId,
-    n: Value,
-    budget: u64,
-) -> Result<Tried, OutOfMemory>
-    ensures { IfOk result (λ t. t ≡ tried_within budget (binary.text_times (slice_get heap.now id.at) (number_of n))) }
-{
-    match (heap.get(id), number(n)) {
-        (Some(Obj::Text(text)), Some(n)) => repeated(alloc, text.chars(), n, budget),
-        _ => Ok(Tried::Unsupported),
-    }
-}
-
-fn added(alloc: Global, heap: &Heap, a: Value, b: Value, budget: u64) -> Result<Tried, OutOfMemory>
-    ensures { IfOk result (λ t. t ≡ tried_within budget (binary.added heap.now a b)) }
+/// The boolean that an operator makes of two booleans, where it makes one.
+fn bool_by(op: BinOp, a: Value, b: Value) -> Option<bool>
+    ensures { result ≡ binary.bool_by op a b }
 {
     match (a, b) {
-        (Value::Ref(i), Value::Ref(j)) => texts_added(alloc, heap, i, j, budget),
+        (Value::Bool(a), Value::Bool(b)) => bools_by(op, a, b),
+        _ => None,
+    }
+}
+
+/// An operator on numbers, or on booleans.
+fn values_by(
+    alloc: Global,
+    op: BinOp,
+    a: Value,
+    b: Value,
+    budget: u64,
+) -> Result<Attempt, OutOfMemory>
+    ensures { IfOk result (λ t. t ≡ attempted budget (binary.values_by op a b)) }
+{
+    match bool_by(op, a, b) {
+        Some(b) => Ok(Attempt::Made(Made::Give(Value::Bool(b), 0))),
+        None => plain_by(alloc, op, a, b, budget),
+    }
+}
+
+fn added(
+    alloc: Global,
+    heap: &Heap,
+    a: Value,
+    b: Value,
+    budget: u64,
+) -> Result<Attempt, OutOfMemory>
+    ensures { IfOk result (λ t. t ≡ attempted budget (binary.added heap.now a b)) }
+{
+    match (a, b) {
+        (Value::Ref(i), Value::Ref(j)) => objs_added(alloc, heap, i, j, budget),
         _ => plain_by(alloc, BinOp::Add, a, b, budget),
     }
 }
@@ -155,12 +224,12 @@ fn multiplied(
     a: Value,
     b: Value,
     budget: u64,
-) -> Result<Tried, OutOfMemory>
-    ensures { IfOk result (λ t. t ≡ tried_within budget (binary.multiplied heap.now a b)) }
+) -> Result<Attempt, OutOfMemory>
+    ensures { IfOk result (λ t. t ≡ attempted budget (binary.multiplied heap.now a b)) }
 {
     match (a, b) {
-        (Value::Ref(i), _) => text_times(alloc, heap, i, b, budget),
-        (_, Value::Ref(j)) => text_times(alloc, heap, j, a, budget),
+        (Value::Ref(i), _) => obj_times(alloc, heap, i, b, budget),
+        (_, Value::Ref(j)) => obj_times(alloc, heap, j, a, budget),
         _ => plain_by(alloc, BinOp::Mul, a, b, budget),
     }
 }
@@ -173,18 +242,26 @@ fn supported(
     a: Value,
     b: Value,
     budget: u64,
-) -> Result<Tried, OutOfMemory>
-    ensures { IfOk result (λ t. t ≡ tried_within budget (binary.supported op heap.now a b)) }
+) -> Result<Attempt, OutOfMemory>
+    ensures { IfOk result (λ t. t ≡ attempted budget (binary.supported op heap.now a b)) }
 {
     match op {
         BinOp::Add => added(alloc, heap, a, b, budget),
         BinOp::Mul => multiplied(alloc, heap, a, b, budget),
-        _ => plain_by(alloc, op, a, b, budget),
+        BinOp::Sub
+        | BinOp::FloorDiv
+        | BinOp::Mod
+        | BinOp::Pow
+        | BinOp::LShift
+        | BinOp::RShift
+        | BinOp::BitAnd
+        | BinOp::BitOr
+        | BinOp::BitXor => values_by(alloc, op, a, b, budget),
     }
 }
 
 /// What an operator makes of two values, under a budget.
-#[tactic(auto, using(crate::proofs::Within::or_fail_within))]
+#[tactic(auto, using(crate::proofs::Within::or_fail_within), unfolding(crate::specs::Binary::binary_of))]
 pub fn binary_made(
     alloc: Global,
     heap: &Heap,
@@ -196,9 +273,9 @@ pub fn binary_made(
     ensures { IfOk result (λ m. m ≡ within budget (binary.binary_of op heap.now a b)) }
 {
     match supported(alloc, heap, op, a, b, budget)? {
-        Tried::Made(made) => Ok(Some(made)),
-        Tried::Exhausted => Ok(None),
-        Tried::Unsupported => {
+        Attempt::Made(made) => Ok(Some(made)),
+        Attempt::Exhausted => Ok(None),
+        Attempt::Unsupported => {
             let made = unsupported(alloc, heap, op, a, b)?;
             Ok(Some(made))
         }
@@ -219,5 +296,84 @@ pub fn binary(
     ensures cost { IfOk result (λ e. steps_of e ≤ budget) }
 {
     let made = binary_made(alloc, heap, op, a, b, budget)?;
+    finish(heap, made)
+}
+
+/// A new object as the content of one that is there.
+fn put_whole(id: ObjId, made: Made) -> Made
+    ensures { result ≡ binary.put_whole id made }
+{
+    match made {
+        Made::New(obj, cost) => Made::Put(id, Change::Whole(obj), Value::Ref(id), cost),
+        Made::Give(v, cost) => Made::Give(v, cost),
+        Made::Put(at, change, v, cost) => Made::Put(at, change, v, cost),
+        Made::Fail(raise, cost) => Made::Fail(raise, cost),
+    }
+}
+
+/// Whether an operator of an augmented assignment changes an object.
+fn changes_list(heap: &Heap, op: BinOp, id: ObjId) -> bool
+    ensures { result ≡ binary.changes_list op (slice_get heap.now id.at) }
+{
+    match (op, heap.get(id)) {
+        (BinOp::Add | BinOp::Mul, Some(Obj::List(_))) => true,
+        _ => false,
+    }
+}
+
+#[tactic(auto, using(crate::proofs::Within::put_within))]
+fn augmented_at(
+    alloc: Global,
+    heap: &Heap,
+    op: BinOp,
+    id: ObjId,
+    b: Value,
+    budget: u64,
+) -> Result<Option<Made>, OutOfMemory>
+    ensures { IfOk result (λ m. m ≡ within budget (binary.in_place_by (binary.changes_list op (slice_get heap.now id.at)) id (binary.binary_of op heap.now (val.Ref id) b))) }
+{
+    let made = binary_made(alloc, heap, op, Value::Ref(id), b, budget)?;
+    if !changes_list(heap, op, id) {
+        return Ok(made);
+    }
+    match made {
+        Some(made) => Ok(Some(put_whole(id, made))),
+        None => Ok(None),
+    }
+}
+
+/// What an operator of an augmented assignment makes, under a budget: a list is changed in place.
+pub fn augmented_made(
+    alloc: Global,
+    heap: &Heap,
+    op: BinOp,
+    a: Value,
+    b: Value,
+    budget: u64,
+) -> Result<Option<Made>, OutOfMemory>
+    ensures { IfOk result (λ m. m ≡ within budget (binary.augmented_of op heap.now a b)) }
+{
+    match a {
+        Value::Ref(id) => augmented_at(alloc, heap, op, id, b, budget),
+        Value::None | Value::Bool(_) | Value::Int(_) => {
+            binary_made(alloc, heap, op, a, b, budget)
+        }
+    }
+}
+
+/// An operator of an augmented assignment (Language Reference, augmented assignment statements), within a budget of steps.
+#[tactic(auto, using(crate::proofs::Within::within_cost))]
+pub fn augmented(
+    alloc: Global,
+    heap: &mut Heap,
+    op: BinOp,
+    a: Value,
+    b: Value,
+    budget: u64,
+) -> Result<OpEnd, OutOfMemory>
+    ensures end { IfOk result (λ e. (e, heap.new) ≡ finished heap.old (within budget (binary.augmented_of op heap.old a b))) }
+    ensures cost { IfOk result (λ e. steps_of e ≤ budget) }
+{
+    let made = augmented_made(alloc, heap, op, a, b, budget)?;
     finish(heap, made)
 }

@@ -1,20 +1,23 @@
 // Comparisons.
 
-ghost use Rattle.std.specs.Prelude.{◌≡◌, ◌≤◌, IfOk};
+ghost use Rattle.std.specs.Prelude.{◌≡◌, ◌≤◌, IfOk, codes, true, false};
+ghost use Rattle.py_compare.specs.Equal.{told, equal_of};
+ghost use Rattle.py_compare.specs.Order.{place_within, order_of};
 ghost use Rattle.py_ops.specs.Compare as compare;
-ghost use Rattle.py_values.specs.Equal.{told};
 ghost use Rattle.py_values.specs.Ends.{finished, within, steps_of};
 ghost use Rattle.py_values.specs.Kinds as kinds;
 
-use crate::raised::kinds_error;
+use crate::contains::{contains, judge};
+use crate::faults::{kinds_error, too_deep};
+use py_compare::equal::equal;
+use py_compare::order::order;
+use py_compare::same::is_same;
+use py_compare::tested::Ordered;
 use py_tree::CmpOp;
 use py_values::OutOfMemory;
-use py_values::class::ExcClass;
-use py_values::compare::{equal, less};
 use py_values::end::{Made, OpEnd, Raise, finish};
 use py_values::heap::Heap;
 use py_values::kinds::kind_name;
-use py_values::tested::Tested;
 use py_values::value::Value;
 use std::alloc::Global;
 
@@ -39,73 +42,117 @@ pub fn compare_text(op: CmpOp) -> &'static str
 fn not_supported(
     alloc: Global,
     heap: &Heap,
-    op: CmpOp,
+    op: &str,
     a: Value,
     b: Value,
 ) -> Result<Raise, OutOfMemory>
-    ensures { IfOk result (λ r. r ≡ compare.not_supported (compare.compare_text op) (kinds.kind_name heap.now a) (kinds.kind_name heap.now b)) }
+    ensures { IfOk result (λ r. r ≡ compare.not_supported op.now (kinds.kind_name heap.now a) (kinds.kind_name heap.now b)) }
 {
+    let left = kind_name(alloc, heap, a)?;
+    let right = kind_name(alloc, heap, b)?;
     kinds_error(
         alloc,
         "'",
-        compare_text(op),
+        op,
         "' not supported between instances of '",
-        kind_name(heap, a),
-        kind_name(heap, b),
+        left.chars(),
+        right.chars(),
     )
 }
 
-/// What is looked at in two values, under a budget.
-fn tested(heap: &Heap, op: CmpOp, a: Value, b: Value, budget: u64) -> Tested
-    ensures { result ≡ told budget (compare.found_by op heap.now a b) }
-{
-    match op {
-        CmpOp::Equal | CmpOp::NotEqual => equal(heap, a, b, budget),
-        CmpOp::Less | CmpOp::GreaterEqual => less(heap, a, b, budget),
-        CmpOp::LessEqual | CmpOp::Greater => less(heap, b, a, budget),
-        _ => Tested::NotOrdered(0),
-    }
+/// For which places an order holds.
+#[derive(Clone, Copy)]
+pub struct Places {
+    pub less: bool,
+    pub same: bool,
+    pub more: bool,
 }
 
-/// Whether it is to hold.
-fn is_wanted(op: CmpOp) -> bool
-    ensures { result ≡ compare.wanted_by op }
-{
-    match op {
-        CmpOp::Equal | CmpOp::Less | CmpOp::Greater => true,
-        _ => false,
-    }
-}
+const LESS: Places = Places {
+    less: true,
+    same: false,
+    more: false,
+};
 
-/// What is made of what was told.
-fn judge(
+const AT_MOST: Places = Places {
+    less: true,
+    same: true,
+    more: false,
+};
+
+const MORE: Places = Places {
+    less: false,
+    same: false,
+    more: true,
+};
+
+const AT_LEAST: Places = Places {
+    less: false,
+    same: true,
+    more: true,
+};
+
+/// What is made of the place that was told.
+fn place_made(
     alloc: Global,
     heap: &Heap,
-    op: CmpOp,
+    op: &str,
     a: Value,
     b: Value,
-    told: Tested,
+    holds: Places,
+    told: Ordered,
 ) -> Result<Option<Made>, OutOfMemory>
-    ensures { IfOk result (λ m. m ≡ compare.judged_told
-        (compare.not_supported (compare.compare_text op) (kinds.kind_name heap.now a) (kinds.kind_name heap.now b)) (compare.wanted_by op) told) }
+    ensures { IfOk result (λ m. m ≡ compare.placed_told (compare.not_supported op.now (kinds.kind_name heap.now a) (kinds.kind_name heap.now b)) holds told) }
 {
     match told {
-        Tested::Yes(cost) => Ok(Some(Made::Give(Value::Bool(is_wanted(op)), cost))),
-        Tested::No(cost) => Ok(Some(Made::Give(Value::Bool(!is_wanted(op)), cost))),
-        Tested::TooDeep(cost) => {
-            let raise = Raise::from_ascii(alloc, ExcClass::RecursionError, "nesting too deep")?;
+        Ordered::Less(cost) => Ok(Some(Made::Give(Value::Bool(holds.less), cost))),
+        Ordered::Same(cost) => Ok(Some(Made::Give(Value::Bool(holds.same), cost))),
+        Ordered::More(cost) => Ok(Some(Made::Give(Value::Bool(holds.more), cost))),
+        Ordered::TooDeep(cost) => {
+            let raise = too_deep(alloc)?;
             Ok(Some(Made::Fail(raise, cost)))
         }
-        Tested::NotOrdered(cost) => {
+        Ordered::NotOrdered(cost) => {
             let raise = not_supported(alloc, heap, op, a, b)?;
             Ok(Some(Made::Fail(raise, cost)))
         }
-        Tested::Exhausted => Ok(None),
+        Ordered::Exhausted => Ok(None),
     }
 }
 
-/// What a comparison makes, under a budget.
+#[tactic(auto, using(crate::proofs::Judging::placed_within))]
+fn order_made(
+    alloc: Global,
+    heap: &Heap,
+    op: &str,
+    holds: Places,
+    a: Value,
+    b: Value,
+    budget: u64,
+) -> Result<Option<Made>, OutOfMemory>
+    ensures { IfOk result (λ m. m ≡ within budget (compare.ordered_by (compare.not_supported op.now (kinds.kind_name heap.now a) (kinds.kind_name heap.now b)) holds (order_of heap.now a b))) }
+{
+    let told = order(heap, a, b, budget);
+    place_made(alloc, heap, op, a, b, holds, told)
+}
+
 #[tactic(auto, using(crate::proofs::Judging::judged_within))]
+fn equal_made(
+    alloc: Global,
+    heap: &Heap,
+    wanted: bool,
+    a: Value,
+    b: Value,
+    budget: u64,
+) -> Result<Option<Made>, OutOfMemory>
+    ensures { IfOk result (λ m. m ≡ within budget (compare.judged_found wanted (equal_of heap.now a b))) }
+{
+    let told = equal(heap, a, b, budget);
+    judge(alloc, wanted, told)
+}
+
+/// What a comparison makes, under a budget.
+#[tactic(auto, unfolding(crate::specs::Compare::compare_of))]
 pub fn compare_made(
     alloc: Global,
     heap: &Heap,
@@ -116,8 +163,18 @@ pub fn compare_made(
 ) -> Result<Option<Made>, OutOfMemory>
     ensures { IfOk result (λ m. m ≡ within budget (compare.compare_of op heap.now a b)) }
 {
-    let told = tested(heap, op, a, b, budget);
-    judge(alloc, heap, op, a, b, told)
+    match op {
+        CmpOp::Equal => equal_made(alloc, heap, true, a, b, budget),
+        CmpOp::NotEqual => equal_made(alloc, heap, false, a, b, budget),
+        CmpOp::Less => order_made(alloc, heap, "<", LESS, a, b, budget),
+        CmpOp::LessEqual => order_made(alloc, heap, "<=", AT_MOST, a, b, budget),
+        CmpOp::Greater => order_made(alloc, heap, ">", MORE, a, b, budget),
+        CmpOp::GreaterEqual => order_made(alloc, heap, ">=", AT_LEAST, a, b, budget),
+        CmpOp::In => contains(alloc, heap, "in", true, a, b, budget),
+        CmpOp::NotIn => contains(alloc, heap, "not in", false, a, b, budget),
+        CmpOp::Is => Ok(Some(Made::Give(Value::Bool(is_same(heap, a, b)), 0))),
+        CmpOp::IsNot => Ok(Some(Made::Give(Value::Bool(!is_same(heap, a, b)), 0))),
+    }
 }
 
 /// A comparison (Language Reference, comparisons), within a budget of steps.

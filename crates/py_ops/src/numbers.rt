@@ -1,10 +1,11 @@
 // Whole numbers of 128 bits.
 
-ghost use Rattle.std.specs.Prelude.{◌≡◌, ◌≢◌, ◌<◌, ◌/◌, ◌^◌, pos, negsuc, ◌+ℤ◌, ◌-ℤ◌, ◌*ℤ◌, ◌<ℤ◌, neg_ℤ, IfOk};
+ghost use Rattle.std.specs.Prelude.{◌≡◌, ◌≢◌, ◌<◌, ◌/◌, ◌^◌, pos, negsuc, ◌+ℤ◌, ◌-ℤ◌, ◌*ℤ◌, ◌<ℤ◌, neg_ℤ, IfOk, unsigned_abs};
+ghost use Rattle.std.specs.Int.{int_pow};
 ghost use Rattle.py_ops.specs.Numbers as numbers;
 ghost use Rattle.py_ops.specs.Unary as unary;
 
-use crate::raised::failed;
+use crate::faults::failed;
 use py_values::OutOfMemory;
 use py_values::class::ExcClass;
 use py_values::end::Made;
@@ -112,4 +113,139 @@ pub fn floor_mod(x: i128, y: i128) -> Option<i128>
         return Some(x.rem_euclid(y));
     }
     Some(rest_below(x, y))
+}
+
+/// A power of -1, 0 or 1.
+#[tactic(auto, using(crate::proofs::Powers::power_of_zero, crate::proofs::Powers::power_of_one))]
+fn small_power(x: i128, times: u128) -> i128
+    requires { unsigned_abs x < 2 }
+    ensures { result ≡ int_pow x times }
+{
+    if x == 1 {
+        return 1;
+    }
+    if x == 0 {
+        return if times == 0 { 1 } else { 0 };
+    }
+    if times % 2 == 0 { 1 } else { -1 }
+}
+
+/// A number multiplied by itself so many times.
+#[tactic(auto, using(crate::proofs::Powers::far_power))]
+pub fn power(x: i128, times: u128) -> Option<i128>
+    ensures { result ≡ numbers.fitting (int_pow x times) }
+{
+    if x.unsigned_abs() < 2 {
+        return Some(small_power(x, times));
+    }
+    if times >= 128 {
+        return None;
+    }
+    x.checked_pow(times as u32)
+}
+
+/// A number that isn't zero shifted to the left.
+#[tactic(auto, using(crate::proofs::Powers::double, crate::proofs::Powers::overflow))]
+fn double(x: i128, times: u128) -> Option<i128>
+    ensures { result ≡ numbers.fitting (x *ℤ pos (2 ^ times)) }
+{
+    let mut doubled = x;
+    for _ in 0..times {
+        match product(doubled, 2) {
+            Some(next) => doubled = next,
+            None => return None,
+        }
+    }
+    Some(doubled)
+}
+
+/// A number shifted to the left.
+pub fn shift_left(x: i128, times: u128) -> Option<i128>
+    ensures { result ≡ numbers.fitting (x *ℤ pos (2 ^ times)) }
+{
+    if x == 0 {
+        return Some(0);
+    }
+    double(x, times)
+}
+
+/// A number shifted to the right.
+#[tactic(auto, using(crate::proofs::Powers::small_quotient))]
+pub fn shift_right(x: i128, times: u128) -> Option<i128>
+    ensures { result ≡ numbers.fitting (numbers.quotient x (2 ^ times)) }
+{
+    if times >= 127 {
+        return Some(if x < 0 { -1 } else { 0 });
+    }
+    let by = 1u128 << times;
+    if x < 0 {
+        return Some(below_zero((-1 - x) as u128, by));
+    }
+    Some((x as u128 / by) as i128)
+}
+
+fn natural(n: u128) -> i128
+    requires { n < 2 ^ 127 }
+    ensures { result ≡ pos n }
+{
+    n as i128
+}
+
+fn below_zero_by(n: u128) -> i128
+    requires { n < 2 ^ 127 }
+    ensures { result ≡ negsuc n }
+{
+    -1 - n as i128
+}
+
+/// The bits of a number, or those that a negative one hasn't.
+fn bits_of(x: i128) -> u128
+    ensures value { result ≡ numbers.bits_of x }
+    ensures bound { result < 2 ^ 127 }
+{
+    if x < 0 { (-1 - x) as u128 } else { x as u128 }
+}
+
+/// The bits that both numbers have.
+#[tactic(auto, using(crate::proofs::Bits::bounds))]
+pub fn int_and(x: i128, y: i128) -> i128
+    ensures { result ≡ numbers.int_and x y }
+{
+    let a = bits_of(x);
+    let b = bits_of(y);
+    match (x < 0, y < 0) {
+        (false, false) => natural(a & b),
+        (false, true) => natural(a - (a & b)),
+        (true, false) => natural(b - (b & a)),
+        (true, true) => below_zero_by(a | b),
+    }
+}
+
+/// The bits that one of two numbers has.
+#[tactic(auto, using(crate::proofs::Bits::bounds))]
+pub fn int_or(x: i128, y: i128) -> i128
+    ensures { result ≡ numbers.int_or x y }
+{
+    let a = bits_of(x);
+    let b = bits_of(y);
+    match (x < 0, y < 0) {
+        (false, false) => natural(a | b),
+        (false, true) => below_zero_by(b - (b & a)),
+        (true, false) => below_zero_by(a - (a & b)),
+        (true, true) => below_zero_by(a & b),
+    }
+}
+
+/// The bits that one of two numbers has, and the other hasn't.
+#[tactic(auto, using(crate::proofs::Bits::bounds))]
+pub fn int_xor(x: i128, y: i128) -> i128
+    ensures { result ≡ numbers.int_xor x y }
+{
+    let a = bits_of(x);
+    let b = bits_of(y);
+    if (x < 0) == (y < 0) {
+        natural(a ^ b)
+    } else {
+        below_zero_by(a ^ b)
+    }
 }

@@ -4,14 +4,14 @@ ghost use Rattle.std.specs.Prelude.{◌≡◌, ◌≤◌, IfOk};
 ghost use Rattle.py_ops.specs.Unary as unary;
 ghost use Rattle.py_values.specs.Ends.{finished, within, steps_of};
 
+use crate::faults::kind_error;
 use crate::numbers::{inverted, itself, negative, number_made};
-use crate::raised::kind_error;
 use py_tree::UnOp;
 use py_values::OutOfMemory;
-use py_values::compare::number;
 use py_values::end::{Made, OpEnd, finish, made_within};
 use py_values::heap::Heap;
 use py_values::kinds::kind_name;
+use py_values::number::number;
 use py_values::value::Value;
 use std::alloc::Global;
 
@@ -43,12 +43,13 @@ pub fn unary_made(alloc: Global, heap: &Heap, op: UnOp, a: Value) -> Result<Made
     match number(a) {
         Some(x) => number_unary(alloc, op, x),
         None => {
+            let kind = kind_name(alloc, heap, a)?;
             let raise = kind_error(
                 alloc,
                 "bad operand type for unary ",
                 unary_text(op),
                 ": '",
-                kind_name(heap, a),
+                kind.chars(),
             )?;
             Ok(Made::Fail(raise, 0))
         }

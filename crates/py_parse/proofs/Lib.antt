@@ -1,9 +1,2 @@
-pub mod Ops
-pub mod Joined
-pub mod Shapes
-pub mod Loops
-pub mod Rules
-pub mod StatementShapes
-pub mod BlockShapes
-pub mod ContextSteps
+pub mod Faults
 pub mod Verdicts

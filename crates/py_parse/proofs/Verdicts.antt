@@ -1,48 +1,71 @@
--- From the reader to the relation of sources.
-use Rattle.std.proofs.Common.{◌≡◌, true, false, Some, None, List, [], ◌∷◌, refl, sym, ap, ◌∙◌}
-use Rattle.py_source.specs.declared.pos.Pos.{Pos}
+-- From what the code reads to the verdict.
+use Rattle.std.proofs.Common.{◌≡◌, ℕ, Option, Some, None, List, [], ◌∷◌, Result, refl, sym, ap, ◌∙◌}
 use Rattle.py_tokens.specs.declared.token.Token.{Token}
 use Rattle.py_tree.specs.Statements.{Block}
-use Rattle.parsing.specs.Reading.{Found, Bad, Deep}
+use Rattle.py_tree.specs.declared.stmt.Module.{Module}
+use Rattle.parsing.specs.Reading.{Read, Found, Bad, Deep}
 use Rattle.parsing.specs.Answer.{finish}
-use Rattle.py_grammar.specs.Context.{fits, misplaced, no_place}
-use Rattle.py_grammar.specs.Sources.{Reads, first_place, source_read, most_levels}
-use Rattle.py_grammar.proofs.Sources.{found_reads, reads_found}
-use Rattle.py_parse.specs.Pieces.{source_here}
+use Rattle.grammar.specs.Levels.{readers}
+use Rattle.grammar_plain.specs.Plain.{plain}
+use Rattle.py_source.specs.Limits.{most_levels}
+use Rattle.py_grammar.specs.Context.{misplaced, in_module}
+use Rattle.py_grammar.specs.Lines.{statements}
+use Rattle.py_grammar.specs.Sorts as v
+use Rattle.py_grammar.specs.Sources.{source_read, expression_readers}
+use Rattle.py_grammar.specs.Verdict.{Verdict, IsVerdict, verdict_on, verdict_by}
+use Rattle.py_grammar.proofs.Verdicts.{read_verdict, verdict_read}
+use Rattle.statement_readers.specs.Words.{source}
+use Rattle.statement_readers.proofs.BlockLines.{source_is}
+use Rattle.py_parse.specs.declared.fault.SyntaxFault.{SyntaxFault}
+use Rattle.py_parse.specs.Judged.{verdict_of, IsOn, IsJudged, IsSame, Answers}
 
-here_is : (ts : List Token) → finish (source_here ts) ≡ source_read most_levels ts
-unfolding source_here
-here_is ts = refl
+plain_finish : {A : Type 0} (r : Read Token (A × ℕ)) → plain (finish r) ≡ finish (plain r)
+plain_finish (Found x []) = refl
+plain_finish (Found x (t ∷ ts)) = refl
+plain_finish (Bad ts) = refl
+plain_finish (Deep ts) = refl
 
-pub read_is : (ts : List Token) (b : Block) → finish (source_here ts) ≡ Found b [] → fits false false b ≡ true → Reads ts b
-read_is ts b e f = found_reads ts b [] (sym (here_is ts) ∙ e) f
+read_is : (ts : List Token) → plain (source_read most_levels ts) ≡ finish (source ts)
+read_is ts = plain_finish (readers statements (expression_readers 100) 101 v.source ts) ∙ ap finish (source_is ts)
 
-pub bad_is : (ts rest : List Token) → finish (source_here ts) ≡ Bad rest → (b : Block) → Reads ts b → ⊥
-bad_is ts rest e b r = let f : Found b [] ≡ Bad rest = sym (reads_found ts b r).0 ∙ sym (here_is ts) ∙ e in cc
+pub found_verdict : (ts : List Token) (b : Block) → finish (source ts) ≡ Found b [] → verdict_by (source_read most_levels ts) ≡ Some (verdict_on b (misplaced in_module b))
+found_verdict ts b e = go (source_read most_levels ts) (read_is ts ∙ e)
+  where
+    go : (r : Read Token (Block × ℕ)) → plain r ≡ Found b [] → verdict_by r ≡ Some (verdict_on b (misplaced in_module b))
+    go (Found x rest) i = let j : x.0 ≡ b = cc in ap (λ b. Some (verdict_on b (misplaced in_module b))) j
+    go (Bad rest) i = absurd (cc)
+    go (Deep rest) i = absurd (cc)
 
-pub deep_is : (ts rest : List Token) → finish (source_here ts) ≡ Deep rest → (b : Block) → Reads ts b → ⊥
-deep_is ts rest e b r = let f : Found b [] ≡ Deep rest = sym (reads_found ts b r).0 ∙ sym (here_is ts) ∙ e in cc
+pub bad_verdict : (ts rest : List Token) → finish (source ts) ≡ Bad rest → verdict_by (source_read most_levels ts) ≡ verdict_by (Bad rest)
+bad_verdict ts rest e = go (source_read most_levels ts) (read_is ts ∙ e)
+  where
+    go : (r : Read Token (Block × ℕ)) → plain r ≡ Bad rest → verdict_by r ≡ verdict_by (Bad rest)
+    go (Found x z) i = absurd (cc)
+    go (Bad z) i = let j : z ≡ rest = cc in ap (λ z. verdict_by (Bad z)) j
+    go (Deep z) i = absurd (cc)
 
-same_block : (a b : Block) (u v : List Token) → Found a u ≡ Found b v → a ≡ b
-same_block a b u v e = cc
+pub deep_verdict : (ts rest : List Token) → finish (source ts) ≡ Deep rest → verdict_by (source_read most_levels ts) ≡ verdict_by (Deep rest)
+deep_verdict ts rest e = go (source_read most_levels ts) (read_is ts ∙ e)
+  where
+    go : (r : Read Token (Block × ℕ)) → plain r ≡ Deep rest → verdict_by r ≡ verdict_by (Deep rest)
+    go (Found x z) i = absurd (cc)
+    go (Bad z) i = absurd (cc)
+    go (Deep z) i = let j : z ≡ rest = cc in ap (λ z. verdict_by (Deep z)) j
 
-pub misplaced_is : (ts : List Token) (a : Block) → finish (source_here ts) ≡ Found a [] → fits false false a ≡ false → (b : Block) → Reads ts b → ⊥
-misplaced_is ts a e f b r = let h = reads_found ts b r in let d : a ≡ b = same_block a b [] [] (sym e ∙ here_is ts ∙ h.0) in let g : fits false false a ≡ true = ap (fits false false) d ∙ h.1 in cc
+pub judged_is : (ts : List Token) (r : Result Module SyntaxFault) → Answers (verdict_by (source_read most_levels ts)) r → IsJudged ts r
+judged_is ts r a = go (verdict_of r) a
+  where
+    go : (o : Option Verdict) → IsSame o (verdict_by (source_read most_levels ts)) → IsOn ts o
+    go None a = tt
+    go (Some v) a = read_verdict ts v (sym a)
 
-none_fits : (ps : List Pos) → None ≡ first_place ps → no_place ps ≡ true
-none_fits [] e = refl
-none_fits (p ∷ ps) e = absurd (cc)
+pub only_is : (ts : List Token) (r : Result Module SyntaxFault) (v : Verdict) → Answers (verdict_by (source_read most_levels ts)) r → IsVerdict ts v → Answers (Some v) r
+only_is ts r v a i = go (verdict_of r) a
+  where
+    go : (o : Option Verdict) → IsSame o (verdict_by (source_read most_levels ts)) → IsSame o (Some v)
+    go None a = tt
+    go (Some u) a = a ∙ verdict_read ts v i
 
-some_fits : (ps : List Pos) (at : Pos) → Some at ≡ first_place ps → no_place ps ≡ false
-some_fits [] at e = absurd (cc)
-some_fits (p ∷ ps) at e = refl
+pub ruleset verdict_rules = (found_verdict, bad_verdict, deep_verdict)
 
-pub fits_all : (b : Block) → None ≡ first_place (misplaced false false b) → fits false false b ≡ true
-fits_all b e = none_fits (misplaced false false b) e
-
-pub fits_not : (b : Block) (at : Pos) → Some at ≡ first_place (misplaced false false b) → fits false false b ≡ false
-fits_not b at e = some_fits (misplaced false false b) at e
-
-pub ruleset context_rules = (fits_all, fits_not)
-
-pub ruleset parse_rules = (read_is, bad_is, deep_is, misplaced_is)
+pub ruleset parse_rules = (judged_is, only_is)

@@ -1,57 +1,107 @@
-ghost use Rattle.std.specs.Prelude.{◌≡◌, ◌≤◌, ◌<◌};
-ghost use Rattle.py_tree.specs.Trees.{tree};
-ghost use Rattle.py_tree.specs.Statements.{statement, block, branches, parameters, NoStatement};
-ghost use Rattle.py_grammar.specs.Statements.{block_reader};
-ghost use Rattle.py_parse.specs.Pieces.{E, arm_here, elifs_here, otherwise_here, if_behind, while_behind, names_here, params_here, def_behind, compound_here, stmt_here, stmts_here, source_here, Gives};
+ghost use Rattle.std.specs.Prelude.{◌≡◌, ◌≤◌, ◌<◌, nat_le};
+ghost use Rattle.py_tree.specs.Trees.{tree, trees, some_tree, Empty};
+ghost use Rattle.py_tree.specs.Statements.{statement, block, branches, handlers};
+ghost use Rattle.py_cursor.specs.Cursor.{Gives};
+ghost use Rattle.token_kinds.specs.Kinds.{op_number};
+ghost use Rattle.statement_readers.specs.Words.{suite, suite_behind, arm, elifs_on, if_behind, while_behind, with_behind, for_behind, handler, handlers_on, handled, try_behind, def_behind, class_behind, decorated_behind, compound, stmt, stmts_on, stmts, block_at, source};
 
-use crate::expressions::expression;
-use crate::leaves::text_of;
-use crate::marks::{Mark, begins, expect, first_with};
-use crate::simple::{LEVELS, simples};
-use crate::stop::Stop;
-use py_nodes::{add_branch, add_param, add_stmt, def_stmt, if_stmt, while_stmt};
-use py_source::{Pos, SrcText};
+use crate::heads::{base, caught, decorators, params};
+use crate::parts::{LEVELS, alias_behind, expression_behind, name};
+use crate::simple::simples;
+use py_cursor::{Sign, Stop, begins, expect, first_of};
+use py_expression_parser::{expression, expressions};
+use py_source::Pos;
+use py_statement_nodes::{
+    add_branch, add_handler, add_stmt, class_stmt, def_stmt, for_stmt, if_stmt, try_stmt,
+    while_stmt, with_stmt,
+};
+use py_target_parser::targets;
 use py_tokens::{Op, Token};
-use py_tree::{Branch, Expr, Param, Stmt};
+use py_tree::{Branch, Expr, Handler, Stmt};
 use std::alloc::Global;
 use std::rc::Rc;
 
-/// Names with commas between them, and maybe one at the end.
-#[tactic(auto, using(crate::proofs::BlockShapes::names_rules))]
-fn names(alloc: Global, tokens: &[Token]) -> Result<(Vec<Param>, &[Token]), Stop<'_>>
-    ensures { Gives (λ x. (parameters x.0.items, x.1.now)) result (names_here tokens.now) }
+/// What begins a statement with blocks.
+const BEGINS_COMPOUND: [Sign; 8] = [
+    Sign::Op(Op::If),
+    Sign::Op(Op::While),
+    Sign::Op(Op::For),
+    Sign::Op(Op::Try),
+    Sign::Op(Op::With),
+    Sign::Op(Op::Def),
+    Sign::Op(Op::Class),
+    Sign::Op(Op::At),
+];
+
+/// What begins a statement.
+const BEGINS_STATEMENT: [Sign; 32] = [
+    Sign::Op(Op::If),
+    Sign::Op(Op::While),
+    Sign::Op(Op::For),
+    Sign::Op(Op::Try),
+    Sign::Op(Op::With),
+    Sign::Op(Op::Def),
+    Sign::Op(Op::Class),
+    Sign::Op(Op::At),
+    Sign::Op(Op::Del),
+    Sign::Op(Op::Pass),
+    Sign::Op(Op::Break),
+    Sign::Op(Op::Continue),
+    Sign::Op(Op::Return),
+    Sign::Op(Op::Assert),
+    Sign::Op(Op::Global),
+    Sign::Op(Op::Raise),
+    Sign::Op(Op::Yield),
+    Sign::Op(Op::Import),
+    Sign::Op(Op::From),
+    Sign::Op(Op::Not),
+    Sign::Op(Op::Minus),
+    Sign::Op(Op::Plus),
+    Sign::Op(Op::Tilde),
+    Sign::Name,
+    Sign::Number,
+    Sign::Op(Op::True),
+    Sign::Op(Op::False),
+    Sign::Op(Op::None),
+    Sign::Text,
+    Sign::Op(Op::LeftParen),
+    Sign::Op(Op::LeftBracket),
+    Sign::Op(Op::LeftBrace),
+];
+
+/// A colon, and a block with so many levels, its own among them.
+#[tactic(auto, unfolding(statement_readers::specs::Words::suite))]
+#[cycle(block)]
+fn suite(alloc: Global, levels: u32, tokens: &[Token]) -> Result<(Vec<Stmt>, &[Token]), Stop<'_>>
+    requires few { levels ≤ 100 }
+    requires some { 0 < levels }
+    ensures { Gives (λ x. (block x.0.items, x.1.now)) result (suite (block_at levels) tokens.now) }
 {
-    let (first, mut rest) = expect(tokens, Mark::Name)?;
-    let name = SrcText::from_chars(alloc, text_of(first))?;
-    let mut all = add_param(Vec::new(alloc), first.at, &name)?;
-    while let Some((_comma, after)) = first_with(rest, Mark::Op(Op::Comma)) {
-        if !begins(after, Mark::Name) {
-            return Ok((all, after));
-        }
-        let (next, after) = expect(after, Mark::Name)?;
-        let name = SrcText::from_chars(alloc, text_of(next))?;
-        all = add_param(all, next.at, &name)?;
-        rest = after;
-    }
-    Ok((all, rest))
+    let (_colon, rest) = expect(tokens, &[Sign::Op(Op::Colon)])?;
+    block(alloc, levels, rest)
 }
 
-/// The parameters of a function, up to the parenthesis behind them.
-#[tactic(auto, using(crate::proofs::BlockShapes::params_rules))]
-fn params(alloc: Global, tokens: &[Token]) -> Result<(Vec<Param>, &[Token]), Stop<'_>>
-    ensures { Gives (λ x. (parameters x.0.items, x.1.now)) result (params_here tokens.now) }
+/// The block behind a word, which is empty where the word doesn't stand.
+#[tactic(auto, unfolding(statement_readers::specs::Words::suite_behind))]
+#[cycle(block)]
+fn suite_behind(
+    alloc: Global,
+    levels: u32,
+    word: Op,
+    tokens: &[Token],
+) -> Result<(Vec<Stmt>, &[Token]), Stop<'_>>
+    requires few { levels ≤ 100 }
+    requires some { 0 < levels }
+    ensures { Gives (λ x. (block x.0.items, x.1.now)) result (suite_behind (block_at levels) (op_number word) tokens.now) }
 {
-    if begins(tokens, Mark::Name) {
-        let (all, rest) = names(alloc, tokens)?;
-        let (_close, rest) = expect(rest, Mark::Op(Op::RightParen))?;
-        return Ok((all, rest));
+    match first_of(tokens, &[Sign::Op(word)]) {
+        Some((_word, rest)) => suite(alloc, levels, rest),
+        None => Ok((Vec::new(alloc), tokens)),
     }
-    let (_close, rest) = expect(tokens, Mark::Op(Op::RightParen))?;
-    Ok((Vec::new(alloc), rest))
 }
 
-/// A condition, a colon and a block.
-#[tactic(auto, using(crate::proofs::BlockShapes::arm_rules))]
+/// A condition, and the block behind it.
+#[tactic(auto, unfolding(statement_readers::specs::Words::arm))]
 #[cycle(block)]
 fn arm(
     alloc: Global,
@@ -60,16 +110,15 @@ fn arm(
 ) -> Result<(Rc<Expr>, Vec<Stmt>, &[Token]), Stop<'_>>
     requires few { levels ≤ 100 }
     requires some { 0 < levels }
-    ensures { Gives (λ x. ((tree x.0.value, block x.1.items), x.2.now)) result (arm_here levels tokens.now) }
+    ensures { Gives (λ x. ((tree x.0.value, block x.1.items), x.2.now)) result (arm (block_at levels) tokens.now) }
 {
     let (condition, rest) = expression(alloc, LEVELS, tokens)?;
-    let (_colon, rest) = expect(rest, Mark::Op(Op::Colon))?;
-    let (body, rest) = block(alloc, levels, rest)?;
+    let (body, rest) = suite(alloc, levels, rest)?;
     Ok((condition.expr, body, rest))
 }
 
 /// The branches, and those behind each `elif`.
-#[tactic(auto, using(crate::proofs::BlockShapes::elifs_rules))]
+#[tactic(auto, using(statement_readers::proofs::Suites::elif_rules))]
 #[cycle(block)]
 fn further_branches<'t>(
     alloc: Global,
@@ -79,11 +128,11 @@ fn further_branches<'t>(
 ) -> Result<(Vec<Branch>, &'t [Token]), Stop<'t>>
     requires few { levels ≤ 100 }
     requires some { 0 < levels }
-    ensures { Gives (λ x. (branches x.0.items, x.1.now)) result (elifs_here levels (branches first.items, tokens.now)) }
+    ensures { Gives (λ x. (branches x.0.items, x.1.now)) result (elifs_on (block_at levels) (branches first.items, tokens.now)) }
 {
     let mut all = first;
     let mut rest = tokens;
-    while let Some((elif, after)) = first_with(rest, Mark::Op(Op::Elif)) {
+    while let Some((elif, after)) = first_of(rest, &[Sign::Op(Op::Elif)]) {
         let (condition, body, after) = arm(alloc, levels, after)?;
         all = add_branch(alloc, all, elif.at, condition, body)?;
         rest = after;
@@ -91,32 +140,8 @@ fn further_branches<'t>(
     Ok((all, rest))
 }
 
-/// The branches, with the block behind `else`, if there is one.
-#[tactic(auto, using(crate::proofs::BlockShapes::otherwise_rules))]
-#[cycle(block)]
-fn otherwise<'t>(
-    alloc: Global,
-    levels: u32,
-    at: Pos,
-    all: Vec<Branch>,
-    tokens: &'t [Token],
-) -> Result<(Stmt, &'t [Token]), Stop<'t>>
-    requires few { levels ≤ 100 }
-    requires some { 0 < levels }
-    ensures { Gives (λ x. (statement x.0, x.1.now)) result (otherwise_here levels at (branches all.items) tokens.now) }
-{
-    match first_with(tokens, Mark::Op(Op::Else)) {
-        None => Ok((if_stmt(alloc, at, all, Vec::new(alloc))?, tokens)),
-        Some((_else, after)) => {
-            let (_colon, after) = expect(after, Mark::Op(Op::Colon))?;
-            let (other, after) = block(alloc, levels, after)?;
-            Ok((if_stmt(alloc, at, all, other)?, after))
-        }
-    }
-}
-
 /// What stands behind `if`.
-#[tactic(auto, using(crate::proofs::BlockShapes::if_rules))]
+#[tactic(auto, unfolding(statement_readers::specs::Words::if_behind))]
 #[cycle(block)]
 fn choosing(
     alloc: Global,
@@ -126,16 +151,17 @@ fn choosing(
 ) -> Result<(Stmt, &[Token]), Stop<'_>>
     requires few { levels ≤ 100 }
     requires some { 0 < levels }
-    ensures { Gives (λ x. (statement x.0, x.1.now)) result (if_behind levels at tokens.now) }
+    ensures { Gives (λ x. (statement x.0, x.1.now)) result (if_behind (block_at levels) at tokens.now) }
 {
     let (condition, body, rest) = arm(alloc, levels, tokens)?;
     let first = add_branch(alloc, Vec::new(alloc), at, condition, body)?;
     let (all, rest) = further_branches(alloc, levels, first, rest)?;
-    otherwise(alloc, levels, at, all, rest)
+    let (other, rest) = suite_behind(alloc, levels, Op::Else, rest)?;
+    Ok((if_stmt(alloc, at, all, other)?, rest))
 }
 
 /// What stands behind `while`.
-#[tactic(auto, using(crate::proofs::BlockShapes::while_rules))]
+#[tactic(auto, unfolding(statement_readers::specs::Words::while_behind))]
 #[cycle(block)]
 fn looping(
     alloc: Global,
@@ -145,16 +171,16 @@ fn looping(
 ) -> Result<(Stmt, &[Token]), Stop<'_>>
     requires few { levels ≤ 100 }
     requires some { 0 < levels }
-    ensures { Gives (λ x. (statement x.0, x.1.now)) result (while_behind levels at tokens.now) }
+    ensures { Gives (λ x. (statement x.0, x.1.now)) result (while_behind (block_at levels) at tokens.now) }
 {
     let (condition, body, rest) = arm(alloc, levels, tokens)?;
     Ok((while_stmt(alloc, at, condition, body)?, rest))
 }
 
-/// What stands behind `def`.
-#[tactic(auto, using(crate::proofs::BlockShapes::def_rules))]
+/// What stands behind `for`.
+#[tactic(auto, unfolding(statement_readers::specs::Words::for_behind))]
 #[cycle(block)]
-fn defining(
+fn running(
     alloc: Global,
     levels: u32,
     at: Pos,
@@ -162,37 +188,223 @@ fn defining(
 ) -> Result<(Stmt, &[Token]), Stop<'_>>
     requires few { levels ≤ 100 }
     requires some { 0 < levels }
-    ensures { Gives (λ x. (statement x.0, x.1.now)) result (def_behind levels at tokens.now) }
+    ensures { Gives (λ x. (statement x.0, x.1.now)) result (for_behind (block_at levels) at tokens.now) }
 {
-    let (name, rest) = expect(tokens, Mark::Name)?;
-    let (_open, rest) = expect(rest, Mark::Op(Op::LeftParen))?;
-    let (params, rest) = params(alloc, rest)?;
-    let (_colon, rest) = expect(rest, Mark::Op(Op::Colon))?;
-    let (body, rest) = block(alloc, levels, rest)?;
-    let name = SrcText::from_chars(alloc, text_of(name))?;
-    Ok((def_stmt(alloc, at, name, params, body)?, rest))
+    let (target, rest) = targets(alloc, LEVELS, tokens)?;
+    let (_in, rest) = expect(rest, &[Sign::Op(Op::In)])?;
+    let (items, rest) = expressions(alloc, LEVELS, rest)?;
+    let (body, rest) = suite(alloc, levels, rest)?;
+    Ok((for_stmt(alloc, at, target.target, items.expr, body)?, rest))
 }
 
-/// A statement with blocks.
-#[tactic(auto, using(crate::proofs::BlockShapes::compound_rules))]
+/// What stands behind `with`.
+#[tactic(auto, unfolding(statement_readers::specs::Words::with_behind))]
+#[cycle(block)]
+fn entering(
+    alloc: Global,
+    levels: u32,
+    at: Pos,
+    tokens: &[Token],
+) -> Result<(Stmt, &[Token]), Stop<'_>>
+    requires few { levels ≤ 100 }
+    requires some { 0 < levels }
+    ensures { Gives (λ x. (statement x.0, x.1.now)) result (with_behind (block_at levels) at tokens.now) }
+{
+    let (context, rest) = expression(alloc, LEVELS, tokens)?;
+    let (name, rest) = alias_behind(alloc, rest)?;
+    let (body, rest) = suite(alloc, levels, rest)?;
+    Ok((with_stmt(alloc, at, context.expr, name, body)?, rest))
+}
+
+/// The handlers of a `try`, and one more behind `except`, which stands at `word`.
+#[tactic(auto, unfolding(statement_readers::specs::Words::handler))]
+#[cycle(block)]
+fn handler<'t>(
+    alloc: Global,
+    levels: u32,
+    before: Vec<Handler>,
+    word: Pos,
+    tokens: &'t [Token],
+) -> Result<(Vec<Handler>, &'t [Token]), Stop<'t>>
+    requires few { levels ≤ 100 }
+    requires some { 0 < levels }
+    ensures { Gives (λ x. (handlers x.0.items, x.1.now)) result (handler (block_at levels) (handlers before.items) word tokens.now) }
+{
+    let (class, name, rest) = caught(alloc, tokens)?;
+    let (body, rest) = suite(alloc, levels, rest)?;
+    Ok((add_handler(alloc, before, word, class, name, body)?, rest))
+}
+
+/// The handlers, and those behind each further `except`.
+#[tactic(auto, using(statement_readers::proofs::Suites::handler_rules))]
+#[cycle(block)]
+fn further_handlers<'t>(
+    alloc: Global,
+    levels: u32,
+    first: Vec<Handler>,
+    tokens: &'t [Token],
+) -> Result<(Vec<Handler>, &'t [Token]), Stop<'t>>
+    requires few { levels ≤ 100 }
+    requires some { 0 < levels }
+    ensures { Gives (λ x. (handlers x.0.items, x.1.now)) result (handlers_on (block_at levels) (handlers first.items, tokens.now)) }
+{
+    let mut all = first;
+    let mut rest = tokens;
+    while let Some((except, after)) = first_of(rest, &[Sign::Op(Op::Except)]) {
+        let (more, after) = handler(alloc, levels, all, except.at, after)?;
+        all = more;
+        rest = after;
+    }
+    Ok((all, rest))
+}
+
+/// What stands behind the first `except` of a `try`, which is at `word`.
+#[tactic(auto, unfolding(statement_readers::specs::Words::handled))]
+#[cycle(block)]
+fn handling<'t>(
+    alloc: Global,
+    levels: u32,
+    at: Pos,
+    body: Vec<Stmt>,
+    word: Pos,
+    tokens: &'t [Token],
+) -> Result<(Stmt, &'t [Token]), Stop<'t>>
+    requires few { levels ≤ 100 }
+    requires some { 0 < levels }
+    ensures { Gives (λ x. (statement x.0, x.1.now)) result (handled (block_at levels) at (block body.items) word tokens.now) }
+{
+    let (first, rest) = handler(alloc, levels, Vec::new(alloc), word, tokens)?;
+    let (all, rest) = further_handlers(alloc, levels, first, rest)?;
+    let (other, rest) = suite_behind(alloc, levels, Op::Else, rest)?;
+    let (last, rest) = suite_behind(alloc, levels, Op::Finally, rest)?;
+    Ok((try_stmt(alloc, at, body, all, other, last)?, rest))
+}
+
+/// What stands behind `try`.
+#[tactic(auto, unfolding(statement_readers::specs::Words::try_behind))]
+#[cycle(block)]
+fn trying(
+    alloc: Global,
+    levels: u32,
+    at: Pos,
+    tokens: &[Token],
+) -> Result<(Stmt, &[Token]), Stop<'_>>
+    requires few { levels ≤ 100 }
+    requires some { 0 < levels }
+    ensures { Gives (λ x. (statement x.0, x.1.now)) result (try_behind (block_at levels) at tokens.now) }
+{
+    let (body, rest) = suite(alloc, levels, tokens)?;
+    if let Some((except, after)) = first_of(rest, &[Sign::Op(Op::Except)]) {
+        return handling(alloc, levels, at, body, except.at, after);
+    }
+    let (_finally, rest) = expect(rest, &[Sign::Op(Op::Finally)])?;
+    let (last, rest) = suite(alloc, levels, rest)?;
+    let (all, other) = (Vec::new(alloc), Vec::new(alloc));
+    Ok((try_stmt(alloc, at, body, all, other, last)?, rest))
+}
+
+/// What stands behind `def`, which is at `word`, of a function that begins at `at`.
+#[tactic(auto, unfolding(statement_readers::specs::Words::def_behind))]
+#[cycle(block)]
+fn defining<'t>(
+    alloc: Global,
+    levels: u32,
+    at: Pos,
+    decorators: Vec<Rc<Expr>>,
+    word: Pos,
+    tokens: &'t [Token],
+) -> Result<(Stmt, &'t [Token]), Stop<'t>>
+    requires few { levels ≤ 100 }
+    requires some { 0 < levels }
+    ensures { Gives (λ x. (statement x.0, x.1.now)) result (def_behind (block_at levels) at (trees decorators.items) word tokens.now) }
+{
+    let (name, rest) = name(alloc, tokens)?;
+    let (_open, rest) = expect(rest, &[Sign::Op(Op::LeftParen)])?;
+    let (params, rest) = params(alloc, rest)?;
+    let (returns, rest) = expression_behind(alloc, Op::Arrow, rest)?;
+    let (body, rest) = suite(alloc, levels, rest)?;
+    let stmt = def_stmt(alloc, at, decorators, word, name, params, returns, body)?;
+    Ok((stmt, rest))
+}
+
+/// What stands behind `class`, which is at `word`, of a class that begins at `at`.
+#[tactic(auto, unfolding(statement_readers::specs::Words::class_behind))]
+#[cycle(block)]
+fn classing<'t>(
+    alloc: Global,
+    levels: u32,
+    at: Pos,
+    decorators: Vec<Rc<Expr>>,
+    word: Pos,
+    tokens: &'t [Token],
+) -> Result<(Stmt, &'t [Token]), Stop<'t>>
+    requires few { levels ≤ 100 }
+    requires some { 0 < levels }
+    ensures { Gives (λ x. (statement x.0, x.1.now)) result (class_behind (block_at levels) at (trees decorators.items) word tokens.now) }
+{
+    let (name, rest) = name(alloc, tokens)?;
+    let (base, rest) = base(alloc, rest)?;
+    let (body, rest) = suite(alloc, levels, rest)?;
+    let stmt = class_stmt(alloc, at, decorators, word, name, base, body)?;
+    Ok((stmt, rest))
+}
+
+/// What stands behind the first `@` of a decorated definition.
+#[tactic(auto, unfolding(statement_readers::specs::Words::decorated_behind))]
+#[cycle(block)]
+fn decorated(
+    alloc: Global,
+    levels: u32,
+    at: Pos,
+    tokens: &[Token],
+) -> Result<(Stmt, &[Token]), Stop<'_>>
+    requires few { levels ≤ 100 }
+    requires some { 0 < levels }
+    ensures { Gives (λ x. (statement x.0, x.1.now)) result (decorated_behind (block_at levels) at tokens.now) }
+{
+    let (all, rest) = decorators(alloc, tokens)?;
+    if let Some((word, rest)) = first_of(rest, &[Sign::Op(Op::Def)]) {
+        return defining(alloc, levels, at, all, word.at, rest);
+    }
+    let (word, rest) = expect(rest, &[Sign::Op(Op::Class)])?;
+    classing(alloc, levels, at, all, word.at, rest)
+}
+
+/// A statement with blocks (Language Reference, compound statements).
+#[tactic(auto, unfolding(statement_readers::specs::Words::compound))]
 #[cycle(block)]
 fn compound(alloc: Global, levels: u32, tokens: &[Token]) -> Result<(Stmt, &[Token]), Stop<'_>>
     requires few { levels ≤ 100 }
     requires some { 0 < levels }
-    ensures { Gives (λ x. (statement x.0, x.1.now)) result (compound_here levels tokens.now) }
+    ensures { Gives (λ x. (statement x.0, x.1.now)) result (compound (block_at levels) tokens.now) }
 {
-    if let Some((word, rest)) = first_with(tokens, Mark::Op(Op::If)) {
+    if let Some((word, rest)) = first_of(tokens, &[Sign::Op(Op::If)]) {
         return choosing(alloc, levels, word.at, rest);
     }
-    if let Some((word, rest)) = first_with(tokens, Mark::Op(Op::While)) {
+    if let Some((word, rest)) = first_of(tokens, &[Sign::Op(Op::While)]) {
         return looping(alloc, levels, word.at, rest);
     }
-    let (word, rest) = expect(tokens, Mark::Op(Op::Def))?;
-    defining(alloc, levels, word.at, rest)
+    if let Some((word, rest)) = first_of(tokens, &[Sign::Op(Op::For)]) {
+        return running(alloc, levels, word.at, rest);
+    }
+    if let Some((word, rest)) = first_of(tokens, &[Sign::Op(Op::Try)]) {
+        return trying(alloc, levels, word.at, rest);
+    }
+    if let Some((word, rest)) = first_of(tokens, &[Sign::Op(Op::With)]) {
+        return entering(alloc, levels, word.at, rest);
+    }
+    if let Some((word, rest)) = first_of(tokens, &[Sign::Op(Op::Def)]) {
+        return defining(alloc, levels, word.at, Vec::new(alloc), word.at, rest);
+    }
+    if let Some((word, rest)) = first_of(tokens, &[Sign::Op(Op::Class)]) {
+        return classing(alloc, levels, word.at, Vec::new(alloc), word.at, rest);
+    }
+    let (word, rest) = expect(tokens, &[Sign::Op(Op::At)])?;
+    decorated(alloc, levels, word.at, rest)
 }
 
 /// A statement with blocks, or the simple statements of a line, behind those of a block.
-#[tactic(auto, using(crate::proofs::BlockShapes::stmt_rules))]
+#[tactic(auto, using(statement_readers::proofs::Suites::left_rules), unfolding(statement_readers::specs::Words::stmt))]
 #[cycle(block)]
 fn statement(
     alloc: Global,
@@ -201,9 +413,9 @@ fn statement(
     tokens: &[Token],
 ) -> Result<(Vec<Stmt>, &[Token]), Stop<'_>>
     requires { levels ≤ 100 }
-    ensures { Gives (λ x. (block x.0.items, x.1.now)) result (stmt_here levels (block before.items) tokens.now) }
+    ensures { Gives (λ x. (block x.0.items, x.1.now)) result (stmt (block_at levels) (nat_le 1 levels) (block before.items) tokens.now) }
 {
-    if !begins(tokens, Mark::Compound) {
+    if !begins(tokens, &BEGINS_COMPOUND) {
         return simples(alloc, before, tokens);
     }
     if levels == 0 {
@@ -213,19 +425,21 @@ fn statement(
     Ok((add_stmt(before, stmt)?, rest))
 }
 
-/// Statements, at least one, whose blocks have so many levels.
-#[tactic(auto, using(crate::proofs::BlockShapes::stmts_rules))]
+/// The statements, and further ones behind them.
+#[tactic(auto, using(statement_readers::proofs::Suites::stmt_rules))]
 #[cycle(block)]
-fn statements(
+fn further_statements<'t>(
     alloc: Global,
     levels: u32,
-    tokens: &[Token],
-) -> Result<(Vec<Stmt>, &[Token]), Stop<'_>>
+    first: Vec<Stmt>,
+    tokens: &'t [Token],
+) -> Result<(Vec<Stmt>, &'t [Token]), Stop<'t>>
     requires { levels ≤ 100 }
-    ensures { Gives (λ x. (block x.0.items, x.1.now)) result (stmts_here levels tokens.now) }
+    ensures { Gives (λ x. (block x.0.items, x.1.now)) result (stmts_on (block_at levels) (nat_le 1 levels) (block first.items, tokens.now)) }
 {
-    let (mut all, mut rest) = statement(alloc, levels, Vec::new(alloc), tokens)?;
-    while begins(rest, Mark::Statement) {
+    let mut all = first;
+    let mut rest = tokens;
+    while let Some((_first, _behind)) = first_of(rest, &BEGINS_STATEMENT) {
         let (more, after) = statement(alloc, levels, all, rest)?;
         all = more;
         rest = after;
@@ -233,32 +447,47 @@ fn statements(
     Ok((all, rest))
 }
 
+/// Statements, at least one, whose blocks have so many levels.
+#[tactic(auto, unfolding(statement_readers::specs::Words::stmts))]
+#[cycle(block)]
+fn statements(
+    alloc: Global,
+    levels: u32,
+    tokens: &[Token],
+) -> Result<(Vec<Stmt>, &[Token]), Stop<'_>>
+    requires { levels ≤ 100 }
+    ensures { Gives (λ x. (block x.0.items, x.1.now)) result (stmts (block_at levels) (nat_le 1 levels) tokens.now) }
+{
+    let (first, rest) = statement(alloc, levels, Vec::new(alloc), tokens)?;
+    further_statements(alloc, levels, first, rest)
+}
+
 /// A block, with so many levels, its own among them.
-#[tactic(auto, using(crate::proofs::BlockShapes::block_rules))]
+#[tactic(auto, using(statement_readers::proofs::Suites::block_rules))]
 #[cycle(block)]
 fn block(alloc: Global, levels: u32, tokens: &[Token]) -> Result<(Vec<Stmt>, &[Token]), Stop<'_>>
     requires few { levels ≤ 100 }
     requires some { 0 < levels }
-    ensures { Gives (λ x. (block x.0.items, x.1.now)) result (block_reader E levels tokens.now) }
+    ensures { Gives (λ x. (block x.0.items, x.1.now)) result (block_at levels tokens.now) }
 {
-    let Some((_newline, rest)) = first_with(tokens, Mark::Newline) else {
+    let Some((_newline, rest)) = first_of(tokens, &[Sign::Newline]) else {
         return simples(alloc, Vec::new(alloc), tokens);
     };
-    let (_indent, rest) = expect(rest, Mark::Indent)?;
+    let (_indent, rest) = expect(rest, &[Sign::Indent])?;
     let (all, rest) = statements(alloc, levels - 1, rest)?;
-    let (_dedent, rest) = expect(rest, Mark::Dedent)?;
+    let (_dedent, rest) = expect(rest, &[Sign::Dedent])?;
     Ok((all, rest))
 }
 
 /// The statements of a source, up to the end, and with it.
-#[tactic(auto, using(crate::proofs::BlockShapes::source_rules))]
+#[tactic(auto, unfolding(statement_readers::specs::Words::source))]
 pub fn source(alloc: Global, tokens: &[Token]) -> Result<(Vec<Stmt>, &[Token]), Stop<'_>>
-    ensures { Gives (λ x. (block x.0.items, x.1.now)) result (source_here tokens.now) }
+    ensures { Gives (λ x. (block x.0.items, x.1.now)) result (source tokens.now) }
 {
-    let Some((_end, rest)) = first_with(tokens, Mark::End) else {
-        let (all, rest) = statements(alloc, LEVELS, tokens)?;
-        let (_end, rest) = expect(rest, Mark::End)?;
-        return Ok((all, rest));
-    };
-    Ok((Vec::new(alloc), rest))
+    if let Some((_end, rest)) = first_of(tokens, &[Sign::End]) {
+        return Ok((Vec::new(alloc), rest));
+    }
+    let (all, rest) = statements(alloc, LEVELS, tokens)?;
+    let (_end, rest) = expect(rest, &[Sign::End])?;
+    Ok((all, rest))
 }

@@ -1,51 +1,47 @@
-ghost use Rattle.std.specs.Prelude.{◌≡◌, [], true, false, IfOk, IsErrOf};
+ghost use Rattle.std.specs.Prelude.{◌≡◌, [], Some, Err};
 ghost use Rattle.parsing.specs.Answer.{finish};
-ghost use Rattle.py_tree.specs.Statements.{Block, block, module_tree};
-ghost use Rattle.py_grammar.specs.Context.{fits};
-ghost use Rattle.py_grammar.specs.Sources.{Reads};
-ghost use Rattle.py_parse.specs.Pieces.{source_here, Gives};
+ghost use Rattle.parsing.specs.Reading.{Bad, Deep};
+ghost use Rattle.py_source.specs.Limits.{most_levels};
+ghost use Rattle.py_tokens.specs.Layout.{EndsText};
+ghost use Rattle.py_tree.specs.Statements.{block};
+ghost use Rattle.py_grammar.specs.Context.{misplaced, in_module};
+ghost use Rattle.py_grammar.specs.Sources.{source_read};
+ghost use Rattle.py_grammar.specs.Verdict.{Verdict, IsVerdict, verdict_on, verdict_by};
+ghost use Rattle.py_cursor.specs.Cursor.{Gives};
+ghost use Rattle.statement_readers.specs.Words.{source};
+ghost use Rattle.py_parse.specs.Judged.{verdict_of, IsJudged, Answers};
 
 use crate::blocks::source;
-use crate::context::first_misplaced;
-use crate::stop::Stop;
-use py_tokens::Token;
+use crate::fault::SyntaxFault;
+use py_context::first_misplaced;
+use py_cursor::{Sign, Stop, begins};
+use py_tokens::{Op, Token};
 use py_tree::{Module, Stmt};
-use std::alloc::{AllocError, AllocFailed, Global};
+use std::alloc::Global;
 use std::rc::Rc;
 
-/// Why tokens have no tree.
-#[derive(Debug, Drop)]
-pub enum SyntaxFault {
-    /// They have no reading in the part of the language that is built, or something stands where it may not.
-    NotBuilt,
-    OutOfMemory,
-}
-
-impl From<AllocError> for SyntaxFault {
-    ghost use Rattle.std.specs.Prelude.{◌≡◌};
-    ghost use Rattle.py_parse.specs.declared.parser.SyntaxFault.TheVariants.{OutOfMemory};
-
-    ghost from_gives = { λ _ fault. fault ≡ OutOfMemory };
-
-    fn from(_error: AllocError) -> SyntaxFault {
-        SyntaxFault::OutOfMemory
-    }
-}
-
-impl<T: Drop> From<AllocFailed<T>> for SyntaxFault {
-    ghost use Rattle.std.specs.Prelude.{◌≡◌};
-    ghost use Rattle.py_parse.specs.declared.parser.SyntaxFault.TheVariants.{OutOfMemory};
-
-    ghost from_gives = { λ _ fault. fault ≡ OutOfMemory };
-
-    fn from(_error: AllocFailed<T>) -> SyntaxFault {
-        SyntaxFault::OutOfMemory
-    }
-}
+/// Words and signs of the whole language that this one doesn't have, or not there.
+const UNSUPPORTED: [Sign; 15] = [
+    Sign::Op(Op::Async),
+    Sign::Op(Op::Await),
+    Sign::Op(Op::Lambda),
+    Sign::Op(Op::Nonlocal),
+    Sign::Op(Op::For),
+    Sign::Op(Op::With),
+    Sign::Op(Op::From),
+    Sign::Op(Op::Star),
+    Sign::Op(Op::DoubleStar),
+    Sign::Op(Op::ColonEqual),
+    Sign::Op(Op::At),
+    Sign::Op(Op::Slash),
+    Sign::Op(Op::SlashEqual),
+    Sign::Op(Op::AtEqual),
+    Sign::Op(Op::Ellipsis),
+];
 
 /// The statements that all the tokens are.
 fn whole(alloc: Global, tokens: &[Token]) -> Result<Vec<Stmt>, Stop<'_>>
-    ensures { Gives (λ stmts. (block stmts.items, [])) result (finish (source_here tokens.now)) }
+    ensures { Gives (λ stmts. (block stmts.items, [])) result (finish (source tokens.now)) }
 {
     let (stmts, rest) = source(alloc, tokens)?;
     if !rest.is_empty() {
@@ -54,33 +50,65 @@ fn whole(alloc: Global, tokens: &[Token]) -> Result<Vec<Stmt>, Stop<'_>>
     Ok(stmts)
 }
 
+/// The fault at the first of the tokens. There is one: the tokens of a text end with its end.
+#[tactic(auto, using(crate::proofs::Faults::fault_rules))]
+fn fault_at(tokens: &[Token]) -> SyntaxFault
+    ensures { verdict_of (Err result) ≡ verdict_by (Bad tokens.now) }
+{
+    let [first, ..] = tokens else {
+        return SyntaxFault::OutOfMemory;
+    };
+    if begins(tokens, &UNSUPPORTED) {
+        SyntaxFault::Unsupported(first.at)
+    } else {
+        SyntaxFault::Unexpected(first.at)
+    }
+}
+
+/// The first of the tokens stands too deep.
+fn too_deep_at(tokens: &[Token]) -> SyntaxFault
+    ensures { verdict_of (Err result) ≡ verdict_by (Deep tokens.now) }
+{
+    let [first, ..] = tokens else {
+        return SyntaxFault::OutOfMemory;
+    };
+    SyntaxFault::Nesting(first.at)
+}
+
 /// The module of the statements, where each stands where it may.
-#[tactic(auto, using(crate::proofs::Verdicts::context_rules))]
-fn checked(alloc: Global, stmts: Vec<Stmt>) -> Result<Module, SyntaxFault>
-    ensures tree { IfOk result (λ m. module_tree m ≡ block stmts.items) }
-    ensures fits { IfOk result (λ _. fits false false (block stmts.items) ≡ true) }
-    ensures refused { IsErrOf result SyntaxFault.NotBuilt → fits false false (block stmts.items) ≡ false }
+#[tactic(auto, using(crate::proofs::Faults::place_rules))]
+fn placed(alloc: Global, stmts: Vec<Stmt>) -> Result<Module, SyntaxFault>
+    ensures { Answers (Some (verdict_on (block stmts.items) (misplaced in_module (block stmts.items)))) result }
 {
     match first_misplaced(alloc, &stmts)? {
-        Some(_at) => Err(SyntaxFault::NotBuilt),
+        Some(at) => Err(SyntaxFault::Context(at)),
         None => Ok(Module {
             body: Rc::new(alloc, stmts)?,
         }),
     }
 }
 
-/// The tree that the tokens of a source are (Language Reference, full grammar specification), as far as the language is built.
-#[tactic(auto, using(crate::proofs::Verdicts::parse_rules))]
-pub fn parse(alloc: Global, tokens: &[Token]) -> Result<Module, SyntaxFault>
-    // What is read is the tokens' source.
-    ensures found { IfOk result (λ m. Reads tokens.now (module_tree m)) }
-    // What is refused has none.
-    ensures refused { IsErrOf result SyntaxFault.NotBuilt → (b : Block) → Reads tokens.now b → ⊥ }
+/// The verdict that the reader's answer is.
+#[tactic(auto, using(crate::proofs::Verdicts::verdict_rules))]
+fn judged(alloc: Global, tokens: &[Token]) -> Result<Module, SyntaxFault>
+    ensures { Answers (verdict_by (source_read most_levels tokens.now)) result }
 {
     match whole(alloc, tokens) {
-        Ok(stmts) => checked(alloc, stmts),
-        Err(Stop::Bad(_rest)) => Err(SyntaxFault::NotBuilt),
-        Err(Stop::Deep(_rest)) => Err(SyntaxFault::NotBuilt),
+        Ok(stmts) => placed(alloc, stmts),
+        Err(Stop::Bad(rest)) => Err(fault_at(rest)),
+        Err(Stop::Deep(rest)) => Err(too_deep_at(rest)),
         Err(Stop::Memory) => Err(SyntaxFault::OutOfMemory),
     }
+}
+
+/// The tree that the tokens of a source are (Language Reference, full grammar specification).
+#[tactic(auto, using(crate::proofs::Verdicts::parse_rules))]
+pub fn parse(alloc: Global, tokens: &[Token]) -> Result<Module, SyntaxFault>
+    requires { EndsText tokens.now }
+    // The answer is the verdict on the tokens, unless memory ran out,
+    ensures verdict { IsJudged tokens.now result }
+    // and they have no other.
+    ensures only { (v : Verdict) → IsVerdict tokens.now v → Answers (Some v) result }
+{
+    judged(alloc, tokens)
 }

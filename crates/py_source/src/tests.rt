@@ -1,16 +1,4 @@
-use crate::{LexKind, Pos, SourceFault, SrcText, SyntaxKind};
-use std::test::Fail;
-
-#[test]
-fn a_text_keeps_its_characters(rt: HostRuntime) -> Result<(), Fail> {
-    let text = SrcText::from_chars(rt.alloc(), &['n', 'á', '雪'])?;
-    assert_eq!(rt; text.chars(), ['n', 'á', '雪'].as_slice());
-    let copy = text.clone()?;
-    assert!(rt; copy == text);
-    let taken = SrcText::from_vec(Vec::from_slice(rt.alloc(), &['n'])?);
-    assert!(rt; taken != text);
-    Ok(())
-}
+use crate::{LexKind, Pos, SourceFault, SyntaxKind};
 
 #[test]
 fn each_fault_has_its_message(rt: HostRuntime) {

@@ -2,6 +2,7 @@
 use Rattle.std.specs.Prelude.{◌≡◌, ℕ, ◌==◌, ◌+◌, ◌-◌, Bool, true, false, if◌then◌else◌, List, [], ◌∷◌, ◌++◌, Option, None, Some, Result, Ok, Err, nat_lt, drop, take, length, replicate, slice_get, slice_index}
 use Rattle.std.proofs.Common.{zero, suc, Vec, Global}
 use Rattle.std.specs.List.{suffix_len, prefix_len}
+use Rattle.py_source.specs.Limits.{most_levels}
 use Rattle.py_source.specs.declared.pos.Pos.{Pos}
 use Rattle.py_source.specs.declared.fault.LexKind.{LexKind}
 use Rattle.py_source.specs.declared.fault.LexKind.TheVariants as fault
@@ -68,7 +69,13 @@ operator_role _ = Neither
 
 abbrev pub token_role : TokenKind → BracketRole
 token_role (kind.Op operator) = operator_role operator
-token_role _ = Neither
+token_role (kind.Name name) = Neither
+token_role (kind.Number number) = Neither
+token_role (kind.Text text) = Neither
+token_role kind.Newline = Neither
+token_role kind.Indent = Neither
+token_role kind.Dedent = Neither
+token_role kind.End = Neither
 
 abbrev pub depth_with : ℕ → BracketRole → ℕ
 depth_with depth (Opens shape) = depth + 1
@@ -78,13 +85,22 @@ depth_with depth Neither = depth
 -- how many brackets are open behind a mark
 abbrev pub depth_behind : ℕ → Mark → ℕ
 depth_behind depth (Spelled token from to) = depth_with depth (token_role token)
-depth_behind depth _ = depth
+depth_behind depth Space = depth
+depth_behind depth (Tab pos) = depth
+depth_behind depth Gap = depth
+depth_behind depth (LineEnd from to) = depth
+depth_behind depth (TextEnd at) = depth
+depth_behind depth (Wrong at pos why) = depth
 
 -- LOGICAL LINES. A line ends at a line end outside brackets, and with the text.
 abbrev pub ends_line : ℕ → Mark → Bool
 ends_line depth (LineEnd from to) = depth == 0
 ends_line depth (TextEnd at) = true
-ends_line depth _ = false
+ends_line depth Space = false
+ends_line depth (Tab pos) = false
+ends_line depth Gap = false
+ends_line depth (Spelled token from to) = false
+ends_line depth (Wrong at pos why) = false
 
 abbrev pub put_first : Mark → List (List Mark) → List (List Mark)
 put_first mark [] = (mark ∷ []) ∷ []
@@ -108,7 +124,11 @@ then_read (Err fault) rest = Err fault
 abbrev pub is_indent : Mark → Bool
 is_indent Space = true
 is_indent (Tab pos) = true
-is_indent _ = false
+is_indent Gap = false
+is_indent (LineEnd from to) = false
+is_indent (TextEnd at) = false
+is_indent (Spelled token from to) = false
+is_indent (Wrong at pos why) = false
 
 abbrev pub column_of : List Mark → ℕ
 column_of line = prefix_len is_indent line
@@ -146,7 +166,7 @@ without_deeper column columns = take (length columns - deeper column columns) co
 -- the tokens before the first one of a line, which stand at its place
 abbrev pub indent_at : List ℕ → ℕ → Place → Result (List Token) LexFault
 indent_at columns column at =
-    if nat_lt (top columns) column then (if nat_lt (length columns) 100 then Ok (token_at kind.Indent at at ∷ []) else Err (Bad at.pos fault.Nesting))
+    if nat_lt (top columns) column then (if nat_lt (length columns) most_levels then Ok (token_at kind.Indent at at ∷ []) else Err (Bad at.pos fault.Nesting))
     else (if top (without_deeper column columns) == column then Ok (replicate (deeper column columns) (token_at kind.Dedent at at)) else Err (Bad at.pos fault.Dedent))
 
 abbrev pub indent_tokens : List ℕ → ℕ → Option Pos → Place → Result (List Token) LexFault
@@ -156,12 +176,17 @@ indent_tokens columns column None at = indent_at columns column at
 abbrev pub columns_with : List ℕ → ℕ → List ℕ
 columns_with columns column = if nat_lt (top columns) column then columns ++ column ∷ [] else without_deeper column columns
 
--- THE TOKENS OF A LINE from its first one on. A bracket is closed by one of its shape, and at most 100 are open.
+-- THE TOKENS OF A LINE from its first one on. A bracket is closed by one of its shape, and at most `most_levels` are open.
 abbrev pub same_shape : Shape → Shape → Bool
 same_shape Round Round = true
 same_shape Square Square = true
 same_shape Curly Curly = true
-same_shape _ _ = false
+same_shape Round Square = false
+same_shape Round Curly = false
+same_shape Square Round = false
+same_shape Square Curly = false
+same_shape Curly Round = false
+same_shape Curly Square = false
 
 abbrev pub innermost : List Bracket → Option Bracket
 innermost brackets = slice_get brackets (length brackets - 1)
@@ -172,7 +197,7 @@ has_shape shape (Some bracket) = same_shape bracket.shape shape
 
 -- the open brackets behind a token, the innermost last
 abbrev pub brackets_with : List Bracket → Pos → BracketRole → Result (List Bracket) LexKind
-brackets_with brackets at (Opens shape) = if nat_lt (length brackets) 100 then Ok (brackets ++ record { shape = shape; at = at } ∷ []) else Err fault.Nesting
+brackets_with brackets at (Opens shape) = if nat_lt (length brackets) most_levels then Ok (brackets ++ record { shape = shape; at = at } ∷ []) else Err fault.Nesting
 brackets_with brackets at (Closes shape) = if has_shape shape (innermost brackets) then Ok (take (length brackets - 1) brackets) else Err fault.Mismatch
 brackets_with brackets at Neither = Ok brackets
 

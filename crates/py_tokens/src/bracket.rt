@@ -5,10 +5,7 @@ ghost use Rattle.py_tokens.specs.Reading.{IsBracketsAnswer};
 
 use crate::op::Op;
 use crate::token::{LexFault, TokenKind};
-use py_source::{LexKind, Pos};
-
-/// So many brackets and so many columns may be open at a place.
-pub const MOST_OPEN: usize = 100;
+use py_source::{LexKind, MOST_LEVELS, Pos};
 
 /// The shape of a bracket.
 #[derive(Clone, Copy, Debug, PartialEq, Eq)]
@@ -52,7 +49,13 @@ pub fn token_role(kind: &TokenKind) -> BracketRole
 {
     match kind {
         TokenKind::Op(op) => operator_role(*op),
-        _ => BracketRole::Neither,
+        TokenKind::Name(_)
+        | TokenKind::Number(_)
+        | TokenKind::Text(_)
+        | TokenKind::Newline
+        | TokenKind::Indent
+        | TokenKind::Dedent
+        | TokenKind::End => BracketRole::Neither,
     }
 }
 
@@ -75,12 +78,12 @@ fn closes_innermost(shape: Shape, brackets: &[Bracket]) -> bool
     }
 }
 
-/// Opens or closes a bracket, of which no more than `MOST_OPEN` are open.
+/// Opens or closes a bracket, of which no more than `MOST_LEVELS` are open.
 pub fn take_bracket(role: BracketRole, at: Pos, brackets: &mut Vec<Bracket>) -> Result<(), LexFault>
     ensures { IsBracketsAnswer (brackets_with brackets.old.items at role) at brackets.new.items result }
 {
     match role {
-        BracketRole::Opens(_) if brackets.len() >= MOST_OPEN => {
+        BracketRole::Opens(_) if brackets.len() >= MOST_LEVELS => {
             Err(LexFault::Bad(at, LexKind::Nesting))
         }
         BracketRole::Opens(shape) => Ok(brackets.push(Bracket { shape, at })?),

@@ -13,7 +13,8 @@ use py_literals::{
     Literal, Miss, ReadFault, behind, is_name_start, read_literal, read_number, word_len,
 };
 use py_source::{LexKind, SrcText};
-use std::alloc::{AllocError, Global};
+use seq::OutOfMemory;
+use std::alloc::Global;
 use unicode_normalization::{Form, slice};
 
 /// A token at the head of a text.
@@ -46,7 +47,7 @@ fn prefix_of(word: &[char]) -> Prefix
     }
 }
 
-fn is_normal(alloc: Global, word: &[char]) -> Result<bool, AllocError>
+fn is_normal(alloc: Global, word: &[char]) -> Result<bool, OutOfMemory>
     ensures { IfOk result (λ normal. normal ≡ is_in_form Form.Nfkc word.now) }
 {
     let mut normal = Vec::new(alloc);
@@ -60,7 +61,7 @@ fn wrong(kind: LexKind) -> ReadFault
     ReadFault::Bad(Miss { at: 0, kind })
 }
 
-fn kind_of_word(alloc: Global, word: &[char]) -> Result<TokenKind, AllocError>
+fn kind_of_word(alloc: Global, word: &[char]) -> Result<TokenKind, OutOfMemory>
     ensures { IfOk result (λ kind. kind ≡ kind_of_word word.now (keyword_of word.now)) }
 {
     match keyword_of(word) {

@@ -6,14 +6,14 @@ ghost use Rattle.py_tokens.specs.Reading.{IsAdded, PassesGaps, IsLineRead, IsLin
 ghost use Rattle.py_literals.specs.Chars.{line_end};
 ghost use Rattle.std.specs.List.{prefix_len};
 
-use crate::bracket::MOST_OPEN;
 use crate::cursor::Cursor;
 use crate::place::{Place, gap_len, next_place};
 use crate::statement::{push_token, read_statement};
 use crate::token::{LexFault, Token, TokenKind};
 use py_literals::line_end_len;
-use py_source::{LexKind, Pos};
-use std::alloc::{AllocError, Global};
+use py_source::{LexKind, MOST_LEVELS, Pos};
+use seq::OutOfMemory;
+use std::alloc::Global;
 
 // How many blanks a line begins with.
 fn column_of(text: &[char]) -> usize
@@ -74,7 +74,7 @@ fn deeper(column: usize, columns: &[usize]) -> usize
         .count()
 }
 
-fn push_dedents(count: usize, at: Place, tokens: &mut Vec<Token>) -> Result<(), AllocError>
+fn push_dedents(count: usize, at: Place, tokens: &mut Vec<Token>) -> Result<(), OutOfMemory>
     ensures { OnOk result (tokens.new.items ≡ tokens.old.items ++ replicate count (token_at TokenKind.Dedent at at)) }
 {
     for _ in 0..count {
@@ -94,7 +94,7 @@ fn indent(
     ensures columns { OnOk result (columns.new.items ≡ columns_with columns.old.items column) }
 {
     if column > top(columns) {
-        if columns.len() >= MOST_OPEN {
+        if columns.len() >= MOST_LEVELS {
             return Err(LexFault::Bad(at.pos, LexKind::Nesting));
         }
         columns.push(column)?;
@@ -155,7 +155,7 @@ pub fn read_line(
 }
 
 /// Closes the open columns at the text's end.
-pub fn close(at: Place, columns: &[usize], tokens: &mut Vec<Token>) -> Result<(), AllocError>
+pub fn close(at: Place, columns: &[usize], tokens: &mut Vec<Token>) -> Result<(), OutOfMemory>
     ensures { OnOk result (tokens.new.items ≡ tokens.old.items ++ closing_tokens columns.now at) }
 {
     push_dedents(columns.len().saturating_sub(1), at, tokens)?;

@@ -4,13 +4,8 @@ ghost use Rattle.py_tokens.specs.Layout.{layout, IsLayout, EndsText};
 use crate::cursor::Cursor;
 use crate::line::{close, read_line};
 use crate::token::{LexFault, Token};
-use std::alloc::{AllocError, Global};
-
-fn chars_of(alloc: Global, text: &str) -> Result<Vec<char>, AllocError>
-    ensures { IfOk result (λ v. v.items ≡ chars text.now) }
-{
-    text.chars().collect(alloc)
-}
+use seq::CharText;
+use std::alloc::Global;
 
 /// The tokens of a text, or its first fault (Language Reference, lexical analysis).
 #[tactic(auto, unfolding(crate::specs::Layout::layout))]
@@ -18,8 +13,8 @@ pub fn tokens(alloc: Global, text: &str) -> Result<Vec<Token>, LexFault>
     ensures value { IsLayout (layout (chars text.now)) result }
     ensures ended { IfOk result (λ tokens. EndsText tokens.items) }
 {
-    let chars = chars_of(alloc, text)?;
-    let mut cursor = Cursor::new(&chars);
+    let source = CharText::from_str(alloc, text)?;
+    let mut cursor = Cursor::new(source.chars());
     let mut columns = Vec::new(alloc);
     columns.push(0)?;
     let mut tokens = Vec::new(alloc);

@@ -12,7 +12,8 @@ use crate::place::{Place, gap_len, place_behind};
 use crate::token::{LexFault, Token, TokenKind};
 use py_literals::{ReadFault, line_end_len};
 use py_source::LexKind;
-use std::alloc::{AllocError, Global};
+use seq::OutOfMemory;
+use std::alloc::Global;
 
 /// Adds a token between two places.
 pub fn push_token(
@@ -20,7 +21,7 @@ pub fn push_token(
     from: Place,
     to: Place,
     tokens: &mut Vec<Token>,
-) -> Result<(), AllocError>
+) -> Result<(), OutOfMemory>
     ensures { OnOk result (tokens.new.items ≡ tokens.old.items ++ token_at kind from to ∷ []) }
 {
     tokens.push(Token {

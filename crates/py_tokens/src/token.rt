@@ -3,7 +3,8 @@ ghost use Rattle.std.specs.Prelude.{◌≡◌};
 use crate::op::Op;
 use py_literals::ReadFault;
 use py_source::{LexKind, Pos, SrcText};
-use std::alloc::{AllocError, AllocFailed};
+use seq::OutOfMemory;
+use std::alloc::AllocFailed;
 
 /// What a token is.
 #[derive(Debug, PartialEq, Eq, Drop)]
@@ -38,13 +39,13 @@ pub enum LexFault {
     OutOfMemory,
 }
 
-impl From<AllocError> for LexFault {
+impl From<OutOfMemory> for LexFault {
     ghost use Rattle.std.specs.Prelude.{◌≡◌};
     ghost use Rattle.py_tokens.specs.declared.token.LexFault.TheVariants.{OutOfMemory};
 
     ghost from_gives = { λ _ fault. fault ≡ OutOfMemory };
 
-    fn from(_error: AllocError) -> LexFault {
+    fn from(_error: OutOfMemory) -> LexFault {
         LexFault::OutOfMemory
     }
 }

@@ -1,3 +1,2 @@
-pub mod Comparing
-pub mod Made
-pub mod Making
+pub mod Joining
+pub mod Walking

@@ -6,7 +6,8 @@ use Rattle.py_values.specs.declared.value.ObjId.{ObjId}
 use Rattle.py_values.specs.declared.end.OpEnd.{OpEnd}
 use Rattle.py_values.specs.declared.end.OpEnd.TheVariants as end
 use Rattle.py_values.specs.declared.end.Made.{Made}
-use Rattle.py_values.specs.declared.end.Made.TheVariants.{Give, New, Fail}
+use Rattle.py_values.specs.declared.end.Made.TheVariants.{Give, New, Put, Fail}
+use Rattle.py_values.specs.Changes.{heap_after}
 
 abbrev pub id_at : ℕ → ObjId
 id_at n = record { at = n }
@@ -15,6 +16,7 @@ id_at n = record { at = n }
 abbrev pub finished : List Obj → Option Made → OpEnd × List Obj
 finished heap (Some (Give v n)) = (end.Value v n, heap)
 finished heap (Some (New o n)) = (end.Value (Ref (id_at (length heap))) n, heap ++ o ∷ [])
+finished heap (Some (Put id c v n)) = (end.Value v n, heap_after id c heap)
 finished heap (Some (Fail r n)) = (end.Raised r n, heap)
 finished heap None = (end.Exhausted, heap)
 
@@ -28,6 +30,7 @@ steps_of end.Exhausted = 0
 abbrev pub cost_of : Made → ℕ
 cost_of (Give v n) = n
 cost_of (New o n) = n
+cost_of (Put id c v n) = n
 cost_of (Fail r n) = n
 
 abbrev pub made_cost : Option Made → ℕ

@@ -1,9 +1,9 @@
 -- The names of classes and of kinds.
 use Rattle.std.specs.Prelude.{ℕ, List, Option, Some, None, codes, slice_get}
-use Rattle.py_values.specs.declared.builtin.Builtin.{Builtin}
-use Rattle.py_values.specs.declared.builtin.Builtin.TheVariants as builtin
 use Rattle.py_values.specs.declared.class.ExcClass.{ExcClass}
 use Rattle.py_values.specs.declared.class.ExcClass.TheVariants as class
+use Rattle.py_values.specs.declared.class.ClassRef.{ClassRef}
+use Rattle.py_values.specs.declared.class.ClassRef.TheVariants.{Builtin, Defined}
 use Rattle.py_values.specs.declared.object.Obj.{Obj}
 use Rattle.py_values.specs.declared.object.Obj.TheVariants as obj
 use Rattle.py_values.specs.declared.value.Value.{Value}
@@ -35,28 +35,44 @@ class_name class.SyntaxError = codes "SyntaxError"
 class_name class.TypeError = codes "TypeError"
 class_name class.ValueError = codes "ValueError"
 
-abbrev pub builtin_name : Builtin → List ℕ
-builtin_name builtin.Print = codes "print"
-builtin_name builtin.Len = codes "len"
-builtin_name builtin.Str = codes "str"
+-- the name of a class object; there is no class at a place that has none
+abbrev pub class_name_at : Option Obj → List ℕ
+class_name_at (Some (obj.Class c)) = c.name
+class_name_at _ = codes "object"
 
--- a built-in function, or a class that is called like one
-abbrev pub builtin_kind : Builtin → List ℕ
-builtin_kind builtin.Print = codes "builtin"
-builtin_kind builtin.Len = codes "builtin"
-builtin_kind builtin.Str = codes "type"
+-- the name of an exception's class
+abbrev pub class_ref_name : List Obj → ClassRef → List ℕ
+class_ref_name heap (Builtin c) = class_name c
+class_ref_name heap (Defined id) = class_name_at (slice_get heap id.at)
 
--- an exception's kind is its class; there is no object at a place that the heap hasn't
-abbrev pub obj_kind : Option Obj → List ℕ
-obj_kind (Some (obj.Text t)) = codes "str"
-obj_kind (Some (obj.Function f)) = codes "function"
-obj_kind (Some (obj.Builtin b)) = builtin_kind b
-obj_kind (Some (obj.Exception e)) = class_name e.class
-obj_kind (Some (obj.Module m)) = codes "module"
-obj_kind None = codes "object"
+-- THE NAME OF AN OBJECT'S KIND: that of its class for an instance and an exception; there is no object at a place that the heap
+-- hasn't
+abbrev pub obj_kind : List Obj → Option Obj → List ℕ
+obj_kind heap (Some (obj.Text x)) = codes "str"
+obj_kind heap (Some (obj.List x)) = codes "list"
+obj_kind heap (Some (obj.Tuple x)) = codes "tuple"
+obj_kind heap (Some (obj.Dict x)) = codes "dict"
+obj_kind heap (Some (obj.Range x)) = codes "range"
+obj_kind heap (Some (obj.Function x)) = codes "function"
+obj_kind heap (Some (obj.Method x)) = codes "method"
+obj_kind heap (Some (obj.Builtin x)) = codes "builtin"
+obj_kind heap (Some (obj.Class x)) = codes "type"
+obj_kind heap (Some (obj.Instance x)) = class_name_at (slice_get heap x.class.at)
+obj_kind heap (Some (obj.Exception x)) = class_ref_name heap x.class
+obj_kind heap (Some (obj.Module x)) = codes "module"
+obj_kind heap (Some (obj.Fixture x)) = codes "fixture"
+obj_kind heap (Some obj.MarkMaker) = codes "mark"
+obj_kind heap (Some (obj.Mark x)) = codes "mark"
+obj_kind heap (Some (obj.Hook x)) = codes "mark"
+obj_kind heap (Some (obj.Param x)) = codes "param"
+obj_kind heap (Some (obj.Request x)) = codes "request"
+obj_kind heap (Some (obj.Raises x)) = codes "raises"
+obj_kind heap (Some (obj.Info x)) = codes "info"
+obj_kind heap (Some (obj.Item x)) = codes "item"
+obj_kind heap None = codes "object"
 
-abbrev pub kind_name : List Obj → Value → List ℕ
+unfoldable pub kind_name : List Obj → Value → List ℕ
 kind_name heap val.None = codes "NoneType"
 kind_name heap (val.Bool b) = codes "bool"
 kind_name heap (val.Int z) = codes "int"
-kind_name heap (val.Ref id) = obj_kind (slice_get heap id.at)
+kind_name heap (val.Ref id) = obj_kind heap (slice_get heap id.at)

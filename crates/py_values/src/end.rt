@@ -4,10 +4,11 @@ ghost use Rattle.std.specs.Prelude.{◌≡◌, ◌++◌, IfOk, OnOk};
 ghost use Rattle.py_values.specs.Ends.{finished, steps_of, cost_of, made_cost, within};
 ghost use Rattle.py_values.specs.Raises as raises;
 
+use crate::change::Change;
 use crate::class::ExcClass;
 use crate::heap::Heap;
 use crate::object::Obj;
-use crate::value::Value;
+use crate::value::{ObjId, Value};
 use py_text::{OutOfMemory, PyText};
 use std::alloc::Global;
 
@@ -62,11 +63,14 @@ pub enum OpEnd {
     Exhausted,
 }
 
-/// What an operator or a built-in call makes, with its cost in steps, before the heap has it.
+/// What an operator or a built-in call makes, with its cost in steps, before the heap has it: a value, a new object, a change
+/// of an object, or a raise.
 #[derive(Drop)]
 pub enum Made {
     Give(Value, u64),
     New(Obj, u64),
+    /// A change of the object at a place, and a value.
+    Put(ObjId, Change, Value, u64),
     Fail(Raise, u64),
 }
 
@@ -78,6 +82,7 @@ impl Made {
         match self {
             Made::Give(_, cost) => *cost,
             Made::New(_, cost) => *cost,
+            Made::Put(_, _, _, cost) => *cost,
             Made::Fail(_, cost) => *cost,
         }
     }
@@ -104,6 +109,10 @@ pub fn finish(heap: &mut Heap, made: Option<Made>) -> Result<OpEnd, OutOfMemory>
         Some(Made::New(obj, cost)) => {
             let id = heap.add(obj)?;
             Ok(OpEnd::Value(Value::Ref(id), cost))
+        }
+        Some(Made::Put(id, change, v, cost)) => {
+            heap.change(id, change)?;
+            Ok(OpEnd::Value(v, cost))
         }
         Some(Made::Fail(raise, cost)) => Ok(OpEnd::Raised(raise, cost)),
         None => Ok(OpEnd::Exhausted),

@@ -1,13 +1,15 @@
 // The names of classes and of kinds.
 
-ghost use Rattle.std.specs.Prelude.{◌≡◌};
+ghost use Rattle.std.specs.Prelude.{◌≡◌, ◌++◌, OnOk, IfOk, slice_get};
 ghost use Rattle.py_values.specs.Kinds as names;
 
-use crate::builtin::Builtin;
-use crate::class::ExcClass;
+use crate::class::{ClassRef, ExcClass};
+use crate::end::push_ascii;
 use crate::heap::Heap;
 use crate::object::Obj;
-use crate::value::Value;
+use crate::value::{ObjId, Value};
+use py_text::{OutOfMemory, PyText};
+use std::alloc::Global;
 
 /// The name of a class of exceptions.
 pub fn class_name(class: ExcClass) -> &'static str
@@ -41,42 +43,79 @@ pub fn class_name(class: ExcClass) -> &'static str
     }
 }
 
-/// The name of a built-in function.
-pub fn builtin_name(which: Builtin) -> &'static str
-    ensures { result.now ≡ names.builtin_name which }
+/// Puts the name of a class object behind other characters.
+pub fn push_class_name(chars: &mut Vec<char>, heap: &Heap, class: ObjId) -> Result<(), OutOfMemory>
+    ensures { OnOk result (chars.new.items ≡ chars.old.items ++ names.class_name_at (slice_get heap.now class.at)) }
 {
-    match which {
-        Builtin::Print => "print",
-        Builtin::Len => "len",
-        Builtin::Str => "str",
+    match heap.get(class) {
+        Some(Obj::Class(c)) => {
+            chars.extend_from_slice(c.name.chars())?;
+            Ok(())
+        }
+        _ => push_ascii(chars, "object"),
     }
 }
 
-fn builtin_kind(which: Builtin) -> &'static str
-    ensures { result.now ≡ names.builtin_kind which }
+/// Puts the name of an exception's class behind other characters.
+pub fn push_class_ref(
+    chars: &mut Vec<char>,
+    heap: &Heap,
+    class: ClassRef,
+) -> Result<(), OutOfMemory>
+    ensures { OnOk result (chars.new.items ≡ chars.old.items ++ names.class_ref_name heap.now class) }
 {
-    match which {
-        Builtin::Print => "builtin",
-        Builtin::Len => "builtin",
-        Builtin::Str => "type",
+    match class {
+        ClassRef::Builtin(c) => push_ascii(chars, class_name(c)),
+        ClassRef::Defined(id) => push_class_name(chars, heap, id),
     }
 }
 
-/// The name of a value's kind; an exception's is that of its class.
-pub fn kind_name(heap: &Heap, v: Value) -> &'static str
-    ensures { result.now ≡ names.kind_name heap.now v }
+/// Puts the name of an object's kind behind other characters.
+fn push_obj_kind(chars: &mut Vec<char>, heap: &Heap, id: ObjId) -> Result<(), OutOfMemory>
+    ensures { OnOk result (chars.new.items ≡ chars.old.items ++ names.obj_kind heap.now (slice_get heap.now id.at)) }
+{
+    match heap.get(id) {
+        Some(Obj::Text(_)) => push_ascii(chars, "str"),
+        Some(Obj::List(_)) => push_ascii(chars, "list"),
+        Some(Obj::Tuple(_)) => push_ascii(chars, "tuple"),
+        Some(Obj::Dict(_)) => push_ascii(chars, "dict"),
+        Some(Obj::Range(_)) => push_ascii(chars, "range"),
+        Some(Obj::Function(_)) => push_ascii(chars, "function"),
+        Some(Obj::Method(_)) => push_ascii(chars, "method"),
+        Some(Obj::Builtin(_)) => push_ascii(chars, "builtin"),
+        Some(Obj::Class(_)) => push_ascii(chars, "type"),
+        Some(Obj::Module(_)) => push_ascii(chars, "module"),
+        Some(Obj::Fixture(_)) => push_ascii(chars, "fixture"),
+        Some(Obj::MarkMaker | Obj::Mark(_) | Obj::Hook(_)) => push_ascii(chars, "mark"),
+        Some(Obj::Param(_)) => push_ascii(chars, "param"),
+        Some(Obj::Request(_)) => push_ascii(chars, "request"),
+        Some(Obj::Raises(_)) => push_ascii(chars, "raises"),
+        Some(Obj::Info(_)) => push_ascii(chars, "info"),
+        Some(Obj::Item(_)) => push_ascii(chars, "item"),
+        Some(Obj::Instance(x)) => push_class_name(chars, heap, x.class),
+        Some(Obj::Exception(x)) => push_class_ref(chars, heap, x.class),
+        None => push_ascii(chars, "object"),
+    }
+}
+
+/// Puts the name of a value's kind behind other characters.
+#[tactic(auto, unfolding(crate::specs::Kinds::kind_name))]
+pub fn push_kind(chars: &mut Vec<char>, heap: &Heap, v: Value) -> Result<(), OutOfMemory>
+    ensures { OnOk result (chars.new.items ≡ chars.old.items ++ names.kind_name heap.now v) }
 {
     match v {
-        Value::None => "NoneType",
-        Value::Bool(_) => "bool",
-        Value::Int(_) => "int",
-        Value::Ref(id) => match heap.get(id) {
-            Some(Obj::Text(_)) => "str",
-            Some(Obj::Function(_)) => "function",
-            Some(Obj::Builtin(which)) => builtin_kind(*which),
-            Some(Obj::Exception(exc)) => class_name(exc.class),
-            Some(Obj::Module(_)) => "module",
-            None => "object",
-        },
+        Value::None => push_ascii(chars, "NoneType"),
+        Value::Bool(_) => push_ascii(chars, "bool"),
+        Value::Int(_) => push_ascii(chars, "int"),
+        Value::Ref(id) => push_obj_kind(chars, heap, id),
     }
+}
+
+/// The name of a value's kind; an instance's and an exception's is that of its class.
+pub fn kind_name(alloc: Global, heap: &Heap, v: Value) -> Result<PyText, OutOfMemory>
+    ensures { IfOk result (λ t. t ≡ names.kind_name heap.now v) }
+{
+    let mut chars = Vec::new(alloc);
+    push_kind(&mut chars, heap, v)?;
+    PyText::from_chars(alloc, &chars)
 }

@@ -1,7 +1,7 @@
 // Names with values.
 
-ghost use Rattle.std.specs.Prelude.{◌≡◌, [], OnOk, IfOk, slice_get, option_map};
-ghost use Rattle.py_values.specs.Names.{bind_name, find_name};
+ghost use Rattle.std.specs.Prelude.{◌≡◌, [], OnOk, IfOk, slice_get, option_map, length};
+ghost use Rattle.py_values.specs.Names.{bind_name, find_name, unbind_name};
 ghost use Rattle.std.specs.Map.Iter.{deref_pair};
 
 use crate::value::Value;
@@ -120,6 +120,19 @@ impl Names {
     {
         self.map.insert(name, v)?;
         Ok(())
+    }
+
+    /// Takes a name away; those behind it move up.
+    pub fn unbind(&mut self, name: &Name)
+        ensures { self.new ≡ unbind_name name.now self.old }
+    {
+        let _gone = self.map.shift_remove(name);
+    }
+
+    pub fn len(&self) -> usize
+        ensures { result ≡ length self.now }
+    {
+        self.map.len()
     }
 
     /// The name with its value at a place.

@@ -1,87 +1,69 @@
 // Objects.
 
-ghost use Rattle.std.specs.Prelude.{◌≡◌};
-
 use crate::builtin::Builtin;
-use crate::class::ExcClass;
+use crate::class::{ClassForm, ClassRef};
+use crate::dict::Dict;
 use crate::names::Names;
-use crate::value::Value;
+use crate::range::RangeObj;
+use crate::rows::{Params, Texts, Values};
+use crate::value::{ObjId, Value};
 use py_text::PyText;
-use std::marker::Model;
 
-/// Values in a row.
-#[derive(Drop)]
-pub struct Values {
-    items: Vec<Value>,
-}
-
-impl Model for Values {
-    ghost use Rattle.std.specs.Prelude.{List};
-    ghost use Rattle.py_values.specs.declared.value.Value.{Value as PyValue};
-
-    ghost Value = { List PyValue };
-
-    ghost view = { λ v. v.items.items };
-}
-
-impl Values {
-    pub fn from_vec(items: Vec<Value>) -> Self
-        ensures { result ≡ items.items }
-    {
-        Values { items }
-    }
-
-    pub fn items(&self) -> &[Value]
-        ensures { result.now ≡ self.now }
-    {
-        &self.items
-    }
-}
-
-/// Texts in a row.
-#[derive(Drop)]
-pub struct Texts {
-    items: Vec<PyText>,
-}
-
-impl Model for Texts {
-    ghost use Rattle.std.specs.Prelude.{List, ℕ};
-
-    ghost Value = { List (List ℕ) };
-
-    ghost view = { λ t. t.items.items };
-}
-
-impl Texts {
-    pub fn from_vec(items: Vec<PyText>) -> Self
-        ensures { result ≡ items.items }
-    {
-        Texts { items }
-    }
-
-    pub fn items(&self) -> &[PyText]
-        ensures { result.now ≡ self.now }
-    {
-        &self.items
-    }
-}
-
-/// A function of the sources: the file's path, its name, the line of its `def`, the names of its parameters, and the
-/// number of its code.
+/// A function of the sources: the file's path, its name, the line of its `def`, its parameters, whether it yields, its
+/// marks, its class where it is defined in one, and the number of its code.
 #[derive(Drop)]
 pub struct FunctionObj {
     pub path: PyText,
     pub name: PyText,
     pub line: u32,
-    pub params: Texts,
+    pub params: Params,
+    pub yields: bool,
+    pub marks: Values,
+    pub class: Option<ObjId>,
     pub code: usize,
 }
 
-/// An exception: its class and its arguments.
+/// A function that was read through an instance, with the instance.
+#[derive(Clone, Copy, Debug, PartialEq, Eq)]
+pub struct MethodObj {
+    pub function: ObjId,
+    pub receiver: Value,
+}
+
+/// A built-in function, or a method of a built-in kind with the value through which it was read.
+#[derive(Clone, Copy, Debug, PartialEq, Eq)]
+pub struct BuiltinObj {
+    pub which: Builtin,
+    pub receiver: Option<Value>,
+}
+
+/// A class: its file's path, its name, the line of its `class`, what it is, its base, its marks, and its names with values
+/// in order of first binding.
+#[derive(Drop)]
+pub struct ClassObj {
+    pub path: PyText,
+    pub name: PyText,
+    pub line: u32,
+    pub form: ClassForm,
+    pub base: Option<ObjId>,
+    pub marks: Values,
+    pub names: Names,
+}
+
+/// An instance of a class that is no class of exceptions.
+#[derive(Drop)]
+pub struct InstanceObj {
+    pub class: ObjId,
+    pub names: Names,
+}
+
+/// An exception: its class, its own name `args` where that is bound, and its other names. `args` is a tuple from the start,
+/// and may be bound to something else.
 #[derive(Drop)]
 pub struct ExceptionObj {
-    pub class: ExcClass,
-    pub args: Values,
+    pub class: ClassRef,
+    pub args: Option<Value>,
+    pub names: Names,
 }
 
 /// A module: its path, and its names with values in order of first binding.
@@ -91,12 +73,104 @@ pub struct ModuleObj {
     pub names: Names,
 }
 
-/// An object, one variant for each kind.
+/// How long a fixture's value is kept (pytest's fixture reference, scope).
+#[derive(Clone, Copy, Debug, PartialEq, Eq)]
+pub enum FixtureScope {
+    Session,
+    Module,
+    Class,
+    Function,
+}
+
+/// A fixture: its function, where it was applied to one, and the arguments of `fixture`.
+#[derive(Drop)]
+pub struct FixtureObj {
+    pub function: Option<ObjId>,
+    pub scope: FixtureScope,
+    pub params: Option<Values>,
+    pub autouse: bool,
+    pub ids: Option<Texts>,
+    pub name: Option<PyText>,
+}
+
+/// A mark: its name, its arguments by position and by name, and whether it was called.
+#[derive(Drop)]
+pub struct MarkObj {
+    pub name: PyText,
+    pub args: Values,
+    pub named: Names,
+    pub called: bool,
+}
+
+/// The arguments of `hookimpl`.
+#[derive(Clone, Copy, Debug, PartialEq, Eq)]
+pub struct HookObj {
+    pub wrapper: bool,
+    pub first: bool,
+    pub last: bool,
+}
+
+/// The arguments of `param`.
+#[derive(Drop)]
+pub struct ParamObj {
+    pub values: Values,
+    pub id: Option<PyText>,
+    pub marks: Values,
+}
+
+/// What a fixture asks for: its name, its scope, its parameter where it has one, its finalizers in order, and whether it is
+/// closed.
+#[derive(Drop)]
+pub struct RequestObj {
+    pub name: PyText,
+    pub scope: FixtureScope,
+    pub param: Option<Value>,
+    pub finalizers: Values,
+    pub closed: bool,
+}
+
+/// The arguments of `raises`: a class or a tuple of classes, and a pattern.
+#[derive(Drop)]
+pub struct RaisesObj {
+    pub classes: Value,
+    pub pattern: Option<PyText>,
+}
+
+/// The exception that a `with raises` has taken, where there is one.
+#[derive(Clone, Copy, Debug, PartialEq, Eq)]
+pub struct InfoObj {
+    pub value: Option<Value>,
+}
+
+/// A test item: its name and its node id.
+#[derive(Drop)]
+pub struct ItemObj {
+    pub name: PyText,
+    pub node_id: PyText,
+}
+
+/// An object, one variant for each kind (Language Reference, the standard type hierarchy). `MarkMaker` is `pytest.mark`.
 #[derive(Drop)]
 pub enum Obj {
     Text(PyText),
+    List(Values),
+    Tuple(Values),
+    Dict(Dict),
+    Range(RangeObj),
     Function(FunctionObj),
-    Builtin(Builtin),
+    Method(MethodObj),
+    Builtin(BuiltinObj),
+    Class(ClassObj),
+    Instance(InstanceObj),
     Exception(ExceptionObj),
     Module(ModuleObj),
+    Fixture(FixtureObj),
+    MarkMaker,
+    Mark(MarkObj),
+    Hook(HookObj),
+    Param(ParamObj),
+    Request(RequestObj),
+    Raises(RaisesObj),
+    Info(InfoObj),
+    Item(ItemObj),
 }

@@ -1,7 +1,7 @@
 // Values.
 
 /// Where an object lies in its heap.
-#[derive(Clone, Copy, Debug, PartialEq, Eq)]
+#[derive(Clone, Copy, Debug, PartialEq, Eq, Hash)]
 pub struct ObjId {
     pub at: usize,
 }

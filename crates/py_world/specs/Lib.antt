@@ -1,8 +1,12 @@
-pub mod World
 pub mod Site
+pub mod World
+pub mod Arguments
+pub mod Fitting
 pub mod Outcome
 pub mod Names
 pub mod Expressions
+pub mod Explained
 pub mod Statements
 pub mod Calls
+pub mod ModuleNames
 pub mod Runs

@@ -1,79 +1,92 @@
 -- How the parts of a run end, and how an end decides what follows.
-use Rattle.std.specs.Prelude.{ℕ, List, length, Bool, true, false}
+use Rattle.std.specs.Prelude.{List, length, Bool, true, false}
 use Rattle.run_tree.specs.Todo.{Todo, Spend, spend_all}
 use Rattle.py_source.specs.declared.pos.Pos.{Pos}
 use Rattle.py_values.specs.declared.value.Value.{Value}
 use Rattle.py_values.specs.declared.value.Value.TheVariants as val
 use Rattle.py_values.specs.declared.end.Raise.{Raise}
 use Rattle.py_values.specs.declared.end.Made.{Made}
-use Rattle.py_values.specs.declared.end.Made.TheVariants.{Give, New, Fail}
+use Rattle.py_values.specs.declared.end.Made.TheVariants.{Give, New, Put, Fail}
 use Rattle.py_values.specs.declared.object.Obj.{Obj}
 use Rattle.py_values.specs.Ends.{cost_of, id_at}
+use Rattle.py_values.specs.Changes.{heap_after}
 use Rattle.py_values.specs.Raises.{thrown}
-use Rattle.py_world.specs.World.{State, heap_of, with_heap, with_object, back_to}
-use Rattle.py_world.specs.Site.{Scene, Site, trace_of}
+use Rattle.py_world.specs.World.{Kinds, State, heap_of, with_heap, with_object, back_to}
+use Rattle.py_world.specs.Site.{Around, Scene, Site, trace_of}
+use Rattle.py_world.specs.Arguments.{Arguments}
 use Rattle.py_world.specs.declared.trace.TraceFrame.{TraceFrame}
 
 -- an expression gives a value; a statement is over, or leaves what is around it; either raises
-pub data Outcome (C M : Type 0) : Type 0 where
-  Gave : Value → State C M → Outcome C M
-  Next : State C M → Outcome C M
-  Returned : Value → State C M → Outcome C M
-  Broke : State C M → Outcome C M
-  Continued : State C M → Outcome C M
-  Raised : Value → List TraceFrame → State C M → Outcome C M
+pub data Outcome (K : Kinds) : Type 0 where
+  Gave : Value → State K → Outcome K
+  Next : State K → Outcome K
+  Returned : Value → State K → Outcome K
+  Broke : State K → Outcome K
+  Continued : State K → Outcome K
+  Raised : Value → List TraceFrame → State K → Outcome K
 
 -- where the steps are used up
-pub record Spent (C M : Type 0) : Type 0 where
+pub record Spent (K : Kinds) : Type 0 where
   pub trace : List TraceFrame
-  pub state : State C M
+  pub state : State K
 
--- what costs a step before it begins and is no part of the syntax at hand: a call, and what a meaning names by T
-pub data Request (C M T : Type 0) : Type 0 where
-  CallOf : (callee : Value) (args : List Value) (outer : List TraceFrame) (depth : ℕ) (s : State C M) → Request C M T
-  DoOf : (what : T) (p : Site) (s : State C M) → Request C M T
+-- what costs a step before it begins and is no part of the syntax at hand: a call, and what a meaning names
+pub data Request (K : Kinds) : Type 0 where
+  CallOf : (callee : Value) (args : Arguments) (a : Around) (s : State K) → Request K
+  DoOf : (what : K.turn) (p : Site) (s : State K) → Request K
+
+-- a body that stopped at a `yield`: what it gave, what remains of it, where, and its names and the world
+pub record Paused (K : Kinds) : Type 0 where
+  pub value : Value
+  pub rest : K.rest
+  pub site : Site
+  pub state : State K
+
+abbrev pub paused : {K : Kinds} → Value → K.rest → Site → State K → Paused K
+paused v rest p s = record { value = v; rest = rest; site = p; state = s }
 
 -- what is left to do; the positions of the expressions that begin are noted
-abbrev pub Rest : (C M T : Type 0) → Type 0
-Rest C M T = Todo Pos (Spent C M) (Request C M T) (Outcome C M)
+abbrev pub Rest : (K : Kinds) → Type 0
+Rest K = Todo Pos (Spent K) (Request K) (Outcome K) (Paused K)
 
 -- what follows a part
-abbrev pub Then : (C M T : Type 0) → Type 0
-Then C M T = Outcome C M → Rest C M T
+abbrev pub Then : (K : Kinds) → Type 0
+Then K = Outcome K → Rest K
 
 -- what an expression or a statement does, at its place in a state, with what follows it
-abbrev pub Part : (C M T : Type 0) → Type 0
-Part C M T = Site → State C M → Then C M T → Rest C M T
+abbrev pub Part : (K : Kinds) → Type 0
+Part K = Site → State K → Then K → Rest K
 
 -- what a block does, whose statements have lines of their own
-abbrev pub Body : (C M T : Type 0) → Type 0
-Body C M T = Scene → State C M → Then C M T → Rest C M T
+abbrev pub Body : (K : Kinds) → Type 0
+Body K = Scene → State K → Then K → Rest K
 
-module _ {C M : Type 0} where
-  abbrev pub spent : List TraceFrame → State C M → Spent C M
+module _ {K : Kinds} where
+  abbrev pub spent : List TraceFrame → State K → Spent K
   spent trace s = record { trace = trace; state = s }
 
-  abbrev pub spent_at : Site → State C M → Spent C M
+  abbrev pub spent_at : Site → State K → Spent K
   spent_at p s = spent (trace_of p) s
 
   -- a new exception is raised
-  abbrev pub raised_in : Value × List Obj → List TraceFrame → State C M → Outcome C M
+  abbrev pub raised_in : Value × List Obj → List TraceFrame → State K → Outcome K
   raised_in e trace s = Raised e.0 trace (with_heap e.1 s)
 
-  abbrev pub raised : Raise → List TraceFrame → State C M → Outcome C M
+  abbrev pub raised : Raise → List TraceFrame → State K → Outcome K
   raised r trace s = raised_in (thrown r (heap_of s)) trace s
 
-  abbrev pub raised_at : Raise → Site → State C M → Outcome C M
+  abbrev pub raised_at : Raise → Site → State K → Outcome K
   raised_at r p s = raised r (trace_of p) s
 
-  -- how an operator or a built-in call ends
-  abbrev pub made : Made → List TraceFrame → State C M → Outcome C M
+  -- how an operator, a built-in call or a look-up ends
+  abbrev pub made : Made → List TraceFrame → State K → Outcome K
   made (Give v n) trace s = Gave v s
   made (New o n) trace s = Gave (val.Ref (id_at (length (heap_of s)))) (with_object o s)
+  made (Put id change v n) trace s = Gave v (with_heap (heap_after id change (heap_of s)) s)
   made (Fail r n) trace s = raised r trace s
 
   -- how a call ends, for the caller
-  abbrev pub call_end : State C M → Outcome C M → Outcome C M
+  abbrev pub call_end : State K → Outcome K → Outcome K
   call_end caller (Gave v s) = Gave v (back_to caller s)
   call_end caller (Next s) = Gave val.None (back_to caller s)
   call_end caller (Returned v s) = Gave v (back_to caller s)
@@ -81,42 +94,49 @@ module _ {C M : Type 0} where
   call_end caller (Continued s) = Gave val.None (back_to caller s)
   call_end caller (Raised e trace s) = Raised e trace (back_to caller s)
 
-module _ {C M T : Type 0} where
-  -- goes on from a value, and hands on any other end
-  abbrev pub on_value : Outcome C M → Then C M T → (Value → State C M → Rest C M T) → Rest C M T
-  on_value (Gave v s) k go = go v s
-  on_value (Next s) k go = k (Next s)
-  on_value (Returned v s) k go = k (Returned v s)
-  on_value (Broke s) k go = k (Broke s)
-  on_value (Continued s) k go = k (Continued s)
-  on_value (Raised e trace s) k go = k (Raised e trace s)
+-- WHAT FOLLOWS A PART by how it has ended. All forms decide by it; each names the ends that it takes itself.
+pub record Ways (K : Kinds) : Type 0 where
+  pub gave : Value → State K → Rest K
+  pub next : State K → Rest K
+  pub returned : Value → State K → Rest K
+  pub broke : State K → Rest K
+  pub continued : State K → Rest K
+  pub raised : Value → List TraceFrame → State K → Rest K
 
-  -- goes on behind a statement that is over, and hands on any other end
-  abbrev pub on_next : Outcome C M → Then C M T → (State C M → Rest C M T) → Rest C M T
-  on_next (Gave v s) k go = k (Gave v s)
-  on_next (Next s) k go = go s
-  on_next (Returned v s) k go = k (Returned v s)
-  on_next (Broke s) k go = k (Broke s)
-  on_next (Continued s) k go = k (Continued s)
-  on_next (Raised e trace s) k go = k (Raised e trace s)
+module _ {K : Kinds} where
+  abbrev pub route : Ways K → Then K
+  route w (Gave v s) = w.gave v s
+  route w (Next s) = w.next s
+  route w (Returned v s) = w.returned v s
+  route w (Broke s) = w.broke s
+  route w (Continued s) = w.continued s
+  route w (Raised e trace s) = w.raised e trace s
+
+  -- each end is handed on
+  abbrev pub onward : Then K → Ways K
+  onward k =
+      record { gave = λ v s. k (Gave v s); next = λ s. k (Next s); returned = λ v s. k (Returned v s); broke = λ s. k (Broke s); continued = λ s. k (Continued s); raised = λ e trace s. k (Raised e trace s) }
+
+  -- goes on from a value
+  abbrev pub on_value : Outcome K → Then K → (Value → State K → Rest K) → Rest K
+  on_value o k go = route (record (onward k) { gave = go }) o
+
+  -- goes on behind a statement that is over
+  abbrev pub on_next : Outcome K → Then K → (State K → Rest K) → Rest K
+  on_next o k go = route (record (onward k) { next = go }) o
 
   -- goes on behind a loop's body; `break` ends the loop
-  abbrev pub on_turn : Outcome C M → Then C M T → (State C M → Rest C M T) → Rest C M T
-  on_turn (Gave v s) k go = k (Gave v s)
-  on_turn (Next s) k go = go s
-  on_turn (Returned v s) k go = k (Returned v s)
-  on_turn (Broke s) k go = k (Next s)
-  on_turn (Continued s) k go = go s
-  on_turn (Raised e trace s) k go = k (Raised e trace s)
+  abbrev pub on_turn : Outcome K → Then K → (State K → Rest K) → Rest K
+  on_turn o k go = route (record (onward k) { next = go; broke = λ s. k (Next s); continued = go }) o
 
-  abbrev pub if_true : Bool → Rest C M T → Rest C M T → Rest C M T
+  abbrev pub if_true : Bool → Rest K → Rest K → Rest K
   if_true true a b = a
   if_true false a b = b
 
   -- the cost of what is made, and then its end
-  abbrev pub costing : Made → List TraceFrame → State C M → Then C M T → Rest C M T
+  abbrev pub costing : Made → List TraceFrame → State K → Then K → Rest K
   costing m trace s k = spend_all (cost_of m) (spent trace s) (k (made m trace s))
 
   -- an operator: its step, its cost, and then its end
-  abbrev pub operated : Made → Site → State C M → Then C M T → Rest C M T
+  abbrev pub operated : Made → Site → State K → Then K → Rest K
   operated m p s k = Spend (spent_at p s) (costing m (trace_of p) s k)

@@ -1,9 +1,10 @@
 -- What the forms of statements do with the ends of their parts (Language Reference, simple and compound statements).
-use Rattle.std.specs.Prelude.{ℕ, List, [], ◌∷◌, length, Option, Some, None}
-use Rattle.run_tree.specs.Todo.{Ask}
+use Rattle.std.specs.Prelude.{ℕ, List, [], ◌∷◌, length, Bool, Option, Some, None}
+use Rattle.run_tree.specs.Todo.{Ask, Freeze}
 use Rattle.py_tree.specs.declared.op.BinOp.{BinOp}
 use Rattle.py_values.specs.declared.class.ExcClass.TheVariants.{AssertionError}
 use Rattle.py_values.specs.declared.end.Raise.{Raise}
+use Rattle.py_values.specs.declared.rows.Param.{Param}
 use Rattle.py_values.specs.declared.object.Obj.{Obj}
 use Rattle.py_values.specs.declared.object.Obj.TheVariants as obj
 use Rattle.py_values.specs.declared.value.Value.{Value}
@@ -11,101 +12,119 @@ use Rattle.py_values.specs.declared.value.Value.TheVariants as val
 use Rattle.py_values.specs.Ends.{id_at}
 use Rattle.py_values.specs.Truth.{truth}
 use Rattle.py_ops.specs.Binary.{binary_of}
-use Rattle.py_world.specs.World.{State, Stored, heap_of, with_object, with_world, world_with_code}
-use Rattle.py_world.specs.Site.{Scene, site}
-use Rattle.py_world.specs.Names.{named, bound}
-use Rattle.py_world.specs.Outcome.{Next, Returned, Broke, Continued, Part, Body, DoOf, on_value, on_next, on_turn, if_true, operated, raised_at, spent_at}
+use Rattle.py_world.specs.World.{Kinds, State, Stored, heap_of, unset, with_object, with_world, world_with_code}
+use Rattle.py_world.specs.Site.{Scene, Site, site}
+use Rattle.py_world.specs.Explained.{explanation}
+use Rattle.py_tree.specs.Trees.{Tree}
+use Rattle.py_world.specs.Names.{name_end, bound}
+use Rattle.py_world.specs.Outcome.{Outcome, paused, Next, Returned, Broke, Continued, Part, Body, DoOf, on_value, on_next, on_turn, if_true, operated, raised_at, spent_at}
 
 -- what a target does with a value
-abbrev pub Store : (C M T : Type 0) → Type 0
-Store C M T = Value → Part C M T
+abbrev pub Store : (K : Kinds) → Type 0
+Store K = Value → Part K
 
 -- a condition on its line, and its block
-abbrev pub Choice : (C M T : Type 0) → Type 0
-Choice C M T = ℕ × (Part C M T × Body C M T)
+abbrev pub Choice : (K : Kinds) → Type 0
+Choice K = ℕ × (Part K × Body K)
 
 -- an exception whose one argument is the message, where there is one
 abbrev pub assertion : Option Value → Raise
 assertion message = record { class = AssertionError; text = []; arg = message }
 
-abbrev pub function_object : List ℕ → ℕ → List (List ℕ) → ℕ → Scene → Obj
-function_object name line params code scene = obj.Function (record { path = scene.path; name = name; line = line; params = params; code = code })
+-- a function of no class, with its parameters and whether it yields
+abbrev pub function_object : List ℕ → ℕ → List Param → Bool → ℕ → Scene → Obj
+function_object name line params yields code scene =
+    obj.Function (record { path = scene.path; name = name; line = line; params = params; yields = yields; marks = []; class = None; code = code })
 
-module _ {C : Type 0} where
-  abbrev pub stored : C → Scene → Stored C
-  stored code scene = record { path = scene.path; home = scene.home; code = code }
+abbrev pub stored : {C : Type 0} → C → Scene → Stored C
+stored code scene = record { path = scene.path; home = scene.home; code = code }
 
-module _ {C M : Type 0} where
+module _ {K : Kinds} where
   -- a state with a function more
-  abbrev pub with_function : List ℕ → ℕ → List (List ℕ) → C → Scene → State C M → State C M
-  with_function name line params code scene s =
-      with_object (function_object name line params (length s.world.codes) scene) (with_world (world_with_code (stored code scene) s.world) s)
+  abbrev pub with_function : List ℕ → ℕ → List Param → Bool → K.code → Scene → State K → State K
+  with_function name line params yields code scene s =
+      with_object (function_object name line params yields (length s.world.codes) scene) (with_world (world_with_code (stored code scene) s.world) s)
 
-module _ {C M T : Type 0} where
+  -- a failure with a text, which is a new object
+  abbrev pub failed_with : List ℕ → Site → State K → Outcome K
+  failed_with text p s = raised_at (assertion (Some (val.Ref (id_at (length (heap_of s)))))) p (with_object (obj.Text text) s)
+
+module _ {K : Kinds} where
   -- the step of what a meaning names, and then that
-  abbrev pub asked : T → Part C M T
+  abbrev pub asked : K.turn → Part K
   asked what p s k = Ask (spent_at p s) (DoOf what p s) k
 
-  abbrev pub expression_statement : Part C M T → Part C M T
+  abbrev pub expression_statement : Part K → Part K
   expression_statement e p s k = e p s (λ o. on_value o k (λ v s. k (Next s)))
 
-  abbrev pub store_name : List ℕ → Store C M T
+  abbrev pub store_name : List ℕ → Store K
   store_name name v p s k = k (Next (bound name v p.scene s))
 
   -- the targets from left to right
-  abbrev pub store_all : List (Store C M T) → Store C M T
+  abbrev pub store_all : List (Store K) → Store K
   store_all [] v p s k = k (Next s)
   store_all (t ∷ ts) v p s k = t v p s (λ o. on_next o k (λ s. store_all ts v p s k))
 
   -- the value comes first
-  abbrev pub assign : List (Store C M T) → Part C M T → Part C M T
+  abbrev pub assign : List (Store K) → Part K → Part K
   assign targets e p s k = e p s (λ o. on_value o k (λ v s. store_all targets v p s k))
 
   -- the operator of an augmented assignment, and then the target
-  abbrev pub augmented : Value → BinOp → Value → Store C M T → Part C M T
+  abbrev pub augmented : Value → BinOp → Value → Store K → Part K
   augmented x op y target p s k = operated (binary_of op (heap_of s) x y) p s (λ o. on_value o k (λ v s. target v p s k))
 
   -- the value that a name has comes first
-  abbrev pub augment_name : List ℕ → BinOp → Part C M T → Part C M T
+  abbrev pub augment_name : List ℕ → BinOp → Part K → Part K
   augment_name name op e p s k =
-      on_value (named name p s) k (λ x s. e p s (λ o. on_value o k (λ y s. augmented x op y (store_name name) p s k)))
+      on_value (name_end name p s) k (λ x s. e p s (λ o. on_value o k (λ y s. augmented x op y (store_name name) p s k)))
 
-  abbrev pub return_value : Option (Part C M T) → Part C M T
+  abbrev pub return_value : Option (Part K) → Part K
   return_value None p s k = k (Returned val.None s)
   return_value (Some e) p s k = e p s (λ o. on_value o k (λ v s. k (Returned v s)))
 
-  abbrev pub pass : Part C M T
+  -- a `yield`: the body stops, with what remains of it
+  abbrev pub yield_value : Option (Part K) → K.rest → Part K
+  yield_value None rest p s k = Freeze (paused val.None rest p s)
+  yield_value (Some e) rest p s k = e p s (λ o. on_value o k (λ v s. Freeze (paused v rest p s)))
+
+  abbrev pub pass : Part K
   pass p s k = k (Next s)
 
-  abbrev pub leave_loop : Part C M T
+  abbrev pub leave_loop : Part K
   leave_loop p s k = k (Broke s)
 
-  abbrev pub next_turn : Part C M T
+  abbrev pub next_turn : Part K
   next_turn p s k = k (Continued s)
 
   -- the failure of an assert
-  abbrev pub fail : Option (Part C M T) → Part C M T
+  abbrev pub fail : Option (Part K) → Part K
   fail None p s k = k (raised_at (assertion None) p s)
   fail (Some m) p s k = m p s (λ o. on_value o k (λ v s. k (raised_at (assertion (Some v)) p s)))
 
+  -- the failure of an assert that is explained by what was kept of its condition
+  abbrev pub fail_explained : Tree → Option (Part K) → Part K
+  fail_explained e None p s k = k (failed_with (explanation e s.temps None (heap_of s)) p s)
+  fail_explained e (Some m) p s k = m p s (λ o. on_value o k (λ v s. k (failed_with (explanation e s.temps (Some v) (heap_of s)) p s)))
+
   -- the first branch whose condition is true, or else the last block
-  abbrev pub branches_on : List (Choice C M T) → Body C M T → Body C M T
+  abbrev pub branches_on : List (Choice K) → Body K → Body K
   branches_on [] other scene s k = other scene s k
   branches_on ((line, (condition, block)) ∷ rest) other scene s k =
       condition (site scene line) s (λ o. on_value o k (λ v s. if_true (truth (heap_of s) v) (block scene s k) (branches_on rest other scene s k)))
 
-  abbrev pub choose : List (Choice C M T) → Body C M T → Part C M T
-  choose branches other p s k = branches_on branches other p.scene s k
+  -- an `if` begins with no temporary
+  abbrev pub choose : List (Choice K) → Body K → Part K
+  choose branches other p s k = branches_on branches other p.scene (unset s) k
 
   -- a loop from its condition on; turn names what a turn is
-  abbrev pub loop : T → Part C M T → Part C M T
+  abbrev pub loop : K.turn → Part K → Part K
   loop turn condition p s k = condition p s (λ o. on_value o k (λ v s. if_true (truth (heap_of s) v) (asked turn p s k) (k (Next s))))
 
   -- a turn: the block, and then the loop from its condition on
-  abbrev pub turn_of : T → Part C M T → Body C M T → Part C M T
+  abbrev pub turn_of : K.turn → Part K → Body K → Part K
   turn_of turn condition block p s k = block p.scene s (λ o. on_turn o k (λ s. loop turn condition p s k))
 
   -- a function is made, and its name bound
-  abbrev pub define : List ℕ → ℕ → List (List ℕ) → C → Part C M T
-  define name line params code p s k =
-      k (Next (bound name (val.Ref (id_at (length (heap_of s)))) p.scene (with_function name line params code p.scene s)))
+  abbrev pub define : List ℕ → ℕ → List Param → Bool → K.code → Part K
+  define name line params yields code p s k =
+      k (Next (bound name (val.Ref (id_at (length (heap_of s)))) p.scene (with_function name line params yields code p.scene s)))

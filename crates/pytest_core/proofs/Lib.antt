@@ -1,2 +1,5 @@
-pub mod Held
+pub mod Kept
+pub mod Laid
+pub mod OneSource
+pub mod Read
 pub mod Reports

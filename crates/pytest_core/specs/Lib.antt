@@ -1,5 +1,7 @@
+pub mod Sources
+pub mod Collected
 pub mod Report
 pub mod Status
 pub mod Texts
 pub mod Written
-pub mod Sources
+pub mod Reading

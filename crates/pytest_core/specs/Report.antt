@@ -1,20 +1,21 @@
-use Rattle.std.specs.Prelude.{MatchBool, ◌||◌, ◌≡◌, ℕ, List, [], ◌∷◌, ◌++◌, Bool, true, false, Option, None, Some, MatchOption, IsUtf8, codes, length, nat_eq, not, ◌&&◌, ◌==◌, chars, bytes_eq, if◌then◌else◌, is_some, MatchResult, Result, Ok, Err}
+use Rattle.std.specs.Prelude.{MatchBool, ◌||◌, ◌≡◌, ℕ, List, [], ◌∷◌, ◌++◌, Bool, true, false, Option, None, Some, MatchOption, codes, length, nat_eq, not, ◌&&◌, ◌==◌, bytes_eq, if◌then◌else◌, is_some, MatchResult, Result, Ok, Err}
 use Rattle.std.specs.List.{starts_with, ends_with, list_any}
 use Rattle.edge_io.specs.Files.{File, IsKept, file_at, tree_limit}
-use Rattle.py_grammar.specs.Sources.{Reads}
-use Rattle.py_tokens.specs.Layout.{layout}
-use Rattle.py_tokens.specs.declared.token.Token.{Token}
+use Rattle.py_built.specs.Built.{block_built}
+use Rattle.py_source.specs.declared.fault.SourceFault.{SourceFault}
 use Rattle.py_tree.specs.Statements.{Block}
 use Rattle.source_meaning.specs.Meaning.{source}
 use Rattle.cli_words.specs.Faults.{usage_text}
 use Rattle.cli_words.specs.Options.{asks_for_workers, options_of}
 use Rattle.cli_words.specs.declared.fault.UsageFault.{UsageFault}
 use Rattle.cli_words.specs.declared.options.Options.{Options}
-use Rattle.report_text.specs.declared.report.ItemReport.{ItemReport}
-use Rattle.report_text.specs.Blocks.{has_failed}
-use Rattle.file_session.specs.Session.{says_of}
-use Rattle.file_session.specs.declared.says.Says.{Says}
-use Rattle.file_session.specs.declared.says.Says.TheVariants as file
+use Rattle.report_parts.specs.declared.report.ItemReport.{ItemReport}
+use Rattle.report_parts.specs.Outcomes.{has_failed}
+use Rattle.file_session.specs.Session.{file_run, plain_source}
+use Rattle.file_session.specs.declared.file_run.FileRun.{FileRun}
+use Rattle.file_session.specs.declared.file_run.FileRun.TheVariants as file
+use Rattle.pytest_core.specs.Collected.{collect_error}
+use Rattle.pytest_core.specs.Sources.{IsSource}
 use Rattle.pytest_core.specs.Texts.{limit_text, report, usage}
 use Rattle.pytest_core.specs.declared.status.Status.{Status}
 use Rattle.pytest_core.specs.declared.status.Status.TheVariants.{Passed, Failed, Interrupted, Usage, NoTests, OutOfMemory, TreeFault, SinkFault}
@@ -79,43 +80,51 @@ plain_word options = if asks_for_more options then None else one_path options.pa
 abbrev pub status_of : ℕ → List ItemReport → Status
 status_of count reports = if count == 0 then NoTests else if list_any has_failed reports then Failed else Passed
 
--- what is printed for what is said of a file
-abbrev pub told : Options → Says → Answer
-told options file.NotBuilt = not_built
-told options file.TooMany = refusal (codes "too many items")
-told options (file.Ran count reports) = (report options count reports, status_of count reports)
+-- the answer for a file's run
+abbrev pub run_answer : Options → FileRun → Answer
+run_answer options file.NotBuilt = not_built
+run_answer options file.TooMany = refusal (codes "too many items")
+run_answer options (file.Ran count reports) = (report options [] count reports, status_of count reports)
 
--- THE SOURCE of bytes: they are a text, whose tokens are read as this tree
-pub data Holds (bytes : List ℕ) (block : Block) : Type 0 where
-  read : (tokens : List Token) → IsUtf8 bytes → layout (chars bytes) ≡ Ok tokens → Reads tokens block → Holds bytes block
+-- the answer for the tree of a source: what isn't built is said to be so
+abbrev pub block_answer : Options → List ℕ → List ℕ → Block → Answer
+block_answer options file bytes block =
+    if block_built block then run_answer options (file_run source options file bytes (plain_source block)) else not_built
 
--- what is said of a file's bytes: what its source does, or that it has none
-pub data SaysOf (options : Options) (file bytes : List ℕ) (answer : Answer) : Type 0 where
-  Ran : (block : Block) → Holds bytes block → answer ≡ told options (says_of source options file bytes block) → SaysOf options file bytes answer
-  NotRead : ((block : Block) → Holds bytes block → ⊥) → answer ≡ not_built → SaysOf options file bytes answer
+-- the answer for a source with a fault: an error of collection, and nothing runs
+abbrev pub fault_answer : Options → List ℕ → List ℕ → SourceFault → Answer
+fault_answer options file bytes fault = (report options (collect_error file bytes fault ∷ []) 0 [], Interrupted)
 
--- what is said of a word over the kept files
-abbrev pub SaysOfWord : Options → List ℕ → List File → Answer → Type 0
-SaysOfWord options word files answer =
+abbrev pub source_answer : Options → List ℕ → List ℕ → Result Block SourceFault → Answer
+source_answer options file bytes (Ok block) = block_answer options file bytes block
+source_answer options file bytes (Err fault) = fault_answer options file bytes fault
+
+-- THE REPORT OF A FILE: the answer for its source
+pub data IsFileReport (options : Options) (file bytes : List ℕ) (answer : Answer) : Type 0 where
+  of_source : (said : Result Block SourceFault) → IsSource bytes said → answer ≡ source_answer options file bytes said → IsFileReport options file bytes answer
+
+-- the report of a word over the kept files
+abbrev pub IsWordReport : Options → List ℕ → List File → Answer → Type 0
+IsWordReport options word files answer =
     MatchOption (file_at word files)
     (answer ≡ not_found word)
-    (λ bytes. MatchBool (length files == 1) (SaysOf options word bytes answer) (answer ≡ not_built))
+    (λ bytes. MatchBool (length files == 1) (IsFileReport options word bytes answer) (answer ≡ not_built))
 
--- the first limit that the kept files pass, or else what is said of the word
-abbrev pub SaysOfFiles : Options → List ℕ → List File → Answer → Type 0
-SaysOfFiles options word files answer = MatchOption (tree_limit files) (SaysOfWord options word files answer) (λ limit. answer ≡ refusal (limit_text limit))
+-- the first limit that the kept files pass, or else the report of the word
+abbrev pub IsFilesReport : Options → List ℕ → List File → Answer → Type 0
+IsFilesReport options word files answer = MatchOption (tree_limit files) (IsWordReport options word files answer) (λ limit. answer ≡ refusal (limit_text limit))
 
--- what is said of options over a tree's files
-abbrev pub SaysOfOptions : Options → List File → Answer → Type 0
-SaysOfOptions options tree answer =
+-- the report of options over a tree's files
+abbrev pub IsOptionsReport : Options → List File → Answer → Type 0
+IsOptionsReport options tree answer =
     MatchOption (plain_word options)
     (answer ≡ not_built)
-    (λ word. (files : List File) × IsKept tree files × SaysOfFiles options word files answer)
+    (λ word. (files : List File) × IsKept tree files × IsFilesReport options word files answer)
 
 -- the report of words over a tree's files
 abbrev pub IsReport : List (List ℕ) → List File → Answer → Type 0
 IsReport words tree answer =
-    MatchResult (options_of words) (λ options. SaysOfOptions options tree answer) (λ fault. answer ≡ refusal (usage_text fault))
+    MatchResult (options_of words) (λ options. IsOptionsReport options tree answer) (λ fault. answer ≡ refusal (usage_text fault))
 
 -- the plain word that words ask for
 abbrev pub word_in : Result Options UsageFault → Option (List ℕ)

@@ -3,18 +3,24 @@ ghost use Rattle.cli_words.specs.Faults.{usage_text};
 ghost use Rattle.edge_io.specs.Causes.{HasCause};
 ghost use Rattle.file_session.specs.Session.{IsFew};
 ghost use Rattle.edge_io.specs.LoadFaults.{limit_of};
-ghost use Rattle.pytest_core.specs.Report.{IsReport, SaysOf, SaysOfOptions, SaysOfWord, asked_word, is_said, not_found, plain_word, refusal};
+ghost use Rattle.pytest_core.specs.Report.{IsReport, IsFileReport, IsOptionsReport, IsWordReport, asked_word, is_said, not_found, plain_word, refusal};
 ghost use Rattle.pytest_core.specs.Texts.{limit_text};
 
-use crate::report::{any_failed, push_usage, report_bytes};
-use crate::source::core_of;
+use crate::collected::collect_error;
+use crate::report::{push_usage, report_bytes};
+use crate::source::source_of;
 use crate::status::Status;
 use crate::word::plain_word_of;
 use cli_words::{Options, UsageFault, read_words};
 use edge_io::{Files, LoadFault, Tree, load_files};
-use file_session::{Says, run_file};
+use file_session::{FileRun, run_file};
+use py_built::is_built;
+use py_source::SourceFault;
+use py_tree::Module;
+use read_law::what_is_built_has_a_meaning;
+use report_parts::any_failed;
 use report_text::{ItemReport, OutOfMemory};
-use std::alloc::{AllocError, Global};
+use std::alloc::Global;
 
 /// Why there is no report.
 #[derive(Debug, Drop)]
@@ -23,13 +29,13 @@ pub enum RunFault {
     OutOfMemory,
 }
 
-impl From<AllocError> for RunFault {
+impl From<OutOfMemory> for RunFault {
     ghost use Rattle.std.specs.Prelude.{◌≡◌};
-    ghost use Rattle.pytest_core.specs.declared.answer.RunFault.TheVariants.{OutOfMemory};
+    ghost use Rattle.pytest_core.specs.declared.answer.RunFault.TheVariants as fault;
 
-    ghost from_gives = { λ _ e. e ≡ OutOfMemory };
+    ghost from_gives = { λ _ e. e ≡ fault.OutOfMemory };
 
-    fn from(_e: AllocError) -> RunFault {
+    fn from(_e: OutOfMemory) -> RunFault {
         RunFault::OutOfMemory
     }
 }
@@ -37,7 +43,7 @@ impl From<AllocError> for RunFault {
 /// Bytes and a status.
 type Answer = (Vec<u8>, Status);
 
-fn usage_of(alloc: Global, text: &str) -> Result<Answer, AllocError>
+fn usage_of(alloc: Global, text: &str) -> Result<Answer, OutOfMemory>
     ensures answer { IfOk result (λ a. (a.0.items, a.1) ≡ refusal text.now) }
     ensures said { IfOk result (λ a. IsTrue (is_said a.1)) }
 {
@@ -46,7 +52,7 @@ fn usage_of(alloc: Global, text: &str) -> Result<Answer, AllocError>
     Ok((out.into_bytes(), Status::Usage))
 }
 
-fn not_found_of(alloc: Global, word: &str) -> Result<Answer, AllocError>
+fn not_found_of(alloc: Global, word: &str) -> Result<Answer, OutOfMemory>
     ensures answer { IfOk result (λ a. (a.0.items, a.1) ≡ not_found word.now) }
     ensures said { IfOk result (λ a. IsTrue (is_said a.1)) }
 {
@@ -54,7 +60,17 @@ fn not_found_of(alloc: Global, word: &str) -> Result<Answer, AllocError>
     usage_of(alloc, text.as_str())
 }
 
-fn refused_of(alloc: Global, fault: &UsageFault) -> Result<Answer, AllocError>
+fn too_large_of(alloc: Global, path: &str) -> Result<Answer, OutOfMemory>
+    ensures answer { IfOk result (λ a. (a.0.items, a.1) ≡ refusal (limit_text (LargeFile path.now))) }
+    ensures said { IfOk result (λ a. IsTrue (is_said a.1)) }
+{
+    let text = format!(in alloc; "file too large: {path}")?;
+    usage_of(alloc, text.as_str())
+}
+
+ghost use Rattle.edge_io.specs.Files.{LargeFile};
+
+fn refused_of(alloc: Global, fault: &UsageFault) -> Result<Answer, OutOfMemory>
     ensures answer { IfOk result (λ a. (a.0.items, a.1) ≡ refusal (usage_text fault.now)) }
     ensures said { IfOk result (λ a. IsTrue (is_said a.1)) }
 {
@@ -77,50 +93,89 @@ fn status_of(count: u32, reports: &[ItemReport]) -> Status
 
 ghost use Rattle.pytest_core.specs.Report as meant;
 
-/// The report of what is said of a file.
-fn told(alloc: Global, options: &Options, says: &Says) -> Result<Answer, AllocError>
-    requires { IsFew says.now }
-    ensures answer { IfOk result (λ a. (a.0.items, a.1) ≡ meant.told options.now says.now) }
+/// The answer for a file's run.
+fn run_answer(alloc: Global, options: &Options, run: &FileRun) -> Result<Answer, OutOfMemory>
+    requires { IsFew run.now }
+    ensures answer { IfOk result (λ a. (a.0.items, a.1) ≡ meant.run_answer options.now run.now) }
     ensures said { IfOk result (λ a. IsTrue (is_said a.1)) }
 {
-    let (count, reports) = match says {
-        Says::NotBuilt => return usage_of(alloc, "not built"),
-        Says::TooMany => return usage_of(alloc, "too many items"),
-        Says::Ran(count, reports) => (*count, reports.items()),
+    let (count, reports) = match run {
+        FileRun::NotBuilt => return usage_of(alloc, "not built"),
+        FileRun::TooMany => return usage_of(alloc, "too many items"),
+        FileRun::Ran(count, reports) => (*count, reports.items()),
     };
-    match report_bytes(alloc, options, count, reports) {
-        Ok(bytes) => Ok((bytes, status_of(count, reports))),
-        Err(OutOfMemory) => Err(AllocError),
-    }
+    let bytes = report_bytes(alloc, options, &[], count, reports)?;
+    Ok((bytes, status_of(count, reports)))
 }
 
-fn says_of(alloc: Global, options: &Options, file: &str, bytes: &[u8]) -> Result<Answer, AllocError>
-    ensures answer { IfOk result (λ a. SaysOf options.now file.now bytes.now (a.0.items, a.1)) }
+/// The answer for the tree of a source.
+fn block_answer(
+    alloc: Global,
+    options: &Options,
+    file: &str,
+    bytes: &[u8],
+    module: &Module,
+) -> Result<Answer, OutOfMemory>
+    ensures answer { IfOk result (λ a. (a.0.items, a.1) ≡ meant.block_answer options.now file.now bytes.now (module_tree «module».now)) }
     ensures said { IfOk result (λ a. IsTrue (is_said a.1)) }
 {
-    let Some(code) = core_of(alloc, bytes)? else {
+    if !is_built(module) {
         return usage_of(alloc, "not built");
-    };
-    match run_file(alloc, options, file, bytes, code) {
-        Ok(says) => told(alloc, options, &says),
-        Err(OutOfMemory) => Err(AllocError),
+    }
+    what_is_built_has_a_meaning();
+    let run = run_file(alloc, options, file, bytes, module)?;
+    run_answer(alloc, options, &run)
+}
+
+ghost use Rattle.py_tree.specs.Statements.{module_tree};
+
+/// The answer for a source with a fault.
+fn fault_answer(
+    alloc: Global,
+    options: &Options,
+    file: &str,
+    bytes: &[u8],
+    fault: SourceFault,
+) -> Result<Answer, OutOfMemory>
+    ensures answer { IfOk result (λ a. (a.0.items, a.1) ≡ meant.fault_answer options.now file.now bytes.now fault) }
+    ensures said { IfOk result (λ a. IsTrue (is_said a.1)) }
+{
+    let mut errors = Vec::new(alloc);
+    errors.push(collect_error(alloc, file, bytes, fault)?)?;
+    let bytes = report_bytes(alloc, options, &errors, 0, &[])?;
+    Ok((bytes, Status::Interrupted))
+}
+
+/// The answer for a file.
+fn file_answer(
+    alloc: Global,
+    options: &Options,
+    file: &str,
+    bytes: &[u8],
+) -> Result<Answer, OutOfMemory>
+    ensures answer { IfOk result (λ a. IsFileReport options.now file.now bytes.now (a.0.items, a.1)) }
+    ensures said { IfOk result (λ a. IsTrue (is_said a.1)) }
+{
+    match source_of(alloc, bytes)? {
+        Ok(module) => block_answer(alloc, options, file, bytes, &module),
+        Err(fault) => fault_answer(alloc, options, file, bytes, fault),
     }
 }
 
-fn says_of_word(
+fn word_answer(
     alloc: Global,
     options: &Options,
     word: &str,
     files: &Files,
-) -> Result<Answer, AllocError>
-    ensures answer { IfOk result (λ a. SaysOfWord options.now word.now files.now (a.0.items, a.1)) }
+) -> Result<Answer, OutOfMemory>
+    ensures answer { IfOk result (λ a. IsWordReport options.now word.now files.now (a.0.items, a.1)) }
     ensures said { IfOk result (λ a. IsTrue (is_said a.1)) }
 {
     let Some(bytes) = files.bytes_at(word) else {
         return not_found_of(alloc, word);
     };
     if files.items().len() == 1 {
-        return says_of(alloc, options, word, bytes);
+        return file_answer(alloc, options, word, bytes);
     }
     usage_of(alloc, "not built")
 }
@@ -134,10 +189,7 @@ fn limit_of_tree(alloc: Global, fault: &LoadFault) -> Result<Answer, RunFault>
     match fault {
         LoadFault::Tree => Err(RunFault::Tree),
         LoadFault::TooManyFiles => Ok(usage_of(alloc, "too many files")?),
-        LoadFault::TooLarge(path) => {
-            let text = format!(in alloc; "file too large: {path}")?;
-            Ok(usage_of(alloc, text.as_str())?)
-        }
+        LoadFault::TooLarge(path) => Ok(too_large_of(alloc, path.as_str())?),
         LoadFault::TreeTooLarge => Ok(usage_of(alloc, "tree too large")?),
         LoadFault::OutOfMemory => Err(RunFault::OutOfMemory),
     }
@@ -148,7 +200,7 @@ fn answer_options<T: Tree>(
     options: &Options,
     tree: &mut T,
 ) -> Result<Answer, RunFault>
-    ensures report { IfOk result (λ a. IfSome (T.files tree.old) (λ files. SaysOfOptions options.now files (a.0.items, a.1))) }
+    ensures report { IfOk result (λ a. IfSome (T.files tree.old) (λ files. IsOptionsReport options.now files (a.0.items, a.1))) }
     ensures said { IfOk result (λ a. IsTrue (is_said a.1)) }
     ensures read { IsErrOf result RunFault.Tree → IsSome (plain_word options.now) }
     ensures cause { HasCause RunFault.Tree (T.faults tree.old) (T.faults tree.new) result }
@@ -157,7 +209,7 @@ fn answer_options<T: Tree>(
         return Ok(usage_of(alloc, "not built")?);
     };
     match load_files(alloc, tree) {
-        Ok(files) => Ok(says_of_word(alloc, options, word, &files)?),
+        Ok(files) => Ok(word_answer(alloc, options, word, &files)?),
         Err(fault) => limit_of_tree(alloc, &fault),
     }
 }

@@ -1,10 +1,11 @@
-ghost use Rattle.std.specs.Prelude.{◌≡◌, ◌++◌, ◌≤◌, OnOk, IfOk, string_bytes};
-ghost use Rattle.std.specs.List.{list_any};
-ghost use Rattle.report_text.specs.Blocks.{has_failed};
+ghost use Rattle.std.specs.Prelude.{◌≡◌, ◌++◌, ◌≤◌, OnOk, IfOk, length, string_bytes};
+ghost use Rattle.report_parts.specs.Limits.{most_items};
+ghost use Rattle.report_parts.specs.Outcomes.{has_failed};
 ghost use Rattle.pytest_core.specs.Texts.{has_reached, report, usage};
 
 use cli_words::Options;
-use report_text::{ItemReport, OutOfMemory, PhaseEnd, head, progress, sections, summary};
+use report_parts::is_failed;
+use report_text::{CollectReport, ItemReport, OutOfMemory, head, progress, sections, summary};
 use std::alloc::{AllocError, Global};
 use std::fmt::Write;
 
@@ -19,17 +20,7 @@ pub fn push_usage(out: &mut String, text: &str) -> Result<(), AllocError>
 fn has_failed(item: &ItemReport) -> bool
     ensures { result ≡ has_failed item.now }
 {
-    match &item.call {
-        PhaseEnd::Raised(_) | PhaseEnd::StrictXpassed(..) => true,
-        _ => false,
-    }
-}
-
-/// Whether a test failed.
-pub fn any_failed(items: &[ItemReport]) -> bool
-    ensures { result ≡ list_any has_failed items.now }
-{
-    items.iter().any(has_failed)
+    is_failed(&item.call)
 }
 
 fn has_reached(ran: &[ItemReport], maxfail: u32) -> bool
@@ -38,22 +29,24 @@ fn has_reached(ran: &[ItemReport], maxfail: u32) -> bool
     maxfail != 0 && ran.iter().filter(|item| has_failed(item)).count() == maxfail as usize
 }
 
-/// The report of a run that collected so many items and ran these: what it is without errors,
+/// The report of a run with these errors of collection, that collected so many items and ran these: what it is without
 /// workers and deselected items.
 pub fn report_bytes(
     alloc: Global,
     options: &Options,
+    errors: &[CollectReport],
     count: u32,
     ran: &[ItemReport],
 ) -> Result<Vec<u8>, OutOfMemory>
-    requires { count ≤ 65536 }
-    ensures { IfOk result (λ bytes. bytes.items ≡ report options.now count ran.now) }
+    requires count { count ≤ most_items }
+    requires errors { length errors.now ≤ most_items }
+    ensures { IfOk result (λ bytes. bytes.items ≡ report options.now errors.now count ran.now) }
 {
     let stopped = has_reached(ran, options.maxfail);
-    let mut out = head(alloc, options, count, 0, 0, 0)?;
+    let mut out = head(alloc, options, count, 0, errors.len() as u32, 0)?;
     let progress = progress(alloc, options, ran, &[])?;
-    let sections = sections(alloc, options, &[], ran)?;
-    let summary = summary(alloc, options, &[], ran, count, 0, stopped)?;
+    let sections = sections(alloc, options, errors, ran)?;
+    let summary = summary(alloc, options, errors, ran, count, 0, stopped)?;
     out.extend_from_slice(&progress)?;
     out.extend_from_slice(&sections)?;
     out.extend_from_slice(&summary)?;

@@ -26,6 +26,8 @@ pub fn pytest_main<R: Threads + Sync, T: Tree, S: Sink, G: Gate + Sync>(
     ensures report { IfSome (T.files tree.old) (λ files. Wrote (IsReport (map string_bytes words.now) files) (S.told out.old) (S.told out.new) result) }
     // The tree's fault comes only where its count rose, and the words are not refused.
     ensures tree { result ≡ Status.TreeFault → Rose (T.faults tree.old) (T.faults tree.new) }
+    // Nothing is written then, whatever the tree is.
+    ensures untouched { result ≡ Status.TreeFault → S.told out.new ≡ S.told out.old }
     ensures read { result ≡ Status.TreeFault → IsSome (asked_word (map string_bytes words.now)) }
     // The sink's fault comes only where its count rose.
     ensures sink { result ≡ Status.SinkFault → Rose (S.faults out.old) (S.faults out.new) }
@@ -48,3 +50,8 @@ pub fn one_report()
 {
     one_list_of_kept_files();
 }
+
+/// A law: they have one.
+pub fn has_report()
+    ensures { (words : List (List ℕ)) (tree : List File) → (a : Answer) × IsReport words tree a }
+{}

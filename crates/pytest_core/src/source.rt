@@ -1,55 +1,82 @@
-// The core code of a file.
+// The source of a file.
 
-ghost use Rattle.std.specs.Prelude.{IfOk};
+ghost use Rattle.std.specs.Prelude.{◌≡◌, ◌==◌, Err as Fault, IfOk, count_by};
+ghost use Rattle.py_tokens.specs.Layout.{EndsText};
+ghost use Rattle.pytest_core.specs.Reading.{HasTokens, IsJudged, source_seen};
+ghost use Rattle.pytest_core.specs.Sources.{IsSource, line_behind};
 
-use assert_rewrite::lower_plain;
-use py_core::Core;
 use py_parse::{SyntaxFault, parse};
+use py_source::{SourceFault, SyntaxKind};
 use py_tokens::{LexFault, Token, tokens};
 use py_tree::Module;
-use read_law::what_is_read_has_a_meaning;
-use std::alloc::{AllocError, Global};
+use seq::OutOfMemory;
+use std::alloc::Global;
 
-/// The tokens of a file, or None where it has none.
-fn tokens_of(alloc: Global, bytes: &[u8]) -> Result<Option<Vec<Token>>, AllocError>
+/// How many line ends are among bytes.
+fn line_ends(bytes: &[u8]) -> usize
+    ensures { result ≡ count_by (λ b. b == 10) bytes.now }
+{
+    bytes.iter().filter(|b| **b == b'\n').count()
+}
+
+/// The line, from 1, of what stands behind these bytes.
+fn line_of(front: &[u8]) -> u32
+    ensures { result ≡ line_behind front.now }
+{
+    let ends = line_ends(front);
+    match u32::try_from(ends) {
+        Ok(ends) => ends.saturating_add(1),
+        Err(_) => u32::MAX,
+    }
+}
+
+/// The tokens of a text, which the bytes are.
+fn text_tokens(alloc: Global, text: &str) -> Result<Result<Vec<Token>, SourceFault>, OutOfMemory>
+    ensures { IfOk result (λ t. HasTokens text.now t) }
+{
+    match tokens(alloc, text) {
+        Ok(tokens) => Ok(Ok(tokens)),
+        Err(LexFault::Bad(at, kind)) => Ok(Err(SourceFault::Syntax(at, SyntaxKind::from(kind)))),
+        Err(LexFault::OutOfMemory) => Err(OutOfMemory),
+    }
+}
+
+/// The tokens of a file, or its fault.
+fn tokens_of(alloc: Global, bytes: &[u8]) -> Result<Result<Vec<Token>, SourceFault>, OutOfMemory>
     ensures { IfOk result (λ t. HasTokens bytes.now t) }
 {
-    let Ok(text) = str::from_utf8(bytes) else {
-        return Ok(None);
-    };
-    match tokens(alloc, text) {
-        Ok(tokens) => Ok(Some(tokens)),
-        Err(LexFault::Bad(_, _)) => Ok(None),
-        Err(LexFault::OutOfMemory) => Err(AllocError),
+    match str::from_utf8(bytes) {
+        Ok(text) => text_tokens(alloc, text),
+        Err(e) => Ok(Err(SourceFault::NotUtf8(line_of(&bytes[..e.valid_up_to()])))),
     }
 }
 
-/// The tree of a file, or None where it has none.
-fn tree_of(alloc: Global, bytes: &[u8]) -> Result<Option<Module>, AllocError>
-    ensures { IfOk result (λ m. HasTree bytes.now m) }
+/// The tree that tokens are, or their fault.
+#[tactic(auto, using(crate::proofs::Read::verdicts))]
+fn tree_of(alloc: Global, tokens: &[Token]) -> Result<Result<Module, SourceFault>, OutOfMemory>
+    requires { EndsText tokens.now }
+    ensures { IfOk result (λ m. IsJudged tokens.now (source_seen m)) }
 {
-    let Some(tokens) = tokens_of(alloc, bytes)? else {
-        return Ok(None);
-    };
-    match parse(alloc, &tokens) {
-        Ok(module) => Ok(Some(module)),
-        Err(SyntaxFault::NotBuilt) => Ok(None),
-        Err(SyntaxFault::OutOfMemory) => Err(AllocError),
+    match parse(alloc, tokens) {
+        Ok(module) => Ok(Ok(module)),
+        Err(SyntaxFault::Unexpected(at)) => {
+            Ok(Err(SourceFault::Syntax(at, SyntaxKind::Unexpected)))
+        }
+        Err(SyntaxFault::Unsupported(at)) => {
+            Ok(Err(SourceFault::Syntax(at, SyntaxKind::Unsupported)))
+        }
+        Err(SyntaxFault::Context(at)) => Ok(Err(SourceFault::Syntax(at, SyntaxKind::Context))),
+        Err(SyntaxFault::Nesting(at)) => Ok(Err(SourceFault::Syntax(at, SyntaxKind::Nesting))),
+        Err(SyntaxFault::OutOfMemory) => Err(OutOfMemory),
     }
 }
 
-/// The core code of a file's source, or None where it has none.
-pub fn core_of(alloc: Global, bytes: &[u8]) -> Result<Option<Core>, AllocError>
-    ensures { IfOk result (λ c. HasCore bytes.now c) }
+/// The tree that a file's bytes are, or their fault.
+pub fn source_of(alloc: Global, bytes: &[u8]) -> Result<Result<Module, SourceFault>, OutOfMemory>
+    ensures { IfOk result (λ m. IsSource bytes.now (source_seen m)) }
 {
-    let Some(module) = tree_of(alloc, bytes)? else {
-        return Ok(None);
-    };
-    what_is_read_has_a_meaning();
-    match lower_plain(alloc, &module) {
-        Ok(code) => Ok(Some(code)),
-        Err(_) => Err(AllocError),
+    match tokens_of(alloc, bytes)? {
+        Ok(tokens) => tree_of(alloc, &tokens),
+        Err(fault) => Ok(Err(fault)),
     }
 }
-
-ghost use Rattle.pytest_core.specs.Sources.{HasTokens, HasTree, HasCore};

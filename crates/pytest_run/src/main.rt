@@ -1,4 +1,21 @@
 //! The command `pytest_run [options] [paths]`: runs the tests of the current folder.
+//!
+//! # What it is for
+//!
+//! The program. It hands the words of the command line, the current folder and the standard output to `pytest_main`, and ends
+//! with the number of its status.
+//!
+//! # What is proved
+//!
+//! That the program is safe and ends. What it writes and answers is `pytest_main`'s, whose clauses stand in `pytest_core`.
+//!
+//! # What tests alone show
+//!
+//! That the program starts, finds the tests of a folder and writes its report: one run, with its output and its status.
+//!
+//! # What is trusted
+//!
+//! The folder and the standard output as `edge_io` takes them.
 #![tactic(auto)]
 
 use edge_io::{DirTree, OpenGate, SinkFail, StdSink, put_all};

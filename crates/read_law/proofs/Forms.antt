@@ -1,192 +1,118 @@
--- What the grammar reads has the forms of the language alone.
-use Rattle.std.proofs.Common.{ℕ, List, [], ◌∷◌, ◌++◌, Option, Some, None}
-use Rattle.py_source.specs.declared.pos.Pos.{Pos}
-use Rattle.py_tokens.specs.declared.token.Token.{Token}
+-- The forms that are built have a meaning.
+use Rattle.std.proofs.Common.{◌≡◌, Bool, true, false, ◌&&◌, List, [], ◌∷◌, Option, Some, None, refl}
 use Rattle.py_tree.specs.declared.expr.ArgName.{ArgName}
-use Rattle.py_tree.specs.declared.op.CmpOp.{CmpOp}
 use Rattle.py_tree.specs.Trees as t
-use Rattle.py_tree.specs.Trees.{Tree, Trees, Empty, More}
-use Rattle.py_tree.specs.Statements.{Statement, Block, Branches, Taker, One, NamePlace}
-use Rattle.py_grammar.specs.Expressions.{unnamed}
-use Rattle.py_grammar.specs.Shapes.{compare_more, and_more, or_more}
-use Rattle.py_grammar.specs.Reads as r
-use Rattle.py_grammar.specs.Reads.{Sort, Reading}
-use Rattle.py_grammar.specs.ReadsStatements as s
-use Rattle.py_grammar.specs.Sources.{Reads}
-use Rattle.lower_law.specs.Lowered.{Unnamed}
-use Rattle.lower_law.specs.Built.{Built, BuiltAll, BuiltTakers, BuiltStatement, BuiltBlock, BuiltBranches}
+use Rattle.py_tree.specs.Trees.{Tree, Trees, Empty, More, Maybe, Absent, Present}
+use Rattle.py_tree.specs.Statements as s
+use Rattle.py_tree.specs.Statements.{Statement, Block, NoStatement, Next, Branches, NoBranch, Branch, Place, NamePlace, AttributePlace, SubscriptPlace, Taker, One, Unpack, Parameter, Parameter_at}
+use Rattle.py_built.specs.Built.{unnamed, all_comparisons, built, all_built, some_built, place_built, taker_built, takers_built, is_absent, is_empty, params_built, statement_built, block_built, branches_built}
+use Rattle.py_built.specs.Operators.{is_binary, is_unary}
+use Rattle.lower_law.specs.Lowered.{Unnamed, PlainParameters}
+use Rattle.lower_law.specs.Built.{Built, BuiltAll, BuiltSome, BuiltPlace, BuiltTaker, BuiltTakers, NoTrees, NoMaybe, BuiltStatement, BuiltBlock, BuiltBranches}
 
-unnamed_more : (names : List (Option ArgName)) → Unnamed names → Unnamed (names ++ None ∷ [])
-unnamed_more [] h = tt
-unnamed_more (None ∷ names) h = unnamed_more names h
-unnamed_more (Some n ∷ names) h = elim h [ ]
+no : {P : Type 0} → false ≡ true → P
+no e = absurd (cc)
 
-unnamed_all : (es : Trees) → Unnamed (unnamed es)
-unnamed_all Empty = tt
-unnamed_all (More es e) = unnamed_more (unnamed es) (unnamed_all es)
+both : (a b : Bool) → (a && b) ≡ true → (a ≡ true) × (b ≡ true)
+both true b e = (refl, e)
+both false b e = no e
 
-compare_built : (l : Tree) (o : CmpOp) (e : Tree) → Built l → Built e → Built (compare_more l o e)
-compare_built (t.Compare at l ops es) o e h g = (h.0, (h.1, g))
-compare_built (t.Name at n) o e h g = (h, (tt, g))
-compare_built (t.Number at n) o e h g = (h, (tt, g))
-compare_built (t.Text at n) o e h g = (h, (tt, g))
-compare_built (t.True at) o e h g = (h, (tt, g))
-compare_built (t.False at) o e h g = (h, (tt, g))
-compare_built (t.NoneTree at) o e h g = (h, (tt, g))
-compare_built (t.Paren at x) o e h g = (h, (tt, g))
-compare_built (t.Tuple at es) o e h g = elim h [ ]
-compare_built (t.Listed at es) o e h g = elim h [ ]
-compare_built (t.Dict at ks es) o e h g = elim h [ ]
-compare_built (t.Attribute at x n) o e h g = elim h [ ]
-compare_built (t.Call at f es ns) o e h g = (h, (tt, g))
-compare_built (t.Subscript at x i) o e h g = elim h [ ]
-compare_built (t.Slice at x a b c) o e h g = elim h [ ]
-compare_built (t.Unary at op x) o e h g = (h, (tt, g))
-compare_built (t.Binary at l op r) o e h g = (h, (tt, g))
-compare_built (t.Not at x) o e h g = (h, (tt, g))
-compare_built (t.And at x es) o e h g = (h, (tt, g))
-compare_built (t.Or at x es) o e h g = (h, (tt, g))
-compare_built (t.IfElse at a b c) o e h g = (h, (tt, g))
+unnamed_is : (names : List (Option ArgName)) → unnamed names ≡ true → Unnamed names
+unnamed_is [] e = tt
+unnamed_is (None ∷ names) e = unnamed_is names e
+unnamed_is (Some n ∷ names) e = no e
 
-and_built : (l e : Tree) → Built l → Built e → Built (and_more l e)
-and_built (t.And at l es) e h g = (h.0, (h.1, g))
-and_built (t.Name at n) e h g = (h, (tt, g))
-and_built (t.Number at n) e h g = (h, (tt, g))
-and_built (t.Text at n) e h g = (h, (tt, g))
-and_built (t.True at) e h g = (h, (tt, g))
-and_built (t.False at) e h g = (h, (tt, g))
-and_built (t.NoneTree at) e h g = (h, (tt, g))
-and_built (t.Paren at x) e h g = (h, (tt, g))
-and_built (t.Tuple at es) e h g = elim h [ ]
-and_built (t.Listed at es) e h g = elim h [ ]
-and_built (t.Dict at ks es) e h g = elim h [ ]
-and_built (t.Attribute at x n) e h g = elim h [ ]
-and_built (t.Call at f es ns) e h g = (h, (tt, g))
-and_built (t.Subscript at x i) e h g = elim h [ ]
-and_built (t.Slice at x a b c) e h g = elim h [ ]
-and_built (t.Unary at op x) e h g = (h, (tt, g))
-and_built (t.Binary at l op r) e h g = (h, (tt, g))
-and_built (t.Compare at l ops es) e h g = (h, (tt, g))
-and_built (t.Not at x) e h g = (h, (tt, g))
-and_built (t.Or at x es) e h g = (h, (tt, g))
-and_built (t.IfElse at a b c) e h g = (h, (tt, g))
-
-or_built : (l e : Tree) → Built l → Built e → Built (or_more l e)
-or_built (t.Or at l es) e h g = (h.0, (h.1, g))
-or_built (t.Name at n) e h g = (h, (tt, g))
-or_built (t.Number at n) e h g = (h, (tt, g))
-or_built (t.Text at n) e h g = (h, (tt, g))
-or_built (t.True at) e h g = (h, (tt, g))
-or_built (t.False at) e h g = (h, (tt, g))
-or_built (t.NoneTree at) e h g = (h, (tt, g))
-or_built (t.Paren at x) e h g = (h, (tt, g))
-or_built (t.Tuple at es) e h g = elim h [ ]
-or_built (t.Listed at es) e h g = elim h [ ]
-or_built (t.Dict at ks es) e h g = elim h [ ]
-or_built (t.Attribute at x n) e h g = elim h [ ]
-or_built (t.Call at f es ns) e h g = (h, (tt, g))
-or_built (t.Subscript at x i) e h g = elim h [ ]
-or_built (t.Slice at x a b c) e h g = elim h [ ]
-or_built (t.Unary at op x) e h g = (h, (tt, g))
-or_built (t.Binary at l op r) e h g = (h, (tt, g))
-or_built (t.Compare at l ops es) e h g = (h, (tt, g))
-or_built (t.Not at x) e h g = (h, (tt, g))
-or_built (t.And at x es) e h g = (h, (tt, g))
-or_built (t.IfElse at a b c) e h g = (h, (tt, g))
+params_is : (params : List Parameter) → params_built params ≡ true → PlainParameters params
+params_is [] e = tt
+params_is (Parameter_at at name Absent Absent ∷ rest) e = params_is rest e
+params_is (Parameter_at at name Absent (Present x) ∷ rest) e = no e
+params_is (Parameter_at at name (Present x) default ∷ rest) e = no e
 
 mutual
-  built : {sort : Sort} {n : ℕ} {w : List Token} {x : Tree} → Reading sort n w x → Built x
-  built (r.name t is w) = tt
-  built (r.number t is w) = tt
-  built (r.true_word t is w) = tt
-  built (r.false_word t is w) = tt
-  built (r.none_word t is w) = tt
-  built (r.text_one t is w) = tt
-  built (r.text_more s t is w x) = tt
-  built (r.text x) = built x
-  built (r.group o c io ic w x) = built x
-  built (r.called {es = es} o c io ic w f h xs) = (unnamed_all es, built f, built_arguments xs)
-  built (r.minus t is w x) = built x
-  built (r.unary_one x) = built x
-  built (r.prod_one x) = built x
-  built (r.prod_more t is w l h x) = (built l, built x)
-  built (r.sum_one x) = built x
-  built (r.sum_more t is w l h x) = (built l, built x)
-  built (r.compare_one x) = built x
-  built (r.compared {l = a} {r = b} t is w l h x) = compare_built a _ b (built l) (built x)
-  built (r.negated t is w x) = built x
-  built (r.negation_one x) = built x
-  built (r.conjunct_one x) = built x
-  built (r.conjunct_more {l = a} {r = b} t is w l h x) = and_built a b (built l) (built x)
-  built (r.disjunct_one x) = built x
-  built (r.disjunct_more {l = a} {r = b} t is w l h x) = or_built a b (built l) (built x)
-  built (r.expr_one x) = built x
-  built (r.chosen i e ii ie w a h c b) = (built a, built c, built b)
+  built_is : (x : Tree) → built x ≡ true → Built x
+  built_is (t.Name at n) e = tt
+  built_is (t.Number at n) e = tt
+  built_is (t.Text at x) e = tt
+  built_is (t.True at) e = tt
+  built_is (t.False at) e = tt
+  built_is (t.NoneTree at) e = tt
+  built_is (t.Paren at x) e = built_is x e
+  built_is (t.Tuple at xs) e = no e
+  built_is (t.Listed at xs) e = no e
+  built_is (t.Dict at ks xs) e = no e
+  built_is (t.Attribute at x n) e = no e
+  built_is (t.Call at f xs names) e = let a = both (unnamed names) (built f && all_built xs) e in let b = both (built f) (all_built xs) a.1 in (unnamed_is names a.0, built_is f b.0, all_is xs b.1)
+  built_is (t.Subscript at x i) e = no e
+  built_is (t.Slice at x u v w) e = no e
+  built_is (t.Unary at op x) e = built_is x (both (is_unary op) (built x) e).1
+  built_is (t.Binary at l op r) e = let a = both (built l) (built r) (both (is_binary op) (built l && built r) e).1 in (built_is l a.0, built_is r a.1)
+  built_is (t.Compare at x ops xs) e = let a = both (built x) (all_built xs) (both (all_comparisons ops) (built x && all_built xs) e).1 in (built_is x a.0, all_is xs a.1)
+  built_is (t.Not at x) e = built_is x e
+  built_is (t.And at x xs) e = let a = both (built x) (all_built xs) e in (built_is x a.0, all_is xs a.1)
+  built_is (t.Or at x xs) e = let a = both (built x) (all_built xs) e in (built_is x a.0, all_is xs a.1)
+  built_is (t.IfElse at x c o) e = let a = both (built x) (built c && built o) e in let b = both (built c) (built o) a.1 in (built_is x a.0, built_is c b.0, built_is o b.1)
 
-  built_arguments : {n : ℕ} {w : List Token} {es : Trees} → r.Arguments n w es → BuiltAll es
-  built_arguments (r.no_argument w) = tt
-  built_arguments (r.arguments es) = built_several es
-  built_arguments (r.last_comma c is w es) = built_several es
+  all_is : (xs : Trees) → all_built xs ≡ true → BuiltAll xs
+  all_is Empty e = tt
+  all_is (More xs x) e = let a = both (all_built xs) (built x) e in (all_is xs a.0, built_is x a.1)
 
-  built_several : {n : ℕ} {w : List Token} {es : Trees} → r.Several n w es → BuiltAll es
-  built_several (r.one_argument x) = (tt, built x)
-  built_several (r.more_arguments c is w es x) = (built_several es, built x)
+some_is : (x : Maybe) → some_built x ≡ true → BuiltSome x
+some_is Absent e = tt
+some_is (Present x) e = built_is x e
 
-takers_more : (ts : List Taker) (at : Pos) (name : List ℕ) → BuiltTakers ts → BuiltTakers (ts ++ One (NamePlace at name) ∷ [])
-takers_more [] at name h = (tt, tt)
-takers_more (x ∷ ts) at name h = (h.0, takers_more ts at name h.1)
+place_is : (p : Place) → place_built p ≡ true → BuiltPlace p
+place_is (NamePlace at n) e = tt
+place_is (AttributePlace at x n) e = no e
+place_is (SubscriptPlace at x i) e = no e
 
-built_targets : {at : Pos} {w : List Token} {ts : List Taker} → s.Targets at w ts → BuiltTakers ts
-built_targets (s.target t e is ie w) = (tt, tt)
-built_targets (s.more_targets {ts = ts} t e is ie w h) = takers_more ts _ _ (built_targets h)
+taker_is : (u : Taker) → taker_built u ≡ true → BuiltTaker u
+taker_is (One p) e = place_is p e
+taker_is (Unpack ps) e = no e
 
-built_simple : {m : ℕ} {w : List Token} {x : Statement} → s.Simple m w x → BuiltStatement x
-built_simple (s.expression x) = built x
-built_simple (s.assignment w ts x) = (built_targets ts, built x)
-built_simple (s.augmented t o is io w x) = (tt, built x)
-built_simple (s.return_alone t is w) = tt
-built_simple (s.return_value t is w x) = built x
-built_simple (s.assert_alone t is w x) = (built x, tt)
-built_simple (s.assert_message t c is ic w x y) = (built x, built y)
-built_simple (s.global_names t is w names) = tt
-built_simple (s.pass_word t is w) = tt
-built_simple (s.break_word t is w) = tt
-built_simple (s.continue_word t is w) = tt
+takers_is : (us : List Taker) → takers_built us ≡ true → BuiltTakers us
+takers_is [] e = tt
+takers_is (u ∷ us) e = let a = both (taker_built u) (takers_built us) e in (taker_is u a.0, takers_is us a.1)
 
-built_row : {m : ℕ} {b c : Block} {w : List Token} → s.InRow m b w c → BuiltBlock b → BuiltBlock c
-built_row (s.one_simple x) h = (h, built_simple x)
-built_row (s.more_simple t is w xs x) h = (built_row xs h, built_simple x)
+no_trees : (xs : Trees) → is_empty xs ≡ true → NoTrees xs
+no_trees Empty e = tt
+no_trees (More xs x) e = no e
 
-built_simples : {m : ℕ} {b c : Block} {w : List Token} → s.Simples m b w c → BuiltBlock b → BuiltBlock c
-built_simples (s.simples l is w xs) h = built_row xs h
-built_simples (s.last_semicolon t l is il w xs) h = built_row xs h
+no_maybe : (x : Maybe) → is_absent x ≡ true → NoMaybe x
+no_maybe Absent e = tt
+no_maybe (Present x) e = no e
 
 mutual
-  built_compound : {m n : ℕ} {w : List Token} {x : Statement} → s.Compound m n w x → BuiltStatement x
-  built_compound (s.if_alone t is w bs) = (built_choices bs, tt)
-  built_compound (s.if_else t e c is ie ic w bs b) = (built_choices bs, built_block b)
-  built_compound (s.while_loop t c is ic w x b) = (built x, built_block b)
-  built_compound (s.function t f o c d is ifs io ic id w ps b) = (tt, tt, built_block b)
+  statement_is : (x : Statement) → statement_built x ≡ true → BuiltStatement x
+  statement_is (s.Do at x) e = built_is x e
+  statement_is (s.Assign at us x) e = let a = both (takers_built us) (built x) e in (takers_is us a.0, built_is x a.1)
+  statement_is (s.AssignYield at us w x) e = no e
+  statement_is (s.AugAssign at p op x) e = let a = both (place_built p) (is_binary op && built x) e in (place_is p a.0, built_is x (both (is_binary op) (built x) a.1).1)
+  statement_is (s.Return at x) e = some_is x e
+  statement_is (s.ReturnYield at w x) e = no e
+  statement_is (s.Raise at x) e = no e
+  statement_is (s.Assert at x m) e = let a = both (built x) (some_built m) e in (built_is x a.0, some_is m a.1)
+  statement_is (s.Del at p) e = no e
+  statement_is (s.GlobalOf at names) e = tt
+  statement_is (s.Pass at) e = tt
+  statement_is (s.Break at) e = tt
+  statement_is (s.Continue at) e = tt
+  statement_is (s.YieldOf at w x) e = no e
+  statement_is (s.Import at names alias) e = no e
+  statement_is (s.ImportFrom at names all) e = no e
+  statement_is (s.If at bs other) e = let a = both (branches_built bs) (block_built other) e in (branches_is bs a.0, block_is other a.1)
+  statement_is (s.While at x body) e = let a = both (built x) (block_built body) e in (built_is x a.0, block_is body a.1)
+  statement_is (s.For at u x body) e = no e
+  statement_is (s.Try at body hs other final) e = no e
+  statement_is (s.With at x name body) e = no e
+  statement_is (s.Def at ds word name params returns body) e =
+      let a = both (is_empty ds) (is_absent returns && (params_built params && block_built body)) e in let b = both (is_absent returns) (params_built params && block_built body) a.1 in
+      let c = both (params_built params) (block_built body) b.1 in (no_trees ds a.0, no_maybe returns b.0, params_is params c.0, block_is body c.1)
+  statement_is (s.Class at ds word name base body) e = no e
 
-  built_choices : {m n : ℕ} {at : Pos} {w : List Token} {bs : Branches} → s.Choices m n at w bs → BuiltBranches bs
-  built_choices (s.one_choice c is w x b) = (tt, built x, built_block b)
-  built_choices (s.more_choices t c is ic w bs x b) = (built_choices bs, built x, built_block b)
+  pub block_is : (b : Block) → block_built b ≡ true → BuiltBlock b
+  block_is NoStatement e = tt
+  block_is (Next before x) e = let a = both (block_built before) (statement_built x) e in (block_is before a.0, statement_is x a.1)
 
-  built_block : {m n : ℕ} {w : List Token} {b : Block} → s.BlockOf m n w b → BuiltBlock b
-  built_block (s.on_the_line xs) = built_simples xs tt
-  built_block (s.indented l i d il ii id w xs) = built_stmts xs
-
-  built_stmt : {m n : ℕ} {b c : Block} {w : List Token} → s.Stmt m n b w c → BuiltBlock b → BuiltBlock c
-  built_stmt (s.simple_stmt xs) h = built_simples xs h
-  built_stmt (s.compound_stmt x) h = (h, built_compound x)
-
-  built_stmts : {m n : ℕ} {w : List Token} {b : Block} → s.Stmts m n w b → BuiltBlock b
-  built_stmts (s.one_stmt x) = built_stmt x tt
-  built_stmts (s.more_stmts w xs x) = built_stmt x (built_stmts xs)
-
-built_module : {m n : ℕ} {w : List Token} {b : Block} → s.ModuleOf m n w b → BuiltBlock b
-built_module (s.no_stmt e is w) = tt
-built_module (s.stmts e is w xs) = built_stmts xs
-
-pub built_source : (tokens : List Token) (block : Block) → Reads tokens block → BuiltBlock block
-built_source tokens block h = built_module h.0
+  branches_is : (bs : Branches) → branches_built bs ≡ true → BuiltBranches bs
+  branches_is NoBranch e = tt
+  branches_is (Branch before at x body) e = let a = both (branches_built before) (built x && block_built body) e in let b = both (built x) (block_built body) a.1 in (branches_is before a.0, built_is x b.0, block_is body b.1)

@@ -1,3 +1,1 @@
-pub mod BlankLemmas
-pub mod Chars
 pub mod Stretches

@@ -2,10 +2,10 @@
 use Rattle.std.proofs.Common.{◌≡◌, ℕ, List, [], ◌∷◌, ◌++◌, refl, ap, sym, ◌∙◌, append_assoc, inl, inr, drop, Option}
 use Rattle.std.proofs.lemmas.List.{append-nil}
 use Rattle.std.specs.Prelude.{flat_map, slice_get}
-use Rattle.report_text.specs.Progress.{Row, behind, last_place, letters_in, letters_of, line_end, plain_lines, rows, same_line, start_of, stretch_line, stretches}
-use Rattle.report_text.specs.declared.report.ItemReport.{ItemReport}
-use Rattle.report_text.specs.declared.report.Place.{Place}
-use Rattle.report_text.proofs.Chars.{two_cases}
+use Rattle.report_text.specs.Progress.{Row, after_letters, last_place, letters_in, letters_of, worker_end, plain_lines, rows, same_line, file_start, stretch_line, stretches}
+use Rattle.report_parts.specs.declared.report.ItemReport.{ItemReport}
+use Rattle.report_parts.specs.declared.report.Place.{Place}
+use Rattle.report_parts.proofs.Chars.{two_cases}
 
 -- the first stretch starts with the first row
 record First (row : Row) (rest : List Row) : Type 0 where
@@ -25,35 +25,35 @@ first_of row (next ∷ rest) =
 -- the lines without the first start
 abbrev body : List (List Row) → List ℕ
 body [] = []
-body (stretch ∷ others) = letters_in stretch ++ (line_end (last_place stretch) ++ flat_map stretch_line others)
+body (stretch ∷ others) = letters_in stretch ++ (worker_end (last_place stretch) ++ flat_map stretch_line others)
 
-lines_are : (row : Row) (more : List Row) (others : List (List Row)) → flat_map stretch_line ((row ∷ more) ∷ others) ≡ start_of row.0 ++ body ((row ∷ more) ∷ others)
+lines_are : (row : Row) (more : List Row) (others : List (List Row)) → flat_map stretch_line ((row ∷ more) ∷ others) ≡ file_start row.0 ++ body ((row ∷ more) ∷ others)
 lines_are row more others = simp append_assoc
 
 together : (row next : Row) (more : List Row) (others : List (List Row)) → body ((row ∷ next ∷ more) ∷ others) ≡ letters_of row.0 ++ body ((next ∷ more) ∷ others)
 together row next more others = simp append_assoc
 
-alone : (row next : Row) (more : List Row) (others : List (List Row)) → body ((row ∷ []) ∷ (next ∷ more) ∷ others) ≡ letters_of row.0 ++ ((line_end row.1 ++ start_of next.0) ++ body ((next ∷ more) ∷ others))
+alone : (row next : Row) (more : List Row) (others : List (List Row)) → body ((row ∷ []) ∷ (next ∷ more) ∷ others) ≡ letters_of row.0 ++ ((worker_end row.1 ++ file_start next.0) ++ body ((next ∷ more) ∷ others))
 alone row next more others = simp (append_assoc, append-nil)
 
-by_rows : (row : Row) (rest : List Row) → body (stretches (row ∷ rest)) ≡ letters_of row.0 ++ behind row rest
+by_rows : (row : Row) (rest : List Row) → body (stretches (row ∷ rest)) ≡ letters_of row.0 ++ after_letters row rest
 by_rows row [] = simp append-nil
 by_rows row (next ∷ rest) =
     let h = first_of next rest in
     let more = by_rows next rest in
-    let now : body ((next ∷ h.more) ∷ h.others) ≡ letters_of next.0 ++ behind next rest = rw h.is at more in
+    let now : body ((next ∷ h.more) ∷ h.others) ≡ letters_of next.0 ++ after_letters next rest = rw h.is at more in
     elim (two_cases (same_line row next)) [
       | inl same ↦ rw (h.is, same) (together row next h.more h.others ∙ ap (λ x. letters_of row.0 ++ x) now)
-      | inr apart ↦ rw (h.is, apart) (alone row next h.more h.others ∙ ap (λ x. letters_of row.0 ++ ((line_end row.1 ++ start_of next.0) ++ x)) now)
+      | inr apart ↦ rw (h.is, apart) (alone row next h.more h.others ∙ ap (λ x. letters_of row.0 ++ ((worker_end row.1 ++ file_start next.0) ++ x)) now)
     ]
 
-pub plain_by_rows : (row : Row) (rest : List Row) → plain_lines (row ∷ rest) ≡ start_of row.0 ++ (letters_of row.0 ++ behind row rest)
+pub plain_by_rows : (row : Row) (rest : List Row) → plain_lines (row ∷ rest) ≡ file_start row.0 ++ (letters_of row.0 ++ after_letters row rest)
 unfolding plain_lines
 plain_by_rows row rest =
     let h = first_of row rest in
-    ap (flat_map stretch_line) h.is ∙ lines_are row h.more h.others ∙ ap (λ x. start_of row.0 ++ x) (ap body (sym h.is) ∙ by_rows row rest)
+    ap (flat_map stretch_line) h.is ∙ lines_are row h.more h.others ∙ ap (λ x. file_start row.0 ++ x) (ap body (sym h.is) ∙ by_rows row rest)
 
-pub plain_pieces : (old a b out : List ℕ) (reports others : List ItemReport) (first : ItemReport) (places left : List Place) (place : Option Place) → reports ≡ first ∷ others → place ≡ slice_get places 0 → left ≡ drop 1 places → a ≡ old ++ start_of first → b ≡ a ++ letters_of first → out ≡ b ++ behind (first, place) (rows others left) → out ≡ old ++ plain_lines (rows reports places)
+pub plain_pieces : (old a b out : List ℕ) (reports others : List ItemReport) (first : ItemReport) (places left : List Place) (place : Option Place) → reports ≡ first ∷ others → place ≡ slice_get places 0 → left ≡ drop 1 places → a ≡ old ++ file_start first → b ≡ a ++ letters_of first → out ≡ b ++ after_letters (first, place) (rows others left) → out ≡ old ++ plain_lines (rows reports places)
 plain_pieces old a b out reports others first places left place e at behind_is one two three =
     rw (e, ← behind_is, plain_by_rows (first, slice_get places 0) (rows others left), ← at, three, two, one) (simp append_assoc)
 

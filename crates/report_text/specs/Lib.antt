@@ -1,7 +1,4 @@
-pub mod Blanks
-pub mod Blocks
-pub mod Exceptions
+pub mod Conftest
 pub mod Head
-pub mod Outcomes
 pub mod Progress
 pub mod Summary

@@ -3,11 +3,11 @@ use Rattle.std.specs.Prelude.{ℕ, List, [], ◌∷◌, ◌++◌, length, drop, 
 use Rattle.std.specs.Str.{bytes_eq}
 use Rattle.texts.specs.Texts.{ended}
 use Rattle.cli_words.specs.declared.options.Options.{Options}
-use Rattle.report_text.specs.Outcomes.{letter, outcome_of, word}
-use Rattle.report_text.specs.declared.outcome.Outcome.{Outcome}
-use Rattle.report_text.specs.declared.outcome.Phase.TheVariants.{Setup, Call, Teardown}
-use Rattle.report_text.specs.declared.report.ItemReport.{ItemReport}
-use Rattle.report_text.specs.declared.report.Place.{Place}
+use Rattle.report_parts.specs.Outcomes.{letter, outcome_of, word}
+use Rattle.report_parts.specs.declared.outcome.Outcome.{Outcome}
+use Rattle.report_parts.specs.declared.outcome.Phase.TheVariants.{Setup, Call, Teardown}
+use Rattle.report_parts.specs.declared.report.ItemReport.{ItemReport}
+use Rattle.report_parts.specs.declared.report.Place.{Place}
 
 -- a report, and where its item ran
 abbrev pub Row : Type 0
@@ -19,9 +19,9 @@ rows [] places = []
 rows (report ∷ reports) places = (report, slice_get places 0) ∷ rows reports (drop 1 places)
 
 -- the end of a line, behind the worker's name
-unfoldable pub line_end : Option Place → List ℕ
-line_end None = codes "\n"
-line_end (Some place) = codes " [gw" ++ (decimal place.worker ++ codes "]\n")
+unfoldable pub worker_end : Option Place → List ℕ
+worker_end None = codes "\n"
+worker_end (Some place) = codes " [gw" ++ (decimal place.worker ++ codes "]\n")
 
 -- the letters of an item
 unfoldable pub letter_of : Option Outcome → List ℕ
@@ -36,7 +36,8 @@ letters_of report =
 abbrev pub same_group : Option Place → Option Place → Bool
 same_group None None = true
 same_group (Some place) (Some next) = place.group == next.group
-same_group _ _ = false
+same_group None (Some next) = false
+same_group (Some place) None = false
 
 abbrev pub same_line : Row → Row → Bool
 same_line row next = bytes_eq row.0.file next.0.file && same_group row.1 next.1
@@ -61,29 +62,29 @@ last_place (row ∷ next ∷ rest) = last_place (next ∷ rest)
 abbrev pub letters_in : List Row → List ℕ
 letters_in stretch = flat_map (λ row. letters_of row.0) stretch
 
-unfoldable pub start_of : ItemReport → List ℕ
-start_of report = report.file ++ codes " "
+unfoldable pub file_start : ItemReport → List ℕ
+file_start report = report.file ++ codes " "
 
 abbrev pub stretch_line : List Row → List ℕ
 stretch_line [] = []
-stretch_line (row ∷ rest) = start_of row.0 ++ (letters_in (row ∷ rest) ++ line_end (last_place (row ∷ rest)))
+stretch_line (row ∷ rest) = file_start row.0 ++ (letters_in (row ∷ rest) ++ worker_end (last_place (row ∷ rest)))
 
 unfoldable pub plain_lines : List Row → List ℕ
 plain_lines rows = flat_map stretch_line (stretches rows)
 
 -- what stands between the letters of two neighbours
 abbrev pub between : Row → Row → List ℕ
-between row next = if same_line row next then [] else line_end row.1 ++ start_of next.0
+between row next = if same_line row next then [] else worker_end row.1 ++ file_start next.0
 
 -- what stands behind the letters of an item
-abbrev pub behind : Row → List Row → List ℕ
-behind row [] = line_end row.1
-behind row (next ∷ rest) = between row next ++ (letters_of next.0 ++ behind next rest)
+abbrev pub after_letters : Row → List Row → List ℕ
+after_letters row [] = worker_end row.1
+after_letters row (next ∷ rest) = between row next ++ (letters_of next.0 ++ after_letters next rest)
 
 -- with `-v` a line an outcome
 unfoldable pub verbose_line : List ℕ → Option Place → Option Outcome → List ℕ
 verbose_line node_id place None = []
-verbose_line node_id place (Some outcome) = node_id ++ (codes " " ++ (word outcome ++ line_end place))
+verbose_line node_id place (Some outcome) = node_id ++ (codes " " ++ (word outcome ++ worker_end place))
 
 unfoldable pub verbose_lines : Row → List ℕ
 verbose_lines row =
@@ -93,7 +94,7 @@ verbose_lines row =
 
 -- with `--setup-show` the lines of each item
 abbrev pub shown_line : Option Place → List ℕ → List ℕ
-shown_line place line = line ++ line_end place
+shown_line place line = line ++ worker_end place
 
 abbrev pub shown_lines_of : Row → List ℕ
 shown_lines_of row = flat_map (shown_line row.1) row.0.shown_lines

@@ -1,19 +1,18 @@
 -- The short summary, the line that says why a run stopped, and the counts.
-use Rattle.std.specs.Prelude.{ℕ, ◌+◌, List, [], ◌∷◌, ◌++◌, length, Bool, true, false, ◌||◌, Option, None, Some, codes, decimal, flat_map, sum_by, ◌==◌, if◌then◌else◌}
+use Rattle.std.specs.Prelude.{ℕ, ◌+◌, List, [], ◌∷◌, ◌++◌, length, Bool, ◌||◌, codes, decimal, flat_map, sum_by, ◌==◌, if◌then◌else◌}
 use Rattle.std.specs.List.{list_any}
 use Rattle.texts.specs.Texts.{counted, joined, title}
 use Rattle.cli_words.specs.declared.options.Options.{Options}
-use Rattle.report_text.specs.Blocks.{has_error, has_failed, is_raised, not_empty, strict_first}
-use Rattle.report_text.specs.Exceptions.{first_line}
-use Rattle.report_text.specs.Outcomes.{outcome_of}
-use Rattle.report_text.specs.declared.outcome.Outcome.{Outcome}
-use Rattle.report_text.specs.declared.outcome.Outcome.TheVariants.{Passed, Failed, Error, Skipped, Xfailed, Xpassed}
-use Rattle.report_text.specs.declared.outcome.Phase.TheVariants.{Setup, Call, Teardown}
-use Rattle.report_text.specs.declared.report.CollectReport.{CollectReport}
-use Rattle.report_text.specs.declared.report.ItemReport.{ItemReport}
-use Rattle.report_text.specs.declared.report.PhaseEnd.{PhaseEnd}
-use Rattle.report_text.specs.declared.report.PhaseEnd.TheVariants as end
-use Rattle.report_text.specs.declared.report.Told.{Told}
+use Rattle.report_parts.specs.Exceptions.{first_line, strict_first}
+use Rattle.report_parts.specs.Outcomes.{has_error, has_failed, is_raised, not_empty, once, outcome_of}
+use Rattle.report_parts.specs.declared.outcome.Outcome.{Outcome}
+use Rattle.report_parts.specs.declared.outcome.Outcome.TheVariants.{Passed, Failed, Error, Skipped, Xfailed, Xpassed}
+use Rattle.report_parts.specs.declared.outcome.Phase.TheVariants.{Setup, Call, Teardown}
+use Rattle.report_parts.specs.declared.report.CollectReport.{CollectReport}
+use Rattle.report_parts.specs.declared.report.ItemReport.{ItemReport}
+use Rattle.report_parts.specs.declared.report.PhaseEnd.{PhaseEnd}
+use Rattle.report_parts.specs.declared.report.PhaseEnd.TheVariants as end
+use Rattle.report_parts.specs.declared.report.Told.{Told}
 
 -- the first line of the first exception
 abbrev pub first_told : List Told → List ℕ
@@ -23,7 +22,11 @@ first_told (told ∷ tolds) = first_line told.text
 abbrev pub end_text : PhaseEnd → List ℕ
 end_text (end.StrictXpassed frame reason) = strict_first reason
 end_text (end.Raised tolds) = first_told tolds
-end_text _ = []
+end_text end.NotRun = []
+end_text end.Passed = []
+end_text end.Skipped = []
+end_text end.Xfailed = []
+end_text end.Xpassed = []
 
 -- what failed, and the text of its end
 unfoldable pub summary_line : List ℕ → List ℕ → List ℕ → List ℕ
@@ -41,14 +44,14 @@ setup_line report = if is_raised report.setup then summary_line (codes "ERROR") 
 unfoldable pub teardown_line : ItemReport → List ℕ
 teardown_line report = if is_raised report.teardown then summary_line (codes "ERROR") report.node_id (end_text report.teardown) else []
 
-unfoldable pub error_lines : ItemReport → List ℕ
-error_lines report = setup_line report ++ teardown_line report
+unfoldable pub item_error_lines : ItemReport → List ℕ
+item_error_lines report = setup_line report ++ teardown_line report
 
 -- the failures, and then the errors, those of collection first
 unfoldable pub short_summary : List CollectReport → List ItemReport → List ℕ
 short_summary errors reports =
     if list_any has_failed reports || (not_empty errors || list_any has_error reports)
-    then title 61 (codes "short test summary info") ++ (flat_map failed_line reports ++ (flat_map collect_line errors ++ flat_map error_lines reports))
+    then title 61 (codes "short test summary info") ++ (flat_map failed_line reports ++ (flat_map collect_line errors ++ flat_map item_error_lines reports))
     else []
 
 -- why a run stopped
@@ -63,19 +66,6 @@ stop_line errors maxfail stopped =
     if errors == 0 then (if stopped then title 33 (stopping_text maxfail) else []) else title 33 (interrupted_text errors)
 
 -- how often an outcome was shown
-abbrev pub is_same : Outcome → Outcome → Bool
-is_same Passed Passed = true
-is_same Failed Failed = true
-is_same Error Error = true
-is_same Skipped Skipped = true
-is_same Xfailed Xfailed = true
-is_same Xpassed Xpassed = true
-is_same _ _ = false
-
-abbrev pub once : Outcome → Option Outcome → ℕ
-once outcome None = 0
-once outcome (Some shown) = if is_same outcome shown then 1 else 0
-
 abbrev pub times_in : Outcome → ItemReport → ℕ
 times_in outcome report =
     once outcome (outcome_of Setup report.setup) + once outcome (outcome_of Call report.call) + once outcome (outcome_of Teardown report.teardown)

@@ -1,11 +1,12 @@
 ghost use Rattle.std.specs.Prelude.{◌≡◌, ◌≤◌, ◌+◌, ◌++◌, length, IfOk, OnOk, string_bytes};
+ghost use Rattle.report_parts.specs.Limits.{most_items};
 ghost use Rattle.report_text.specs.Summary.{collect_errors_behind, collected_text, deselected_behind, interrupted_text, last_text, stop_line, stopping_text, summary_of, tests_text};
 
-use crate::report::{CollectReport, ItemReport};
 use crate::short::push_short_summary;
 use crate::tally::push_counts;
 use cli_words::Options;
-use py_text::OutOfMemory;
+use report_parts::{CollectReport, ItemReport};
+use seq::OutOfMemory;
 use std::alloc::{AllocError, Global};
 use std::fmt::Write;
 use texts::{push_counted, push_title};
@@ -33,7 +34,7 @@ fn push_collect_errors_behind(out: &mut String, errors: usize) -> Result<(), All
 
 #[tactic(auto, unfolding(crate::specs::Summary::tests_text))]
 fn push_tests(out: &mut String, selected: u32, deselected: u32) -> Result<(), AllocError>
-    requires { selected + deselected ≤ 65536 }
+    requires { selected + deselected ≤ most_items }
     ensures { OnOk result (string_bytes out.new ≡ string_bytes out.old ++ tests_text selected deselected) }
 {
     if selected == 0 {
@@ -56,7 +57,7 @@ fn push_collected(
     deselected: u32,
     errors: usize,
 ) -> Result<(), AllocError>
-    requires { selected + deselected ≤ 65536 }
+    requires { selected + deselected ≤ most_items }
     ensures { OnOk result (string_bytes out.new ≡ string_bytes out.old ++ collected_text selected deselected errors) }
 {
     push_tests(out, selected, deselected)?;
@@ -117,7 +118,7 @@ fn push_last_text(
     selected: u32,
     deselected: u32,
 ) -> Result<(), AllocError>
-    requires { selected + deselected ≤ 65536 }
+    requires { selected + deselected ≤ most_items }
     ensures { OnOk result (string_bytes out.new ≡ string_bytes out.old ++ last_text options.now errors.now reports.now selected deselected) }
 {
     if options.collect_only {
@@ -139,7 +140,7 @@ fn push_summary(
     deselected: u32,
     stopped: bool,
 ) -> Result<(), AllocError>
-    requires { selected + deselected ≤ 65536 }
+    requires { selected + deselected ≤ most_items }
     ensures { OnOk result (string_bytes out.new ≡ string_bytes out.old ++ summary_of options.now errors.now reports.now selected deselected stopped) }
 {
     let mut text = String::new(alloc);
@@ -164,7 +165,7 @@ pub fn summary(
     deselected: u32,
     stopped: bool,
 ) -> Result<Vec<u8>, OutOfMemory>
-    requires { selected + deselected ≤ 65536 }
+    requires { selected + deselected ≤ most_items }
     ensures { IfOk result (λ bytes. bytes.items ≡ summary_of options.now errors.now reports.now selected deselected stopped) }
 {
     let mut out = String::new(alloc);

@@ -1,8 +1,9 @@
 ghost use Rattle.std.specs.Prelude.{◌≡◌, ◌≤◌, ◌+◌, ◌++◌, IfOk, OnOk, string_bytes};
+ghost use Rattle.report_parts.specs.Limits.{most_items};
 ghost use Rattle.report_text.specs.Head.{collected_line, errors_behind, head_of, selection_behind, workers_line};
 
 use cli_words::Options;
-use py_text::OutOfMemory;
+use seq::OutOfMemory;
 use std::alloc::{AllocError, Global};
 use std::fmt::Write;
 use texts::{push_counted, push_title};
@@ -35,7 +36,7 @@ fn push_collected(
     deselected: u32,
     errors: u32,
 ) -> Result<(), AllocError>
-    requires { selected + deselected ≤ 65536 }
+    requires { selected + deselected ≤ most_items }
     ensures { OnOk result (string_bytes out.new ≡ string_bytes out.old ++ collected_line selected deselected errors) }
 {
     out.push_str("collected ")?;
@@ -67,7 +68,7 @@ fn push_head(
     errors: u32,
     workers: u32,
 ) -> Result<(), AllocError>
-    requires { selected + deselected ≤ 65536 }
+    requires { selected + deselected ≤ most_items }
     ensures { OnOk result (string_bytes out.new ≡ string_bytes out.old ++ head_of selected deselected errors workers) }
 {
     push_title(out, '=', "test session starts")?;
@@ -88,7 +89,7 @@ pub fn head(
     errors: u32,
     workers: u32,
 ) -> Result<Vec<u8>, OutOfMemory>
-    requires { selected + deselected ≤ 65536 }
+    requires { selected + deselected ≤ most_items }
     ensures { IfOk result (λ bytes. bytes.items ≡ head_of selected deselected errors workers) }
 {
     let mut out = String::new(alloc);

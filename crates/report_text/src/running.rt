@@ -1,21 +1,19 @@
 ghost use Rattle.std.specs.Prelude.{◌≡◌, [], ◌++◌, ◌&&◌, codes, drop, IfOk, OnOk, string_bytes, flat_map, if◌then◌else◌};
 ghost use Rattle.std.specs.Str.{bytes_eq};
-ghost use Rattle.report_text.specs.Outcomes.{outcome_of};
-ghost use Rattle.report_text.specs.Progress.{behind, between, letter_of, letters_of, line_end, node_line, plain_lines, progress_lines, progress_of, rows, same_group, same_line, shown_line, shown_lines_of, start_of, verbose_line, verbose_lines, with_gap};
+ghost use Rattle.report_parts.specs.Outcomes.{outcome_of};
+ghost use Rattle.report_text.specs.Progress.{after_letters, between, letter_of, letters_of, worker_end, node_line, plain_lines, progress_lines, progress_of, rows, same_group, same_line, shown_line, shown_lines_of, file_start, verbose_line, verbose_lines, with_gap};
 
-use crate::outcome::{Outcome, Phase};
-use crate::report::{ItemReport, Place};
-use crate::text::Text;
 use cli_words::Options;
-use py_text::OutOfMemory;
+use report_parts::{ItemReport, Outcome, Phase, Place, Text};
+use seq::OutOfMemory;
 use std::alloc::{AllocError, Global};
 use std::fmt::Write;
 use texts::push_line;
 
 /// Pushes the end of a line, behind the worker's name.
-#[tactic(auto, unfolding(crate::specs::Progress::line_end))]
+#[tactic(auto, unfolding(crate::specs::Progress::worker_end))]
 fn push_line_end(out: &mut String, place: Option<Place>) -> Result<(), AllocError>
-    ensures { OnOk result (string_bytes out.new ≡ string_bytes out.old ++ line_end place) }
+    ensures { OnOk result (string_bytes out.new ≡ string_bytes out.old ++ worker_end place) }
 {
     match place {
         None => out.push_str("\n")?,
@@ -53,7 +51,7 @@ fn same_group(place: Option<Place>, next: Option<Place>) -> bool
     match (place, next) {
         (None, None) => true,
         (Some(place), Some(next)) => place.group == next.group,
-        _ => false,
+        (None, Some(_)) | (Some(_), None) => false,
     }
 }
 
@@ -174,9 +172,9 @@ fn push_all_shown_lines(
     Ok(())
 }
 
-#[tactic(auto, unfolding(crate::specs::Progress::start_of))]
+#[tactic(auto, unfolding(crate::specs::Progress::file_start))]
 fn push_start(out: &mut String, report: &ItemReport) -> Result<(), AllocError>
-    ensures { OnOk result (string_bytes out.new ≡ string_bytes out.old ++ start_of report.now) }
+    ensures { OnOk result (string_bytes out.new ≡ string_bytes out.old ++ file_start report.now) }
 {
     out.push_str(report.file.text())?;
     out.push_str(" ")?;
@@ -230,7 +228,7 @@ fn push_other_lines(
     others: &[ItemReport],
     places: &[Place],
 ) -> Result<(), AllocError>
-    ensures { OnOk result (string_bytes out.new ≡ string_bytes out.old ++ behind (first.now, first_place) (rows others.now places.now)) }
+    ensures { OnOk result (string_bytes out.new ≡ string_bytes out.old ++ after_letters (first.now, first_place) (rows others.now places.now)) }
 {
     let mut last = first;
     let mut place = first_place;

@@ -1,12 +1,12 @@
 ghost use Rattle.std.specs.Prelude.{◌≡◌, [], ◌++◌, ◌||◌, codes, OnOk, string_bytes, flat_map};
 ghost use Rattle.std.specs.List.{list_any};
-ghost use Rattle.report_text.specs.Blocks.{has_error, has_failed, not_empty};
-ghost use Rattle.report_text.specs.Summary.{collect_line, end_text, error_lines, failed_line, first_told, setup_line, short_summary, summary_line, teardown_line};
+ghost use Rattle.report_parts.specs.Outcomes.{has_error, has_failed, not_empty};
+ghost use Rattle.report_text.specs.Summary.{collect_line, end_text, item_error_lines, failed_line, first_told, setup_line, short_summary, summary_line, teardown_line};
 
-use crate::block::push_strict_first;
-use crate::exception::push_first_line;
-use crate::report::{CollectReport, ItemReport, PhaseEnd, Told};
-use crate::section::{any_error, any_failed, is_failed, is_raised};
+use report_parts::{
+    CollectReport, ItemReport, PhaseEnd, Told, any_error, any_failed, is_failed, is_raised,
+    push_first_line, push_strict_first,
+};
 use std::alloc::AllocError;
 use std::fmt::Write;
 use texts::push_title;
@@ -26,7 +26,11 @@ fn push_end_text(out: &mut String, end: &PhaseEnd) -> Result<(), AllocError>
     match end {
         PhaseEnd::StrictXpassed(_, reason) => push_strict_first(out, reason.chars())?,
         PhaseEnd::Raised(tolds) => push_first_told(out, tolds.items())?,
-        _ => {}
+        PhaseEnd::NotRun
+        | PhaseEnd::Passed
+        | PhaseEnd::Skipped
+        | PhaseEnd::Xfailed
+        | PhaseEnd::Xpassed => {}
     }
     Ok(())
 }
@@ -76,9 +80,9 @@ fn push_teardown_line(out: &mut String, report: &ItemReport) -> Result<(), Alloc
     Ok(())
 }
 
-#[tactic(auto, unfolding(crate::specs::Summary::error_lines))]
-fn push_error_lines(out: &mut String, report: &ItemReport) -> Result<(), AllocError>
-    ensures { OnOk result (string_bytes out.new ≡ string_bytes out.old ++ error_lines report.now) }
+#[tactic(auto, unfolding(crate::specs::Summary::item_error_lines))]
+fn push_item_error_lines(out: &mut String, report: &ItemReport) -> Result<(), AllocError>
+    ensures { OnOk result (string_bytes out.new ≡ string_bytes out.old ++ item_error_lines report.now) }
 {
     push_setup_line(out, report)?;
     push_teardown_line(out, report)?;
@@ -114,11 +118,11 @@ fn push_collect_lines(out: &mut String, errors: &[CollectReport]) -> Result<(), 
     Ok(())
 }
 
-fn push_all_error_lines(out: &mut String, reports: &[ItemReport]) -> Result<(), AllocError>
-    ensures { OnOk result (string_bytes out.new ≡ string_bytes out.old ++ flat_map error_lines reports.now) }
+fn push_all_item_error_lines(out: &mut String, reports: &[ItemReport]) -> Result<(), AllocError>
+    ensures { OnOk result (string_bytes out.new ≡ string_bytes out.old ++ flat_map item_error_lines reports.now) }
 {
     for report in reports {
-        push_error_lines(out, report)?;
+        push_item_error_lines(out, report)?;
     }
     Ok(())
 }
@@ -136,7 +140,7 @@ pub(crate) fn push_short_summary(
         push_title(out, '=', "short test summary info")?;
         push_failed_lines(out, reports)?;
         push_collect_lines(out, errors)?;
-        push_all_error_lines(out, reports)?;
+        push_all_item_error_lines(out, reports)?;
     }
     Ok(())
 }

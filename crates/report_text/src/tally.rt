@@ -1,8 +1,7 @@
 ghost use Rattle.std.specs.Prelude.{◌≡◌, ◌≤◌, ◌*◌, ◌+◌, ◌++◌, length, codes, IfOk, OnOk, string_bytes, map};
 ghost use Rattle.report_text.specs.Summary.{count_piece, counts_text, error_piece, first_pieces, last_pieces, times, times_in};
 
-use crate::outcome::{Outcome, Phase};
-use crate::report::{CollectReport, ItemReport};
+use report_parts::{CollectReport, ItemReport, Outcome, Phase};
 use std::alloc::{AllocError, Global};
 use texts::{push_counted, push_joined};
 

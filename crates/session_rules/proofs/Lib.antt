@@ -1,5 +1,3 @@
-pub mod Lists
-pub mod Order
 pub mod Closure
 pub mod Holds
 pub mod Births
@@ -9,9 +7,11 @@ pub mod Given
 pub mod Depth
 pub mod Seen
 pub mod Reports
+pub mod Frames
 pub mod Sessions
 pub mod Requests
 pub mod Small
+pub mod Counting
 pub mod Rows
 pub mod Unlawful
 pub mod HookCalls

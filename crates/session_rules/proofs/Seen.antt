@@ -6,66 +6,83 @@ use Rattle.std.proofs.lemmas.Bool.{cases_eq, ne_eqb}
 use Rattle.session_rules.proofs.Holds.{called}
 use Rattle.session_rules.proofs.Hooked.{cond_law, in_hooks_keeps}
 use Rattle.session_rules.specs.Demand.{AllGiven, Answer, Answers, Given, OneRefused, Refused, Replies, Reply, answer_of, ask_all, ask_next, born, demand, event_of, fresh, is_same, numbers_of, replace, set_up_after, settle, with_arguments}
-use Rattle.session_rules.specs.Events.{In, IsCalled, calls_of, is_call}
+use Rattle.session_types.specs.Members.{In}
+use Rattle.session_rules.specs.Events.{IsCalled, calls_of, is_call}
 use Rattle.session_rules.specs.Fits.{Distinct}
-use Rattle.session_rules.specs.Live.{dependents, down_order, find, not_on, numbered, numbers_in}
-use Rattle.session_rules.specs.Session.{bad_of, call_after, call_item, call_phase, chain_of, counted_as, demand_closure, demand_next, finalize_own, has_reached, in_hooks, leave, next_unless, node_of, noted, run_item, session, set_up_by, set_up_item, set_up_phase, teardown_phase, test_item, test_with, torn_down, values_for}
-use Rattle.session_rules.specs.Teardown.{Got, State, Step, also, down, down_all, down_more, down_one, emit, in_world, some_raised, step, torn_of}
-use Rattle.session_rules.specs.World.{Call, Failure, Item, Kept, Language, LiveInstance, Phase, Rules, SetUp, Teardown, Value}
-use Rattle.session_rules.specs.declared.journal.Event.{Event}
-use Rattle.session_rules.specs.declared.journal.Event.TheVariants.{CallBegins, CallEnds, Down, DownBegins}
+use Rattle.session_types.specs.Live.{dependents, down_order, find, not_on, numbered, numbers_in}
+use Rattle.session_rules.specs.Session.{bad_behind, call_after, call_item, call_phase, chain_of, demand_closure, demand_next, finalize_own, has_reached, in_hooks, leave, next_unless, node_of, noted, opened, reaches, run_item, session, set_up_by, set_up_item, set_up_phase, teardown_phase, test_item, test_with, torn_down, values_for}
+use Rattle.session_rules.specs.Teardown.{Grant, State, Step, also, down, down_all, down_more, down_one, emit, in_world, some_raised, step, torn_of}
+use Rattle.session_rules.specs.World.{Call, Failure, Item, SetUpEnd, Language, LiveInstance, Phase, Rules, SetUp, Teardown, Value}
+use Rattle.session_types.specs.declared.journal.Event.{Event}
+use Rattle.session_types.specs.declared.journal.Event.TheVariants.{CallBegins, CallEnds, Down, DownBegins}
+
+-- What each teardown and each set-up keeps, and each change of the world, a demand keeps.
+pub record Keeps {L : Language} (rules : Rules L) (P : State L → Type 0) : Type 0 where
+  pub down : (i : LiveInstance L) (s : State L) → P s → P (down rules i s).state
+  pub born : (bases : List ℕ) (i : LiveInstance L) (w : L.World) (s : State L) → P s → P (born bases i w s).state
+  pub world : (w : L.World) (s : State L) → P s → P (in_world w s)
+
+one_keeps : {L : Language} (rules : Rules L) (P : State L → Type 0) (k : Keeps rules P) (o : Option (LiveInstance L)) (s : State L) → P s → P (down_one rules o s).state
+one_keeps rules P k None s p = p
+one_keeps rules P k (Some i) s p = k.down i s p
+
+more_keeps : {L : Language} (rules : Rules L) (P : State L → Type 0) (k : Keeps rules P) (ns : List ℕ) (raised : List L.Thrown) (s : State L) → P s → P (down_more rules ns raised s).state
+more_keeps rules P k [] raised s p = p
+more_keeps rules P k (n ∷ ns) raised s p = more_keeps rules P k ns (raised ++ (down_one rules (numbered n s.live) s).raised) (down_one rules (numbered n s.live) s).state (one_keeps rules P k (numbered n s.live) s p)
+
+pub down_keeps : {L : Language} (rules : Rules L) (P : State L → Type 0) (k : Keeps rules P) (set : List (LiveInstance L)) (s : State L) → P s → P (down_all rules set s).state
+down_keeps rules P k set s p = more_keeps rules P k (numbers_in (down_order set)) [] s p
+
+after_keeps : {L : Language} (rules : Rules L) (P : State L → Type 0) (k : Keeps rules P) (item : Item) (d : ℕ) (given : List (Grant L)) (raised : List L.Thrown) (s : State L) → P s → P (set_up_after rules item d given raised s).state
+after_keeps rules P k item d given [] s p = k.born _ _ _ s p
+after_keeps rules P k item d given (x ∷ xs) s p = p
+
+settle_keeps : {L : Language} (rules : Rules L) (P : State L → Type 0) (k : Keeps rules P) (item : Item) (d : ℕ) (given : List (Grant L)) (o : Option (LiveInstance L)) (s : State L) → P s → P (settle rules item d given o s).state
+settle_keeps rules P k item d given None s p = k.born _ _ _ s p
+settle_keeps rules P k item d given (Some i) s p =
+    let r = down_all rules (dependents i.order s.live) s in
+    elim (is_same i.param (item.parameter d)) as (λ b. P (cond b (record { answer = answer_of i i.slot.kept; state = s }) (replace rules item d given r)).state) [
+      | true ↦ p
+      | false ↦ after_keeps rules P k item d given r.raised r.state (down_keeps rules P k (dependents i.order s.live) s p)
+    ]
+
+with_keeps : {L : Language} (rules : Rules L) (P : State L → Type 0) (k : Keeps rules P) (item : Item) (d : ℕ) (a : Answers L) (s : State L) → P s → P (with_arguments rules item d a s).state
+with_keeps rules P k item d (AllGiven given) s p = settle_keeps rules P k item d given (find d (item.place d) s.live) s p
+with_keeps rules P k item d (OneRefused es) s p = p
+
+next_keeps : {L : Language} (P : State L → Type 0) (rest : List (Grant L) → State L → Replies L) → ((given : List (Grant L)) (s : State L) → P s → P (rest given s).state) → (given : List (Grant L)) (a : Answer L) (s : State L) → P s → P (ask_next rest given a s).state
+next_keeps P rest law given (Given i) s p = law (given ++ i ∷ []) s p
+next_keeps P rest law given (Refused es) s p = p
+
+all_keeps : {L : Language} (P : State L → Type 0) (ask : ℕ → State L → Reply L) → ((d : ℕ) (s : State L) → P s → P (ask d s).state) → (ds : List ℕ) (given : List (Grant L)) (s : State L) → P s → P (ask_all ask ds given s).state
+all_keeps P ask law [] given s p = p
+all_keeps P ask law (d ∷ ds) given s p = next_keeps P (ask_all ask ds) (all_keeps P ask law ds) given (ask d s).answer (ask d s).state (law d s p)
+
+pub demand_keeps : {L : Language} (rules : Rules L) (P : State L → Type 0) (k : Keeps rules P) (item : Item) (depth d : ℕ) (s : State L) → P s → P (demand rules item depth d s).state
+demand_keeps rules P k item zero d s p = k.world (rules.fault item.node s.world).world s p
+demand_keeps rules P k item (suc depth) d s p =
+    let r = ask_all (demand rules item depth) (item.requests d) [] s in
+    with_keeps rules P k item d r.answers r.state (all_keeps P (demand rules item depth) (λ e t q. demand_keeps rules P k item depth e t q) (item.requests d) [] s p)
 
 -- What neither a teardown nor a set-up changes, no demand changes.
 pub record Unseen {L : Language} {A : Type 0} (rules : Rules L) (f : State L → A) : Type 0 where
   pub down : (i : LiveInstance L) (s : State L) → f (down rules i s).state ≡ f s
   pub born : (bases : List ℕ) (i : LiveInstance L) (w : L.World) (s : State L) → f (born bases i w s).state ≡ f s
+  pub world : (w : L.World) (s : State L) → f (in_world w s) ≡ f s
 
-one_same : {L : Language} {A : Type 0} (rules : Rules L) (f : State L → A) (u : Unseen rules f) (o : Option (LiveInstance L)) (s : State L) → f (down_one rules o s).state ≡ f s
-one_same rules f u None s = refl
-one_same rules f u (Some i) s = u.down i s
-
-more_same : {L : Language} {A : Type 0} (rules : Rules L) (f : State L → A) (u : Unseen rules f) (ns : List ℕ) (raised : List L.Thrown) (s : State L) → f (down_more rules ns raised s).state ≡ f s
-more_same rules f u [] raised s = refl
-more_same rules f u (n ∷ ns) raised s = more_same rules f u ns (raised ++ (down_one rules (numbered n s.live) s).raised) (down_one rules (numbered n s.live) s).state ∙ one_same rules f u (numbered n s.live) s
+unseen_keeps : {L : Language} {A : Type 0} (rules : Rules L) (f : State L → A) (u : Unseen rules f) (a : A) → Keeps rules (λ (t : State L). f t ≡ a)
+unseen_keeps rules f u a = record { down = λ i s e. u.down i s ∙ e; born = λ bases i w s e. u.born bases i w s ∙ e; world = λ w s e. u.world w s ∙ e }
 
 pub down_same : {L : Language} {A : Type 0} (rules : Rules L) (f : State L → A) (u : Unseen rules f) (set : List (LiveInstance L)) (s : State L) → f (down_all rules set s).state ≡ f s
-down_same rules f u set s = more_same rules f u (numbers_in (down_order set)) [] s
-
-after_same : {L : Language} {A : Type 0} (rules : Rules L) (f : State L → A) (u : Unseen rules f) (item : Item) (d : ℕ) (given : List (Got L)) (raised : List L.Thrown) (s : State L) → f (set_up_after rules item d given raised s).state ≡ f s
-after_same rules f u item d given [] s = u.born _ _ _ s
-after_same rules f u item d given (x ∷ xs) s = refl
-
-settle_same : {L : Language} {A : Type 0} (rules : Rules L) (f : State L → A) (u : Unseen rules f) (item : Item) (d : ℕ) (given : List (Got L)) (o : Option (LiveInstance L)) (s : State L) → f (settle rules item d given o s).state ≡ f s
-settle_same rules f u item d given None s = u.born _ _ _ s
-settle_same rules f u item d given (Some i) s =
-    let r = down_all rules (dependents i.order s.live) s in
-    elim (is_same i.param (item.parameter d)) as (λ b. f (cond b (record { answer = answer_of i i.slot.kept; state = s }) (replace rules item d given r)).state ≡ f s) [
-      | true ↦ refl
-      | false ↦ after_same rules f u item d given r.raised r.state ∙ down_same rules f u (dependents i.order s.live) s
-    ]
-
-with_same : {L : Language} {A : Type 0} (rules : Rules L) (f : State L → A) (u : Unseen rules f) (item : Item) (d : ℕ) (a : Answers L) (s : State L) → f (with_arguments rules item d a s).state ≡ f s
-with_same rules f u item d (AllGiven given) s = settle_same rules f u item d given (find d (item.place d) s.live) s
-with_same rules f u item d (OneRefused es) s = refl
-
-next_same : {L : Language} {A : Type 0} (rules : Rules L) (f : State L → A) (u : Unseen rules f) (rest : List (Got L) → State L → Replies L) → ((given : List (Got L)) (s : State L) → f (rest given s).state ≡ f s) → (given : List (Got L)) (a : Answer L) (s : State L) → f (ask_next rest given a s).state ≡ f s
-next_same rules f u rest law given (Given i) s = law (given ++ i ∷ []) s
-next_same rules f u rest law given (Refused es) s = refl
-
-all_same : {L : Language} {A : Type 0} (rules : Rules L) (f : State L → A) (u : Unseen rules f) (ask : ℕ → State L → Reply L) → ((d : ℕ) (s : State L) → f (ask d s).state ≡ f s) → (ds : List ℕ) (given : List (Got L)) (s : State L) → f (ask_all ask ds given s).state ≡ f s
-all_same rules f u ask law [] given s = refl
-all_same rules f u ask law (d ∷ ds) given s = next_same rules f u (ask_all ask ds) (all_same rules f u ask law ds) given (ask d s).answer (ask d s).state ∙ law d s
+down_same {L} rules f u set s = down_keeps rules (λ (t : State L). f t ≡ f s) (unseen_keeps rules f u (f s)) set s refl
 
 pub demand_same : {L : Language} {A : Type 0} (rules : Rules L) (f : State L → A) (u : Unseen rules f) (item : Item) (depth d : ℕ) (s : State L) → f (demand rules item depth d s).state ≡ f s
-demand_same rules f u item zero d s = refl
-demand_same rules f u item (suc depth) d s =
-    let r = ask_all (demand rules item depth) (item.requests d) [] s in
-    with_same rules f u item d r.answers r.state ∙ all_same rules f u (demand rules item depth) (λ e t. demand_same rules f u item depth e t) (item.requests d) [] s
+demand_same {L} rules f u item depth d s = demand_keeps rules (λ (t : State L). f t ≡ f s) (unseen_keeps rules f u (f s)) item depth d s refl
 
 abbrev pub seen : {L : Language} → ℕ → State L → List Event
 seen j s = calls_of j s.events
 
-born_seen : {L : Language} (j : ℕ) (events : List Event) (bases : List ℕ) (i : LiveInstance L) (kept : Kept L) → calls_of j (events ++ event_of bases i kept ∷ []) ≡ calls_of j events
+born_seen : {L : Language} (j : ℕ) (events : List Event) (bases : List ℕ) (i : LiveInstance L) (kept : SetUpEnd L) → calls_of j (events ++ event_of bases i kept ∷ []) ≡ calls_of j events
 born_seen j events bases i (Value v) = filter-append (is_call j) events (event_of bases i (Value v) ∷ []) ∙ append-nil (calls_of j events)
 born_seen j events bases i (Failure v) = filter-append (is_call j) events (event_of bases i (Failure v) ∷ []) ∙ append-nil (calls_of j events)
 
@@ -74,10 +91,11 @@ unseen rules j =
     record {
       down = λ i s. filter-append (is_call j) s.events (DownBegins i.order ∷ Down i.order (some_raised (torn_of rules i s.world).raised) ∷ []) ∙ append-nil (calls_of j s.events);
       born = λ bases i w s. born_seen j s.events bases i i.slot.kept;
+      world = λ w s. refl;
     }
 
 pub unseen_given : {L : Language} (rules : Rules L) → Unseen rules (λ (s : State L). s.given)
-unseen_given rules = record { down = λ i s. refl; born = λ bases i w s. refl }
+unseen_given rules = record { down = λ i s. refl; born = λ bases i w s. refl; world = λ w s. refl }
 
 next_seen : {L : Language} (j : ℕ) (rest : State L → Step L) → ((s : State L) → calls_of j (rest s).state.events ≡ calls_of j s.events) → (a : Answer L) (s : State L) → calls_of j (demand_next rest a s).state.events ≡ calls_of j s.events
 next_seen j rest law (Given i) s = law (noted i s)
@@ -94,7 +112,7 @@ by_seen rules j item None s = refl
 by_seen rules j item (Some ds) s = closure_seen rules j item ds s
 
 hooks_seen : {L : Language} (rules : Rules L) (j : ℕ) (phase : Phase) (item : Item) (next : Option ℕ) (built : State L → Step L) → ((s : State L) → calls_of j (built s).state.events ≡ calls_of j s.events) → (s : State L) → calls_of j (in_hooks rules phase item next built s).state.events ≡ calls_of j s.events
-hooks_seen {L} rules j phase item next built law s = in_hooks_keeps rules phase item next built (λ (t : State L). calls_of j t.events ≡ calls_of j s.events) (λ t p. law t ∙ p) (λ w t p. p) s refl
+hooks_seen {L} rules j phase item next built law s = in_hooks_keeps rules phase item next built (λ (t : State L). calls_of j t.events ≡ calls_of j s.events) (λ t p. law t ∙ p) (λ w values objects t p. p) s refl
 
 set_up_seen : {L : Language} (rules : Rules L) (j : ℕ) (item : Item) (s : State L) → calls_of j (set_up_phase rules item s).state.events ≡ calls_of j s.events
 set_up_seen rules j item s = hooks_seen rules j SetUp item None (set_up_item rules item) (by_seen rules j item item.closure) s
@@ -114,10 +132,9 @@ torn_seen {L} rules j item next s =
 teardown_seen : {L : Language} (rules : Rules L) (j maxfail : ℕ) (item : Item) (items : List Item) (s : State L) → calls_of j (teardown_phase rules maxfail item items s).events ≡ calls_of j s.events
 teardown_seen {L} rules j maxfail item items s =
     let t = torn_down rules item (next_unless (has_reached maxfail s) items) s in
-    let r = step t.raised (counted_as (bad_of rules Teardown item t) t.state) in
-    let e : calls_of j r.state.events ≡ calls_of j s.events = torn_seen rules j item (next_unless (has_reached maxfail s) items) s in
-    cond_law (λ (x : Step L). calls_of j x.state.events ≡ calls_of j s.events) (has_reached maxfail r.state) (also r.raised (down_all rules r.state.live r.state)) r
-    (all_seen rules j r.state.live r.state ∙ e) e
+    let e : calls_of j t.state.events ≡ calls_of j s.events = torn_seen rules j item (next_unless (has_reached maxfail s) items) s in
+    cond_law (λ (x : Step L). calls_of j x.state.events ≡ calls_of j s.events) (reaches maxfail (bad_behind rules Teardown item t)) (also t.raised (down_all rules t.state.live t.state)) t
+    (all_seen rules j t.state.live t.state ∙ e) e
 
 -- a test changes nothing but its world and its request
 pub record Untouched {L : Language} (s t : State L) : Type 0 where
@@ -132,7 +149,7 @@ test_untouched rules item s (Some values) t u = record { live = u.live; next = u
 pub call_untouched : {L : Language} (rules : Rules L) (item : Item) (s : State L) → Untouched s (in_hooks rules Call item None (test_item rules item) s).state
 call_untouched {L} rules item s =
     in_hooks_keeps rules Call item None (test_item rules item) (Untouched s) (λ t u. test_untouched rules item s (values_for t.given item.arguments) t u)
-    (λ w t u. record { live = u.live; next = u.next; events = u.events }) s (record { live = refl; next = refl; events = refl })
+    (λ w values objects t u. record { live = u.live; next = u.next; events = u.events }) s (record { live = refl; next = refl; events = refl })
 
 abbrev pub given_numbers : {L : Language} → State L → List ℕ
 given_numbers s = numbers_of s.given []
@@ -159,10 +176,6 @@ call_same rules item [] s e =
       ap (calls_of item.node) (call_events rules item s) ∙ (filter-append (is_call item.node) s.events (CallBegins item.node (given_numbers s) ∷ CallEnds item.node ∷ [])
           ∙ (ap (λ (x : List Event). x ++ calls_of item.node (CallBegins item.node (given_numbers s) ∷ CallEnds item.node ∷ [])) e ∙ own)),
     )
-
--- the state in which an item begins
-abbrev pub opened : {L : Language} → Rules L → Item → State L → State L
-opened rules item s = in_world (rules.begin_item item.node s.world) s
 
 item_other : {L : Language} (rules : Rules L) (j maxfail : ℕ) (item : Item) (items : List Item) (s : State L) → (j ≡ item.node → ⊥) → calls_of j (run_item rules maxfail item items s).events ≡ calls_of j s.events
 item_other rules j maxfail item items s ne =

@@ -6,18 +6,20 @@ use Rattle.session_rules.proofs.Closure.{closure_settled}
 use Rattle.session_rules.proofs.Deaths.{all_off, book, cleared, doomed_all, doomed_dependents, doomed_not_on}
 use Rattle.session_rules.proofs.Given.{Covered, CoveredAnswer, covered_answer, covered_down, covered_grows, covered_there, same_is}
 use Rattle.session_rules.proofs.Holds.{Book, Grows, Grows-refl, Grows-trans, Holds, called}
-use Rattle.session_rules.proofs.Hooked.{in_hooks_keeps}
-use Rattle.session_rules.proofs.Lists.{In-append, In-left, In-right, and_both, empty, eqb_is}
-use Rattle.session_rules.proofs.Order.{In-down_order}
-use Rattle.session_rules.proofs.Seen.{call_events, call_untouched, demand_same, down_same, given_numbers, opened, session_called, unseen_given}
-use Rattle.session_rules.specs.Demand.{AllGiven, Answer, Answers, Given, Making, OneRefused, Refused, Replies, Reply, answer_of, ask_all, ask_next, begun, born, demand, fresh, got, is_same, made, numbers_of, replace, set_up_after, settle, with_arguments}
-use Rattle.session_rules.specs.Events.{In, Lawful}
+use Rattle.session_rules.proofs.Hooked.{aside, in_hooks_keeps}
+use Rattle.session_types.proofs.Lists.{In-append, In-left, In-right, and_both, empty, eqb_is}
+use Rattle.session_types.proofs.Order.{In-down_order}
+use Rattle.session_rules.proofs.Seen.{call_events, call_untouched, demand_same, down_same, given_numbers, session_called, unseen_given}
+use Rattle.session_rules.specs.Demand.{AllGiven, Answer, Answers, Given, NewInstance, OneRefused, Refused, Replies, Reply, answer_of, ask_all, ask_next, begun, born, demand, fresh, got, is_same, made, numbers_of, replace, set_up_after, settle, with_arguments}
+use Rattle.session_types.specs.Members.{In}
+use Rattle.session_rules.specs.Events.{Lawful}
 use Rattle.session_rules.specs.Fits.{Distinct, Fits, FitsClosure, Settled}
-use Rattle.session_rules.specs.Live.{dependents, down_order, find, is_at, not_on, rank}
-use Rattle.session_rules.specs.Session.{all_down, bad_of, call_after, call_item, call_phase, chain_of, counted_as, demand_closure, demand_next, down_off, finalize_own, has_reached, in_hooks, leave, next_unless, node_of, noted, run_item, session, set_up_by, set_up_item, set_up_phase, start, teardown_phase, torn_down}
-use Rattle.session_rules.specs.Teardown.{Got, State, Step, also, down_all, emit, in_world, step}
-use Rattle.session_rules.specs.World.{Failure, Item, Kept, Language, LiveInstance, Rules, SetUp, Teardown, Value}
-use Rattle.session_rules.specs.declared.journal.Event.TheVariants.{CallBegins, CallEnds}
+use Rattle.session_types.specs.Live.{dependents, down_order, find, is_at, not_on}
+use Rattle.session_types.specs.Scopes.{rank}
+use Rattle.session_rules.specs.Session.{all_down, bad_behind, call_after, call_item, call_phase, chain_of, demand_closure, demand_next, down_off, ended, finalize_own, has_reached, in_hooks, leave, next_unless, node_of, noted, opened, reaches, run_item, session, set_up_by, set_up_item, set_up_phase, start, teardown_ended, teardown_phase, torn_down}
+use Rattle.session_rules.specs.Teardown.{Grant, State, Step, also, down_all, emit, in_world, step}
+use Rattle.session_rules.specs.World.{Failure, Item, SetUpEnd, Language, LiveInstance, Rules, SetUp, Teardown, Value}
+use Rattle.session_types.specs.declared.journal.Event.TheVariants.{CallBegins, CallEnds}
 
 pub record Good {L : Language} (rules : Rules L) (s : State L) : Type 0 where
   pub holds : Holds (book s)
@@ -66,23 +68,23 @@ Told-wider : {L : Language} (b : Book L) (q r : ℕ) (a : Answer L) → q ≤ r 
 Told-wider b q r (Given i) le t = record { up = t.up; keeps = t.keeps; scopes = λ j m k. (let l = t.scopes j m k in omega (arith, l, le)) }
 Told-wider b q r (Refused es) le t = tt
 
-all_push : {L : Language} (b : Book L) (r : ℕ) (is : List (Got L)) (i : Got L) → AllTold b r is → Told b r i → AllTold b r (is ++ i ∷ [])
+all_push : {L : Language} (b : Book L) (r : ℕ) (is : List (Grant L)) (i : Grant L) → AllTold b r is → Told b r i → AllTold b r (is ++ i ∷ [])
 all_push b r [] i ts t = (t, tt)
 all_push b r (j ∷ is) i ts t = (ts.0, all_push b r is i ts.1 t)
 
-next_law : {L : Language} (rules : Rules L) (item : Item) (r : ℕ) (rest : List (Got L) → State L → Replies L) → ((given : List (Got L)) (s : State L) → Good rules s → AllTold (book s) r given → RepliedAll rules item r s (rest given s)) → (s : State L) (given : List (Got L)) (a : Answer L) (t : State L) → Goes rules item s t → AllTold (book t) r given → ToldAnswer (book t) r a → RepliedAll rules item r s (ask_next rest given a t)
+next_law : {L : Language} (rules : Rules L) (item : Item) (r : ℕ) (rest : List (Grant L) → State L → Replies L) → ((given : List (Grant L)) (s : State L) → Good rules s → AllTold (book s) r given → RepliedAll rules item r s (rest given s)) → (s : State L) (given : List (Grant L)) (a : Answer L) (t : State L) → Goes rules item s t → AllTold (book t) r given → ToldAnswer (book t) r a → RepliedAll rules item r s (ask_next rest given a t)
 next_law rules item r rest law s given (Given i) t g old told =
     let q = law (given ++ i ∷ []) t g.good (all_push (book t) r given i old told) in
     record { goes = Goes-trans rules item s t _ g q.goes; told = q.told }
 next_law rules item r rest law s given (Refused es) t g old told = record { goes = g; told = tt }
 
-all_law : {L : Language} (rules : Rules L) (item : Item) (r : ℕ) (ask : ℕ → State L → Reply L) (ds : List ℕ) → ((d : ℕ) → In d ds → (s : State L) → Good rules s → Replied rules item r s (ask d s)) → (given : List (Got L)) (s : State L) → Good rules s → AllTold (book s) r given → RepliedAll rules item r s (ask_all ask ds given s)
+all_law : {L : Language} (rules : Rules L) (item : Item) (r : ℕ) (ask : ℕ → State L → Reply L) (ds : List ℕ) → ((d : ℕ) → In d ds → (s : State L) → Good rules s → Replied rules item r s (ask d s)) → (given : List (Grant L)) (s : State L) → Good rules s → AllTold (book s) r given → RepliedAll rules item r s (ask_all ask ds given s)
 all_law rules item r ask [] law given s g old = record { goes = Goes-refl rules item s g; told = old }
 all_law rules item r ask (d ∷ ds) law given s g old =
     let q = law d (inl refl) s g in
     next_law rules item r (ask_all ask ds) (all_law rules item r ask ds (λ e m. law e (inr m))) s given (ask d s).answer (ask d s).state q.goes (AllTold-grows (book s) (book (ask d s).state) r given g.holds q.goes.grows old) q.told
 
-born_answer : {L : Language} (b : Book L) (r : ℕ) (i : LiveInstance L) (kept : Kept L) → ((v : L.Value) → kept ≡ Value v → Told b r (got v i)) → ToldAnswer b r (answer_of i kept)
+born_answer : {L : Language} (b : Book L) (r : ℕ) (i : LiveInstance L) (kept : SetUpEnd L) → ((v : L.Value) → kept ≡ Value v → Told b r (got v i)) → ToldAnswer b r (answer_of i kept)
 born_answer b r i (Value v) t = t v refl
 born_answer b r i (Failure e) t = tt
 
@@ -95,14 +97,14 @@ born_law {L} rules item bases i w s g ok e same =
       covered = covered_answer item (book (born bases i w s).state) i i.slot.kept (inl (record { instance = i; member = In-right i s.live (i ∷ []) (inl refl); number = refl; parameter = same }));
     }
 
-make_law : {L : Language} (rules : Rules L) (item : Item) (d : ℕ) (given : List (Got L)) (m : Making L) (s : State L) → Good rules s → AllTold (book s) (rank (rules.scope d)) given → Replied rules item (rank (rules.scope d)) s (made rules item d given m s)
+make_law : {L : Language} (rules : Rules L) (item : Item) (d : ℕ) (given : List (Grant L)) (m : NewInstance L) (s : State L) → Good rules s → AllTold (book s) (rank (rules.scope d)) given → Replied rules item (rank (rules.scope d)) s (made rules item d given m s)
 make_law rules item d given m s g told = (let i = fresh rules item d given s.next m.held in born_law rules item (numbers_of given []) i m.world s g (ready (book s) (rank (rules.scope d)) given i told refl refl refl) refl refl)
 
 Replied-after : {L : Language} (rules : Rules L) (item : Item) (r : ℕ) (s t : State L) (q : Reply L) → Goes rules item s t → Replied rules item r t q → Replied rules item r s q
 Replied-after rules item r s t q g p = record { goes = Goes-trans rules item s t q.state g p.goes; told = p.told; covered = p.covered }
 
-after_law : {L : Language} (rules : Rules L) (item : Item) (d : ℕ) (given : List (Got L)) (raised : List L.Thrown) (s : State L) → Good rules s → AllTold (book s) (rank (rules.scope d)) given → Replied rules item (rank (rules.scope d)) s (set_up_after rules item d given raised s)
-after_law rules item d given [] s g told = make_law rules item d given (begun rules item d given (rules.ask item.node d (item.parameter d) s.world)) s g told
+after_law : {L : Language} (rules : Rules L) (item : Item) (d : ℕ) (given : List (Grant L)) (raised : List L.Thrown) (s : State L) → Good rules s → AllTold (book s) (rank (rules.scope d)) given → Replied rules item (rank (rules.scope d)) s (set_up_after rules item d given raised s)
+after_law rules item d given [] s g told = make_law rules item d given (begun rules item d given s.instance (rules.ask item.node d (item.parameter d) s.world)) s g told
 after_law rules item d given (x ∷ xs) s g told = record { goes = Goes-refl rules item s g; told = tt; covered = tt }
 
 pub found : {L : Language} (d node : ℕ) (live : List (LiveInstance L)) (i : LiveInstance L) → find d node live ≡ Some i → In i live × (d ≡ i.def)
@@ -113,8 +115,8 @@ found {L} d node (j ∷ js) i e =
       | false ↦ λ q h. (let r = found d node js i h in (inr r.0, r.1))
     ] refl e
 
-settle_law : {L : Language} (rules : Rules L) (item : Item) (d : ℕ) (given : List (Got L)) (o : Option (LiveInstance L)) (s : State L) → find d (item.place d) s.live ≡ o → Good rules s → AllTold (book s) (rank (rules.scope d)) given → Replied rules item (rank (rules.scope d)) s (settle rules item d given o s)
-settle_law rules item d given None s e g told = make_law rules item d given (begun rules item d given (rules.ask item.node d (item.parameter d) s.world)) s g told
+settle_law : {L : Language} (rules : Rules L) (item : Item) (d : ℕ) (given : List (Grant L)) (o : Option (LiveInstance L)) (s : State L) → find d (item.place d) s.live ≡ o → Good rules s → AllTold (book s) (rank (rules.scope d)) given → Replied rules item (rank (rules.scope d)) s (settle rules item d given o s)
+settle_law rules item d given None s e g told = make_law rules item d given (begun rules item d given s.instance (rules.ask item.node d (item.parameter d) s.world)) s g told
 settle_law rules item d given (Some i) s e g told =
     let f = found d (item.place d) s.live i e in
     let h : rank i.scope ≡ rank (rules.scope d) = ap rank (g.scoped i f.0 ∙ ap rules.scope (sym f.1)) in
@@ -152,23 +154,23 @@ good_again {L} rules s t g e f h =
 -- a state in the middle of an item: what answered is covered
 pub record Ok {L : Language} (rules : Rules L) (item : Item) (s : State L) : Type 0 where
   pub good : Good rules s
-  pub given : (g : Got L) → In g s.given → Covered item (book s) g.order
+  pub given : (g : Grant L) → In g s.given → Covered item (book s) g.order
 
 ok_again : {L : Language} (rules : Rules L) (item : Item) (s t : State L) → Ok rules item s → s.live ≡ t.live → s.next ≡ t.next → s.events ≡ t.events → s.given ≡ t.given → Ok rules item t
 ok_again {L} rules item s t o e f h k =
     let b : book s ≡ book t = cc in
     record {
       good = good_again rules s t o.good e f h;
-      given = λ g m. subst (λ (x : Book L). Covered item x g.order) b (o.given g (subst (λ (x : List (Got L)). In g x) (sym k) m));
+      given = λ g m. subst (λ (x : Book L). Covered item x g.order) b (o.given g (subst (λ (x : List (Grant L)). In g x) (sym k) m));
     }
 
-noted_ok : {L : Language} (rules : Rules L) (item : Item) (i : Got L) (s : State L) → Ok rules item s → Covered item (book s) i.order → Ok rules item (noted i s)
+noted_ok : {L : Language} (rules : Rules L) (item : Item) (i : Grant L) (s : State L) → Ok rules item s → Covered item (book s) i.order → Ok rules item (noted i s)
 noted_ok {L} rules item i s o c =
     record {
       good = good_again rules s (noted i s) o.good refl refl refl;
       given = λ g m. elim (In-append g s.given (i ∷ []) m) [
         | inl l ↦ o.given g l
-        | inr r ↦ elim r [ inl e ↦ subst (λ (x : Got L). Covered item (book s) x.order) (sym e) c | inr z ↦ absurd z ]
+        | inr r ↦ elim r [ inl e ↦ subst (λ (x : Grant L). Covered item (book s) x.order) (sym e) c | inr z ↦ absurd z ]
       ];
     }
 
@@ -186,7 +188,7 @@ closure_law {L} rules item (d ∷ ds) fine s o =
     let t = (demand rules item rules.depth d s).state in
     let given_is : s.given ≡ t.given = sym (demand_same rules (λ (x : State L). x.given) (unseen_given rules) item rules.depth d s) in
     demand_next_law rules item (demand_closure rules item ds) (closure_law rules item ds (λ e m. fine e (inr m))) (demand rules item rules.depth d s).answer t
-    (record { good = q.goes.good; given = λ g m. q.goes.covers g.order (o.given g (subst (λ (x : List (Got L)). In g x) (sym given_is) m)) }) q.covered
+    (record { good = q.goes.good; given = λ g m. q.goes.covers g.order (o.given g (subst (λ (x : List (Grant L)). In g x) (sym given_is) m)) }) q.covered
 
 set_up_by_law : {L : Language} (rules : Rules L) (item : Item) (closure : Option (List ℕ)) → FitsClosure rules item closure → KeepsOk rules item (set_up_by rules item closure)
 set_up_by_law rules item None fits s o = ok_again rules item s (set_up_by rules item None s).state o refl refl refl refl
@@ -195,7 +197,7 @@ set_up_by_law rules item (Some ds) fits s o = closure_law rules item ds (closure
 set_up_law : {L : Language} (rules : Rules L) (item : Item) → Fits rules item → (s : State L) → Ok rules item s → Ok rules item (set_up_phase rules item s).state
 set_up_law {L} rules item fits s o =
     let h = in_hooks rules SetUp item None (set_up_item rules item) s in
-    let k : Ok rules item h.state = in_hooks_keeps rules SetUp item None (set_up_item rules item) (Ok rules item) (set_up_by_law rules item item.closure fits) (λ w t q. ok_again rules item t (in_world w t) q refl refl refl refl) s o in
+    let k : Ok rules item h.state = in_hooks_keeps rules SetUp item None (set_up_item rules item) (Ok rules item) (set_up_by_law rules item item.closure fits) (λ w values objects t q. ok_again rules item t (aside w values objects t) q refl refl refl refl) s o in
     ok_again rules item h.state (set_up_phase rules item s).state k refl refl refl refl
 
 covered_number : {L : Language} (rules : Rules L) (item : Item) (s : State L) → Ok rules item s → (n : ℕ) → In n (given_numbers s) → Covered item (book s) n
@@ -261,7 +263,7 @@ torn_law {L} rules item next s g =
     let p : Leaving rules next r.state =
     in_hooks_keeps rules Teardown item (node_of next) (leave rules next) (Leaving rules next)
     (λ u q. (let l = leave_law rules next u q.good in record { good = l.good; reached = λ e. l }))
-    (λ w u q. record { good = good_again rules u (in_world w u) q.good refl refl refl; reached = λ e. left_again rules next u (in_world w u) (q.reached e) refl refl refl refl }) t start in
+    (λ w values objects u q. record { good = good_again rules u (aside w values objects u) q.good refl refl refl; reached = λ e. left_again rules next u (aside w values objects u) (q.reached e) refl refl refl refl }) t start in
     elim r.state.left as (λ b. r.state.left ≡ b → Left rules next (cond b r (also r.raised (leave rules next r.state))).state) [
       | true ↦ λ e. p.reached e
       | false ↦ λ e. leave_law rules next r.state p.good
@@ -276,33 +278,21 @@ still_none : {L : Language} (next : Option Item) (before after : List (LiveInsta
 still_none {L} None before after sub none = empty after (λ i m. (let z : In i [] = subst (λ (x : List (LiveInstance L)). In i x) none (sub i m) in z))
 still_none (Some item) before after sub none = tt
 
-all_down_law : {L : Language} (rules : Rules L) (maxfail : ℕ) (next : Option Item) (r : Step L) → Left rules next r.state → Ended rules maxfail next (all_down rules maxfail r).state
-all_down_law {L} rules maxfail next r l =
+teardown_ends : {L : Language} (rules : Rules L) (maxfail : ℕ) (item : Item) (next : Option Item) (r : Step L) → Left rules next r.state → Ended rules maxfail next (teardown_ended rules maxfail item r)
+teardown_ends {L} rules maxfail item next r l =
     let d = down_all rules r.state.live r.state in
     let c = cleared rules (down_order r.state.live) [] r.state l.good.holds (doomed_all (book r.state) l.good.holds) in
     let none : d.state.live ≡ [] = empty d.state.live (λ i m. (c.left i m).1 (In-down_order r.state.live i (c.left i m).0)) in
-    elim (has_reached maxfail r.state) as (λ b. has_reached maxfail r.state ≡ b → Ended rules maxfail next (cond b (also r.raised d) r).state) [
-      | true ↦ λ e. record {
-        left = record { good = record { holds = c.holds; scoped = λ i m. l.good.scoped i (c.left i m).0 }; none = still_none next r.state.live d.state.live (λ i m. (c.left i m).0) l.none; given = down_same rules (λ (x : State L). x.given) (unseen_given rules) r.state.live r.state ∙ l.given };
-        reached = λ q. none;
-      }
-      | false ↦ λ e. record { left = l; reached = λ q. (let z : true ≡ false = sym q ∙ e in cc) }
+    elim (reaches maxfail (bad_behind rules Teardown item r)) as (λ b. reaches maxfail (bad_behind rules Teardown item r) ≡ b → Ended rules maxfail next (ended rules Teardown item (cond b (also r.raised d) r)).state) [
+      | true ↦ λ e. (let k : Left rules next d.state = record { good = record { holds = c.holds; scoped = λ i m. l.good.scoped i (c.left i m).0 }; none = still_none next r.state.live d.state.live (λ i m. (c.left i m).0) l.none; given = down_same rules (λ (x : State L). x.given) (unseen_given rules) r.state.live r.state ∙ l.given } in
+          record { left = left_again rules next d.state (ended rules Teardown item (also r.raised d)).state k refl refl refl refl; reached = λ q. none })
+      | false ↦ λ e. record { left = left_again rules next r.state (ended rules Teardown item r).state l refl refl refl refl; reached = λ q. (let z : true ≡ false = sym q ∙ e in cc) }
     ] refl
-
-ended_again : {L : Language} (rules : Rules L) (maxfail : ℕ) (next : Option Item) (s t : State L) → Ended rules maxfail next s → s.live ≡ t.live → s.next ≡ t.next → s.events ≡ t.events → s.given ≡ t.given → s.bad ≡ t.bad → Ended rules maxfail next t
-ended_again {L} rules maxfail next s t d e f h k b =
-    record {
-      left = left_again rules next s t d.left e f h k;
-      reached = λ q. sym e ∙ d.reached (ap (λ (x : ℕ). nat_lt 0 maxfail && nat_le maxfail x) b ∙ q);
-    }
 
 teardown_law : {L : Language} (rules : Rules L) (maxfail : ℕ) (item : Item) (items : List Item) (s : State L) → Good rules s → Ended rules maxfail (next_unless (has_reached maxfail s) items) (teardown_phase rules maxfail item items s)
 teardown_law {L} rules maxfail item items s g =
     let next = next_unless (has_reached maxfail s) items in
-    let t = torn_down rules item next s in
-    let r = step t.raised (counted_as (bad_of rules Teardown item t) t.state) in
-    let l : Left rules next r.state = left_again rules next t.state r.state (torn_law rules item next s g) refl refl refl refl in
-    ended_again rules maxfail next (all_down rules maxfail r).state (teardown_phase rules maxfail item items s) (all_down_law rules maxfail next r l) refl refl refl refl refl
+    teardown_ends rules maxfail item next (torn_down rules item next s) (torn_law rules item next s g)
 
 last_none : (b : Bool) (items : List Item) → items ≡ [] → next_unless b items ≡ None
 last_none true items e = refl
@@ -312,7 +302,7 @@ last_none false (i ∷ is) e = cc
 item_law : {L : Language} (rules : Rules L) (maxfail : ℕ) (item : Item) (items : List Item) (s : State L) → Fits rules item → Good rules s → s.given ≡ [] → (next : Option Item) × Ended rules maxfail next (run_item rules maxfail item items s) × (items ≡ [] → next ≡ None)
 item_law {L} rules maxfail item items s fits g none =
     let u = opened rules item s in
-    let o : Ok rules item u = record { good = good_again rules s u g refl refl refl; given = λ n m. absurd (subst (λ (x : List (Got L)). In n x) none m) } in
+    let o : Ok rules item u = record { good = good_again rules s u g refl refl refl; given = λ n m. absurd (subst (λ (x : List (Grant L)). In n x) none m) } in
     let r = set_up_phase rules item u in
     let c = call_law rules item r.raised r.state (set_up_law rules item fits u o) in
     let t = call_phase rules item r in
@@ -336,7 +326,7 @@ no_cut : {A : Type 0} (before : List A) (x : A) (after : List A) → [] ≡ befo
 no_cut [] x after e = cc
 no_cut (b ∷ before) x after e = cc
 
-start_good : {L : Language} (rules : Rules L) (w : L.World) → Good rules (start w)
+pub start_good : {L : Language} (rules : Rules L) (w : L.World) → Good rules (start w)
 start_good rules w =
     record {
       holds = record {

@@ -1,16 +1,17 @@
 -- What a demand for a fixture does and answers (pytest's fixture guide, "Fixtures can request other fixtures", "Fixtures can be
 -- requested more than once per test (return values are cached)", "Automatic grouping of tests by fixture instances").
 use Rattle.std.specs.Prelude.{ℕ, zero, suc, ◌+◌, ◌==◌, Bool, true, false, List, [], ◌∷◌, ◌++◌, Option, Some, None, map, if◌then◌else◌}
-use Rattle.session_rules.specs.declared.journal.Made.{Made}
-use Rattle.session_rules.specs.declared.journal.Event.{Event}
-use Rattle.session_rules.specs.declared.journal.Event.TheVariants.{Up, UpFailed}
-use Rattle.session_rules.specs.Live.{find, dependents, with_number, with_numbers}
-use Rattle.session_rules.specs.World.{Language, Rules, Item, Held, LiveInstance, Kept, Value, Failure, How, Returned, Yielded, Raised, Threw, Asked}
-use Rattle.session_rules.specs.Teardown.{Got, State, Step, down_all}
+use Rattle.session_types.specs.declared.journal.Birth.{Birth}
+use Rattle.session_types.specs.declared.journal.Event.{Event}
+use Rattle.session_types.specs.declared.journal.Event.TheVariants.{Up, UpFailed}
+use Rattle.session_types.specs.Live.{find, dependents}
+use Rattle.session_types.specs.Numbers.{with_number, with_numbers}
+use Rattle.session_rules.specs.World.{Language, Rules, Item, Slot, LiveInstance, SetUpEnd, Value, Failure, BodyEnd, Returned, Yielded, Raised, NewException, NewRequest}
+use Rattle.session_rules.specs.Teardown.{Grant, State, Step, down_all, in_world}
 
 -- the answer to a demand: what was given, or the exceptions
 pub data Answer (L : Language) : Type 0 where
-  Given : Got L → Answer L
+  Given : Grant L → Answer L
   Refused : List L.Thrown → Answer L
 
 pub record Reply (L : Language) : Type 0 where
@@ -22,7 +23,7 @@ reply a s = record { answer = a; state = s }
 
 -- the answers to the demands of a list, or the first fault
 pub data Answers (L : Language) : Type 0 where
-  AllGiven : List (Got L) → Answers L
+  AllGiven : List (Grant L) → Answers L
   OneRefused : List L.Thrown → Answers L
 
 pub record Replies (L : Language) : Type 0 where
@@ -32,40 +33,40 @@ pub record Replies (L : Language) : Type 0 where
 abbrev pub replies : {L : Language} → Answers L → State L → Replies L
 replies a s = record { answers = a; state = s }
 
-abbrev pub ask_next : {L : Language} → (List (Got L) → State L → Replies L) → List (Got L) → Answer L → State L → Replies L
+abbrev pub ask_next : {L : Language} → (List (Grant L) → State L → Replies L) → List (Grant L) → Answer L → State L → Replies L
 ask_next rest given (Given i) s = rest (given ++ i ∷ []) s
 ask_next rest given (Refused es) s = replies (OneRefused es) s
 
 -- each in order, behind those that were given; the first fault is the answer
-abbrev pub ask_all : {L : Language} → (ℕ → State L → Reply L) → List ℕ → List (Got L) → State L → Replies L
+abbrev pub ask_all : {L : Language} → (ℕ → State L → Reply L) → List ℕ → List (Grant L) → State L → Replies L
 ask_all ask [] given s = replies (AllGiven given) s
 ask_all ask (d ∷ ds) given s = ask_next (ask_all ask ds) given (ask d s).answer (ask d s).state
 
 -- the numbers of these, each once
-abbrev pub numbers_of : {L : Language} → List (Got L) → List ℕ → List ℕ
+abbrev pub numbers_of : {L : Language} → List (Grant L) → List ℕ → List ℕ
 numbers_of [] ks = ks
 numbers_of (i ∷ is) ks = numbers_of is (with_number i.order ks)
 
 -- the numbers of these, and all on which they depend
-abbrev pub kept_of : {L : Language} → List (Got L) → List ℕ → List ℕ
+abbrev pub kept_of : {L : Language} → List (Grant L) → List ℕ → List ℕ
 kept_of [] ks = ks
 kept_of (i ∷ is) ks = kept_of is (with_numbers i.bases (with_number i.order ks))
 
-abbrev pub values_of : {L : Language} → List (Got L) → List L.Value
+abbrev pub values_of : {L : Language} → List (Grant L) → List L.Value
 values_of given = map (λ i. i.value) given
 
-abbrev pub got : {L : Language} → L.Value → LiveInstance L → Got L
+abbrev pub got : {L : Language} → L.Value → LiveInstance L → Grant L
 got v i = record { def = i.def; order = i.order; value = v; bases = i.bases }
 
 -- the exception that a failed set-up kept is raised again
-abbrev pub answer_of : {L : Language} → LiveInstance L → Kept L → Answer L
+abbrev pub answer_of : {L : Language} → LiveInstance L → SetUpEnd L → Answer L
 answer_of i (Value v) = Given (got v i)
 answer_of i (Failure e) = Refused (e ∷ [])
 
-abbrev pub made_of : {L : Language} → List ℕ → LiveInstance L → Made
+abbrev pub made_of : {L : Language} → List ℕ → LiveInstance L → Birth
 made_of bases i = record { n = i.order; def = i.def; param = i.param; node = i.node; bases = bases }
 
-abbrev pub event_of : {L : Language} → List ℕ → LiveInstance L → Kept L → Event
+abbrev pub event_of : {L : Language} → List ℕ → LiveInstance L → SetUpEnd L → Event
 event_of bases i (Value v) = Up (made_of bases i)
 event_of bases i (Failure e) = UpFailed (made_of bases i)
 
@@ -74,29 +75,29 @@ abbrev pub born : {L : Language} → List ℕ → LiveInstance L → L.World →
 born bases i w s = reply (answer_of i i.slot.kept) (record s { world = w; live = s.live ++ i ∷ []; next = s.next + 1; events = s.events ++ event_of bases i i.slot.kept ∷ [] })
 
 -- what is kept of one whose function ended, and the world behind it
-pub record Making (L : Language) : Type 0 where
-  pub held : Held L
+pub record NewInstance (L : Language) : Type 0 where
+  pub held : Slot L
   pub world : L.World
 
-abbrev pub making : {L : Language} → Kept L → Option L.Rest → Option L.Value → L.World → Making L
+abbrev pub making : {L : Language} → SetUpEnd L → Option L.Rest → Option L.Value → L.World → NewInstance L
 making kept rest request w = record { held = record { kept = kept; rest = rest; request = request }; world = w }
 
-abbrev pub failed_with : {L : Language} → Option L.Value → Threw L → Making L
+abbrev pub failed_with : {L : Language} → Option L.Value → NewException L → NewInstance L
 failed_with request t = making (Failure t.thrown) None request t.world
 
 -- a function without `yield` gives what it returns. One with a `yield` is frozen there; where it ends without, it fails
-abbrev pub making_of : {L : Language} → Rules L → ℕ → Option L.Value → How L → L.World → Making L
+abbrev pub making_of : {L : Language} → Rules L → ℕ → Option L.Value → BodyEnd L → L.World → NewInstance L
 making_of rules d request (Yielded v rest) w = making (Value v) (Some rest) request w
 making_of rules d request (Raised e) w = making (Failure e) None request w
 making_of rules d request (Returned v) w = if rules.yields d then failed_with request (rules.did_not_yield d w) else making (Value v) None request w
 
-abbrev pub begun : {L : Language} → Rules L → Item → ℕ → List (Got L) → Asked L → Making L
-begun rules item d given a =
-    making_of rules d a.request (rules.begin item.node d (item.parameter d) (values_of given) a.request a.world).how
-    (rules.begin item.node d (item.parameter d) (values_of given) a.request a.world).world
+abbrev pub begun : {L : Language} → Rules L → Item → ℕ → List (Grant L) → Option L.Value → NewRequest L → NewInstance L
+begun rules item d given own a =
+    making_of rules d a.request (rules.begin item.node d (item.parameter d) own (values_of given) a.request a.world).how
+    (rules.begin item.node d (item.parameter d) own (values_of given) a.request a.world).world
 
 -- the instance that is made for d with these arguments
-abbrev pub fresh : {L : Language} → Rules L → Item → ℕ → List (Got L) → ℕ → Held L → LiveInstance L
+abbrev pub fresh : {L : Language} → Rules L → Item → ℕ → List (Grant L) → ℕ → Slot L → LiveInstance L
 fresh rules item d given n held =
     record {
       def = d;
@@ -108,18 +109,18 @@ fresh rules item d given n held =
       slot = held;
     }
 
-abbrev pub made : {L : Language} → Rules L → Item → ℕ → List (Got L) → Making L → State L → Reply L
+abbrev pub made : {L : Language} → Rules L → Item → ℕ → List (Grant L) → NewInstance L → State L → Reply L
 made rules item d given m s = born (numbers_of given []) (fresh rules item d given s.next m.held) m.world s
 
-abbrev pub set_up : {L : Language} → Rules L → Item → ℕ → List (Got L) → State L → Reply L
-set_up rules item d given s = made rules item d given (begun rules item d given (rules.ask item.node d (item.parameter d) s.world)) s
+abbrev pub set_up : {L : Language} → Rules L → Item → ℕ → List (Grant L) → State L → Reply L
+set_up rules item d given s = made rules item d given (begun rules item d given s.instance (rules.ask item.node d (item.parameter d) s.world)) s
 
 -- where the old one is gone: where teardowns raised, these exceptions are the answer
-abbrev pub set_up_after : {L : Language} → Rules L → Item → ℕ → List (Got L) → List L.Thrown → State L → Reply L
+abbrev pub set_up_after : {L : Language} → Rules L → Item → ℕ → List (Grant L) → List L.Thrown → State L → Reply L
 set_up_after rules item d given [] s = set_up rules item d given s
 set_up_after rules item d given (x ∷ xs) s = reply (Refused (x ∷ xs)) s
 
-abbrev pub replace : {L : Language} → Rules L → Item → ℕ → List (Got L) → Step L → Reply L
+abbrev pub replace : {L : Language} → Rules L → Item → ℕ → List (Grant L) → Step L → Reply L
 replace rules item d given r = set_up_after rules item d given r.raised r.state
 
 abbrev pub is_same : Option ℕ → Option ℕ → Bool
@@ -130,7 +131,7 @@ is_same (Some x) (Some y) = x == y
 
 -- none lives on its scope node: it is made. One lives with the same parameter: it answers, or its kept exception does. One lives
 -- with another parameter: it goes down with all that depend on it, and then it is made
-abbrev pub settle : {L : Language} → Rules L → Item → ℕ → List (Got L) → Option (LiveInstance L) → State L → Reply L
+abbrev pub settle : {L : Language} → Rules L → Item → ℕ → List (Grant L) → Option (LiveInstance L) → State L → Reply L
 settle rules item d given None s = set_up rules item d given s
 settle rules item d given (Some i) s =
     if is_same i.param (item.parameter d)
@@ -144,7 +145,11 @@ with_arguments rules item d (OneRefused es) s = reply (Refused es) s
 abbrev pub answer_with : {L : Language} → Rules L → Item → ℕ → Replies L → Reply L
 answer_with rules item d r = with_arguments rules item d r.answers r.state
 
--- its arguments are demanded in order, and then it is found or made. What it asks for goes less than `depth` deep
+abbrev pub faulty : {L : Language} → NewException L → State L → Reply L
+faulty t s = reply (Refused (t.thrown ∷ [])) (in_world t.world s)
+
+-- its arguments are demanded in order, and then it is found or made. What asks `depth` deep asks for itself: that is a fault of
+-- the item's closure
 abbrev pub demand : {L : Language} → Rules L → Item → ℕ → ℕ → State L → Reply L
-demand rules item zero d s = reply (Refused []) s
+demand rules item zero d s = faulty (rules.fault item.node s.world) s
 demand rules item (suc depth) d s = answer_with rules item d (ask_all (demand rules item depth) (item.requests d) [] s)

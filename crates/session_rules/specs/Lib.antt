@@ -1,6 +1,4 @@
-pub mod Numbers
 pub mod Events
-pub mod Live
 pub mod Hooks
 pub mod HookFollows
 pub mod Request
@@ -10,4 +8,5 @@ pub mod Demand
 pub mod Session
 pub mod Reports
 pub mod Fits
+pub mod Frames
 pub mod Idle

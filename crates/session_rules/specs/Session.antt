@@ -1,12 +1,13 @@
 -- The three phases of an item, and a session (pytest's reference, "Test running (runtest) hooks").
-use Rattle.std.specs.Prelude.{ℕ, ◌+◌, ◌==◌, nat_le, nat_lt, Bool, true, false, ◌&&◌, List, [], ◌∷◌, ◌++◌, Option, Some, None, if◌then◌else◌}
+use Rattle.std.specs.Prelude.{ℕ, ◌+◌, ◌==◌, nat_le, nat_lt, Bool, true, false, ◌&&◌, List, [], ◌∷◌, ◌++◌, length, drop, Option, Some, None, if◌then◌else◌}
 use Rattle.std.specs.Option.{option_to_list}
 use Rattle.hook_order.specs.declared.implementation.Impl.{Impl}
-use Rattle.session_rules.specs.declared.journal.Event.TheVariants.{CallBegins, CallEnds}
-use Rattle.session_rules.specs.Live.{not_on}
-use Rattle.session_rules.specs.Hooks.{HookRan, HookGave, HookRaised, HookInner, AllValues, InnerGave, InnerRaised, HookOpened, AtYield, OpenRaised, Did, HookRunner, HookEnd, hook_call}
-use Rattle.session_rules.specs.World.{Language, Rules, Item, Phase, SetUp, Call, Teardown, How, Returned, Yielded, Raised, Outcome, After, Threw, Asked, Closed, Answered, Raising, Frame}
-use Rattle.session_rules.specs.Teardown.{Got, State, Step, step, in_world, emit, also, torn, finalize_all, closed_request, down_all}
+use Rattle.session_types.specs.declared.journal.Event.{Event}
+use Rattle.session_types.specs.declared.journal.Event.TheVariants.{CallBegins, CallEnds}
+use Rattle.session_types.specs.Live.{not_on}
+use Rattle.session_rules.specs.Hooks.{HookAnswer, HookGave, HookRaised, HookInner, AllValues, InnerGave, InnerRaised, HookMessage, SentValues, SentValue, SentRaise, HookBeginning, AtYield, OpenRaised, HookStep, HookRunner, HookEnd, hook_call}
+use Rattle.session_rules.specs.World.{Language, Rules, Item, Phase, SetUp, Call, Teardown, BodyEnd, Returned, Yielded, Raised, Outcome, After, NewException, NewRequest, ClosedRequest, WorldAnswer, Exceptions, Frame, HookArguments, Account}
+use Rattle.session_rules.specs.Teardown.{Grant, PhaseEnd, ItemObject, State, Step, step, in_world, emit, also, torn, finalize_all, closed_request, down_all}
 use Rattle.session_rules.specs.Demand.{Answer, Given, Refused, demand, numbers_of}
 
 -- HOOKS AROUND A BUILT-IN
@@ -17,112 +18,165 @@ built_in SetUp = 1
 built_in Call = 2
 built_in Teardown = 3
 
-abbrev pub raising : {L : Language} → List L.Thrown → HookRan L.Value (Raising L)
+abbrev pub raising : {L : Language} → List L.Thrown → HookAnswer L.Value (Exceptions L)
 raising [] = HookGave None
 raising (e ∷ es) = HookRaised (record { first = e; more = es })
 
-abbrev pub did_step : {L : Language} → Step L → Did (State L) (HookRan L.Value (Raising L))
+abbrev pub did_step : {L : Language} → Step L → HookStep (State L) (HookAnswer L.Value (Exceptions L))
 did_step r = record { answer = raising r.raised; state = r.state }
 
 -- one exception
-abbrev pub alone : {L : Language} → L.Thrown → Raising L
+abbrev pub alone : {L : Language} → L.Thrown → Exceptions L
 alone e = record { first = e; more = [] }
 
-abbrev pub one_raised : {L : Language} → HookRan L.Value L.Thrown → HookRan L.Value (Raising L)
+abbrev pub one_raised : {L : Language} → HookAnswer L.Value L.Thrown → HookAnswer L.Value (Exceptions L)
 one_raised (HookGave value) = HookGave value
 one_raised (HookRaised e) = HookRaised (alone e)
 
-abbrev pub answered : {L : Language} {A : Type 0} → A → L.World → Answered L A
+abbrev pub answered : {L : Language} {A : Type 0} → A → L.World → WorldAnswer L A
 answered a w = record { answer = a; world = w }
 
-abbrev pub implemented : {L : Language} → Answered L (HookRan L.Value L.Thrown) → Answered L (HookRan L.Value (Raising L))
+abbrev pub implemented : {L : Language} → WorldAnswer L (HookAnswer L.Value L.Thrown) → WorldAnswer L (HookAnswer L.Value (Exceptions L))
 implemented a = answered (one_raised a.answer) a.world
 
-abbrev pub opening_threw : {L : Language} → Threw L → Answered L (HookOpened (Frame L) (Raising L))
+abbrev pub opening_threw : {L : Language} → NewException L → WorldAnswer L (HookBeginning (Frame L) (Exceptions L))
 opening_threw t = answered (OpenRaised (alone t.thrown)) t.world
 
 -- how the beginning of a wrapper ended; one that ends without yielding has raised
-abbrev pub opening : {L : Language} → Rules L → Impl → How L → L.World → Answered L (HookOpened (Frame L) (Raising L))
+abbrev pub opening : {L : Language} → Rules L → Impl → BodyEnd L → L.World → WorldAnswer L (HookBeginning (Frame L) (Exceptions L))
 opening rules which (Yielded v rest) w = answered (AtYield (record { which = which; rest = rest })) w
 opening rules which (Raised e) w = answered (OpenRaised (alone e)) w
 opening rules which (Returned v) w = opening_threw (rules.wrapper_did_not_yield which w)
 
--- of several exceptions a wrapper gets the first
-abbrev pub first_of : {L : Language} → HookInner L.Value (Raising L) → HookInner L.Value L.Thrown
-first_of AllValues = AllValues
-first_of (InnerGave value) = InnerGave value
-first_of (InnerRaised e) = InnerRaised e.first
+-- what a wrapper gets; of several exceptions the first
+abbrev pub sent_of : {L : Language} → List L.Value → HookInner L.Value (Exceptions L) → HookMessage L.Value L.Thrown
+sent_of values AllValues = SentValues values
+sent_of values (InnerGave value) = SentValue value
+sent_of values (InnerRaised e) = SentRaise e.first
 
 -- where the exception that leaves a wrapper is the one that it got, all are handed on; else it replaces them
-abbrev pub left_by : {L : Language} → Rules L → HookInner L.Value (Raising L) → L.Thrown → Raising L
+abbrev pub left_by : {L : Language} → Rules L → HookInner L.Value (Exceptions L) → L.Thrown → Exceptions L
 left_by rules AllValues e = alone e
 left_by rules (InnerGave value) e = alone e
 left_by rules (InnerRaised r) e = if rules.is_same_object e r.first then r else alone e
 
-abbrev pub resuming_threw : {L : Language} → Threw L → Answered L (HookRan L.Value (Raising L))
+abbrev pub resuming_threw : {L : Language} → NewException L → WorldAnswer L (HookAnswer L.Value (Exceptions L))
 resuming_threw t = answered (HookRaised (alone t.thrown)) t.world
 
 -- how what remained of a wrapper ended; one that yields again is given up and has raised
-abbrev pub resuming : {L : Language} → Rules L → Impl → HookInner L.Value (Raising L) → How L → L.World → Answered L (HookRan L.Value (Raising L))
+abbrev pub resuming : {L : Language} → Rules L → Impl → HookInner L.Value (Exceptions L) → BodyEnd L → L.World → WorldAnswer L (HookAnswer L.Value (Exceptions L))
 resuming rules which inner (Returned v) w = answered (HookGave (rules.unless_none v)) w
 resuming rules which inner (Raised e) w = answered (HookRaised (left_by rules inner e)) w
 resuming rules which inner (Yielded v rest) w = resuming_threw (rules.wrapper_yielded_again which (rules.abandon rest w))
 
-abbrev pub opening_of : {L : Language} → Rules L → Impl → Outcome L → Answered L (HookOpened (Frame L) (Raising L))
+abbrev pub opening_of : {L : Language} → Rules L → Impl → Outcome L → WorldAnswer L (HookBeginning (Frame L) (Exceptions L))
 opening_of rules which o = opening rules which o.how o.world
 
-abbrev pub resuming_of : {L : Language} → Rules L → Impl → HookInner L.Value (Raising L) → Outcome L → Answered L (HookRan L.Value (Raising L))
+abbrev pub resuming_of : {L : Language} → Rules L → Impl → HookInner L.Value (Exceptions L) → Outcome L → WorldAnswer L (HookAnswer L.Value (Exceptions L))
 resuming_of rules which inner o = resuming rules which inner o.how o.world
 
-abbrev pub did_world : {L : Language} {A : Type 0} → State L → Answered L A → Did (State L) A
+abbrev pub did_world : {L : Language} {A : Type 0} → State L → WorldAnswer L A → HookStep (State L) A
 did_world s a = record { answer = a.answer; state = in_world a.world s }
 
+-- the value that was given, unless it is None
+abbrev pub gathered : {V E : Type 0} → HookAnswer V E → List V
+gathered (HookGave value) = option_to_list value
+gathered (HookRaised e) = []
+
+abbrev pub did_call : {L : Language} → State L → WorldAnswer L (HookAnswer L.Value (Exceptions L)) → HookStep (State L) (HookAnswer L.Value (Exceptions L))
+did_call s a = record { answer = a.answer; state = record s { world = a.world; values = s.values ++ gathered a.answer } }
+
+-- the `item` object of a node, where it was made
+abbrev pub object_of : {L : Language} → ℕ → List (ItemObject L) → Option L.Value
+object_of node [] = None
+object_of node (o ∷ os) = if node == o.node then Some o.object else object_of node os
+
+abbrev pub object_of_next : {L : Language} → Option ℕ → List (ItemObject L) → Option L.Value
+object_of_next None os = None
+object_of_next (Some node) os = object_of node os
+
+abbrev pub arguments_of : {L : Language} → Item → Option ℕ → State L → HookArguments L
+arguments_of item next s = record { item = object_of item.node s.objects; next = object_of_next next s.objects }
+
+abbrev pub object_made : {L : Language} → ℕ → WorldAnswer L L.Value → State L → State L
+object_made node a s = record s { world = a.world; objects = s.objects ++ record { node = node; object = a.answer } ∷ [] }
+
+-- each item has one `item` object in a session, which is made where a hook call first wants it
+abbrev pub with_object : {L : Language} → Rules L → ℕ → Option L.Value → State L → State L
+with_object rules node None s = object_made node (rules.make_item node s.world) s
+with_object rules node (Some object) s = s
+
+abbrev pub with_item : {L : Language} → Rules L → ℕ → State L → State L
+with_item rules node s = with_object rules node (object_of node s.objects) s
+
+abbrev pub with_next : {L : Language} → Rules L → Option ℕ → State L → State L
+with_next rules None s = s
+with_next rules (Some node) s = with_item rules node s
+
+-- before a hook call: the objects are there, and no value is gathered
+abbrev pub ready : {L : Language} → Rules L → Item → Option ℕ → State L → State L
+ready rules item next s = record (with_next rules next (with_item rules item.node s)) { values = [] }
+
 -- the built-in implementation does what it is given, and all others act on the world
-abbrev pub runner_of : {L : Language} → Rules L → Phase → Item → Option ℕ → (State L → Step L) → HookRunner (State L) L.Value (Raising L) (Frame L)
+abbrev pub runner_of : {L : Language} → Rules L → Phase → Item → Option ℕ → (State L → Step L) → HookRunner (State L) L.Value (Exceptions L) (Frame L)
 runner_of rules phase item next built =
     record {
-      call = λ which s. if which.registered == built_in phase then did_step (built s) else did_world s (implemented (rules.implement phase item.node next which s.world));
-      begin = λ which s. did_world s (opening_of rules which (rules.open_wrapper phase item.node next which s.world));
-      resume = λ frame inner s. did_world s (resuming_of rules frame.which inner (rules.resume_wrapper phase item.node frame.rest (first_of inner) s.world));
+      call = λ which s. if which.registered == built_in phase then did_step (built s) else did_call s (implemented (rules.implement phase item.node (arguments_of item next s) which s.world));
+      begin = λ which s. did_world s (opening_of rules which (rules.open_wrapper phase item.node (arguments_of item next s) which s.world));
+      resume = λ frame inner s. did_world s (resuming_of rules frame.which inner (rules.resume_wrapper phase item.node frame.rest (sent_of s.values inner) s.world));
     }
 
-abbrev pub raised_of : {L : Language} → HookInner L.Value (Raising L) → List L.Thrown
+abbrev pub raised_of : {L : Language} → HookInner L.Value (Exceptions L) → List L.Thrown
 raised_of AllValues = []
 raised_of (InnerGave value) = []
 raised_of (InnerRaised e) = e.first ∷ e.more
 
-abbrev pub hooked : {L : Language} → HookEnd (State L) L.Value (Raising L) → Step L
+abbrev pub hooked : {L : Language} → HookEnd (State L) L.Value (Exceptions L) → Step L
 hooked h = step (raised_of h.outcome) h.state
 
 -- the hook call of a phase; `next` is the next item, for the hooks of a teardown
 abbrev pub in_hooks : {L : Language} → Rules L → Phase → Item → Option ℕ → (State L → Step L) → State L → Step L
-in_hooks rules phase item next built s = hooked (hook_call (runner_of rules phase item next built) (rules.hooks phase item.node) s)
+in_hooks rules phase item next built s = hooked (hook_call (runner_of rules phase item next built) (rules.hooks phase item.node) (ready rules item next s))
 
 -- THE END OF A PHASE
 
-abbrev pub counted_as : {L : Language} → Bool → State L → State L
-counted_as b s = record s { bad = s.bad + (if b then 1 else 0) }
+abbrev pub as_count : Bool → ℕ
+as_count b = if b then 1 else 0
 
-abbrev pub ended_as : {L : Language} → Rules L → Phase → Item → Bool → Step L → Step L
-ended_as rules phase item b r =
+-- its own events are those behind the events of earlier phases
+abbrev pub end_of : {L : Language} → Phase → Item → L.Told → Step L → PhaseEnd L
+end_of phase item told r = record { phase = phase; item = item.node; raised = r.raised; told = told; events = drop r.state.told r.state.events }
+
+-- what a phase tells is kept, and counted where it is a failure or an error
+abbrev pub ended_with : {L : Language} → Phase → Item → Account L → Step L → Step L
+ended_with {L} phase item t r =
     step r.raised (record r.state {
-      world = rules.end_phase phase item.node r.raised r.state.world;
-      ends = r.state.ends ++ record { phase = phase; item = item.node; raised = r.raised; is_bad = b; events = r.state.events } ∷ [];
+      world = t.world;
+      ends = r.state.ends ++ end_of phase item t.told r ∷ [];
+      told = length r.state.events;
+      bad = r.state.bad + as_count (L.is_bad phase t.told);
     })
 
-abbrev pub bad_of : {L : Language} → Rules L → Phase → Item → Step L → Bool
-bad_of rules phase item r = rules.is_bad phase item.node r.raised r.state.world
+abbrev pub telling : {L : Language} → Rules L → Phase → Item → Step L → Account L
+telling rules phase item r = rules.end_phase phase item.node r.raised r.state.world
 
 abbrev pub ended : {L : Language} → Rules L → Phase → Item → Step L → Step L
-ended rules phase item r = ended_as rules phase item (bad_of rules phase item r) (step r.raised (counted_as (bad_of rules phase item r) r.state))
+ended rules phase item r = ended_with phase item (telling rules phase item r) r
 
--- whether the failures and errors have reached a maxfail above 0
+-- the failures and errors with those of a phase that ends so
+abbrev pub bad_behind : {L : Language} → Rules L → Phase → Item → Step L → ℕ
+bad_behind {L} rules phase item r = r.state.bad + as_count (L.is_bad phase (telling rules phase item r).told)
+
+-- whether so many failures and errors reach a maxfail above 0
+abbrev pub reaches : ℕ → ℕ → Bool
+reaches maxfail bad = nat_lt 0 maxfail && nat_le maxfail bad
+
 abbrev pub has_reached : {L : Language} → ℕ → State L → Bool
-has_reached maxfail s = nat_lt 0 maxfail && nat_le maxfail s.bad
+has_reached maxfail s = reaches maxfail s.bad
 
 -- SET-UP
 
-abbrev pub noted : {L : Language} → Got L → State L → State L
+abbrev pub noted : {L : Language} → Grant L → State L → State L
 noted i s = record s { given = s.given ++ i ∷ [] }
 
 abbrev pub demand_next : {L : Language} → (State L → Step L) → Answer L → State L → Step L
@@ -133,7 +187,7 @@ abbrev pub demand_closure : {L : Language} → Rules L → Item → List ℕ →
 demand_closure rules item [] s = step [] s
 demand_closure rules item (d ∷ ds) s = demand_next (demand_closure rules item ds) (demand rules item rules.depth d s).answer (demand rules item rules.depth d s).state
 
-abbrev pub faulted : {L : Language} → State L → Threw L → Step L
+abbrev pub faulted : {L : Language} → State L → NewException L → Step L
 faulted s t = step (t.thrown ∷ []) (in_world t.world s)
 
 -- a fault of the closure is raised before any demand
@@ -150,11 +204,11 @@ set_up_phase rules item s = ended rules SetUp item (in_hooks rules SetUp item No
 -- CALL
 
 -- the value that answered a definition's demand
-abbrev pub value_for : {L : Language} → ℕ → List (Got L) → Option L.Value
+abbrev pub value_for : {L : Language} → ℕ → List (Grant L) → Option L.Value
 value_for d [] = None
 value_for d (i ∷ is) = if d == i.def then Some i.value else value_for d is
 
-abbrev pub value_of_argument : {L : Language} → List (Got L) → Option ℕ → Option L.Value
+abbrev pub value_of_argument : {L : Language} → List (Grant L) → Option ℕ → Option L.Value
 value_of_argument given None = None
 value_of_argument given (Some d) = value_for d given
 
@@ -164,15 +218,15 @@ with_value (Some v) None = None
 with_value (Some v) (Some vs) = Some (v ∷ vs)
 
 -- the values of a test's arguments, where each has one
-abbrev pub values_for : {L : Language} → List (Got L) → List (Option ℕ) → Option (List L.Value)
+abbrev pub values_for : {L : Language} → List (Grant L) → List (Option ℕ) → Option (List L.Value)
 values_for given [] = Some []
 values_for given (a ∷ others) = with_value (value_of_argument given a) (values_for given others)
 
 abbrev pub tested : {L : Language} → State L → Option L.Value → After L → Step L
 tested s request a = step (option_to_list a.raised) (record s { world = a.world; request = request })
 
-abbrev pub test_asked : {L : Language} → Rules L → Item → List L.Value → State L → Asked L → Step L
-test_asked rules item values s a = tested s a.request (rules.test item.node values a.request a.world)
+abbrev pub test_asked : {L : Language} → Rules L → Item → List L.Value → State L → NewRequest L → Step L
+test_asked rules item values s a = tested s a.request (rules.test item.node s.instance values a.request a.world)
 
 -- where a wrapper swallowed a fault of the set-up, an argument may have no value
 abbrev pub test_with : {L : Language} → Rules L → Item → Option (List L.Value) → State L → Step L
@@ -182,9 +236,12 @@ test_with rules item (Some values) s = test_asked rules item values s (rules.ask
 abbrev pub test_item : {L : Language} → Rules L → Item → State L → Step L
 test_item rules item s = test_with rules item (values_for s.given item.arguments) s
 
+abbrev pub emitted : {L : Language} → Event → Step L → Step L
+emitted e r = step r.raised (emit e r.state)
+
 abbrev pub call_item : {L : Language} → Rules L → Item → State L → State L
 call_item rules item s =
-    emit (CallEnds item.node) (ended rules Call item (in_hooks rules Call item None (test_item rules item) (emit (CallBegins item.node (numbers_of s.given [])) s))).state
+    (ended rules Call item (emitted (CallEnds item.node) (in_hooks rules Call item None (test_item rules item) (emit (CallBegins item.node (numbers_of s.given [])) s)))).state
 
 -- where the set-up passed
 abbrev pub call_after : {L : Language} → Rules L → Item → List L.Thrown → State L → State L
@@ -205,7 +262,7 @@ node_of None = None
 node_of (Some item) = Some item.node
 
 -- the test's own finalizers, latest first; from here on its `request` takes no others
-abbrev pub finalized : {L : Language} → Rules L → Closed L → State L → Step L
+abbrev pub finalized : {L : Language} → Rules L → ClosedRequest L → State L → Step L
 finalized rules c s =
     step (finalize_all rules c.finalizers (torn [] c.world)).raised
     (record s { world = (finalize_all rules c.finalizers (torn [] c.world)).world; request = None })
@@ -220,6 +277,22 @@ down_off rules chain r = also r.raised (down_all rules (not_on chain r.state.liv
 abbrev pub leave : {L : Language} → Rules L → Option Item → State L → Step L
 leave rules next s = down_off rules (chain_of next) (finalize_own rules s)
 
+-- where a hook call stands: in a phase of an item, and at a teardown before the next item
+pub record HookPlace : Type 0 where
+  pub phase : Phase
+  pub item : Item
+  pub next : Option Item
+
+-- what the built-in implementation of a phase does
+abbrev pub built_of : {L : Language} → Rules L → Phase → Item → Option Item → State L → Step L
+built_of rules SetUp item next s = set_up_item rules item s
+built_of rules Call item next s = test_item rules item s
+built_of rules Teardown item next s = leave rules next s
+
+-- the runner of the hook call of a phase
+abbrev pub hook_runner : {L : Language} → Rules L → HookPlace → HookRunner (State L) L.Value (Exceptions L) (Frame L)
+hook_runner rules place = runner_of rules place.phase place.item (node_of place.next) (built_of rules place.phase place.item place.next)
+
 -- where the built-in wasn't reached it is done right behind the hook call
 abbrev pub leave_behind : {L : Language} → Rules L → Option Item → Step L → Step L
 leave_behind rules next r = if r.state.left then r else also r.raised (leave rules next r.state)
@@ -228,8 +301,8 @@ abbrev pub torn_down : {L : Language} → Rules L → Item → Option Item → S
 torn_down rules item next s = leave_behind rules next (in_hooks rules Teardown item (node_of next) (leave rules next) (record s { left = false }))
 
 -- where this phase makes the failures and errors reach maxfail, all that lives goes down
-abbrev pub all_down : {L : Language} → Rules L → ℕ → Step L → Step L
-all_down rules maxfail r = if has_reached maxfail r.state then also r.raised (down_all rules r.state.live r.state) else r
+abbrev pub all_down : {L : Language} → Rules L → ℕ → Item → Step L → Step L
+all_down rules maxfail item r = if reaches maxfail (bad_behind rules Teardown item r) then also r.raised (down_all rules r.state.live r.state) else r
 
 abbrev pub next_of : List Item → Option Item
 next_of [] = None
@@ -240,20 +313,23 @@ abbrev pub next_unless : Bool → List Item → Option Item
 next_unless true items = None
 next_unless false items = next_of items
 
-abbrev pub teardown_judged : {L : Language} → Rules L → ℕ → Item → Bool → Step L → State L
-teardown_judged rules maxfail item b r = (ended_as rules Teardown item b (all_down rules maxfail (step r.raised (counted_as b r.state)))).state
-
 abbrev pub teardown_ended : {L : Language} → Rules L → ℕ → Item → Step L → State L
-teardown_ended rules maxfail item r = teardown_judged rules maxfail item (bad_of rules Teardown item r) r
+teardown_ended rules maxfail item r = (ended rules Teardown item (all_down rules maxfail item r)).state
 
 abbrev pub teardown_phase : {L : Language} → Rules L → ℕ → Item → List Item → State L → State L
 teardown_phase rules maxfail item items s = teardown_ended rules maxfail item (torn_down rules item (next_unless (has_reached maxfail s) items) s)
 
 -- ITEMS AND SESSIONS
 
+abbrev pub with_instance : {L : Language} → WorldAnswer L (Option L.Value) → State L → State L
+with_instance a s = record s { world = a.world; instance = a.answer }
+
+-- an item begins with a new instance of its class
+abbrev pub opened : {L : Language} → Rules L → Item → State L → State L
+opened rules item s = with_instance (rules.make_instance item.node s.world) s
+
 abbrev pub run_item : {L : Language} → Rules L → ℕ → Item → List Item → State L → State L
-run_item rules maxfail item items s =
-    teardown_phase rules maxfail item items (call_phase rules item (set_up_phase rules item (in_world (rules.begin_item item.node s.world) s)))
+run_item rules maxfail item items s = teardown_phase rules maxfail item items (call_phase rules item (set_up_phase rules item (opened rules item s)))
 
 -- the items in order, as far as maxfail lets them
 abbrev pub session : {L : Language} → Rules L → ℕ → List Item → State L → State L
@@ -264,7 +340,22 @@ session rules maxfail (item ∷ items) s =
 
 -- no live instance and no event
 abbrev pub start : {L : Language} → L.World → State L
-start w = record { world = w; live = []; next = 0; events = []; given = []; request = None; left = false; ends = []; bad = 0 }
+start w =
+    record {
+      world = w;
+      live = [];
+      next = 0;
+      events = [];
+      instance = None;
+      objects = [];
+      values = [];
+      given = [];
+      request = None;
+      left = false;
+      ends = [];
+      told = 0;
+      bad = 0;
+    }
 
 -- whether the session stopped early
 abbrev pub has_stopped : {L : Language} → ℕ → State L → Bool

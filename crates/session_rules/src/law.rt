@@ -1,21 +1,24 @@
-ghost use Rattle.std.specs.Prelude.{◌≡◌, ℕ, ◌<◌, List, true, reverse};
+ghost use Rattle.std.specs.Prelude.{◌≡◌, ℕ, ◌<◌, Bool, List, [], true, reverse};
 ghost use Rattle.hook_order.specs.declared.implementation.Impl.{Impl};
 ghost use Rattle.hook_order.specs.declared.answers.Inner.{Inner};
-ghost use Rattle.hook_order.specs.HookCall.{CallsEach, HookCall};
-ghost use Rattle.session_rules.specs.Hooks.{HookRunner, hook_call};
-ghost use Rattle.session_rules.specs.HookFollows.{Follows, Agrees};
+ghost use Rattle.hook_order.specs.HookCall.{CallsEach, FindsFirst, HookCall};
+ghost use Rattle.session_rules.specs.Hooks.{HookRunner, first_call, hook_call};
+ghost use Rattle.session_rules.specs.HookFollows.{Agrees, Follows, HookView, itself};
 ghost use Rattle.session_rules.specs.Request.{Request, new_request, added_all, closed};
-ghost use Rattle.session_rules.specs.Events.{In, Lawful};
-ghost use Rattle.session_rules.specs.World.{Rules, Item, language};
+ghost use Rattle.session_types.specs.Members.{In};
+ghost use Rattle.session_rules.specs.Events.{Lawful};
+ghost use Rattle.session_rules.specs.World.{Frame, Item, Phase, Exceptions, Rules, language};
 ghost use Rattle.session_rules.specs.Teardown.{State};
-ghost use Rattle.session_rules.specs.Demand.{demand};
-ghost use Rattle.session_rules.specs.Session.{session, start};
+ghost use Rattle.session_rules.specs.Demand.{Refused, demand};
+ghost use Rattle.session_rules.specs.Session.{HookPlace, hook_runner, session, start};
 ghost use Rattle.session_rules.specs.Reports.{IsReport};
+ghost use Rattle.session_rules.specs.Frames.{Tidy};
 ghost use Rattle.session_rules.specs.Fits.{Fits, Distinct, Settled, IsClosure};
 
 use hook_order::Runner;
 
-/// A world that fixtures act on: what its functions, their rests, finalizers, hooks and tests do to it.
+/// A world that fixtures act on, its values, its exceptions, what remains behind a `yield`, and what a phase tells at its end. What
+/// functions, their rests, finalizers, hooks and tests do to it are rules, which depend on what was collected.
 pub trait Acts {
     type Value;
 
@@ -23,37 +26,63 @@ pub trait Acts {
 
     type Rest;
 
-    ghost rules: { Rules (language Self Self.Value Self.Thrown Self.Rest) };
+    type Told;
+
+    /// Whether what a phase tells is a failure or an error.
+    ghost is_bad: { Phase → Self.Told → Bool };
 }
 
 /// The events of every session are lawful, whatever its fixtures, hooks and tests do or raise.
 pub fn every_journal_is_lawful<W: Acts>()
-    ensures { (maxfail : ℕ) (items : List Item) (world : W) → ((item : Item) → In item items → Fits W.rules item) → Distinct items → Lawful (session W.rules maxfail items (start world)).events }
+    ensures { (rules : Rules (language W W.Value W.Thrown W.Rest W.Told W.is_bad)) (maxfail : ℕ) (items : List Item) (world : W) → ((item : Item) → In item items → Fits rules item) → Distinct items → Lawful (session rules maxfail items (start world)).events }
 {}
 
-/// A session reports the items in order, each once: its set-up, its call where that raised nothing, and its teardown. It ends
-/// behind the last item, or where maxfail has been reached.
+/// A session reports the items in order, each once: its set-up, its call where that raised nothing, and its teardown; all of them,
+/// or up to the first with which maxfail is reached. What is counted is what these phases tell, and the journal is the events of
+/// these phases, in order.
 pub fn every_item_is_reported_once<W: Acts>()
-    ensures { (maxfail : ℕ) (items : List Item) (world : W) → IsReport maxfail items (session W.rules maxfail items (start world)) }
+    ensures { (rules : Rules (language W W.Value W.Thrown W.Rest W.Told W.is_bad)) (maxfail : ℕ) (items : List Item) (world : W) → IsReport maxfail items (session rules maxfail items (start world)) }
+{}
+
+/// No frozen frame is out at the end of a session that wasn't out at its start, whatever is raised.
+pub fn no_frame_is_left_out<W: Acts>()
+    ensures { (rules : Rules (language W W.Value W.Thrown W.Rest W.Told W.is_bad)) (out : W → ℕ) → Tidy rules out → (maxfail : ℕ) (items : List Item) (world : W) → ((item : Item) → In item items → Fits rules item) → out (session rules maxfail items (start world)).world ≡ out world }
+{}
+
+/// A demand that is refused says why.
+pub fn refusals_tell<W: Acts>()
+    ensures { (rules : Rules (language W W.Value W.Thrown W.Rest W.Told W.is_bad)) (item : Item) (depth d : ℕ) (s : State (language W W.Value W.Thrown W.Rest W.Told W.is_bad)) → (demand rules item depth d s).answer ≡ Refused [] → ⊥ }
 {}
 
 /// A demand is the same at any depth that what it asks for doesn't pass.
 pub fn depth_does_not_matter<W: Acts>()
-    ensures { (item : Item) (one other d : ℕ) (s : State (language W W.Value W.Thrown W.Rest)) → Settled W.rules item one d → Settled W.rules item other d → demand W.rules item one d s ≡ demand W.rules item other d s }
+    ensures { (rules : Rules (language W W.Value W.Thrown W.Rest W.Told W.is_bad)) (item : Item) (one other d : ℕ) (s : State (language W W.Value W.Thrown W.Rest W.Told W.is_bad)) → Settled rules item one d → Settled rules item other d → demand rules item one d s ≡ demand rules item other d s }
 {}
 
 /// A closure without fault is what the demands need: nothing that it reaches goes deeper than there are definitions, and nothing
 /// asks for narrower scope.
 pub fn closures_are_settled<W: Acts>()
-    ensures { (item : Item) (ds : List ℕ) → IsClosure W.rules item ds → (d : ℕ) → In d ds → Settled W.rules item W.rules.depth d }
+    ensures { (rules : Rules (language W W.Value W.Thrown W.Rest W.Told W.is_bad)) (item : Item) (ds : List ℕ) → IsClosure rules item ds → (d : ℕ) → In d ds → Settled rules item rules.depth d }
 {}
 
-/// What hook_order's calls do and answer is the hook call of a session, where their runner does what the session says of each
+/// What hook_order's calls do and answer are the hook calls of a session, where their runner does what the session says of each
 /// implementation, or wants memory.
 pub fn hook_calls_agree<R: Runner>()
-    ensures { (runner : HookRunner R R.Got R.Exc R.Frozen) → Follows R.calls R.begins R.resumes runner
+    ensures all { (runner : HookRunner R R.Got R.Exc R.Frozen) → Follows itself R.calls R.begins R.resumes (λ place. runner)
         → (impls : List Impl) (before after : R) (end : Inner R.Got R.Exc) (values : List R.Got)
-        → HookCall (CallsEach R.calls) R.begins R.resumes impls before end values after → Agrees (hook_call runner impls before) end values after }
+        → HookCall (CallsEach R.calls) R.begins R.resumes impls before end values after → Agrees {Z = R.Frozen} itself (hook_call runner impls before) before end values after }
+    ensures first { (runner : HookRunner R R.Got R.Exc R.Frozen) → Follows itself R.calls R.begins R.resumes (λ place. runner)
+        → (impls : List Impl) (before after : R) (end : Inner R.Got R.Exc) (values : List R.Got)
+        → HookCall (FindsFirst R.calls) R.begins R.resumes impls before end values after → Agrees {Z = R.Frozen} itself (first_call runner impls before) before end values after }
+{}
+
+/// The same of a runner that is read as the state of a session, where it holds besides the phase, the item and the next item.
+pub fn hook_calls_are_a_sessions<R: Runner, W: Acts>()
+    ensures { (rules : Rules (language W W.Value W.Thrown W.Rest W.Told W.is_bad))
+        (view : HookView R R.Got R.Exc R.Frozen (State (language W W.Value W.Thrown W.Rest W.Told W.is_bad)) HookPlace W.Value (Exceptions (language W W.Value W.Thrown W.Rest W.Told W.is_bad)) (Frame (language W W.Value W.Thrown W.Rest W.Told W.is_bad)))
+        → Follows view R.calls R.begins R.resumes (hook_runner rules)
+        → (impls : List Impl) (before after : R) (end : Inner R.Got R.Exc) (values : List R.Got)
+        → HookCall (CallsEach R.calls) R.begins R.resumes impls before end values after → Agrees view (hook_call (hook_runner rules (view.place before)) impls (view.state before)) before end values after }
 {}
 
 /// The finalizers of a `request` are those that were added while it was open, latest first; once its instance is going, none is

@@ -1,38 +1,52 @@
-//! The rules of a session of fixtures, and the law that every journal of one is lawful.
+//! The rules of a session of fixtures, and the laws that follow from them, apart from any language.
 //!
-//! Fixtures are set up on demand, live on the node of their scope, and are torn down. This crate says what that is
-//! (pytest's documentation, "How to use fixtures" and "Fixtures reference"; pluggy's documentation, "Wrappers"), and proves what
-//! follows from it, apart from any language: what a fixture's function, its rest behind a `yield`, a finalizer, a hook and a test
-//! do is given by the functions of a world, of which the law asks nothing.
+//! Fixtures are set up on demand, live on the node of their scope, and are torn down (pytest's documentation, "How to use fixtures" and
+//! "Fixtures reference"; pluggy's documentation, "Wrappers"). What a fixture's function, its rest behind a `yield`, a finalizer, a hook
+//! and a test do is given by the functions of a world (`Acts::rules`), of which no law asks anything: each may raise, at every point.
+//!
+//! Proved, each as the contract of a public function with an empty body:
+//!
+//! - `every_journal_is_lawful`: for all items, no two with one node (`Distinct`), each with a fault or with a closure that fits the
+//!   table (`Fits`), and for every maxfail, the events of the session are `Lawful`: what comes up, or fails to, goes down exactly once;
+//!   it rests on what came up before, and all that depends on it is down before it; a test is called at most once, with instances that
+//!   live, or that went down before something on which they depend; at the end nothing is up.
+//! - `every_item_is_reported_once`: the items that ran are a prefix of the list, each once, with its set-up, its call exactly where the
+//!   set-up raised nothing, and its teardown; where items are left, maxfail was reached; what is counted is what these phases tell, and
+//!   the journal is the events of these phases, each once (`IsReport`).
+//! - `no_frame_is_left_out`: at the end no frozen frame is out that wasn't at the start, where each rule but those of a frame leaves the
+//!   frames alone (`Tidy`).
+//! - `closures_are_settled`, `depth_does_not_matter`, `refusals_tell`: a closure without fault asks less deep than there are
+//!   definitions; a demand is the same at any depth that suffices; a refused one says why.
+//! - `hook_calls_agree` (`all`, `first`): what `call_all` and `call_first` of hook_order do and answer are the hook calls of a session,
+//!   where the runner does what the session says of each implementation; else memory was wanted. `hook_calls_are_a_sessions`: the same
+//!   of a runner that is read as the state of a session and holds item, phase and next item besides.
+//! - `finalizers_are_latest_first` (`latest`, `going`): a `request` gives its finalizers latest first, and takes none once its instance
+//!   is going.
+//!
+//! Computed when the crate is checked, not proved in general: `proofs/Rows.antt` (sessions on small worlds: four scopes, raises in
+//! set-up, call, teardown, finalizers and hooks, changed parameters, wrappers, maxfail) and `proofs/Unlawful.antt` (lists of events that
+//! `Lawful` refuses, each by the point that it breaks).
+//!
+//! Neither: that a world of a language does what its rules say, and that the world closes its `request` objects as `Request` says.
 //!
 //! The definitions, in the order in which to read them:
 //!
-//! 1. `specs/Live.antt`: the live instances, what dies with one of them, and in which order.
+//! 1. session_types, `specs/Live.antt`: the live instances, what dies with one of them, and in which order.
 //! 2. `specs/Hooks.antt`, `specs/Request.antt`: a hook call, and the finalizers of a `request`.
 //! 3. `specs/World.antt`: what a session asks of a language and its world.
 //! 4. `specs/Teardown.antt`, `specs/Demand.antt`, `specs/Session.antt`: teardown, demand, the phases of an item, a session.
 //! 5. `specs/Events.antt`: what the events of a session must be, a relation on the list of events alone.
 //! 6. `specs/Fits.antt`: what the laws ask of the items: that a closure has no fault, and that no two have one node.
-//! 7. `specs/Reports.antt`: each item reported once; `specs/HookFollows.antt`: the tie to the calls of `hook_order`.
-//!
-//! `proofs/Rows.antt` computes sessions on small worlds, and `proofs/Unlawful.antt` has lists of events that are no journal.
+//! 7. `specs/Reports.antt`: each item reported once; `specs/Frames.antt`: the frozen frames that are out; `specs/HookFollows.antt`: the
+//!    tie to the calls of hook_order.
 #![tactic(auto)]
 
-mod def_id;
-mod instance;
-mod journal;
 mod law;
-mod numbers;
-mod scope;
 #[cfg(test)]
 mod tests;
 
-pub use def_id::DefId;
-pub use instance::Instance;
-pub use journal::{Event, Made};
 pub use law::{
     Acts, closures_are_settled, depth_does_not_matter, every_item_is_reported_once,
     every_journal_is_lawful, finalizers_are_latest_first, hook_calls_agree,
+    hook_calls_are_a_sessions, no_frame_is_left_out, refusals_tell,
 };
-pub use numbers::Numbers;
-pub use scope::Scope;

@@ -1,8 +1,8 @@
 ghost use Rattle.std.specs.Prelude.{◌≡◌, ℕ, ◌≤◌, IfOk};
 
-use crate::fault::OutOfMemory;
 use crate::rule::{Counts, DrawnOnce, Range};
 use atomic_table::{Seat, Table};
+use seq::OutOfMemory;
 use std::alloc::Global;
 use std::marker::Model;
 

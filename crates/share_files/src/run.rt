@@ -5,12 +5,12 @@ ghost use Rattle.share_files.specs.Rule.{range};
 ghost use Rattle.share_files.specs.Work.{AllWork, Took, IsBlank, IsRange, Ready, Ran, lists_of};
 
 use crate::draws::Draws;
-use crate::fault::OutOfMemory;
 use crate::feed::DrawFeed;
 use crate::rule::{Board, Counts, DrawnOnce, Halves, Range, Whole};
 use crate::worker::Worker;
 use atomic_table::{Seat, Table};
 use edge_io::Gate;
+use seq::OutOfMemory;
 use std::alloc::Global;
 use std::mem;
 use std::thread::{Threads, join_mut};

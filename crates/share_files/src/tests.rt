@@ -1,7 +1,8 @@
 ghost use Rattle.std.specs.Prelude.{◌≡◌, true, [], ◌++◌, length, All, IfOk, OnOk};
 
-use crate::{DrawFeed, Draws, Feed, OutOfMemory, Worker, run_shares};
+use crate::{DrawFeed, Draws, Feed, Worker, run_shares};
 use edge_io::{Gate, OpenGate};
+use seq::OutOfMemory;
 use std::alloc::Global;
 use std::process::Abort;
 use std::sync::atomic::{AtomicU64, Ordering};

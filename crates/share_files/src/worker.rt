@@ -1,9 +1,9 @@
 ghost use Rattle.std.specs.Prelude.{◌≡◌, ℕ, true, List, [], IsSome, None, OnOk};
 ghost use Rattle.share_files.specs.Fed.{origin};
 
-use crate::fault::OutOfMemory;
 use crate::feed::DrawFeed;
 use edge_io::Gate;
+use seq::OutOfMemory;
 
 /// Works on the groups that a feed gives it, and keeps what it makes of them.
 pub trait Worker {

@@ -3,13 +3,13 @@ use Rattle.std.specs.Prelude.{List, [], ◌∷◌, ◌++◌, true, false}
 use Rattle.py_values.specs.declared.value.Value.TheVariants as val
 use Rattle.py_tree.specs.Trees as t
 use Rattle.py_tree.specs.Trees.{Tree, Trees, Empty, More}
-use Rattle.py_tree.specs.Statements.{Block}
-use Rattle.source_meaning.specs.Requests.{Turn, Function}
+use Rattle.source_meaning.specs.Requests.{source_kinds}
+use Rattle.py_world.specs.Arguments.{arguments_of}
 use Rattle.py_world.specs.Outcome.{Part, Next}
 use Rattle.py_world.specs.Expressions.{noted, constant, name_part, text_part, unary_part, binary_part, compare_part, not_part, and_part, or_part, choice_part, call_part}
 
 abbrev pub SourcePart : Type 0
-SourcePart = Part Function Block Turn
+SourcePart = Part source_kinds
 
 -- a form that the language doesn't have yet
 abbrev pub missing : SourcePart
@@ -25,7 +25,7 @@ abbrev mutual
   eval (t.False at) = noted at (constant (val.Bool false))
   eval (t.NoneTree at) = noted at (constant val.None)
   eval (t.Paren at e) = noted at (eval e)
-  eval (t.Call at f args names) = noted at (call_part (eval f) (parts args))
+  eval (t.Call at f args names) = noted at (call_part (eval f) (arguments_of names) (parts args))
   eval (t.Unary at op e) = noted at (unary_part op (eval e))
   eval (t.Binary at l op r) = noted at (binary_part (eval l) op (eval r))
   eval (t.Compare at e ops es) = noted at (compare_part (eval e) ops (parts es))
@@ -33,7 +33,12 @@ abbrev mutual
   eval (t.And at e es) = noted at (and_part (eval e) (parts es))
   eval (t.Or at e es) = noted at (or_part (eval e) (parts es))
   eval (t.IfElse at e condition other) = noted at (choice_part (eval e) (eval condition) (eval other))
-  eval _ = missing
+  eval (t.Tuple at es) = missing
+  eval (t.Listed at es) = missing
+  eval (t.Dict at ks es) = missing
+  eval (t.Attribute at e name) = missing
+  eval (t.Subscript at e i) = missing
+  eval (t.Slice at e from to by) = missing
 
   -- what each of them does
   pub parts : Trees → List SourcePart

@@ -1,20 +1,20 @@
 -- WHAT SOURCE CODE DOES, with any budget: a call by the runner, and the load of a module.
 use Rattle.std.specs.Prelude.{ℕ, List}
-use Rattle.py_tree.specs.Statements.{Block}
 use Rattle.py_values.specs.declared.value.Value.{Value}
-use Rattle.source_meaning.specs.Requests.{Turn, Function}
-use Rattle.source_meaning.specs.Statements.{entry, act, block}
+use Rattle.source_meaning.specs.Requests.{source_kinds}
+use Rattle.source_meaning.specs.Statements.{entry, act, script_body, remains}
 use Rattle.py_world.specs.World.{World}
-use Rattle.py_world.specs.Runs.{Meaning, Told, call_of, module_of}
+use Rattle.py_world.specs.Calls.{Meaning}
+use Rattle.py_world.specs.Runs.{Told, call_of, module_of}
 
 abbrev pub SourceWorld : Type 0
-SourceWorld = World Function Block
+SourceWorld = World source_kinds
 
-abbrev pub source : Meaning Function Block Turn
-source = record { entry = entry; act = act; body = block }
+abbrev pub source : Meaning source_kinds
+source = record { entry = entry; act = act; body = script_body; remains = remains }
 
-abbrev pub source_call : Value → List Value → ℕ → SourceWorld → Told Function Block
+abbrev pub source_call : Value → List Value → ℕ → SourceWorld → Told source_kinds
 source_call f args budget w = call_of source f args budget w
 
-abbrev pub source_module : List ℕ → ℕ → SourceWorld → Told Function Block
+abbrev pub source_module : List ℕ → ℕ → SourceWorld → Told source_kinds
 source_module path budget w = module_of source path budget w

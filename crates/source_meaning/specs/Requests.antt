@@ -1,15 +1,30 @@
--- What source code asks for, and the code of a function.
-use Rattle.std.specs.Prelude.{ℕ, List}
+-- What source code asks for by name, its codes, and what remains of a body that has stopped.
+use Rattle.std.specs.Prelude.{ℕ, List, Bool}
 use Rattle.py_tree.specs.Trees.{Tree}
 use Rattle.py_tree.specs.Statements.{Statement, Block, Parameter}
+use Rattle.py_world.specs.World.{Kinds}
 
--- a statement, or a turn of a loop
+-- what stands behind a statement in one of the blocks around it: statements, in code whose asserts are explained or not
+pub data Layer : Type 0 where
+  Statements : Bool → List Statement → Layer
+
+-- a statement with what stands behind it, the innermost block first, or a turn of a loop, in code whose asserts are explained or
+-- not
 pub data Turn : Type 0 where
-  StatementOf : Statement → Turn
-  TurnOf : Tree → Block → Turn
+  StatementOf : Bool → List Layer → Statement → Turn
+  TurnOf : Bool → Tree → Block → Turn
 
--- a function: its name, its parameters and its body
+-- a source's code: its statements, and whether its asserts are explained
+pub record Script : Type 0 where
+  pub explains : Bool
+  pub body : Block
+
+-- a function: whether its asserts are explained, its name, its parameters and its body
 pub record Function : Type 0 where
+  pub explains : Bool
   pub name : List ℕ
   pub params : List Parameter
   pub body : Block
+
+abbrev pub source_kinds : Kinds
+source_kinds = record { code = Function; script = Script; rest = List Layer; turn = Turn }

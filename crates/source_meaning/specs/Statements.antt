@@ -1,28 +1,31 @@
 -- What statements do (Language Reference, simple and compound statements).
-use Rattle.std.specs.Prelude.{ℕ, List, [], ◌∷◌, ◌++◌, Option, Some, None}
+use Rattle.std.specs.Prelude.{ℕ, List, [], ◌∷◌, ◌++◌, map, Option, Some, None, Bool, true, false}
 use Rattle.py_source.specs.declared.pos.Pos.{Pos}
 use Rattle.py_tree.specs.declared.op.BinOp.{BinOp}
 use Rattle.py_tree.specs.Trees.{Maybe, Absent, Present}
 use Rattle.py_tree.specs.Statements as t
-use Rattle.py_tree.specs.Statements.{Statement, Block, Branches, NoStatement, NoBranch, Place, NamePlace, Taker, One, Parameter}
-use Rattle.py_tree.specs.Names.{names_of, locals_of}
+use Rattle.py_tree.specs.Statements.{Statement, Block, Branches, NoStatement, NoBranch, Place, NamePlace, AttributePlace, SubscriptPlace, Taker, One, Unpack, Parameter}
+use Rattle.py_tree.specs.Names.{names_of, locals_of, yields_in}
 use Rattle.py_values.specs.Truth.{truth}
 use Rattle.source_meaning.specs.Expressions.{SourcePart, missing, eval}
-use Rattle.source_meaning.specs.Requests.{Turn, StatementOf, TurnOf, Function}
+use Rattle.source_meaning.specs.Requests.{source_kinds, Layer, Statements, Turn, StatementOf, TurnOf, Script, Function}
+use Rattle.source_meaning.specs.Watched.{watch}
+use Rattle.py_tree.specs.Trees.{Tree}
 use Rattle.py_world.specs.Site.{site}
-use Rattle.py_world.specs.World.{heap_of}
+use Rattle.py_world.specs.Arguments.{required}
+use Rattle.py_world.specs.World.{heap_of, unset}
 use Rattle.py_world.specs.Outcome.{Body, Next, on_next, on_value, if_true}
-use Rattle.py_world.specs.Statements.{Store, Choice, asked, expression_statement, store_name, assign, augment_name, return_value, pass, leave_loop, next_turn, fail, choose, loop, turn_of, define}
+use Rattle.py_world.specs.Statements.{Store, Choice, asked, expression_statement, store_name, assign, augment_name, return_value, yield_value, pass, leave_loop, next_turn, fail, fail_explained, choose, loop, turn_of, define}
 use Rattle.py_world.specs.Calls.{Entry}
 
 abbrev pub SourceBody : Type 0
-SourceBody = Body Function Block Turn
+SourceBody = Body source_kinds
 
 abbrev pub SourceStore : Type 0
-SourceStore = Store Function Block Turn
+SourceStore = Store source_kinds
 
 abbrev pub SourceChoice : Type 0
-SourceChoice = Choice Function Block Turn
+SourceChoice = Choice source_kinds
 
 abbrev pub position : Statement → Pos
 position (t.Do at e) = at
@@ -54,11 +57,12 @@ store_missing v = missing
 
 abbrev pub store_place : Place → SourceStore
 store_place (NamePlace at name) = store_name name
-store_place _ = store_missing
+store_place (AttributePlace at e name) = store_missing
+store_place (SubscriptPlace at e i) = store_missing
 
 abbrev pub store : Taker → SourceStore
 store (One p) = store_place p
-store _ = store_missing
+store (Unpack ps) = store_missing
 
 abbrev pub stores : List Taker → List SourceStore
 stores [] = []
@@ -66,19 +70,25 @@ stores (x ∷ xs) = store x ∷ stores xs
 
 abbrev pub augment : Place → BinOp → SourcePart → SourcePart
 augment (NamePlace at name) op e = augment_name name op e
-augment _ op e = missing
+augment (AttributePlace at a name) op e = missing
+augment (SubscriptPlace at a i) op e = missing
 
 abbrev pub some_part : Maybe → Option SourcePart
 some_part Absent = None
 some_part (Present e) = Some (eval e)
 
 -- an assert, whose failure is a part of it
-abbrev pub assert : SourcePart → Option SourcePart → SourcePart
-assert e message p s k = e p s (λ o. on_value o k (λ v s. if_true (truth (heap_of s) v) (k (Next s)) (fail message p s k)))
+abbrev pub assert : SourcePart → SourcePart → SourcePart
+assert e failure p s k = e p (unset s) (λ o. on_value o k (λ v s. if_true (truth (heap_of s) v) (k (Next s)) (failure p s k)))
+
+-- a plain one, and one whose failure tells the parts of its condition
+abbrev pub assert_as : Bool → Tree → Option SourcePart → SourcePart
+assert_as false e message = assert (eval e) (fail message)
+assert_as true e message = assert (watch 0 e) (fail_explained e message)
 
 -- a statement begins with a step
-abbrev pub begun : Statement → SourcePart
-begun st = asked (StatementOf st)
+abbrev pub begun : Bool → List Layer → Statement → SourcePart
+begun x ls st = asked (StatementOf x ls st)
 
 -- the statements of a block, the first one first
 abbrev pub listed : Block → List Statement
@@ -86,39 +96,60 @@ listed NoStatement = []
 listed (t.Next before st) = listed before ++ st ∷ []
 
 -- STATEMENTS ONE AFTER ANOTHER, each on its line
-abbrev pub sequence : List Statement → SourceBody
-sequence [] scene s k = k (Next s)
-sequence (st ∷ rest) scene s k = begun st (site scene (position st).line) s (λ o. on_next o k (λ s. sequence rest scene s k))
+abbrev pub sequence : Bool → List Layer → List Statement → SourceBody
+sequence x ls [] scene s k = k (Next s)
+sequence x ls (st ∷ rest) scene s k = begun x (Statements x rest ∷ ls) st (site scene (position st).line) s (λ o. on_next o k (λ s. sequence x ls rest scene s k))
 
-abbrev pub block : Block → SourceBody
-block b = sequence (listed b)
+abbrev pub block : Bool → List Layer → Block → SourceBody
+block x ls b = sequence x ls (listed b)
 
-abbrev pub choices : Branches → List SourceChoice
-choices NoBranch = []
-choices (t.Branch before at condition body) = choices before ++ (at.line, (eval condition, block body)) ∷ []
+-- what remains of a body, the innermost block first
+abbrev pub remains : List Layer → SourcePart
+remains [] p s k = k (Next s)
+remains (Statements x ss ∷ ls) p s k = sequence x ls ss p.scene s (λ o. on_next o k (λ s. remains ls p s k))
 
-abbrev pub function : List ℕ → List Parameter → Block → Function
-function name params body = record { name = name; params = params; body = body }
+abbrev pub choices : Bool → List Layer → Branches → List SourceChoice
+choices x ls NoBranch = []
+choices x ls (t.Branch before at condition body) = choices x ls before ++ (at.line, (eval condition, block x ls body)) ∷ []
+
+abbrev pub function : Bool → List ℕ → List Parameter → Block → Function
+function x name params body = record { explains = x; name = name; params = params; body = body }
+
+abbrev pub script : Bool → Block → Script
+script x body = record { explains = x; body = body }
 
 -- WHAT A STATEMENT DOES, its step being taken
-abbrev pub statement : Statement → SourcePart
-statement (t.Do at e) = expression_statement (eval e)
-statement (t.Assign at ts e) = assign (stores ts) (eval e)
-statement (t.AugAssign at p op e) = augment p op (eval e)
-statement (t.Return at e) = return_value (some_part e)
-statement (t.Assert at e m) = assert (eval e) (some_part m)
-statement (t.GlobalOf at names) = pass
-statement (t.Pass at) = pass
-statement (t.Break at) = leave_loop
-statement (t.Continue at) = next_turn
-statement (t.If at branches other) = choose (choices branches) (block other)
-statement (t.While at e body) = loop (TurnOf e body) (eval e)
-statement (t.Def at decorators word name params returns body) = define name word.line (names_of params) (function name params body)
-statement _ = missing
+abbrev pub statement : Bool → List Layer → Statement → SourcePart
+statement x ls (t.Do at e) = expression_statement (eval e)
+statement x ls (t.Assign at ts e) = assign (stores ts) (eval e)
+statement x ls (t.AugAssign at p op e) = augment p op (eval e)
+statement x ls (t.Return at e) = return_value (some_part e)
+statement x ls (t.Assert at e m) = assert_as x e (some_part m)
+statement x ls (t.GlobalOf at names) = pass
+statement x ls (t.Pass at) = pass
+statement x ls (t.Break at) = leave_loop
+statement x ls (t.Continue at) = next_turn
+statement x ls (t.If at branches other) = choose (choices x ls branches) (block x ls other)
+statement x ls (t.While at e body) = loop (TurnOf x e body) (eval e)
+statement x ls (t.Def at decorators word name params returns body) = define name word.line (map required (names_of params)) (yields_in body) (function x name params body)
+statement x ls (t.YieldOf at word e) = yield_value (some_part e) ls
+statement x ls (t.AssignYield at ts word e) = missing
+statement x ls (t.ReturnYield at word e) = missing
+statement x ls (t.Raise at e) = missing
+statement x ls (t.Del at p) = missing
+statement x ls (t.Import at names alias) = missing
+statement x ls (t.ImportFrom at names all) = missing
+statement x ls (t.For at taker e body) = missing
+statement x ls (t.Try at body handlers other final) = missing
+statement x ls (t.With at e name body) = missing
+statement x ls (t.Class at decorators word name base body) = missing
 
 abbrev pub act : Turn → SourcePart
-act (StatementOf st) = statement st
-act (TurnOf e body) = turn_of (TurnOf e body) (eval e) (block body)
+act (StatementOf x ls st) = statement x ls st
+act (TurnOf x e body) = turn_of (TurnOf x e body) (eval e) (block x [] body)
 
-abbrev pub entry : Function → Entry Function Block Turn
-entry f = record { name = f.name; params = names_of f.params; own = locals_of f.params f.body; body = block f.body }
+abbrev pub entry : Function → Entry source_kinds
+entry f = record { name = f.name; own = locals_of f.params f.body; body = block f.explains [] f.body }
+
+abbrev pub script_body : Script → SourceBody
+script_body m = block m.explains [] m.body

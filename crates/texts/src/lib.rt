@@ -1,7 +1,24 @@
 //! The small texts of a report: lines, titles, counts and joined lists.
 //!
-//! Each function pushes one piece behind what a `String` holds already.
-//! After an error a part of the piece may stand there.
+//! # What it is for
+//!
+//! The report's crates and the program's own messages push these pieces behind what a `String` holds already.
+//!
+//! # What is proved
+//!
+//! Each call pushes exactly its piece, by an equation on the bytes; after an error a part of the piece may stand there.
+//!
+//! - [`push_line`]: the text and a line end. [`push_title`]: the text between two bars, 80 characters in all, or more where the
+//!   text has more than 76. [`push_counted`]: the number and the noun, with an `s` but for 1. [`push_joined`]: the texts with
+//!   the separator between each two.
+//!
+//! # What tests alone show
+//!
+//! Some lines as a reader of the report sees them, and that the calls succeed with ample memory.
+//!
+//! # What neither shows
+//!
+//! Time.
 #![tactic(auto)]
 
 ghost use Rattle.std.specs.Prelude.{length, flat_map, ◌≡◌, ◌++◌, ◌∷◌, [], ◌<◌, OnOk, string_bytes, map, decimal, ◌==◌, if◌then◌else◌, replicate};
@@ -11,7 +28,8 @@ ghost use Rattle.texts.specs.Texts.{bar_length, ended, last_length, title, plura
 use std::alloc::AllocError;
 use std::fmt::Write;
 
-const TITLE_WIDTH: usize = 80;
+/// How many characters a title line has, where its text is short enough.
+pub const TITLE_WIDTH: usize = 80;
 
 /// Pushes a text and a line end.
 pub fn push_line(out: &mut String, text: &str) -> Result<(), AllocError>

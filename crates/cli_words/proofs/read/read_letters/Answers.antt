@@ -12,7 +12,7 @@ returns-then-is_empty-clause-took c = ask_end c.args.letters.now c.in_ok-rest.re
 
 pub returns-in_default-clause-reading : goal.returns-in_default-clause-reading
 returns-in_default-clause-reading c =
-    rw c.in_ok-of.ensures (say_unknown c.args.options.now c.read_flags.new.options c.args.word.now c.args.letters.now c.in_ok-rest.rest.now (option_copied c.args.next) c.in_ok-rest.ensures.set c.in_ok-rest.ensures.rest c.if-is_empty.ensures c.in_default.ensures)
+    rw c.in_ok-from_str.ensures (say_unknown c.args.options.now c.read_flags.new.options c.args.word.now c.args.letters.now c.in_ok-rest.rest.now (option_copied c.args.next) c.in_ok-rest.ensures.set c.in_ok-rest.ensures.rest c.if-is_empty.ensures c.in_default.ensures)
 
 pub returns-clause-reading : goal.returns-clause-reading
 returns-clause-reading c =

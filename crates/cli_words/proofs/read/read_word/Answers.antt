@@ -4,7 +4,7 @@ use Rattle.cli_words.proofs.read.read_word.Goals as goal
 
 pub returns-then-is_path-clause-reading : goal.returns-then-is_path-clause-reading
 returns-then-is_path-clause-reading c =
-    say_path c.args.options.now c.push_path.new.self c.args.word.now (option_copied c.args.next) c.if-is_path.ensures (rw c.in_ok-of.ensures at c.in_ok-push_path.ensures)
+    say_path c.args.options.now c.push_path.new.self c.args.word.now (option_copied c.args.next) c.if-is_path.ensures (rw c.in_ok-from_str.ensures at c.in_ok-push_path.ensures)
 
 pub returns-then-is_path-clause-took : goal.returns-then-is_path-clause-took
 returns-then-is_path-clause-took c = ask_path c.args.word.now c.if-is_path.ensures

@@ -1,5 +1,5 @@
 use Rattle.std.proofs.Common.{◌≡◌, ℕ, ◌<◌, length, true, get_or}
-use Rattle.fixture_table.specs.Tree.{among}
+use Rattle.session_types.specs.Numbers.{among}
 use Rattle.fixture_table.specs.Marks.{Marks, row_of}
 use Rattle.fixture_table.specs.Faults.{Reaches}
 use Rattle.fixture_table.proofs.reaching.is_reached.Given as goal

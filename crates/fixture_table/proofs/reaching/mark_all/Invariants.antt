@@ -1,5 +1,5 @@
 use Rattle.std.proofs.Common.{◌≡◌, ℕ, ◌||◌, length, take}
-use Rattle.fixture_table.specs.Tree.{among}
+use Rattle.session_types.specs.Numbers.{among}
 use Rattle.fixture_table.specs.Marks.{Marks, Keeps}
 use Rattle.fixture_table.proofs.reaching.mark_all.Given as goal
 

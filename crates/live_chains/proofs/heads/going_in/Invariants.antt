@@ -1,5 +1,6 @@
 use Rattle.std.proofs.Common.{◌≡◌, ◌≤◌, ◌++◌}
-use Rattle.live_chains.specs.Chained.{scope_count, chain_at}
+use Rattle.live_chains.specs.Chained.{chain_at}
+use Rattle.session_types.specs.Scopes.{scope_count}
 use Rattle.live_chains.specs.Walked.{going_below}
 use Rattle.live_chains.proofs.heads.going_in.Given as goal
 

@@ -1,5 +1,6 @@
 use Rattle.std.proofs.Common.{◌≡◌, ◌≤◌, ◌++◌}
-use Rattle.live_chains.specs.Chained.{scope_count, chain_at, chains_below}
+use Rattle.live_chains.specs.Chained.{chain_at, chains_below}
+use Rattle.session_types.specs.Scopes.{scope_count}
 use Rattle.live_chains.specs.Walked.{off_orders}
 use Rattle.live_chains.proofs.heads.off_in.Given as goal
 

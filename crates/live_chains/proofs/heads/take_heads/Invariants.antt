@@ -1,5 +1,6 @@
 use Rattle.std.proofs.Common.{◌≡◌, ◌≤◌, ◌+◌, ◌-◌, length}
-use Rattle.live_chains.specs.Chained.{scope_count, AreTaken}
+use Rattle.live_chains.specs.Chained.{AreTaken}
+use Rattle.session_types.specs.Scopes.{scope_count}
 use Rattle.live_chains.proofs.heads.take_heads.Given as goal
 
 abbrev pub invariant-loop-heads : goal.invariant-loop-heads

@@ -1,5 +1,5 @@
 use Rattle.std.proofs.Common.{◌≡◌, drop}
-use Rattle.session_rules.specs.Live.{find}
+use Rattle.session_types.specs.Live.{find}
 use Rattle.live_chains.proofs.plain.find_in.Given as goal
 
 abbrev pub invariant-loop-one : goal.invariant-loop-one

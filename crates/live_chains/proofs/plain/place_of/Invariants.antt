@@ -1,5 +1,5 @@
 use Rattle.std.proofs.Common.{◌≡◌, drop}
-use Rattle.session_rules.specs.Live.{numbered}
+use Rattle.session_types.specs.Live.{numbered}
 use Rattle.live_chains.proofs.plain.place_of.Given as goal
 
 abbrev pub invariant-loop-place : goal.invariant-loop-place

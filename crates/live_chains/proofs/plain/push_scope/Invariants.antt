@@ -1,6 +1,6 @@
 use Rattle.std.proofs.Common.{◌≡◌, ◌≤◌, ◌++◌, drop, length}
 use Rattle.std.specs.List.{filter}
-use Rattle.session_rules.specs.Live.{scope_numbers}
+use Rattle.session_types.specs.Live.{scope_numbers}
 use Rattle.live_chains.specs.Down.{dies}
 use Rattle.live_chains.proofs.plain.push_scope.Given as goal
 

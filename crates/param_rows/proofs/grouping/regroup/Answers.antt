@@ -2,7 +2,7 @@ use Rattle.std.proofs.Common.{◌≡◌, ℕ, List, length, ap, sym, subst, ◌�
 use Rattle.std.specs.Prelude.{IsPermutation}
 use Rattle.std.specs.List.{range_with_len}
 use Rattle.std.proofs.lemmas.Result.{IfOk-weaker}
-use Rattle.session_rules.specs.declared.scope.Scope.TheVariants.{Session, Module, Class}
+use Rattle.session_types.specs.declared.scope.Scope.TheVariants.{Session, Module, Class}
 use Rattle.param_rows.specs.Grouping.{pass, regrouped}
 use Rattle.param_rows.proofs.Regrouped.{regrouped_permutes}
 use Rattle.param_rows.proofs.grouping.regroup.Goals as goal

@@ -10,4 +10,4 @@ pub returns-in-Marks : goal.returns-in-Marks
 returns-in-Marks c = rw c.in-Marks.is (put_is c.args.self.now (Text Marks c.args.text))
 
 pub returns-in_ok-push-in-Ignore : goal.returns-in_ok-push-in-Ignore
-returns-in_ok-push-in-Ignore c = rw (c.in-Ignore.is, c.in_ok-push-in-Ignore.ensures) (put_is c.args.self.now (Text Ignore c.args.text))
+returns-in_ok-push-in-Ignore c = rw (c.in-Ignore.is, c.in_ok-push-in-Ignore.ensures.ok) (put_is c.args.self.now (Text Ignore c.args.text))

@@ -1,6 +1,6 @@
 use Rattle.std.proofs.Common.{ap, arith, sym, subst, List, ℕ, ◌<◌}
-use Rattle.session_rules.specs.Events.{In}
-use Rattle.session_rules.specs.declared.instance.Instance.{Instance}
+use Rattle.session_types.specs.Members.{In}
+use Rattle.session_types.specs.declared.instance.Instance.{Instance}
 use Rattle.live_chains.proofs.Listed.{Rising-push}
 use Rattle.live_chains.proofs.plain.PlainChains.link.Goals as goal
 

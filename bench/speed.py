@@ -1,0 +1,103 @@
+#!/usr/bin/env python3
+"""Times the built program beside the Python that runs this script, on tests that only compute.
+
+python3 bench/speed.py [PROGRAM]    (crates/pytest_run/out/pytest_run, which ./pytest_run builds, where none is named)
+
+Each file has one test. The program runs it as `PROGRAM --step-limit N FILE`; Python executes the same file and calls the test. Both are
+timed from start to end, the best of three runs each, and an empty test's time is taken off, so that what is left is the test's own.
+"""
+import os
+import subprocess
+import sys
+import tempfile
+import time
+
+STEPS = 10 ** 8
+RUNS = 3
+
+EMPTY = """\
+def test_empty():
+    assert 0 == 0
+"""
+
+CASES = {
+    "a loop of arithmetic": """\
+def test_loop():
+    total = 0
+    i = 0
+    while i < 200000:
+        total = (total + i * i) %% 1000003
+        i += 1
+    assert total == %d
+""" % (sum(i * i for i in range(200000)) % 1000003),
+    "fib(24)": """\
+def fib(n):
+    if n < 2:
+        return n
+    return fib(n - 1) + fib(n - 2)
+
+def test_fib():
+    assert fib(24) == 46368
+""",
+    "branches": """\
+def test_branches():
+    evens = 0
+    odds = 0
+    i = 0
+    while i < 100000:
+        if i % 2 == 0:
+            evens = evens + 1
+        elif i % 3 == 0 and i > 10:
+            odds = odds + 3
+        else:
+            odds = odds + 1
+        i = i + 1
+    assert evens == 50000
+""",
+}
+
+CALLS = """
+for name, test in list(globals().items()):
+    if name.startswith("test"):
+        test()
+"""
+
+
+def best(words, folder):
+    times = []
+    for _ in range(RUNS):
+        start = time.perf_counter()
+        done = subprocess.run(words, cwd=folder, stdout=subprocess.PIPE, stderr=subprocess.STDOUT, text=True)
+        times.append(time.perf_counter() - start)
+        if done.returncode != 0:
+            sys.exit(f"{' '.join(words)} ended with {done.returncode}:\n{done.stdout}")
+    return min(times)
+
+
+def times(program, folder, text):
+    with open(os.path.join(folder, "test_case.py"), "w") as file:
+        file.write(text)
+    # The program refuses a folder with a second Python file, so that one comes behind its run.
+    ours = best([program, "--step-limit", str(STEPS), "test_case.py"], folder)
+    with open(os.path.join(folder, "plain.py"), "w") as file:
+        file.write(text + CALLS)
+    theirs = best([sys.executable, "plain.py"], folder)
+    os.remove(os.path.join(folder, "plain.py"))
+    return ours, theirs
+
+
+def main():
+    top = os.path.dirname(os.path.dirname(os.path.abspath(__file__)))
+    program = os.path.abspath(sys.argv[1]) if len(sys.argv) > 1 else os.path.join(top, "crates/pytest_run/out/pytest_run")
+    if not os.access(program, os.X_OK):
+        sys.exit(f"{program} isn't there: run ./pytest_run once, which builds it")
+    with tempfile.TemporaryDirectory() as folder:
+        base = times(program, folder, EMPTY)
+        print(f"{'':22} {'program':>10} {'Python':>10}   ratio")
+        for name, text in CASES.items():
+            ours, theirs = times(program, folder, text)
+            ours, theirs = ours - base[0], theirs - base[1]
+            print(f"{name:22} {ours:9.3f}s {theirs:9.3f}s {ours / theirs:7.1f}")
+
+
+main()

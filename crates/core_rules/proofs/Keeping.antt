@@ -1,0 +1,443 @@
+-- What all forms keep: what holds of a world, and still holds of it with an object more or changed, with a name of a module bound,
+-- with text printed, and with a function more.
+use Rattle.std.proofs.Common.{◌≡◌, refl, ℕ, zero, suc, List, [], ◌∷◌, ◌++◌, Bool, true, false, Option, Some, None}
+use Rattle.std.specs.Prelude.{cond, slice_get, length, nat_lt, codes, Result, Ok, Err}
+use Rattle.run_tree.specs.Todo.{spend_all}
+use Rattle.run_tree.specs.Kept as tree
+use Rattle.py_source.specs.declared.pos.Pos.{Pos}
+use Rattle.py_tree.specs.Names.{is_among}
+use Rattle.py_tree.specs.Trees.{Tree}
+use Rattle.py_tree.specs.declared.op.BinOp.{BinOp}
+use Rattle.py_tree.specs.declared.op.UnOp.{UnOp}
+use Rattle.py_tree.specs.declared.op.CmpOp.{CmpOp}
+use Rattle.py_values.specs.Builtins.{with_receiver}
+use Rattle.py_values.specs.Changes.{changed, object_after}
+use Rattle.py_values.specs.declared.class.ClassRef.{ClassRef}
+use Rattle.py_values.specs.declared.class.ClassRef.TheVariants as ref
+use Rattle.py_values.specs.declared.class.ClassForm.{ClassForm}
+use Rattle.py_values.specs.declared.class.ClassForm.TheVariants.{Source, Exception, Kind}
+use Rattle.py_values.specs.declared.rows.Param.{Param}
+use Rattle.py_values.specs.declared.object.FunctionObj.{FunctionObj}
+use Rattle.py_values.specs.declared.class.ExcClass.TheVariants.{MemoryError}
+use Rattle.py_values.specs.declared.end.Made.{Made}
+use Rattle.py_values.specs.declared.end.Made.TheVariants.{Give, New, Put, Fail}
+use Rattle.py_values.specs.declared.end.Raise.{Raise}
+use Rattle.py_values.specs.declared.object.Obj.{Obj}
+use Rattle.py_values.specs.declared.object.Obj.TheVariants as obj
+use Rattle.py_values.specs.declared.value.Value.{Value}
+use Rattle.py_values.specs.declared.value.Value.TheVariants as val
+use Rattle.py_values.specs.Ends.{cost_of, id_at}
+use Rattle.py_values.specs.Kinds.{kind_name}
+use Rattle.py_values.specs.Raises.{raise, exception, thrown_by, thrown_with}
+use Rattle.py_values.specs.Truth.{truth}
+use Rattle.py_ops.specs.Binary.{binary_of}
+use Rattle.py_ops.specs.Unary.{unary_of}
+use Rattle.py_ops.specs.Compare.{compare_of}
+use Rattle.py_calls.specs.Called.{Called}
+use Rattle.py_calls.specs.Calls.{called_of}
+use Rattle.py_world.specs.declared.trace.TraceFrame.{TraceFrame}
+use Rattle.py_world.specs.declared.load.Load.{Load}
+use Rattle.py_world.specs.declared.load.Load.TheVariants.{Running, Loaded, Failed}
+use Rattle.py_world.specs.Arguments.{Arguments}
+use Rattle.py_world.specs.World.{Kinds, World, State, Locals, Stored, heap_of, unset, with_object, world_with_heap, world_with_printed, world_with_code, world_with_modules}
+use Rattle.py_world.specs.Site.{Around, around_of, Own, InModule, InFunction, InClass, Scene, Site, site, trace_of}
+use Rattle.py_world.specs.Outcome.{Outcome, Gave, Next, Returned, Broke, Continued, Raised, Spent, Paused, Rest, Then, Part, Body, Request, CallOf, DoOf, Ways, route, onward, raised, made, call_end, on_value, on_next, on_turn, if_true, costing, operated}
+use Rattle.py_world.specs.Names.{with_name, name_end, named, bound, bound_by, bound_global}
+use Rattle.py_world.specs.Expressions.{noted, constant, name_part, text_part, unary_part, binary_part, compared, compare_on, compare_part, not_part, and_on, and_part, or_on, or_part, choice_part, called, call_on, call_part, kept_part}
+use Rattle.py_world.specs.Statements.{Store, Choice, asked, expression_statement, store_name, store_all, assign, augmented, augment_name, return_value, yield_value, pass, leave_loop, next_turn, assertion, fail, failed_with, fail_explained, branches_on, choose, loop, turn_of, with_function, stored, define}
+use Rattle.py_world.specs.ModuleNames.{module_name, module_object}
+use Rattle.py_world.specs.Runs.{load_at, with_load, naming_heap, module_place, with_module, module_end, module_scene, start, executed, first_load, load_by, load_part}
+use Rattle.py_world.specs.Calls.{Meaning, most_open, not_callable, too_deep, arguments_for, entered, function_called, builtin_called, class_called, object_called, value_called, invoke, body_of}
+
+-- what the forms do to a world; a module is loaded only where its path is fresh
+pub record Closed {K : Kinds} (Good : World K → Type 0) (Fresh : List ℕ → Type 0) : Type 0 where
+  pub object : (w : World K) (o : Obj) → Good w → Good (world_with_heap (w.heap ++ o ∷ []) w)
+  pub change : (w : World K) (f : Obj → Obj) (at : ℕ) → Good w → Good (world_with_heap (changed f at w.heap (slice_get w.heap at)) w)
+  pub print : (w : World K) (bytes : List ℕ) → Good w → Good (world_with_printed (w.printed ++ bytes) w)
+  pub code : (w : World K) (c : Stored K.code) → Good w → Good (world_with_code c w)
+  pub fresh : (w : World K) (path : List ℕ) → load_at path w.modules ≡ None → Good w → Fresh path
+  pub load : (w : World K) (path : List ℕ) (l : Load) → Fresh path → Good w → Good (world_with_modules (with_load path l w.modules) w)
+
+abbrev pub state_in : {K : Kinds} → Outcome K → State K
+state_in (Gave v s) = s
+state_in (Next s) = s
+state_in (Returned v s) = s
+state_in (Broke s) = s
+state_in (Continued s) = s
+state_in (Raised e trace s) = s
+
+abbrev pub request_state : {K : Kinds} → Request K → State K
+request_state (CallOf callee args a s) = s
+request_state (DoOf what p s) = s
+
+module _ {K : Kinds} (Good : World K → Type 0) (Fresh : List ℕ → Type 0) (closed : Closed Good Fresh) where
+  abbrev pub GoodState : State K → Type 0
+  GoodState s = Good s.world
+
+  abbrev pub GoodSpent : Spent K → Type 0
+  GoodSpent x = Good x.state.world
+
+  abbrev pub GoodRequest : Request K → Type 0
+  GoodRequest r = Good (request_state r).world
+
+  abbrev pub GoodEnd : Outcome K → Type 0
+  GoodEnd o = Good (state_in o).world
+
+  abbrev pub GoodPaused : Paused K → Type 0
+  GoodPaused f = Good f.state.world
+
+  abbrev pub Kept : Rest K → Type 0
+  Kept = tree.Kept GoodSpent GoodRequest GoodEnd GoodPaused
+
+  abbrev pub Behind : Then K → Type 0
+  Behind k = (o : Outcome K) → GoodEnd o → Kept (k o)
+
+  pub record PartKept (e : Part K) : Type 0 where
+    pub does : (p : Site) (s : State K) → GoodState s → (k : Then K) → Behind k → Kept (e p s k)
+
+  pub record BodyKept (b : Body K) : Type 0 where
+    pub does : (scene : Scene) (s : State K) → GoodState s → (k : Then K) → Behind k → Kept (b scene s k)
+
+  pub data PartsKept : List (Part K) → Type 0 where
+    nil : PartsKept []
+    cons : {e : Part K} {es : List (Part K)} → PartKept e → PartsKept es → PartsKept (e ∷ es)
+
+  -- what follows in each way
+  pub record WaysKept (w : Ways K) : Type 0 where
+    pub gave : (v : Value) (s : State K) → GoodState s → Kept (w.gave v s)
+    pub next : (s : State K) → GoodState s → Kept (w.next s)
+    pub returned : (v : Value) (s : State K) → GoodState s → Kept (w.returned v s)
+    pub broke : (s : State K) → GoodState s → Kept (w.broke s)
+    pub continued : (s : State K) → GoodState s → Kept (w.continued s)
+    pub raised : (e : Value) (trace : List TraceFrame) (s : State K) → GoodState s → Kept (w.raised e trace s)
+
+  pub route_kept : {w : Ways K} → WaysKept w → (o : Outcome K) → GoodEnd o → Kept (route w o)
+  route_kept w (Gave v s) g = w.gave v s g
+  route_kept w (Next s) g = w.next s g
+  route_kept w (Returned v s) g = w.returned v s g
+  route_kept w (Broke s) g = w.broke s g
+  route_kept w (Continued s) g = w.continued s g
+  route_kept w (Raised e trace s) g = w.raised e trace s g
+
+  pub onward_kept : (k : Then K) → Behind k → WaysKept (onward k)
+  onward_kept k h =
+      record { gave = λ v s g. h (Gave v s) g; next = λ s g. h (Next s) g; returned = λ v s g. h (Returned v s) g; broke = λ s g. h (Broke s) g; continued = λ s g. h (Continued s) g; raised = λ e trace s g. h (Raised e trace s) g }
+
+  pub value_kept : (k : Then K) → Behind k → (go : Value → State K → Rest K) → ((v : Value) (s : State K) → GoodState s → Kept (go v s)) → (o : Outcome K) → GoodEnd o → Kept (on_value o k go)
+  value_kept k h go go_kept o g =
+      let w : WaysKept (onward k) = onward_kept k h in
+      route_kept (record { gave = go_kept; next = w.next; returned = w.returned; broke = w.broke; continued = w.continued; raised = w.raised }) o g
+
+  pub next_kept : (k : Then K) → Behind k → (go : State K → Rest K) → ((s : State K) → GoodState s → Kept (go s)) → (o : Outcome K) → GoodEnd o → Kept (on_next o k go)
+  next_kept k h go go_kept o g =
+      let w : WaysKept (onward k) = onward_kept k h in
+      route_kept (record { gave = w.gave; next = go_kept; returned = w.returned; broke = w.broke; continued = w.continued; raised = w.raised }) o g
+
+  turn_kept : (k : Then K) → Behind k → (go : State K → Rest K) → ((s : State K) → GoodState s → Kept (go s)) → (o : Outcome K) → GoodEnd o → Kept (on_turn o k go)
+  turn_kept k h go go_kept o g =
+      let w : WaysKept (onward k) = onward_kept k h in
+      route_kept (record { gave = w.gave; next = go_kept; returned = w.returned; broke = w.next; continued = go_kept; raised = w.raised }) o g
+
+  pub if_kept : (b : Bool) (x y : Rest K) → Kept x → Kept y → Kept (if_true b x y)
+  if_kept true x y h g = h
+  if_kept false x y h g = g
+
+  pub cond_kept : (b : Bool) (x y : Rest K) → Kept x → Kept y → Kept (cond b x y)
+  cond_kept true x y h g = h
+  cond_kept false x y h g = g
+
+  spend_kept : (n : ℕ) (x : Spent K) (t : Rest K) → GoodSpent x → Kept t → Kept (spend_all n x t)
+  spend_kept zero x t g h = h
+  spend_kept (suc n) x t g h = (g, spend_kept n x t g h)
+
+  -- an exception with its tuple of arguments
+  thrown_with_kept : (class : ClassRef) (args : List Value) (w : World K) → Good w → Good (world_with_heap (thrown_with class args w.heap).1 w)
+  thrown_with_kept class args w g = closed.object (world_with_heap (w.heap ++ obj.Tuple args ∷ []) w) (exception class (id_at (length w.heap))) (closed.object w (obj.Tuple args) g)
+
+  thrown_kept : (class : ClassRef) (text : List ℕ) (arg : Option Value) (w : World K) → Good w → Good (world_with_heap (thrown_by class text arg w.heap).1 w)
+  thrown_kept class text (Some v) w g = thrown_with_kept class (v ∷ []) w g
+  thrown_kept class [] None w g = thrown_with_kept class [] w g
+  thrown_kept class (c ∷ cs) None w g = thrown_with_kept class (val.Ref (id_at (length w.heap)) ∷ []) (world_with_heap (w.heap ++ obj.Text (c ∷ cs) ∷ []) w) (closed.object w (obj.Text (c ∷ cs)) g)
+
+  pub raised_kept : (r : Raise) (trace : List TraceFrame) (s : State K) → GoodState s → GoodEnd (raised r trace s)
+  raised_kept r trace s g = thrown_kept (ref.Builtin r.class) r.text r.arg s.world g
+
+  made_kept : (m : Made) (trace : List TraceFrame) (s : State K) → GoodState s → GoodEnd (made m trace s)
+  made_kept (Give v n) trace s g = g
+  made_kept (New o n) trace s g = closed.object s.world o g
+  made_kept (Put id c v n) trace s g = closed.change s.world (object_after c) id.at g
+  made_kept (Fail r n) trace s g = raised_kept r trace s g
+
+  costing_kept : (m : Made) (trace : List TraceFrame) (s : State K) → GoodState s → (k : Then K) → Behind k → Kept (costing m trace s k)
+  costing_kept m trace s g k h = spend_kept (cost_of m) _ _ g (h (made m trace s) (made_kept m trace s g))
+
+  operated_kept : (m : Made) (p : Site) (s : State K) → GoodState s → (k : Then K) → Behind k → Kept (operated m p s k)
+  operated_kept m p s g k h = (g, costing_kept m (trace_of p) s g k h)
+
+  pub call_end_kept : (caller : State K) (o : Outcome K) → GoodEnd o → GoodEnd (call_end caller o)
+  call_end_kept caller (Gave v s) g = g
+  call_end_kept caller (Next s) g = g
+  call_end_kept caller (Returned v s) g = g
+  call_end_kept caller (Broke s) g = g
+  call_end_kept caller (Continued s) g = g
+  call_end_kept caller (Raised e trace s) g = g
+
+  pub noted_kept : (at : Pos) {e : Part K} → PartKept e → PartKept (noted at e)
+  noted_kept at x = record { does = λ p s g k h. x.does p s g k h }
+
+  pub constant_kept : (v : Value) → PartKept (constant v)
+  constant_kept v = record { does = λ p s g k h. h (Gave v s) g }
+
+  name_end_kept : (name : List ℕ) (p : Site) (s : State K) → GoodState s → GoodEnd (name_end name p s)
+  name_end_kept name p s g = made_kept (named name p.scene s.locals (heap_of s)) (trace_of p) s g
+
+  pub name_kept : (name : List ℕ) → PartKept (name_part name)
+  name_kept name = record { does = λ p s g k h. h (name_end name p s) (name_end_kept name p s g) }
+
+  pub text_kept : (text : List ℕ) → PartKept (text_part text)
+  text_kept text = record { does = λ p s g k h. cond_kept (nat_lt 65536 (length text)) _ _ (h _ (raised_kept (raise MemoryError (codes "sequence too long")) (trace_of p) s g)) (h _ (closed.object s.world (obj.Text text) g)) }
+
+  pub unary_kept : (op : UnOp) {e : Part K} → PartKept e → PartKept (unary_part op e)
+  unary_kept op x = record { does = λ p s g k h. x.does p s g _ (value_kept k h _ (λ v s g. operated_kept (unary_of op (heap_of s) v) p s g k h)) }
+
+  pub binary_kept : (op : BinOp) {a b : Part K} → PartKept a → PartKept b → PartKept (binary_part a op b)
+  binary_kept op a b = record { does = λ p s g k h. a.does p s g _ (value_kept k h _ (λ x s g. b.does p s g _ (value_kept k h _ (λ y s g. operated_kept (binary_of op (heap_of s) x y) p s g k h)))) }
+
+  pub not_kept : {a : Part K} → PartKept a → PartKept (not_part a)
+  not_kept a = record { does = λ p s g k h. a.does p s g _ (value_kept k h _ (λ x s g. h _ g)) }
+
+  pub choice_kept : {a c b : Part K} → PartKept a → PartKept c → PartKept b → PartKept (choice_part a c b)
+  choice_kept a c b = record { does = λ p s g k h. c.does p s g _ (value_kept k h _ (λ v s g. if_kept (truth (heap_of s) v) _ _ (a.does p s g k h) (b.does p s g k h))) }
+
+  and_on_kept : {es : List (Part K)} → PartsKept es → (p : Site) (k : Then K) → Behind k → (o : Outcome K) → GoodEnd o → Kept (and_on es p o k)
+  and_on_kept nil p k h o g = h o g
+  and_on_kept (cons e es) p k h o g = value_kept k h _ (λ v s g. if_kept (truth (heap_of s) v) _ _ (e.does p s g _ (and_on_kept es p k h)) (h _ g)) o g
+
+  or_on_kept : {es : List (Part K)} → PartsKept es → (p : Site) (k : Then K) → Behind k → (o : Outcome K) → GoodEnd o → Kept (or_on es p o k)
+  or_on_kept nil p k h o g = h o g
+  or_on_kept (cons e es) p k h o g = value_kept k h _ (λ v s g. if_kept (truth (heap_of s) v) _ _ (h _ g) (e.does p s g _ (or_on_kept es p k h))) o g
+
+  pub and_kept : {a : Part K} {es : List (Part K)} → PartKept a → PartsKept es → PartKept (and_part a es)
+  and_kept a es = record { does = λ p s g k h. a.does p s g _ (and_on_kept es p k h) }
+
+  pub or_kept : {a : Part K} {es : List (Part K)} → PartKept a → PartsKept es → PartKept (or_part a es)
+  or_kept a es = record { does = λ p s g k h. a.does p s g _ (or_on_kept es p k h) }
+
+  compared_kept : {es : List (Part K)} → PartsKept es → {e : Part K} → PartKept e → (p : Site) (k : Then K) → Behind k → (o : Outcome K) → GoodEnd o → Kept (compared es e p o k)
+  compared_kept nil e p k h o g = h o g
+  compared_kept (cons x xs) e p k h o g = value_kept k h _ (λ v s g. if_kept (truth (heap_of s) v) _ _ (e.does p s g k h) (h _ g)) o g
+
+  compare_on_kept : (ops : List CmpOp) {es : List (Part K)} → PartsKept es → (x : Value) → PartKept (compare_on ops es x)
+  compare_on_kept [] es x = record { does = λ p s g k h. h _ g }
+  compare_on_kept (op ∷ ops) nil x = record { does = λ p s g k h. h _ g }
+  compare_on_kept (op ∷ ops) (cons {es = rest} e es) x = record { does = λ p s g k h. e.does p s g _ (value_kept k h _ (λ y s g. operated_kept (compare_of op (heap_of s) x y) p s g (λ o. compared rest (compare_on ops rest y) p o k) (compared_kept es (compare_on_kept ops es y) p k h))) }
+
+  pub compare_kept : {a : Part K} (ops : List CmpOp) {es : List (Part K)} → PartKept a → PartsKept es → PartKept (compare_part a ops es)
+  compare_kept ops a es = record { does = λ p s g k h. a.does p s g _ (value_kept k h _ (λ x s g. (compare_on_kept ops es x).does p s g k h)) }
+
+  called_kept : (c : Value) (args : Arguments) → PartKept (called c args)
+  called_kept c args = record { does = λ p s g k h. (g, g, λ o d. h (call_end s o) (call_end_kept s o d)) }
+
+  call_on_kept : (c : Value) (shape : List Value → Arguments) {es : List (Part K)} → PartsKept es → (vs : List Value) → PartKept (call_on c shape es vs)
+  call_on_kept c shape nil vs = record { does = λ p s g k h. (called_kept c (shape vs)).does p s g k h }
+  call_on_kept c shape (cons e es) vs = record { does = λ p s g k h. e.does p s g _ (value_kept k h _ (λ v s g. (call_on_kept c shape es (vs ++ v ∷ [])).does p s g k h)) }
+
+  pub call_kept : (shape : List Value → Arguments) {f : Part K} {es : List (Part K)} → PartKept f → PartsKept es → PartKept (call_part f shape es)
+  call_kept shape f es = record { does = λ p s g k h. f.does p s g _ (value_kept k h _ (λ c s g. (call_on_kept c shape es []).does p s g k h)) }
+
+  pub temporary_kept : (t : ℕ) {a : Part K} → PartKept a → PartKept (kept_part t a)
+  temporary_kept t a = record { does = λ p s g k h. a.does p s g _ (value_kept k h _ (λ v s g. h _ g)) }
+
+  pub asked_kept : (what : K.turn) → PartKept (asked what)
+  asked_kept what = record { does = λ p s g k h. (g, g, h) }
+
+  pub expression_kept : {e : Part K} → PartKept e → PartKept (expression_statement e)
+  expression_kept e = record { does = λ p s g k h. e.does p s g _ (value_kept k h _ (λ v s g. h _ g)) }
+
+  global_kept : (name : List ℕ) (v : Value) (scene : Scene) (s : State K) → GoodState s → GoodState (bound_global name v scene s)
+  global_kept name v scene s g = closed.change s.world (with_name name v) scene.home g
+
+  state_cond : (b : Bool) (s r : State K) → GoodState s → GoodState r → GoodState (cond b s r)
+  state_cond true s r g h = g
+  state_cond false s r g h = h
+
+  bound_by_kept : (own : Own) (name : List ℕ) (v : Value) (scene : Scene) (s : State K) → GoodState s → GoodState (bound_by own name v scene s)
+  bound_by_kept InModule name v scene s g = global_kept name v scene s g
+  bound_by_kept (InFunction own) name v scene s g = state_cond (is_among own name) _ _ g (global_kept name v scene s g)
+  bound_by_kept InClass name v scene s g = g
+
+  bound_kept : (name : List ℕ) (v : Value) (scene : Scene) (s : State K) → GoodState s → GoodState (bound name v scene s)
+  bound_kept name v scene s g = bound_by_kept scene.own name v scene s g
+
+  pub record StoreKept (t : Store K) : Type 0 where
+    pub stores : (v : Value) → PartKept (t v)
+
+  pub data StoresKept : List (Store K) → Type 0 where
+    nil : StoresKept []
+    cons : {t : Store K} {ts : List (Store K)} → StoreKept t → StoresKept ts → StoresKept (t ∷ ts)
+
+  pub store_name_kept : (name : List ℕ) → StoreKept (store_name name)
+  store_name_kept name = record { stores = λ v. record { does = λ p s g k h. h _ (bound_kept name v p.scene s g) } }
+
+  store_all_kept : {ts : List (Store K)} → StoresKept ts → (v : Value) → PartKept (store_all ts v)
+  store_all_kept nil v = record { does = λ p s g k h. h _ g }
+  store_all_kept (cons t ts) v = record { does = λ p s g k h. (t.stores v).does p s g _ (next_kept k h _ (λ s g. (store_all_kept ts v).does p s g k h)) }
+
+  pub assign_kept : {ts : List (Store K)} {e : Part K} → StoresKept ts → PartKept e → PartKept (assign ts e)
+  assign_kept ts e = record { does = λ p s g k h. e.does p s g _ (value_kept k h _ (λ v s g. (store_all_kept ts v).does p s g k h)) }
+
+  augmented_kept : (x : Value) (op : BinOp) (y : Value) {t : Store K} → StoreKept t → PartKept (augmented x op y t)
+  augmented_kept x op y {t = target} t = record { does = λ p s g k h. operated_kept (binary_of op (heap_of s) x y) p s g (λ o. on_value o k (λ v s. target v p s k)) (value_kept k h (λ v s. target v p s k) (λ v s g. (t.stores v).does p s g k h)) }
+
+  pub augment_kept : (name : List ℕ) (op : BinOp) {e : Part K} → PartKept e → PartKept (augment_name name op e)
+  augment_kept name op e =
+      record { does = λ p s g k h. value_kept k h _ (λ x s g. e.does p s g _ (value_kept k h _ (λ y s g. (augmented_kept x op y (store_name_kept name)).does p s g k h))) (name_end name p s) (name_end_kept name p s g) }
+
+  pub data SomeKept : Option (Part K) → Type 0 where
+    none : SomeKept None
+    some : {e : Part K} → PartKept e → SomeKept (Some e)
+
+  pub return_kept : {e : Option (Part K)} → SomeKept e → PartKept (return_value e)
+  return_kept none = record { does = λ p s g k h. h _ g }
+  return_kept (some e) = record { does = λ p s g k h. e.does p s g _ (value_kept k h _ (λ v s g. h _ g)) }
+
+  pub yield_kept : {e : Option (Part K)} → SomeKept e → (rest : K.rest) → PartKept (yield_value e rest)
+  yield_kept none rest = record { does = λ p s g k h. g }
+  yield_kept (some e) rest = record { does = λ p s g k h. e.does p s g _ (value_kept k h _ (λ v s g. g)) }
+
+  pub pass_kept : PartKept pass
+  pass_kept = record { does = λ p s g k h. h _ g }
+
+  pub leave_kept : PartKept leave_loop
+  leave_kept = record { does = λ p s g k h. h _ g }
+
+  pub again_kept : PartKept next_turn
+  again_kept = record { does = λ p s g k h. h _ g }
+
+  pub fail_kept : {e : Option (Part K)} → SomeKept e → PartKept (fail e)
+  fail_kept none = record { does = λ p s g k h. h _ (raised_kept (assertion None) (trace_of p) s g) }
+  fail_kept (some e) = record { does = λ p s g k h. e.does p s g _ (value_kept k h _ (λ v s g. h _ (raised_kept (assertion (Some v)) (trace_of p) s g))) }
+
+  failed_kept : (text : List ℕ) (p : Site) (s : State K) → GoodState s → GoodEnd (failed_with text p s)
+  failed_kept text p s g = raised_kept (assertion (Some (val.Ref (id_at (length (heap_of s)))))) (trace_of p) (with_object (obj.Text text) s) (closed.object s.world (obj.Text text) g)
+
+  pub explained_kept : (c : Tree) {e : Option (Part K)} → SomeKept e → PartKept (fail_explained c e)
+  explained_kept c none = record { does = λ p s g k h. h _ (failed_kept _ p s g) }
+  explained_kept c (some e) = record { does = λ p s g k h. e.does p s g _ (value_kept k h _ (λ v s g. h _ (failed_kept _ p s g))) }
+
+  pub data ChoicesKept : List (Choice K) → Type 0 where
+    nil : ChoicesKept []
+    cons : (line : ℕ) {e : Part K} {b : Body K} {es : List (Choice K)} → PartKept e → BodyKept b → ChoicesKept es → ChoicesKept ((line, (e, b)) ∷ es)
+
+  branches_kept : {es : List (Choice K)} {b : Body K} → ChoicesKept es → BodyKept b → BodyKept (branches_on es b)
+  branches_kept nil b = b
+  branches_kept (cons line e x es) b = record { does = λ scene s g k h. e.does (site scene line) s g _ (value_kept k h _ (λ v s g. if_kept (truth (heap_of s) v) _ _ (x.does scene s g k h) ((branches_kept es b).does scene s g k h))) }
+
+  pub choose_kept : {es : List (Choice K)} {b : Body K} → ChoicesKept es → BodyKept b → PartKept (choose es b)
+  choose_kept es b = record { does = λ p s g k h. (branches_kept es b).does p.scene (unset s) g k h }
+
+  pub loop_kept : (turn : K.turn) {e : Part K} → PartKept e → PartKept (loop turn e)
+  loop_kept turn e = record { does = λ p s g k h. e.does p s g _ (value_kept k h _ (λ v s g. if_kept (truth (heap_of s) v) _ _ (g, g, h) (h _ g))) }
+
+  pub turn_of_kept : (turn : K.turn) {e : Part K} {b : Body K} → PartKept e → BodyKept b → PartKept (turn_of turn e b)
+  turn_of_kept turn e b = record { does = λ p s g k h. b.does p.scene s g _ (turn_kept k h _ (λ s g. (loop_kept turn e).does p s g k h)) }
+
+  pub define_kept : (name : List ℕ) (line : ℕ) (params : List Param) (yields : Bool) (code : K.code) → PartKept (define name line params yields code)
+  define_kept name line params yields code =
+      record { does = λ p s g k h. h _ (bound_kept name _ p.scene (with_function name line params yields code p.scene s) (closed.object _ _ (closed.code s.world (stored code p.scene) g))) }
+
+  -- a meaning whose parts keep what is good
+  pub record MeaningKept (m : Meaning K) : Type 0 where
+    pub entries : (c : K.code) → BodyKept (m.entry c).body
+    pub acts : (what : K.turn) → PartKept (m.act what)
+    pub bodies : (c : K.script) → BodyKept (m.body c)
+    pub remains : (rest : K.rest) → PartKept (m.remains rest)
+
+  module _ (m : Meaning K) (kept : MeaningKept m) where
+    entered_kept : (st : Stored K.code) (names : Result Locals Raise) (a : Around) (s : State K) → GoodState s → (k : Then K) → Behind k → Kept (entered m st names a s k)
+    entered_kept st (Ok names) a s g k h = cond_kept (nat_lt a.depth most_open) _ _ ((kept.entries st.code).does _ _ g k h) (h _ (raised_kept too_deep a.trace s g))
+    entered_kept st (Err r) a s g k h = h _ (raised_kept r a.trace s g)
+
+    function_kept : (c : Option (Stored K.code)) (f : FunctionObj) (r : Raise) (args : Arguments) (a : Around) (s : State K) → GoodState s → (k : Then K) → Behind k → Kept (function_called m c f r args a s k)
+    function_kept None f r args a s g k h = h _ (raised_kept r a.trace s g)
+    function_kept (Some st) f r args a s g k h = entered_kept st (arguments_for f args) a s g k h
+
+    builtin_kept : (c : Called) (a : Around) (s : State K) → GoodState s → (k : Then K) → Behind k → Kept (builtin_called m c a s k)
+    builtin_kept c a s g k h = spend_kept (cost_of c.made) _ _ g (h _ (made_kept c.made a.trace _ (closed.print s.world c.printed g)))
+
+    class_kept : (c : ClassForm) (r : Raise) (args : Arguments) (a : Around) (s : State K) → GoodState s → (k : Then K) → Behind k → Kept (class_called m c r args a s k)
+    class_kept (Kind b) r args a s g k h = builtin_kept (called_of b (heap_of s) args.plain args.named) a s g k h
+    class_kept Source r args a s g k h = h _ (raised_kept r a.trace s g)
+    class_kept (Exception c) r args a s g k h = h _ (raised_kept r a.trace s g)
+
+    object_kept : (o : Option Obj) (r : Raise) (args : Arguments) (a : Around) (s : State K) → GoodState s → (k : Then K) → Behind k → Kept (object_called m o r args a s k)
+    object_kept (Some (obj.Function f)) r args a s g k h = function_kept (slice_get s.world.codes f.code) f r args a s g k h
+    object_kept (Some (obj.Builtin b)) r args a s g k h = builtin_kept (called_of b.which (heap_of s) (with_receiver b.receiver args.plain) args.named) a s g k h
+    object_kept (Some (obj.Class c)) r args a s g k h = class_kept c.form r args a s g k h
+    object_kept (Some (obj.Text x)) r args a s g k h = h _ (raised_kept r a.trace s g)
+    object_kept (Some (obj.List x)) r args a s g k h = h _ (raised_kept r a.trace s g)
+    object_kept (Some (obj.Tuple x)) r args a s g k h = h _ (raised_kept r a.trace s g)
+    object_kept (Some (obj.Dict x)) r args a s g k h = h _ (raised_kept r a.trace s g)
+    object_kept (Some (obj.Range x)) r args a s g k h = h _ (raised_kept r a.trace s g)
+    object_kept (Some (obj.Method x)) r args a s g k h = h _ (raised_kept r a.trace s g)
+    object_kept (Some (obj.Instance x)) r args a s g k h = h _ (raised_kept r a.trace s g)
+    object_kept (Some (obj.Exception x)) r args a s g k h = h _ (raised_kept r a.trace s g)
+    object_kept (Some (obj.Module x)) r args a s g k h = h _ (raised_kept r a.trace s g)
+    object_kept (Some (obj.Fixture x)) r args a s g k h = h _ (raised_kept r a.trace s g)
+    object_kept (Some obj.MarkMaker) r args a s g k h = h _ (raised_kept r a.trace s g)
+    object_kept (Some (obj.Mark x)) r args a s g k h = h _ (raised_kept r a.trace s g)
+    object_kept (Some (obj.Hook x)) r args a s g k h = h _ (raised_kept r a.trace s g)
+    object_kept (Some (obj.Param x)) r args a s g k h = h _ (raised_kept r a.trace s g)
+    object_kept (Some (obj.Request x)) r args a s g k h = h _ (raised_kept r a.trace s g)
+    object_kept (Some (obj.Raises x)) r args a s g k h = h _ (raised_kept r a.trace s g)
+    object_kept (Some (obj.Info x)) r args a s g k h = h _ (raised_kept r a.trace s g)
+    object_kept (Some (obj.Item x)) r args a s g k h = h _ (raised_kept r a.trace s g)
+    object_kept None r args a s g k h = h _ (raised_kept r a.trace s g)
+
+    value_kept_by : (callee : Value) (r : Raise) (args : Arguments) (a : Around) (s : State K) → GoodState s → (k : Then K) → Behind k → Kept (value_called m callee r args a s k)
+    value_kept_by (val.Ref id) r args a s g k h = object_kept (slice_get (heap_of s) id.at) r args a s g k h
+    value_kept_by val.None r args a s g k h = h _ (raised_kept r a.trace s g)
+    value_kept_by (val.Bool b) r args a s g k h = h _ (raised_kept r a.trace s g)
+    value_kept_by (val.Int n) r args a s g k h = h _ (raised_kept r a.trace s g)
+
+    pub invoke_kept : (callee : Value) (args : Arguments) (a : Around) (s : State K) → GoodState s → (k : Then K) → Behind k → Kept (invoke m callee args a s k)
+    invoke_kept callee args a s g k h = value_kept_by callee (not_callable (kind_name (heap_of s) callee)) args a s g k h
+
+    pub requests_kept : tree.Keeping GoodSpent GoodRequest GoodEnd GoodPaused (body_of m)
+    requests_kept (CallOf callee args a s) g k h = invoke_kept callee args a s g k h
+    requests_kept (DoOf what p s) g k h = (kept.acts what).does p s g k h
+
+    -- the load of a module, whose path is fresh
+    module_end_kept : (path : List ℕ) (id : ℕ) → Fresh path → (o : Outcome K) → GoodEnd o → GoodEnd (module_end path id o)
+    module_end_kept path id f (Gave v s) g = closed.load s.world path _ f g
+    module_end_kept path id f (Next s) g = closed.load s.world path _ f g
+    module_end_kept path id f (Returned v s) g = closed.load s.world path _ f g
+    module_end_kept path id f (Broke s) g = closed.load s.world path _ f g
+    module_end_kept path id f (Continued s) g = closed.load s.world path _ f g
+    module_end_kept path id f (Raised e trace s) g = closed.load s.world path _ f g
+
+    pub begins_kept : (path : List ℕ) (w : World K) → Fresh path → Good w → Good (with_module path w)
+    begins_kept path w f g = closed.load _ path _ f (closed.object (world_with_heap (naming_heap path w.heap) w) (module_object path (length w.heap)) (closed.object w (obj.Text (module_name path)) g))
+
+    -- from the world in which the module begins
+    pub begun_kept : (path : List ℕ) (code : K.script) (a : Around) (w : World K) → Fresh path → Good (with_module path w) → (k : Then K) → Behind k → Kept (executed m path code a w k)
+    begun_kept path code a w f g k h =
+        (kept.bodies code).does (module_scene path (module_place path w) a) (start (with_module path w)) g (λ o. k (module_end path (module_place path w) o)) (λ o d. h (module_end path (module_place path w) o) (module_end_kept path (module_place path w) f o d))
+
+    pub executed_kept : (path : List ℕ) (code : K.script) (a : Around) (w : World K) → load_at path w.modules ≡ None → Good w → (k : Then K) → Behind k → Kept (executed m path code a w k)
+    executed_kept path code a w absent g k h =
+        let f : Fresh path = closed.fresh w path absent g in begun_kept path code a w f (begins_kept path w f g) k h
+
+    first_load_kept : (code : Option K.script) (path : List ℕ) {missing : Part K} → PartKept missing → (p : Site) (s : State K) → load_at path s.world.modules ≡ None → GoodState s → (k : Then K) → Behind k → Kept (first_load m code path missing p s k)
+    first_load_kept None path x p s absent g k h = x.does p s g k h
+    first_load_kept (Some code) path x p s absent g k h = executed_kept path code (around_of p) s.world absent g (λ o. k (call_end s o)) (λ o d. h (call_end s o) (call_end_kept s o d))
+
+    load_by_kept : (l : Option Load) (path : List ℕ) {missing : Part K} → PartKept missing → (p : Site) (s : State K) → load_at path s.world.modules ≡ l → GoodState s → (k : Then K) → Behind k → Kept (load_by m l path missing p s k)
+    load_by_kept (Some (Running id)) path x p s is g k h = h _ g
+    load_by_kept (Some (Loaded id)) path x p s is g k h = h _ g
+    load_by_kept (Some (Failed e trace)) path x p s is g k h = h _ g
+    load_by_kept None path x p s is g k h = first_load_kept _ path x p s is g k h
+
+    -- a load in mid-run
+    pub load_kept : (path : List ℕ) {missing : Part K} → PartKept missing → PartKept (load_part m path missing)
+    load_kept path x = record { does = λ p s g k h. load_by_kept (load_at path s.world.modules) path x p s refl g k h }

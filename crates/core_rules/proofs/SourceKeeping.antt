@@ -1,0 +1,177 @@
+-- Source forms keep what is closed under what the forms do.
+use Rattle.std.proofs.Common.{ℕ, suc, Bool, List, [], ◌∷◌, ◌++◌, Option, true, false}
+use Rattle.py_tree.specs.declared.op.BinOp.{BinOp}
+use Rattle.py_tree.specs.Trees as t
+use Rattle.py_tree.specs.Trees.{Tree, Trees, Empty, More, Maybe, Absent, Present}
+use Rattle.py_tree.specs.Statements as st
+use Rattle.py_tree.specs.Statements.{Statement, Block, Branches, Place, NamePlace, AttributePlace, SubscriptPlace, Taker, One, Unpack}
+use Rattle.py_values.specs.declared.value.Value.TheVariants as val
+use Rattle.py_values.specs.Truth.{truth}
+use Rattle.source_meaning.specs.Requests.{source_kinds, Layer, Statements, Turn, StatementOf, TurnOf, Function}
+use Rattle.source_meaning.specs.Meaning.{source}
+use Rattle.source_meaning.specs.Watched.{watch, watch_all}
+use Rattle.source_meaning.specs.Expressions.{SourcePart, missing, eval, parts}
+use Rattle.source_meaning.specs.Statements.{SourceBody, SourceChoice, position, store_missing, store_place, store, stores, augment, some_part, assert, assert_as, remains, listed, sequence, choices, statement, act, entry}
+use Rattle.py_world.specs.World.{World, heap_of, unset}
+use Rattle.py_world.specs.Site.{site}
+use Rattle.py_world.specs.Arguments.{arguments_of}
+use Rattle.py_world.specs.Outcome.{on_next}
+use Rattle.core_rules.proofs.Keeping as keep
+use Rattle.core_rules.proofs.Keeping.{Closed}
+
+module _ (Good : World source_kinds → Type 0) (Fresh : List ℕ → Type 0) (closed : Closed Good Fresh) where
+  abbrev PartKept : SourcePart → Type 0
+  PartKept = keep.PartKept Good Fresh closed
+
+  abbrev PartsKept : List SourcePart → Type 0
+  PartsKept = keep.PartsKept Good Fresh closed
+
+  abbrev BodyKept : SourceBody → Type 0
+  BodyKept = keep.BodyKept Good Fresh closed
+
+  missing_kept : PartKept missing
+  missing_kept = record { does = λ p s g k h. h _ g }
+
+  all_more : {es : List SourcePart} {e : SourcePart} → PartsKept es → PartKept e → PartsKept (es ++ e ∷ [])
+  all_more keep.nil e = keep.cons e keep.nil
+  all_more (keep.cons x xs) e = keep.cons x (all_more xs e)
+
+  mutual
+    eval_kept : (e : Tree) → PartKept (eval e)
+    eval_kept (t.Name at name) = keep.noted_kept Good Fresh closed at (keep.name_kept Good Fresh closed name)
+    eval_kept (t.Number at n) = keep.noted_kept Good Fresh closed at (keep.constant_kept Good Fresh closed (val.Int n))
+    eval_kept (t.Text at text) = keep.noted_kept Good Fresh closed at (keep.text_kept Good Fresh closed text)
+    eval_kept (t.True at) = keep.noted_kept Good Fresh closed at (keep.constant_kept Good Fresh closed (val.Bool true))
+    eval_kept (t.False at) = keep.noted_kept Good Fresh closed at (keep.constant_kept Good Fresh closed (val.Bool false))
+    eval_kept (t.NoneTree at) = keep.noted_kept Good Fresh closed at (keep.constant_kept Good Fresh closed val.None)
+    eval_kept (t.Paren at e) = keep.noted_kept Good Fresh closed at (eval_kept e)
+    eval_kept (t.Call at e es names) = keep.noted_kept Good Fresh closed at (keep.call_kept Good Fresh closed (arguments_of names) (eval_kept e) (parts_kept es))
+    eval_kept (t.Unary at op e) = keep.noted_kept Good Fresh closed at (keep.unary_kept Good Fresh closed op (eval_kept e))
+    eval_kept (t.Binary at l op r) = keep.noted_kept Good Fresh closed at (keep.binary_kept Good Fresh closed op (eval_kept l) (eval_kept r))
+    eval_kept (t.Compare at e ops es) = keep.noted_kept Good Fresh closed at (keep.compare_kept Good Fresh closed ops (eval_kept e) (parts_kept es))
+    eval_kept (t.Not at e) = keep.noted_kept Good Fresh closed at (keep.not_kept Good Fresh closed (eval_kept e))
+    eval_kept (t.And at e es) = keep.noted_kept Good Fresh closed at (keep.and_kept Good Fresh closed (eval_kept e) (parts_kept es))
+    eval_kept (t.Or at e es) = keep.noted_kept Good Fresh closed at (keep.or_kept Good Fresh closed (eval_kept e) (parts_kept es))
+    eval_kept (t.IfElse at e c o) = keep.noted_kept Good Fresh closed at (keep.choice_kept Good Fresh closed (eval_kept e) (eval_kept c) (eval_kept o))
+    eval_kept (t.Tuple at es) = missing_kept
+    eval_kept (t.Listed at es) = missing_kept
+    eval_kept (t.Dict at ks es) = missing_kept
+    eval_kept (t.Attribute at e name) = missing_kept
+    eval_kept (t.Subscript at e i) = missing_kept
+    eval_kept (t.Slice at e a b c) = missing_kept
+
+    parts_kept : (es : Trees) → PartsKept (parts es)
+    parts_kept Empty = keep.nil
+    parts_kept (More es e) = all_more (parts_kept es) (eval_kept e)
+
+  some_kept : (m : Maybe) → keep.SomeKept Good Fresh closed (some_part m)
+  some_kept Absent = keep.none
+  some_kept (Present e) = keep.some (eval_kept e)
+
+  missing_store : keep.StoreKept Good Fresh closed store_missing
+  missing_store = record { stores = λ v. missing_kept }
+
+  place_kept : (p : Place) → keep.StoreKept Good Fresh closed (store_place p)
+  place_kept (NamePlace at name) = keep.store_name_kept Good Fresh closed name
+  place_kept (AttributePlace at e name) = missing_store
+  place_kept (SubscriptPlace at e i) = missing_store
+
+  store_kept : (x : Taker) → keep.StoreKept Good Fresh closed (store x)
+  store_kept (One p) = place_kept p
+  store_kept (Unpack ps) = missing_store
+
+  stores_kept : (xs : List Taker) → keep.StoresKept Good Fresh closed (stores xs)
+  stores_kept [] = keep.nil
+  stores_kept (x ∷ xs) = keep.cons (store_kept x) (stores_kept xs)
+
+  augment_kept : (p : Place) (op : BinOp) {e : SourcePart} → PartKept e → PartKept (augment p op e)
+  augment_kept (NamePlace at name) op e = keep.augment_kept Good Fresh closed name op e
+  augment_kept (AttributePlace at a name) op e = missing_kept
+  augment_kept (SubscriptPlace at a i) op e = missing_kept
+
+  mutual
+    watch_kept : (n : ℕ) (e : Tree) → PartKept (watch n e)
+    watch_kept n (t.Paren at e) = keep.noted_kept Good Fresh closed at (watch_kept n e)
+    watch_kept n (t.Call at e es names) = keep.temporary_kept Good Fresh closed n (keep.noted_kept Good Fresh closed at (keep.call_kept Good Fresh closed (arguments_of names) (watch_kept (suc n) e) (watch_all_kept _ es)))
+    watch_kept n (t.Unary at op e) = keep.noted_kept Good Fresh closed at (keep.unary_kept Good Fresh closed op (watch_kept n e))
+    watch_kept n (t.Binary at l op r) = keep.noted_kept Good Fresh closed at (keep.binary_kept Good Fresh closed op (watch_kept n l) (watch_kept _ r))
+    watch_kept n (t.Compare at e ops es) = keep.noted_kept Good Fresh closed at (keep.compare_kept Good Fresh closed ops (watch_kept n e) (watch_all_kept _ es))
+    watch_kept n (t.Not at e) = keep.noted_kept Good Fresh closed at (keep.not_kept Good Fresh closed (watch_kept n e))
+    watch_kept n (t.And at e es) = keep.noted_kept Good Fresh closed at (keep.and_kept Good Fresh closed (watch_kept n e) (watch_all_kept _ es))
+    watch_kept n (t.Or at e es) = keep.noted_kept Good Fresh closed at (keep.or_kept Good Fresh closed (watch_kept n e) (watch_all_kept _ es))
+    watch_kept n (t.Name at name) = keep.temporary_kept Good Fresh closed n (eval_kept (t.Name at name))
+    watch_kept n (t.Number at x) = keep.temporary_kept Good Fresh closed n (eval_kept (t.Number at x))
+    watch_kept n (t.Text at text) = keep.temporary_kept Good Fresh closed n (eval_kept (t.Text at text))
+    watch_kept n (t.True at) = keep.temporary_kept Good Fresh closed n (eval_kept (t.True at))
+    watch_kept n (t.False at) = keep.temporary_kept Good Fresh closed n (eval_kept (t.False at))
+    watch_kept n (t.NoneTree at) = keep.temporary_kept Good Fresh closed n (eval_kept (t.NoneTree at))
+    watch_kept n (t.IfElse at e c o) = keep.temporary_kept Good Fresh closed n (eval_kept (t.IfElse at e c o))
+    watch_kept n (t.Tuple at es) = keep.temporary_kept Good Fresh closed n missing_kept
+    watch_kept n (t.Listed at es) = keep.temporary_kept Good Fresh closed n missing_kept
+    watch_kept n (t.Dict at ks es) = keep.temporary_kept Good Fresh closed n missing_kept
+    watch_kept n (t.Attribute at e name) = keep.temporary_kept Good Fresh closed n missing_kept
+    watch_kept n (t.Subscript at e i) = keep.temporary_kept Good Fresh closed n missing_kept
+    watch_kept n (t.Slice at e a b c) = keep.temporary_kept Good Fresh closed n missing_kept
+
+    watch_all_kept : (n : ℕ) (es : Trees) → PartsKept (watch_all n es)
+    watch_all_kept n Empty = keep.nil
+    watch_all_kept n (More es e) = all_more (watch_all_kept n es) (watch_kept _ e)
+
+  assert_kept : {e f : SourcePart} → PartKept e → PartKept f → PartKept (assert e f)
+  assert_kept e f = record { does = λ p s g k h. e.does p (unset s) g _ (keep.value_kept Good Fresh closed k h _ (λ v s g. keep.if_kept Good Fresh closed (truth (heap_of s) v) _ _ (h _ g) (f.does p s g k h))) }
+
+  assert_as_kept : (x : Bool) (e : Tree) {m : Option SourcePart} → keep.SomeKept Good Fresh closed m → PartKept (assert_as x e m)
+  assert_as_kept true e m = assert_kept (watch_kept 0 e) (keep.explained_kept Good Fresh closed e m)
+  assert_as_kept false e m = assert_kept (eval_kept e) (keep.fail_kept Good Fresh closed m)
+
+  sequence_kept : (x : Bool) (ls : List Layer) (ss : List Statement) → BodyKept (sequence x ls ss)
+  sequence_kept x ls [] = record { does = λ scene s g k h. h _ g }
+  sequence_kept x ls (st ∷ rest) = record { does = λ scene s g k h. (keep.asked_kept Good Fresh closed (StatementOf x (Statements x rest ∷ ls) st)).does (site scene (position st).line) s g (λ o. on_next o k (λ s. sequence x ls rest scene s k)) (keep.next_kept Good Fresh closed k h (λ s. sequence x ls rest scene s k) (λ s g. (sequence_kept x ls rest).does scene s g k h)) }
+
+  remains_kept : (ls : List Layer) → PartKept (remains ls)
+  remains_kept [] = record { does = λ p s g k h. h _ g }
+  remains_kept (Statements x ss ∷ ls) = record { does = λ p s g k h. (sequence_kept x ls ss).does p.scene s g _ (keep.next_kept Good Fresh closed k h _ (λ s g. (remains_kept ls).does p s g k h)) }
+
+  choices_more : {xs : List SourceChoice} → keep.ChoicesKept Good Fresh closed xs → (n : ℕ) {e : SourcePart} {b : SourceBody} → PartKept e → BodyKept b → keep.ChoicesKept Good Fresh closed (xs ++ (n, (e, b)) ∷ [])
+  choices_more keep.nil n e b = keep.cons n e b keep.nil
+  choices_more (keep.cons m x y xs) n e b = keep.cons m x y (choices_more xs n e b)
+
+  choices_kept : (x : Bool) (ls : List Layer) (bs : Branches) → keep.ChoicesKept Good Fresh closed (choices x ls bs)
+  choices_kept x ls st.NoBranch = keep.nil
+  choices_kept x ls (st.Branch before at e b) = choices_more (choices_kept x ls before) at.line (eval_kept e) (sequence_kept x ls (listed b))
+
+  statement_kept : (z : Bool) (ls : List Layer) (x : Statement) → PartKept (statement z ls x)
+  statement_kept z ls (st.Do at e) = keep.expression_kept Good Fresh closed (eval_kept e)
+  statement_kept z ls (st.Assign at ts e) = keep.assign_kept Good Fresh closed (stores_kept ts) (eval_kept e)
+  statement_kept z ls (st.AugAssign at p op e) = augment_kept p op (eval_kept e)
+  statement_kept z ls (st.Return at e) = keep.return_kept Good Fresh closed (some_kept e)
+  statement_kept z ls (st.Assert at e m) = assert_as_kept z e (some_kept m)
+  statement_kept z ls (st.GlobalOf at names) = keep.pass_kept Good Fresh closed
+  statement_kept z ls (st.Pass at) = keep.pass_kept Good Fresh closed
+  statement_kept z ls (st.Break at) = keep.leave_kept Good Fresh closed
+  statement_kept z ls (st.Continue at) = keep.again_kept Good Fresh closed
+  statement_kept z ls (st.If at bs other) = keep.choose_kept Good Fresh closed (choices_kept z ls bs) (sequence_kept z ls (listed other))
+  statement_kept z ls (st.While at e body) = keep.loop_kept Good Fresh closed _ (eval_kept e)
+  statement_kept z ls (st.Def at ds word name params returns body) = keep.define_kept Good Fresh closed name word.line _ _ _
+  statement_kept z ls (st.AssignYield at ts word e) = missing_kept
+  statement_kept z ls (st.ReturnYield at word e) = missing_kept
+  statement_kept z ls (st.Raise at e) = missing_kept
+  statement_kept z ls (st.Del at p) = missing_kept
+  statement_kept z ls (st.YieldOf at word e) = keep.yield_kept Good Fresh closed (some_kept e) ls
+  statement_kept z ls (st.Import at names alias) = missing_kept
+  statement_kept z ls (st.ImportFrom at names all) = missing_kept
+  statement_kept z ls (st.For at x e body) = missing_kept
+  statement_kept z ls (st.Try at body hs other final) = missing_kept
+  statement_kept z ls (st.With at e name body) = missing_kept
+  statement_kept z ls (st.Class at ds word name base body) = missing_kept
+
+  act_kept : (what : Turn) → PartKept (act what)
+  act_kept (StatementOf z ls x) = statement_kept z ls x
+  act_kept (TurnOf z e body) = keep.turn_of_kept Good Fresh closed _ (eval_kept e) (sequence_kept z [] (listed body))
+
+  entry_kept : (x : Function) → BodyKept (entry x).body
+  entry_kept x = sequence_kept x.explains [] (listed x.body)
+
+  -- THE MEANING OF SOURCES keeps what is closed under what the forms do
+  pub source_kept : keep.MeaningKept Good Fresh closed source
+  source_kept = record { entries = entry_kept; acts = act_kept; bodies = λ m. sequence_kept m.explains [] (listed m.body); remains = remains_kept }

@@ -1,0 +1,20 @@
+-- What a call by the runner, or a load, keeps of a world.
+use Rattle.std.specs.Prelude.{ℕ, ◌≡◌, ◌≤◌, ◌++◌, List, length, Some, IsSome}
+use Rattle.py_values.specs.declared.value.ObjId.{ObjId}
+use Rattle.py_values.specs.declared.value.Value.{Value}
+use Rattle.py_world.specs.declared.load.Load.TheVariants.{Loaded, Failed}
+use Rattle.py_world.specs.declared.trace.TraceFrame.{TraceFrame}
+use Rattle.py_world.specs.World.{Kinds, World, Stored}
+use Rattle.py_world.specs.Runs.{load_at}
+
+-- ONE WORLD IS KEPT IN ANOTHER: sources and the frozen frames that are out are the same, objects are no fewer, each code of a
+-- function and all printed text is still there, a module that was loaded or has failed is so still, and none is forgotten
+pub record IsKeptIn {K : Kinds} (w x : World K) : Type 0 where
+  pub sources : x.sources ≡ w.sources
+  pub frozen : x.frozen ≡ w.frozen
+  pub objects : length w.heap ≤ length x.heap
+  pub codes : (more : List (Stored K.code)) × (x.codes ≡ w.codes ++ more)
+  pub printed : (more : List ℕ) × (x.printed ≡ w.printed ++ more)
+  pub loaded : (path : List ℕ) (id : ObjId) → load_at path w.modules ≡ Some (Loaded id) → load_at path x.modules ≡ Some (Loaded id)
+  pub failed : (path : List ℕ) (exc : Value) (trace : List TraceFrame) → load_at path w.modules ≡ Some (Failed exc trace) → load_at path x.modules ≡ Some (Failed exc trace)
+  pub known : (path : List ℕ) → IsSome (load_at path w.modules) → IsSome (load_at path x.modules)

@@ -1,0 +1,15 @@
+use Rattle.link_cells.specs.Arena.{list_of}
+use Rattle.link_cells.proofs.Calls.{some_of}
+use Rattle.link_cells.proofs.Walks.{walk_starts, walk_in_use, walk_next}
+use Rattle.fixture_tests.proofs.cells.values_of.Goals as goal
+
+pub loop-init : goal.loop-init
+loop-init c =
+    let o = some_of (list_of c.args.cells.now c.args.head) c.requires in
+    walk_starts c.args.cells.now c.args.head o.0 c.first-at.result o.1 (c.first-at.ensures o.0 o.1)
+
+pub get-requires : goal.get-requires
+get-requires c = walk_in_use c.args.cells.now c.args.head c.in-Some.id (rw c.in-Some.is at c.loop.invariant)
+
+pub loop-preserved : goal.loop-preserved
+loop-preserved c = walk_next c.args.cells.now c.args.head c.in-Some.id (rw c.in-Some.is at c.loop.invariant) c.next-at.result c.next-at.ensures

@@ -1,0 +1,329 @@
+ghost use Rattle.std.specs.Prelude.{◌≡◌, ℕ, ◌+◌, ◌<◌, ◌≤◌, [], IfOk, OnOk};
+ghost use Rattle.session_types.specs.Members.{In};
+ghost use Rattle.session_types.specs.declared.instance.Instance.{Instance};
+
+use live_chains::{Chains, Dying, LiveId, PlainChains, Steps};
+use seq::OutOfMemory;
+use session_types::{DefId, Instance, Numbers, Scope};
+use std::alloc::Global;
+use std::marker::Brand;
+use std::sync::ledger::{Blank, Ledger};
+use std::test::Fail;
+
+/// A fixture to be set up; its definition is its number.
+#[derive(Clone, Copy)]
+struct Row {
+    scope: Scope,
+    node: u32,
+    bases: &'static [u64],
+}
+
+/// The instances in chains, and in a plain list.
+#[derive(Drop)]
+struct Both {
+    chains: Chains,
+    plain: PlainChains,
+}
+
+fn made(alloc: Global, row: Row, order: u32) -> Result<Instance, OutOfMemory>
+    ensures { IfOk result (λ i. (i.order ≡ order) × (i.def ≡ order) × (i.node ≡ row.node)) }
+{
+    let mut bases = Vec::new(alloc);
+    for base in row.bases {
+        bases.push(*base)?;
+    }
+    Ok(Instance {
+        def: DefId::new(order),
+        param: None,
+        node: row.node,
+        scope: row.scope,
+        order: u64::from(order),
+        bases: Numbers::from_vec(bases),
+        slot: 0,
+    })
+}
+
+/// Sets one up in the chains.
+fn link_new<L: Ledger>(
+    chains: &mut Chains,
+    instance: Instance,
+    steps: &mut Steps<L>,
+) -> Result<(), OutOfMemory>
+    requires { (j : Instance ℕ) → In j chains.old.live → j.order < instance.order }
+    ensures { OnOk result ((j : Instance ℕ) → In j chains.new.live → j.order < instance.order + 1) }
+{
+    chains.reserve(1)?;
+    match chains.find(instance.def, instance.node) {
+        None => {
+            let _id = chains.link(instance, steps);
+            Ok(())
+        }
+        Some(_) => Ok(()),
+    }
+}
+
+/// Sets one up in the plain list.
+fn link_plain(plain: &mut PlainChains, instance: Instance) -> Result<(), OutOfMemory>
+    requires { (j : Instance ℕ) → In j plain.old.live → j.order < instance.order }
+    ensures { OnOk result ((j : Instance ℕ) → In j plain.new.live → j.order < instance.order + 1) }
+{
+    plain.reserve(1)?;
+    let _number = plain.link(instance);
+    Ok(())
+}
+
+fn link_both<L: Ledger>(
+    alloc: Global,
+    both: &mut Both,
+    row: Row,
+    order: u32,
+    steps: &mut Steps<L>,
+) -> Result<(), OutOfMemory>
+    requires chains { (j : Instance ℕ) → In j both.old.chains.live → j.order < order }
+    requires plain { (j : Instance ℕ) → In j both.old.plain.live → j.order < order }
+    ensures chains { OnOk result ((j : Instance ℕ) → In j both.new.chains.live → j.order < order + 1) }
+    ensures plain { OnOk result ((j : Instance ℕ) → In j both.new.plain.live → j.order < order + 1) }
+{
+    let one = made(alloc, row, order)?;
+    link_new(&mut both.chains, one, steps)?;
+    let other = made(alloc, row, order)?;
+    link_plain(&mut both.plain, other)?;
+    Ok(())
+}
+
+/// Tears one down in the chains and in the plain list. Whether both had it.
+fn unlink_both<L: Ledger>(both: &mut Both, rows: &[Row], order: u64, steps: &mut Steps<L>) -> bool {
+    let Some((def, node)) = place_of(rows, order) else {
+        return false;
+    };
+    let one = match both.chains.find(def, node) {
+        Some(id) => Some(both.chains.unlink(id, steps).order),
+        None => None,
+    };
+    let other = match both.plain.find(def, node) {
+        Some(number) => Some(both.plain.unlink(number).order),
+        None => None,
+    };
+    one == Some(order) && other == Some(order)
+}
+
+/// The definition and the node of the one of this number.
+fn place_of(rows: &[Row], order: u64) -> Option<(DefId, u32)> {
+    let def = u32::try_from(order).ok()?;
+    let row = rows.get(def as usize)?;
+    Some((DefId::new(def), row.node))
+}
+
+fn set_up<L: Ledger>(
+    alloc: Global,
+    rows: &[Row],
+    steps: &mut Steps<L>,
+) -> Result<Both, OutOfMemory> {
+    let chains = Chains::new(alloc)?;
+    let plain = PlainChains::new(alloc);
+    let mut both = Both { chains, plain };
+    for order in 0..2000u32 {
+        let Some(row) = rows.get(order as usize) else {
+            break;
+        };
+        link_both(alloc, &mut both, *row, order, steps)?;
+    }
+    Ok(both)
+}
+
+/// Numbers by the chains, and by the plain list.
+#[derive(Drop)]
+struct Told {
+    chains: Vec<u64>,
+    plain: Vec<u64>,
+}
+
+impl Told {
+    fn is(&self, numbers: &[u64]) -> bool {
+        self.chains.as_slice() == numbers && self.plain.as_slice() == numbers
+    }
+}
+
+/// What goes down.
+fn down_of(alloc: Global, both: &Both, which: &Dying<'_>) -> Result<Told, OutOfMemory> {
+    let mut chains = Vec::new(alloc);
+    for id in &both.chains.down_of(alloc, which)? {
+        chains.push(id.order())?;
+    }
+    let plain = both.plain.down_of(alloc, which)?;
+    Ok(Told { chains, plain })
+}
+
+/// What is to go down, by number.
+#[derive(Clone, Copy)]
+enum Which<'w> {
+    Dependents(u64),
+    NotOn(&'w [u32]),
+}
+
+fn going(alloc: Global, both: &Both, rows: &[Row], which: Which) -> Result<Told, OutOfMemory> {
+    match which {
+        Which::NotOn(chain) => down_of(alloc, both, &Dying::NotOn(chain)),
+        Which::Dependents(order) => {
+            let (def, node) = place_of(rows, order).unwrap_or((DefId::new(0), 0));
+            match both.chains.find(def, node) {
+                Some(id) => down_of(alloc, both, &Dying::Dependents(id)),
+                None => down_of(alloc, both, &Dying::NotOn(&[])),
+            }
+        }
+    }
+}
+
+/// What goes down, and what is left then.
+#[derive(Drop)]
+struct Seen {
+    down: Told,
+    left: Told,
+    all_there: bool,
+}
+
+/// Sets all up, tears those that are gone down, and then what goes down.
+fn run<L: Ledger>(
+    alloc: Global,
+    blank: Blank,
+    rows: &[Row],
+    gone: &[u64],
+    which: Which,
+) -> Result<Seen, OutOfMemory>
+    requires name { blank.name ≡ L.name }
+    requires parts { blank.parts ≡ L.parts }
+    requires share { 0 < blank.parts }
+{
+    let mut steps = Steps::<L>::new(blank);
+    let mut both = set_up(alloc, rows, &mut steps)?;
+    let mut all_there = true;
+    for order in gone {
+        all_there &= unlink_both(&mut both, rows, *order, &mut steps);
+    }
+    let down = going(alloc, &both, rows, which)?;
+    for order in &down.chains {
+        all_there &= unlink_both(&mut both, rows, *order, &mut steps);
+    }
+    let left = down_of(alloc, &both, &Dying::NotOn(&[]))?;
+    Ok(Seen {
+        down,
+        left,
+        all_there,
+    })
+}
+
+/// Whether these go down in this order, and these are left.
+fn goes(
+    alloc: Global,
+    rows: &[Row],
+    gone: &[u64],
+    which: Which,
+    down: &[u64],
+    left: &[u64],
+) -> Result<bool, OutOfMemory> {
+    let seen = run::<Brand>(alloc, Blank::new(1), rows, gone, which)?;
+    Ok(seen.all_there && seen.down.is(down) && seen.left.is(left))
+}
+
+fn in_scope(scope: Scope, node: u32, bases: &'static [u64]) -> Row {
+    Row { scope, node, bases }
+}
+
+#[test]
+fn what_goes_down_is_that_of_the_plain_list(rt: HostRuntime) -> Result<(), Fail> {
+    let alloc = rt.alloc();
+    let mixed = [
+        in_scope(Scope::Session, 0, &[]),
+        in_scope(Scope::Module, 2, &[0]),
+        in_scope(Scope::Function, 4, &[1, 0]),
+        in_scope(Scope::Session, 0, &[]),
+        in_scope(Scope::Class, 3, &[1, 0]),
+        in_scope(Scope::Function, 4, &[4, 1, 0]),
+        in_scope(Scope::Module, 2, &[3]),
+    ];
+    let all = Which::NotOn(&[]);
+    assert!(rt; goes(alloc, &mixed, &[], all, &[5, 2, 4, 6, 1, 3, 0], &[])?);
+    assert!(rt;
+        goes(
+            alloc,
+            &mixed,
+            &[],
+            Which::NotOn(&[0]),
+            &[5, 2, 4, 6, 1],
+            &[3, 0]
+        )?
+    );
+    assert!(rt;
+        goes(
+            alloc,
+            &mixed,
+            &[],
+            Which::NotOn(&[0, 2]),
+            &[5, 2, 4],
+            &[6, 1, 3, 0]
+        )?
+    );
+    assert!(rt;
+        goes(
+            alloc,
+            &mixed,
+            &[],
+            Which::Dependents(0),
+            &[5, 2, 4, 1, 0],
+            &[6, 3]
+        )?
+    );
+    assert!(rt;
+        goes(
+            alloc,
+            &mixed,
+            &[3],
+            Which::Dependents(1),
+            &[5, 2, 4, 1],
+            &[6, 0]
+        )?
+    );
+    let modules = [
+        in_scope(Scope::Module, 2, &[]),
+        in_scope(Scope::Module, 5, &[0]),
+    ];
+    assert!(rt; goes(alloc, &modules, &[], Which::NotOn(&[0, 5]), &[1, 0], &[])?);
+    let sessions = [
+        in_scope(Scope::Session, 0, &[]),
+        in_scope(Scope::Session, 0, &[0]),
+        in_scope(Scope::Session, 0, &[0, 1]),
+        in_scope(Scope::Session, 0, &[]),
+    ];
+    assert!(rt; goes(alloc, &sessions, &[1], Which::Dependents(0), &[2, 0], &[3])?);
+    assert!(rt; goes(alloc, &sessions, &[0], Which::Dependents(1), &[2, 1], &[3])?);
+    Ok(())
+}
+
+/// A thousand of one scope, a hundred of which depend on the 500th.
+fn thousand(alloc: Global) -> Result<Vec<Row>, OutOfMemory> {
+    let mut rows = Vec::new(alloc);
+    for order in 0..1000u32 {
+        let bases: &'static [u64] = if order / 100 == 7 { &[499] } else { &[] };
+        rows.push(in_scope(Scope::Function, order, bases))?;
+    }
+    Ok(rows)
+}
+
+#[test]
+fn a_long_chain_is_left_without_what_went_down(rt: HostRuntime) -> Result<(), Fail> {
+    let alloc = rt.alloc();
+    let rows = thousand(alloc)?;
+    let mut down = Vec::new(alloc);
+    let mut left = Vec::new(alloc);
+    for back in 0..1000u64 {
+        let order = 999 - back;
+        if order / 100 == 7 || order == 499 {
+            down.push(order)?;
+        } else {
+            left.push(order)?;
+        }
+    }
+    assert_eq!(rt; down.len(), 101);
+    assert!(rt; goes(alloc, &rows, &[], Which::Dependents(499), &down, &left)?);
+    Ok(())
+}

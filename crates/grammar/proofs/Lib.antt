@@ -1,0 +1,11 @@
+pub mod Stands
+pub mod Parts
+pub mod Steps
+pub mod Lines
+pub mod Readings
+pub mod Answers
+pub mod Along
+pub mod Tokens
+pub mod Heights
+pub mod Measures
+pub mod Operators

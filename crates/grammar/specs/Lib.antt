@@ -1,0 +1,5 @@
+pub mod Table
+pub mod Levels
+pub mod Answer
+pub mod Heights
+pub mod Measures

@@ -1,5 +1,0 @@
-use Rattle.link_cells.proofs.Walks.{Walks}
-use Rattle.link_cells.proofs.tests.nth.Given as goal
-
-abbrev pub invariant-loop : goal.invariant-loop
-invariant-loop l = Walks l.cells l.head l.at

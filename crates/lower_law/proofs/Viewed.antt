@@ -1,0 +1,72 @@
+-- From worlds that are alike to the equation of a world and its source_view.
+use Rattle.std.proofs.Common.{◌≡◌, ◌∙◌, ℕ, Bool, List, ◌∷◌, map, Option, Some, None, refl, sym, ap, subst}
+use Rattle.std.proofs.Math.Logic.{∥∥₁_elim, ∥∥₁_map}
+use Rattle.lower_law.proofs.Sets.{told-set, tape-set}
+use Rattle.py_values.specs.declared.value.Value.{Value}
+use Rattle.py_core.specs.declared.stmt.Core.{Core}
+use Rattle.py_core.specs.declared.stmt.CoreFn.{CoreFn}
+use Rattle.source_meaning.specs.Requests as s
+use Rattle.source_meaning.specs.Requests.{source_kinds, Script, Function}
+use Rattle.core_meaning.specs.Requests as c
+use Rattle.core_meaning.specs.Requests.{core_kinds}
+use Rattle.source_meaning.specs.Meaning.{SourceWorld, source, source_call, source_module}
+use Rattle.core_meaning.specs.Meaning.{CoreWorld, core, core_call, core_module}
+use Rattle.py_world.specs.World.{Source, Coded, Code, Stored, Frozen}
+use Rattle.py_world.specs.Runs.{Told}
+use Rattle.lower_law.specs.Alike as alike
+use Rattle.lower_law.specs.Alike.{CodedAlike, SourcesAlike, CodesAlike, FrozenAlike, worlds, source_with, stored_with, frozen_with, world_with}
+use Rattle.lower_law.specs.Law.{call_tape, LoweredCode, Lowering, LoweredWorld, SameTold}
+use Rattle.lower_law.specs.Lowered as low
+use Rattle.lower_law.specs.Lowered.{LoweredLayers}
+use Rattle.lower_law.specs.Sourced.{source_of, function_in}
+use Rattle.lower_law.specs.View.{stored_view, coded_view, file_view, layer_view, frozen_view, source_view, view_told, Sound}
+use Rattle.lower_law.proofs.Keeps.{calls_same, modules_same, tapes_same}
+
+code_carries : (f : Function) (c : CoreFn) → LoweredCode f c → source_of c ≡ f
+code_carries _ _ (word, low.made _ name {source = source} plainly from is own yielding (low.body flag _ h)) = ap (λ x. function_in x source.value) flag ∙ from
+
+codes_viewed : {fs : List (Stored Function)} {cs : List (Stored CoreFn)} → CodesAlike Lowering fs cs → map stored_view cs ≡ fs
+codes_viewed alike.none = refl
+codes_viewed (alike.more path home {c = f} {d = c} h hs) = λ i. stored_with path home (code_carries f c h i) ∷ codes_viewed hs i
+
+coded_viewed : {b : Coded Script} {c : Coded Core} → CodedAlike Lowering b c → coded_view c ≡ b
+coded_viewed (alike.code h) = λ i. Code (h.0 i)
+coded_viewed (alike.fault f) = refl
+
+sources_viewed : {bs : List (Source Script)} {cs : List (Source Core)} → SourcesAlike Lowering bs cs → map file_view cs ≡ bs
+sources_viewed alike.none = refl
+sources_viewed (alike.more path bytes h hs) = λ i. source_with path bytes (coded_viewed h i) ∷ sources_viewed hs i
+
+layers_viewed : {z : Bool} {ls : List s.Layer} {ks : List c.Layer} → LoweredLayers z ls ks → map layer_view ks ≡ ls
+layers_viewed low.LoweredLayers.none = refl
+layers_viewed (low.LoweredLayers.more b at flag from h hl) = λ i. s.Statements (flag i) (from i) ∷ layers_viewed hl i
+
+frozen_viewed : {fs : List (Option (Frozen (List s.Layer)))} {gs : List (Option (Frozen (List c.Layer)))} → FrozenAlike Lowering fs gs → map frozen_view gs ≡ fs
+frozen_viewed alike.none = refl
+frozen_viewed (alike.taken hs) = λ i. None ∷ frozen_viewed hs i
+frozen_viewed (alike.more p a h hs) = λ i. Some (frozen_with (layers_viewed h.1 i) p a) ∷ frozen_viewed hs i
+
+pub viewed : {w : SourceWorld} {z : CoreWorld} → LoweredWorld w z → source_view z ≡ w
+viewed (worlds xs ys zs modules heap printed) = λ i. world_with (sources_viewed xs i) modules heap (codes_viewed ys i) printed (frozen_viewed zs i)
+
+told_viewed : (a : Told source_kinds) (b : Told core_kinds) → SameTold a b → view_told b ≡ a
+told_viewed a b h = λ i. (sym h.0 i, viewed h.1 i)
+
+told_kept : (a : Told source_kinds) (b : Told core_kinds) → SameTold a b → LoweredWorld (source_view b.1) b.1
+told_kept a b h = subst (λ w. LoweredWorld w b.1) (sym (viewed h.1)) h.1
+
+-- CALLS AND LOADS, as equations
+pub call_viewed : (w : CoreWorld) → Sound w → (f : Value) (args : List Value) (budget : ℕ) → view_told (core_call f args budget w) ≡ source_call f args budget (source_view w)
+call_viewed w sound f args budget = ∥∥₁_elim sound (told-set _ _) (λ h. told_viewed _ _ (calls_same (source_view w) w h f args budget))
+
+pub call_sound : (w : CoreWorld) → Sound w → (f : Value) (args : List Value) (budget : ℕ) → Sound (core_call f args budget w).1
+call_sound w sound f args budget = ∥∥₁_map sound (λ h. told_kept _ _ (calls_same (source_view w) w h f args budget))
+
+pub module_viewed : (w : CoreWorld) → Sound w → (path : List ℕ) (budget : ℕ) → view_told (core_module path budget w) ≡ source_module path budget (source_view w)
+module_viewed w sound path budget = ∥∥₁_elim sound (told-set _ _) (λ h. told_viewed _ _ (modules_same (source_view w) w h path budget))
+
+pub module_sound : (w : CoreWorld) → Sound w → (path : List ℕ) (budget : ℕ) → Sound (core_module path budget w).1
+module_sound w sound path budget = ∥∥₁_map sound (λ h. told_kept _ _ (modules_same (source_view w) w h path budget))
+
+pub tape_viewed : (w : CoreWorld) → Sound w → (f : Value) (args : List Value) (budget : ℕ) → call_tape core f args budget w ≡ call_tape source f args budget (source_view w)
+tape_viewed w sound f args budget = ∥∥₁_elim sound (tape-set _ _) (λ h. sym (tapes_same (source_view w) w h f args budget))

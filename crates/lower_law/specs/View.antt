@@ -1,0 +1,44 @@
+-- THE VIEW of a world of core code: the world of the sources that its code carries. And which worlds are sound.
+use Rattle.std.specs.Prelude.{List, map, drop, Option, Some, None}
+use Rattle.py_core.specs.Blocks.{explains_in}
+use Rattle.py_core.specs.declared.stmt.Core.{Core}
+use Rattle.py_core.specs.declared.stmt.CoreFn.{CoreFn}
+use Rattle.source_meaning.specs.Requests as s
+use Rattle.source_meaning.specs.Requests.{source_kinds, Script, Function}
+use Rattle.source_meaning.specs.Meaning.{SourceWorld}
+use Rattle.core_meaning.specs.Requests as c
+use Rattle.core_meaning.specs.Requests.{core_kinds}
+use Rattle.core_meaning.specs.Meaning.{CoreWorld}
+use Rattle.py_world.specs.World.{Source, Coded, Code, Fault, Stored, Frozen}
+use Rattle.py_world.specs.Runs.{Told}
+use Rattle.lower_law.specs.Law.{LoweredWorld}
+use Rattle.lower_law.specs.Sourced.{source_of, module_of, sources_in}
+
+abbrev pub stored_view : Stored CoreFn → Stored Function
+stored_view c = record { path = c.path; home = c.home; code = source_of c.code }
+
+abbrev pub coded_view : Coded Core → Coded Script
+coded_view (Code m) = Code (module_of m)
+coded_view (Fault f) = Fault f
+
+abbrev pub file_view : Source Core → Source Script
+file_view x = record { path = x.path; bytes = x.bytes; code = coded_view x.code }
+
+-- what remains of a block
+abbrev pub layer_view : c.Layer → s.Layer
+layer_view (c.Statements b at) = s.Statements (explains_in b) (drop at (sources_in b))
+
+abbrev pub frozen_view : Option (Frozen (List c.Layer)) → Option (Frozen (List s.Layer))
+frozen_view (Some f) = Some (record { rest = map layer_view f.rest; site = f.site; locals = f.locals })
+frozen_view None = None
+
+-- the core side is forgotten
+abbrev pub source_view : CoreWorld → SourceWorld
+source_view w = record { sources = map file_view w.sources; modules = w.modules; heap = w.heap; codes = map stored_view w.codes; printed = w.printed; frozen = map frozen_view w.frozen }
+
+abbrev pub view_told : Told core_kinds → Told source_kinds
+view_told t = (t.0, source_view t.1)
+
+-- each code is a core code of the source that it carries
+abbrev pub Sound : CoreWorld → Type 0
+Sound w = ∥ LoweredWorld (source_view w) w ∥₁

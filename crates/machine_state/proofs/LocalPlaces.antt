@@ -1,0 +1,57 @@
+-- The place of a name among those of a call.
+use Rattle.std.proofs.Common.{◌≡◌, ◌<◌, ◌+◌, ◌∙◌, ℕ, zero, suc, List, [], ◌∷◌, ◌++◌, length, get_or, Option, Some, None, Bool, true, false, refl, sym, ap, subst, arith, add-one}
+use Rattle.std.specs.Prelude.{slice_set}
+use Rattle.py_values.specs.declared.value.Value.{Value}
+use Rattle.py_values.specs.Names.{bind_name, find_name, name_eq}
+use Rattle.machine_state.specs.LocalNames.{Bindings, IsPlaceOf, NoneBefore}
+
+module _ (name : List ℕ) where
+  none_suc : (es : Bindings) (i : ℕ) (e : List ℕ × Value) → i < length es → e ≡ get_or es i e → name_eq name e.0 ≡ false → NoneBefore name i es → NoneBefore name (suc i) es
+  none_suc [] i e w h f n = tt
+  none_suc (x ∷ xs) zero e w h f n = (ap (λ (y : List ℕ × Value). name_eq name y.0) (sym h) ∙ f, tt)
+  none_suc (x ∷ xs) (suc i) e w h f n = (n.0, none_suc xs i e (omega arith) h f n.1)
+
+  pub none_more : (es : Bindings) (i : ℕ) (e : List ℕ × Value) → i < length es → e ≡ get_or es i e → name_eq name e.0 ≡ false → NoneBefore name i es → NoneBefore name (i + 1) es
+  none_more es i e w h f n = rw add-one (none_suc es i e w h f n)
+
+  find_here : (es : Bindings) (i : ℕ) (e : List ℕ × Value) → i < length es → name_eq name e.0 ≡ true → NoneBefore name i es → e ≡ get_or es i e → find_name name es ≡ Some e.1
+  find_here [] i e w t n h = absurd (omega arith)
+  find_here (x ∷ xs) zero e w t n h =
+      let u : name_eq name x.0 ≡ true = ap (λ (y : List ℕ × Value). name_eq name y.0) (sym h) ∙ t in
+      rw u (ap (λ (y : List ℕ × Value). Some y.1) (sym h))
+  find_here (x ∷ xs) (suc i) e w t n h = rw n.0 (find_here xs i e (omega arith) t n.1 h)
+
+  bind_here : (v : Value) (es : Bindings) (i : ℕ) (e : List ℕ × Value) → i < length es → name_eq name e.0 ≡ true → NoneBefore name i es → e ≡ get_or es i e → bind_name name v es ≡ slice_set es i (e.0, v)
+  bind_here v [] i e w t n h = absurd (omega arith)
+  bind_here v (x ∷ xs) zero e w t n h =
+      let u : name_eq name x.0 ≡ true = ap (λ (y : List ℕ × Value). name_eq name y.0) (sym h) ∙ t in
+      rw u (ap (λ (y : List ℕ × Value). (y.0, v) ∷ xs) (sym h))
+  bind_here v (x ∷ xs) (suc i) e w t n h = rw n.0 (ap (λ (ys : Bindings). x ∷ ys) (bind_here v xs i e (omega arith) t n.1 h))
+
+  same_at : (es : Bindings) (i : ℕ) (e d : List ℕ × Value) → i < length es → e ≡ get_or es i e → d ≡ get_or es i d → e ≡ d
+  same_at [] i e d w h g = absurd (omega arith)
+  same_at (x ∷ xs) zero e d w h g = h ∙ sym g
+  same_at (x ∷ xs) (suc i) e d w h g = same_at xs i e d (omega arith) h g
+
+  -- a name stands at this place
+  pub place_here : (es : Bindings) (i : ℕ) (e : List ℕ × Value) → i < length es → e ≡ get_or es i e → name_eq name e.0 ≡ true → NoneBefore name i es → IsPlaceOf name es (Some i)
+  place_here es i e w h t n = (
+    w,
+    λ d g.
+        let u : name_eq name d.0 ≡ true = subst (λ (y : List ℕ × Value). name_eq name y.0 ≡ true) (same_at es i e d w h g) t in
+        (find_here es i d w u n g, λ v. bind_here v es i d w u n g),
+  )
+
+  find_nowhere : (es : Bindings) → NoneBefore name (length es) es → find_name name es ≡ None
+  find_nowhere [] n = refl
+  find_nowhere (x ∷ xs) n = rw n.0 (find_nowhere xs n.1)
+
+  bind_last : (v : Value) (es : Bindings) → NoneBefore name (length es) es → bind_name name v es ≡ es ++ (name, v) ∷ []
+  bind_last v [] n = refl
+  bind_last v (x ∷ xs) n = rw n.0 (ap (λ (ys : Bindings). x ∷ ys) (bind_last v xs n.1))
+
+  -- a name stands nowhere
+  pub place_nowhere : (es : Bindings) (i : ℕ) → i ≡ length es → NoneBefore name i es → IsPlaceOf name es None
+  place_nowhere es i e n =
+      let m : NoneBefore name (length es) es = subst (λ (j : ℕ). NoneBefore name j es) e n in
+      (find_nowhere es m, λ v. bind_last v es m)

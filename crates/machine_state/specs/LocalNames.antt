@@ -1,0 +1,20 @@
+-- Where a name of a call stands.
+use Rattle.std.specs.Prelude.{◌≡◌, ◌<◌, ℕ, zero, suc, List, [], ◌∷◌, ◌++◌, length, get_or, Option, Some, None, false, slice_set}
+use Rattle.py_values.specs.declared.value.Value.{Value}
+use Rattle.py_values.specs.Names.{bind_name, find_name, name_eq}
+
+abbrev pub Bindings : Type 0
+Bindings = List (List ℕ × Value)
+
+-- none of the names before a place is this one
+abbrev pub NoneBefore : List ℕ → ℕ → Bindings → Type 0
+NoneBefore name zero es = Unit {0}
+NoneBefore name (suc i) [] = Unit {0}
+NoneBefore name (suc i) (e ∷ es) = (name_eq name e.0 ≡ false) × NoneBefore name i es
+
+-- a name is found and bound at its place, or last
+abbrev pub IsPlaceOf : List ℕ → Bindings → Option ℕ → Type 0
+IsPlaceOf name es (Some i) =
+    (i < length es)
+    × ((e : List ℕ × Value) → e ≡ get_or es i e → (find_name name es ≡ Some e.1) × ((v : Value) → bind_name name v es ≡ slice_set es i (e.0, v)))
+IsPlaceOf name es None = (find_name name es ≡ None) × ((v : Value) → bind_name name v es ≡ es ++ (name, v) ∷ [])

@@ -1,0 +1,75 @@
+// The names of a call.
+
+ghost use Rattle.std.specs.Prelude.{◌≡◌, [], OnOk};
+ghost use Rattle.py_values.specs.Names.{bind_name, find_name};
+ghost use Rattle.machine_state.specs.LocalNames.{IsPlaceOf};
+
+use py_core::SrcText;
+use py_text::OutOfMemory;
+use py_values::value::Value;
+use std::alloc::Global;
+use std::marker::Model;
+
+/// The names of a call with their values, in order of first binding. There are few, so they are looked through from the first one on.
+#[derive(Drop)]
+pub struct Locals {
+    entries: Vec<(SrcText, Value)>,
+}
+
+impl Model for Locals {
+    ghost use Rattle.std.specs.Prelude.{List, ℕ};
+    ghost use Rattle.py_values.specs.declared.value.Value.{Value as PyValue};
+
+    ghost Value = { List (List ℕ × PyValue) };
+
+    ghost view = { λ l. l.entries.items };
+}
+
+impl Locals {
+    pub fn new(alloc: Global) -> Self
+        ensures { result ≡ [] }
+    {
+        Locals {
+            entries: Vec::new(alloc),
+        }
+    }
+
+    /// The value of a name.
+    pub fn find(&self, name: &SrcText) -> Option<Value>
+        ensures { result ≡ find_name name.now self.now }
+    {
+        match place_of(&self.entries, name) {
+            Some(at) => Some(self.entries[at].1),
+            None => None,
+        }
+    }
+
+    /// Binds a name: one that is there keeps its place, another comes last.
+    pub fn bind(&mut self, name: &SrcText, v: Value) -> Result<(), OutOfMemory>
+        ensures { OnOk result (self.new ≡ bind_name name.now v self.old) }
+    {
+        match place_of(&self.entries, name) {
+            Some(at) => {
+                self.entries[at].1 = v;
+                Ok(())
+            }
+            None => {
+                self.entries.push((name.clone()?, v))?;
+                Ok(())
+            }
+        }
+    }
+}
+
+/// The place of a name, where it is bound.
+#[tactic(auto, using(crate::proofs::LocalPlaces::place_here, crate::proofs::LocalPlaces::none_more))]
+fn place_of(entries: &[(SrcText, Value)], name: &SrcText) -> Option<usize>
+    ensures { IsPlaceOf name.now entries.now result }
+{
+    for i in 0..entries.len() {
+        if name.chars() == entries[i].0.chars() {
+            return Some(i);
+        }
+    }
+    None
+}

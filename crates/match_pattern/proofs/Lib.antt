@@ -1,0 +1,4 @@
+pub mod Items
+pub mod Marks
+pub mod Meaning
+pub mod Patterns

@@ -1,0 +1,4 @@
+pub mod Matching
+pub mod Pattern
+pub mod Reading
+pub mod Searching

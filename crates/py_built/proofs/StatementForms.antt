@@ -1,0 +1,94 @@
+-- Form by form, as the code meets them.
+use Rattle.std.proofs.Common.{◌≡◌, ℕ, ◌+◌, ◌<◌, Bool, true, false, ◌&&◌, List, [], ◌∷◌, length, drop, get_or, refl, sym, ap, ◌∙◌, subst, Vec, Global}
+use Rattle.std.proofs.lemmas.List.{at_drop_more}
+use Rattle.std.specs.declared.rc.Rc.{Rc}
+use Rattle.py_source.specs.declared.pos.Pos.{Pos}
+use Rattle.py_tree.specs.declared.expr.Expr.{Expr}
+use Rattle.py_tree.specs.declared.stmt.Stmt.{Stmt}
+use Rattle.py_tree.specs.declared.stmt.Branch as branch
+use Rattle.py_tree.specs.declared.stmt.Branch.{out-Branch, roll-Branch, roll-out-Branch}
+use Rattle.py_tree.specs.declared.stmt.Function.{Function, out-Function, roll-Function, roll-out-Function}
+use Rattle.py_tree.specs.declared.stmt.StmtKind.{StmtKind}
+use Rattle.py_tree.specs.declared.stmt.StmtKind.TheVariants as s
+use Rattle.py_tree.specs.declared.stmt.StmtKind.TheBlock.{hidden-the_row-Stmt-1, hidden-the_row-Branch-0 as hide_branches}
+use Rattle.py_tree.specs.Trees.{tree, trees, trees_behind, Trees, Empty, More, some_tree}
+use Rattle.py_tree.specs.Statements as st
+use Rattle.py_tree.specs.Statements.{Block, NoStatement, Next, Branches, NoBranch, Branch, statement, statement_at, parameters, block_on, block_behind, block, branches_on, branches_behind}
+use Rattle.py_tree.proofs.Rows.{block_hidden, branches_hidden}
+use Rattle.py_built.specs.Built.{built, is_absent, is_empty, params_built, statement_built, block_built, branches_built}
+use Rattle.py_built.specs.Lists.{stmts_built, branch_list_built, no_exprs, function_is_built}
+use Rattle.py_built.proofs.Forms.{both_assoc, both_true}
+
+stmts_behind : (before : Block) (stmts : List Stmt) → block_built (block_behind before stmts) ≡ block_built before && stmts_built stmts
+stmts_behind before [] = sym (both_true (block_built before))
+stmts_behind before (x ∷ rest) = stmts_behind (Next before (statement x)) rest ∙ both_assoc (block_built before) (statement_built (statement x)) (stmts_built rest)
+
+pub block_is : (stmts : List Stmt) → block_built (block stmts) ≡ stmts_built stmts
+block_is stmts = stmts_behind NoStatement stmts
+
+pub block_row : (stmts : Vec Stmt Global) → block_built (block_on NoStatement (hidden-the_row-Stmt-1 stmts)) ≡ stmts_built stmts.items
+block_row stmts = ap block_built (block_hidden stmts) ∙ block_is stmts.items
+
+branch_list_behind : (before : Branches) (all : List branch.Branch) → branches_built (branches_behind before all) ≡ branches_built before && branch_list_built all
+branch_list_behind before [] = sym (both_true (branches_built before))
+branch_list_behind before (branch.Branch' at condition p n body ∷ rest) =
+    branch_list_behind (Branch before at (tree condition.value) (block_on NoStatement body)) rest ∙ both_assoc (branches_built before) (built (tree condition.value) && block_built (block_on NoStatement body)) (branch_list_built rest)
+
+branches_row : (all : Vec branch.Branch Global) → branches_built (branches_on NoBranch (hide_branches all)) ≡ branch_list_built all.items
+branches_row all = ap branches_built (branches_hidden all) ∙ branch_list_behind NoBranch all.items
+
+branch_rolled : (b : branch.Branch) (rest : List branch.Branch) → branch_list_built (roll-Branch (out-Branch b) ∷ rest) ≡ (built (tree (out-Branch b).condition.value) && stmts_built (out-Branch b).body.value.items) && branch_list_built rest
+unfolding roll-Branch denote.Hole.Carrier.roll hidden-the_row-Stmt-1
+branch_rolled b rest = ap (λ v. (built (tree (out-Branch b).condition.value) && v) && branch_list_built rest) (block_row (out-Branch b).body.value)
+
+pub branch_step : (b : branch.Branch) (rest : List branch.Branch) → branch_list_built (b ∷ rest) ≡ (built (tree (out-Branch b).condition.value) && stmts_built (out-Branch b).body.value.items) && branch_list_built rest
+branch_step b rest = subst (λ y. branch_list_built (y ∷ rest) ≡ (built (tree (out-Branch b).condition.value) && stmts_built (out-Branch b).body.value.items) && branch_list_built rest) (roll-out-Branch b) (branch_rolled b rest)
+
+branch_at : (all : List branch.Branch) (i : ℕ) (item : branch.Branch) (a b : Bool) → i < length all → item ≡ get_or all i item → a ≡ built (tree (out-Branch item).condition.value) → b ≡ stmts_built (out-Branch item).body.value.items → branch_list_built (drop i all) ≡ (a && b) && branch_list_built (drop (i + 1) all)
+branch_at all i item a b h e p q = at_drop_more branch_list_built all i item h ∙ ap (λ x. branch_list_built (x ∷ drop (i + 1) all)) (sym e) ∙ branch_step item (drop (i + 1) all) ∙ ap (λ v. (v && stmts_built (out-Branch item).body.value.items) && branch_list_built (drop (i + 1) all)) (sym p) ∙ ap (λ v. (a && v) && branch_list_built (drop (i + 1) all)) (sym q)
+
+goes : (c r s all : Bool) → c ≡ true → r ≡ all → r ≡ (c && s) → s ≡ all
+goes true r s all e p q = sym q ∙ p
+goes false r s all e p q = absurd (cc)
+
+stops_first : (c r s all : Bool) → c ≡ false → r ≡ all → r ≡ (c && s) → false ≡ all
+stops_first true r s all e p q = absurd (cc)
+stops_first false r s all e p q = sym q ∙ p
+
+pub branch_stops : (all : List branch.Branch) (i : ℕ) (item : branch.Branch) (a b : Bool) → i < length all → item ≡ get_or all i item → a ≡ built (tree (out-Branch item).condition.value) → b ≡ stmts_built (out-Branch item).body.value.items → (a && b) ≡ false → branch_list_built (drop i all) ≡ branch_list_built all → false ≡ branch_list_built all
+branch_stops all i item a b h e p q n v = stops_first (a && b) (branch_list_built (drop i all)) (branch_list_built (drop (i + 1) all)) (branch_list_built all) n v (branch_at all i item a b h e p q)
+
+pub branch_goes : (all : List branch.Branch) (i : ℕ) (item : branch.Branch) (a b : Bool) → i < length all → item ≡ get_or all i item → a ≡ built (tree (out-Branch item).condition.value) → b ≡ stmts_built (out-Branch item).body.value.items → (a && b) ≡ true → branch_list_built (drop i all) ≡ branch_list_built all → branch_list_built (drop (i + 1) all) ≡ branch_list_built all
+branch_goes all i item a b h e p q n v = goes (a && b) (branch_list_built (drop i all)) (branch_list_built (drop (i + 1) all)) (branch_list_built all) n v (branch_at all i item a b h e p q)
+
+def_rolled : (at : Pos) (f : Rc Function Global) → statement_at at (s.Def (record { ptr = f.ptr; value = roll-Function (out-Function f.value) })) ≡ st.Def at (trees (out-Function f.value).decorators.value.items) (out-Function f.value).at (out-Function f.value).name (parameters (out-Function f.value).params.value.items) (some_tree (out-Function f.value).returns) (block (out-Function f.value).body.value.items)
+unfolding roll-Function denote.Hole.Carrier.roll hidden-the_row-Stmt-1
+def_rolled at f = ap (λ b. st.Def at (trees (out-Function f.value).decorators.value.items) (out-Function f.value).at (out-Function f.value).name (parameters (out-Function f.value).params.value.items) (some_tree (out-Function f.value).returns) b) (block_hidden (out-Function f.value).body.value)
+
+def_is : (at : Pos) (f : Rc Function Global) → statement_at at (s.Def f) ≡ st.Def at (trees (out-Function f.value).decorators.value.items) (out-Function f.value).at (out-Function f.value).name (parameters (out-Function f.value).params.value.items) (some_tree (out-Function f.value).returns) (block (out-Function f.value).body.value.items)
+def_is at f = subst (λ y. statement_at at (s.Def (record { ptr = f.ptr; value = y })) ≡ st.Def at (trees (out-Function f.value).decorators.value.items) (out-Function f.value).at (out-Function f.value).name (parameters (out-Function f.value).params.value.items) (some_tree (out-Function f.value).returns) (block (out-Function f.value).body.value.items)) (roll-out-Function f.value) (def_rolled at f)
+
+full_behind : (before : Trees) (e : Rc Expr Global) (es : List (Rc Expr Global)) → is_empty (trees_behind before (e ∷ es)) ≡ false
+full_behind before e [] = refl
+full_behind before e (x ∷ es) = full_behind (More before (tree e.value)) x es
+
+empty_is : (es : List (Rc Expr Global)) → is_empty (trees es) ≡ no_exprs es
+empty_is [] = refl
+empty_is (e ∷ es) = full_behind Empty e es
+
+module _ (at : Pos) (kind : StmtKind) where
+  pub if_form : (all : Rc (Vec branch.Branch Global) Global) (other : Rc (Vec Stmt Global) Global) (a b : Bool) → kind ≡ s.If all other → a ≡ branch_list_built all.value.items → b ≡ stmts_built other.value.items → (a && b) ≡ statement_built (statement_at at kind)
+  if_form all other a b is p q = rw (is, p, q) (ap (λ v. v && stmts_built other.value.items) (sym (branches_row all.value)) ∙ ap (λ v. branches_built (branches_on NoBranch (hide_branches all.value)) && v) (sym (block_row other.value)))
+
+  pub while_form : (e : Rc Expr Global) (body : Rc (Vec Stmt Global) Global) (a b : Bool) → kind ≡ s.While e body → a ≡ built (tree e.value) → b ≡ stmts_built body.value.items → (a && b) ≡ statement_built (statement_at at kind)
+  while_form e body a b is p q = rw (is, p, q) (ap (λ v. built (tree e.value) && v) (sym (block_row body.value)))
+
+  pub def_form : (f : Rc Function Global) (r : Bool) → kind ≡ s.Def f → r ≡ function_is_built f.value → r ≡ statement_built (statement_at at kind)
+  def_form f r is p = rw (is, p)
+      (ap (λ v. v && (is_absent (some_tree (out-Function f.value).returns) && (params_built (parameters (out-Function f.value).params.value.items) && stmts_built (out-Function f.value).body.value.items))) (sym (empty_is (out-Function f.value).decorators.value.items))
+      ∙ ap (λ v. is_empty (trees (out-Function f.value).decorators.value.items) && (is_absent (some_tree (out-Function f.value).returns) && (params_built (parameters (out-Function f.value).params.value.items) && v))) (sym (block_is (out-Function f.value).body.value.items))
+      ∙ ap statement_built (sym (def_is at f)))
+
+pub ruleset forms = (if_form, while_form, def_form)
+
+pub ruleset modules = (block_is)

@@ -1,0 +1,235 @@
+-- THE FIRST PLACE IN AN EXPRESSION, as the code goes about it.
+use Rattle.std.proofs.Common.{◌≡◌, ℕ, ◌+◌, ◌<◌, Bool, true, false, not, cond, List, [], ◌∷◌, ◌++◌, Option, Some, None, length, drop, get_or, refl, sym, ap, ◌∙◌, append_assoc, append-nil, Vec, Global}
+use Rattle.std.specs.declared.rc.Rc.{Rc}
+use Rattle.std.proofs.lemmas.List.{at_drop_more}
+use Rattle.py_source.specs.declared.pos.Pos.{Pos}
+use Rattle.py_tree.specs.declared.op.CmpOp.{CmpOp}
+use Rattle.py_tree.specs.declared.op.BinOp.{BinOp}
+use Rattle.py_tree.specs.declared.expr.ArgName.{ArgName}
+use Rattle.py_tree.specs.declared.expr.Expr.{Expr}
+use Rattle.py_tree.specs.declared.expr.ExprKind.{ExprKind}
+use Rattle.py_tree.specs.declared.expr.ExprKind.TheVariants as v
+use Rattle.py_tree.specs.Trees.{Tree, Trees, Empty, More, Slice, tree_at, tree, trees_on, trees_behind, trees, some_tree}
+use Rattle.py_tree.specs.declared.expr.ExprKind.TheBlock.{hidden-the_row-ExprKind-Tuple-0-1-0 as hide}
+use Rattle.py_tree.specs.Names.{is_among}
+use Rattle.py_tree.proofs.Rows.{trees_hidden}
+use Rattle.py_expressions.specs.Values.{at_of}
+use Rattle.py_nodes.proofs.Forms.{place_is}
+use Rattle.py_grammar.specs.Context.{first_place, all_places, by_turns, is_first, wrong_arguments, unless, in_tree, each, in_maybe, in_trees}
+use Rattle.py_context.specs.First.{sooner, some_given, wrong_name, with_name}
+use Rattle.py_context.specs.declared.expressions.Part.{Part}
+use Rattle.py_context.specs.Parts.{part, firsts, first_of, first_by_turns, first_argument}
+
+pub first_append : (xs ys : List Pos) → first_place (xs ++ ys) ≡ sooner (first_place xs) (first_place ys)
+first_append [] ys = refl
+first_append (x ∷ xs) ys = refl
+
+pub first_left : (xs ys : List Pos) (at : Pos) → Some at ≡ first_place xs → Some at ≡ first_place (xs ++ ys)
+first_left xs ys at h = ap (λ x. sooner x (first_place ys)) h ∙ sym (first_append xs ys)
+
+pub first_right : (xs ys : List Pos) (r : Option Pos) → None ≡ first_place xs → r ≡ first_place ys → r ≡ first_place (xs ++ ys)
+first_right xs ys r h i = i ∙ ap (λ x. sooner x (first_place ys)) h ∙ sym (first_append xs ys)
+
+pub ruleset join_rules = (first_left, first_right)
+
+pub three_append : (x y z : List Pos) → first_place (x ++ (y ++ z)) ≡ sooner (first_place x) (sooner (first_place y) (first_place z))
+three_append x y z = first_append x (y ++ z) ∙ ap (λ w. sooner (first_place x) w) (first_append y z)
+
+pub slice_is : (e x y z : List Pos) → first_place (e ++ (x ++ (y ++ z))) ≡ sooner (first_place e) (sooner (first_place x) (sooner (first_place y) (first_place z)))
+slice_is e x y z = first_append e (x ++ (y ++ z)) ∙ ap (λ w. sooner (first_place e) w) (first_append x (y ++ z) ∙ ap (λ w. sooner (first_place x) w) (first_append y z))
+
+-- PARTS, as the definition goes about them
+abbrev pub seen : Pos × List Pos → Part
+seen x = record { at = x.0; first = first_place x.1 }
+
+abbrev pub all_seen : List (Pos × List Pos) → List Part
+all_seen [] = []
+all_seen (x ∷ xs) = seen x ∷ all_seen xs
+
+pub places_are : (xs : List (Pos × List Pos)) → first_place (all_places xs) ≡ first_of (all_seen xs)
+places_are [] = refl
+places_are (x ∷ xs) = first_append x.1 (all_places xs) ∙ ap (λ y. sooner (first_place x.1) y) (places_are xs)
+
+sooner_assoc : (x y z : Option Pos) → sooner x (sooner y z) ≡ sooner (sooner x y) z
+sooner_assoc None y z = refl
+sooner_assoc (Some at) y z = refl
+
+pub turns_are : (xs ys : List (Pos × List Pos)) → first_place (by_turns xs ys) ≡ first_by_turns (all_seen xs) (all_seen ys)
+turns_are [] ys = places_are ys
+turns_are (x ∷ xs) [] = places_are (x ∷ xs)
+turns_are (x ∷ xs) (y ∷ ys) = three_append x.1 y.1 (by_turns xs ys) ∙ sooner_assoc (first_place x.1) (first_place y.1) (first_place (by_turns xs ys)) ∙ ap (λ z. sooner (sooner (first_place x.1) (first_place y.1)) z) (turns_are xs ys)
+
+wrong_none : (before : List (List ℕ)) (xs : List (Pos × List Pos)) → wrong_arguments before [] xs ≡ all_places xs
+wrong_none before [] = refl
+wrong_none before (x ∷ xs) = ap (λ y. x.1 ++ y) (wrong_none before xs)
+
+taken_name : (before : List (List ℕ)) (n : ArgName) → first_place (unless (not (is_among before n.name)) n.at) ≡ cond (is_among before n.name) (Some n.at) None
+taken_name before n = go (is_among before n.name)
+  where
+    go : (b : Bool) → first_place (unless (not b) n.at) ≡ cond b (Some n.at) None
+    go true = refl
+    go false = refl
+
+unnamed_late : (before : List (List ℕ)) (at : Pos) → first_place (unless (is_first before) at) ≡ some_given before at
+unnamed_late [] at = refl
+unnamed_late (x ∷ xs) at = refl
+
+pub arguments_are : (before : List (List ℕ)) (names : List (Option ArgName)) (xs : List (Pos × List Pos)) → first_place (wrong_arguments before names xs) ≡ first_argument before names (all_seen xs)
+arguments_are before [] [] = refl
+arguments_are before (n ∷ names) [] = refl
+arguments_are before [] (x ∷ xs) = ap first_place (wrong_none before (x ∷ xs)) ∙ places_are (x ∷ xs)
+arguments_are before (None ∷ names) (x ∷ xs) = three_append (unless (is_first before) x.0) x.1 (wrong_arguments before names xs) ∙ sooner_assoc (first_place (unless (is_first before) x.0)) (first_place x.1) (first_place (wrong_arguments before names xs)) ∙ ap (λ z. sooner (sooner z (first_place x.1)) (first_place (wrong_arguments before names xs))) (unnamed_late before x.0) ∙ ap (λ z. sooner (sooner (some_given before x.0) (first_place x.1)) z) (arguments_are before names xs)
+arguments_are before (Some n ∷ names) (x ∷ xs) = three_append (unless (not (is_among before n.name)) n.at) x.1 (wrong_arguments (before ++ n.name ∷ []) names xs) ∙ sooner_assoc (first_place (unless (not (is_among before n.name)) n.at)) (first_place x.1) (first_place (wrong_arguments (before ++ n.name ∷ []) names xs)) ∙ ap (λ z. sooner (sooner z (first_place x.1)) (first_place (wrong_arguments (before ++ n.name ∷ []) names xs))) (taken_name before n) ∙ ap (λ z. sooner (sooner (cond (is_among before n.name) (Some n.at) None) (first_place x.1)) z) (arguments_are (before ++ n.name ∷ []) names xs)
+
+seen_append : (xs ys : List (Pos × List Pos)) → all_seen (xs ++ ys) ≡ all_seen xs ++ all_seen ys
+seen_append [] ys = refl
+seen_append (x ∷ xs) ys = ap (λ z. seen x ∷ z) (seen_append xs ys)
+
+seen_behind : (before : Trees) (es : List (Rc Expr Global)) → all_seen (each (trees_behind before es)) ≡ all_seen (each before) ++ firsts es
+seen_behind before [] = sym (append-nil (all_seen (each before)))
+seen_behind before (e ∷ es) = seen_behind (More before (tree e.value)) es ∙ ap (λ z. z ++ firsts es) (seen_append (each before) ((at_of (tree e.value), in_tree (tree e.value)) ∷ [])) ∙ append_assoc (all_seen (each before)) (part e.value ∷ []) (firsts es)
+
+pub seen_is : (es : List (Rc Expr Global)) → all_seen (each (trees es)) ≡ firsts es
+seen_is es = seen_behind Empty es
+
+pub all_firsts : (es : List (Rc Expr Global)) → first_of (firsts es) ≡ first_place (in_trees (trees es))
+all_firsts es = ap first_of (sym (seen_is es)) ∙ sym (places_are (each (trees es)))
+
+rows_are : (es : Vec (Rc Expr Global) Global) → all_seen (each (trees_on Empty (hide es))) ≡ firsts es.items
+rows_are es = ap (λ x. all_seen (each x)) (trees_hidden es) ∙ seen_is es.items
+
+-- LOOPS
+pub part_found : (ps rest : List Part) (p : Part) (at : Pos) (whole : Option Pos) → ps ≡ p ∷ rest → p.first ≡ Some at → first_of ps ≡ whole → Some at ≡ whole
+part_found ps rest p at whole h q w = ap (λ x. sooner x (first_of rest)) (sym q) ∙ ap first_of (sym h) ∙ w
+
+pub part_on : (ps rest : List Part) (p : Part) (whole : Option Pos) → ps ≡ p ∷ rest → p.first ≡ None → first_of ps ≡ whole → first_of rest ≡ whole
+part_on ps rest p whole h q w = ap (λ x. sooner x (first_of rest)) (sym q) ∙ ap first_of (sym h) ∙ w
+
+pub part_none : (ps : List Part) (whole : Option Pos) → ps ≡ [] → first_of ps ≡ whole → None ≡ whole
+part_none ps whole h w = ap first_of (sym h) ∙ w
+
+pub turns_over : (ks vs : List Part) (whole : Option Pos) → ks ≡ [] → first_by_turns ks vs ≡ whole → first_of vs ≡ whole
+turns_over ks vs whole h w = ap (λ x. first_by_turns x vs) (sym h) ∙ w
+
+pub turns_keys : (ks vs rest : List Part) (k : Part) (whole : Option Pos) → ks ≡ k ∷ rest → vs ≡ [] → first_by_turns ks vs ≡ whole → first_of ks ≡ whole
+turns_keys ks vs rest k whole h q w = ap first_of h ∙ ap (λ x. first_by_turns x []) (sym h) ∙ ap (λ x. first_by_turns ks x) (sym q) ∙ w
+
+turns_split : (ks vs further others : List Part) (k v : Part) (whole : Option Pos) → ks ≡ k ∷ further → vs ≡ v ∷ others → first_by_turns ks vs ≡ whole → sooner (sooner k.first v.first) (first_by_turns further others) ≡ whole
+turns_split ks vs further others k v whole h q w = ap (λ x. first_by_turns x (v ∷ others)) (sym h) ∙ ap (λ x. first_by_turns ks x) (sym q) ∙ w
+
+pub turns_found : (ks vs further others : List Part) (k v : Part) (at : Pos) (whole : Option Pos) → ks ≡ k ∷ further → vs ≡ v ∷ others → Some at ≡ sooner k.first v.first → first_by_turns ks vs ≡ whole → Some at ≡ whole
+turns_found ks vs further others k v at whole h q s w = ap (λ x. sooner x (first_by_turns further others)) s ∙ turns_split ks vs further others k v whole h q w
+
+pub turns_next : (ks vs further others : List Part) (k v : Part) (whole : Option Pos) → ks ≡ k ∷ further → vs ≡ v ∷ others → None ≡ sooner k.first v.first → first_by_turns ks vs ≡ whole → first_by_turns further others ≡ whole
+turns_next ks vs further others k v whole h q s w = ap (λ x. sooner x (first_by_turns further others)) s ∙ turns_split ks vs further others k v whole h q w
+
+pub argument_none : (before : List (List ℕ)) (names : List (Option ArgName)) (ps : List Part) (whole : Option Pos) → ps ≡ [] → first_argument before names ps ≡ whole → None ≡ whole
+argument_none before names ps whole h w = none names ∙ ap (first_argument before names) (sym h) ∙ w
+  where
+    none : (names : List (Option ArgName)) → None ≡ first_argument before names []
+    none [] = refl
+    none (n ∷ ns) = refl
+
+pub argument_unnamed : (before : List (List ℕ)) (names : List (Option ArgName)) (ps rest : List Part) (p : Part) (whole : Option Pos) → ps ≡ p ∷ rest → names ≡ [] → first_argument before names ps ≡ whole → first_of ps ≡ whole
+argument_unnamed before names ps rest p whole h q w = ap first_of h ∙ ap (first_argument before []) (sym h) ∙ ap (λ x. first_argument before x ps) (sym q) ∙ w
+
+argument_split : (before : List (List ℕ)) (names further : List (Option ArgName)) (n : Option ArgName) (ps rest : List Part) (p : Part) (whole : Option Pos) → names ≡ n ∷ further → ps ≡ p ∷ rest → first_argument before names ps ≡ whole → sooner (sooner (wrong_name before n p.at) p.first) (first_argument (with_name before n) further rest) ≡ whole
+argument_split before names further n ps rest p whole h q w = ap (λ x. first_argument before x (p ∷ rest)) (sym h) ∙ ap (first_argument before names) (sym q) ∙ w
+
+pub argument_found : (before : List (List ℕ)) (names further : List (Option ArgName)) (n : Option ArgName) (ps rest : List Part) (p : Part) (wrong : Option Pos) (at : Pos) (whole : Option Pos) → names ≡ n ∷ further → ps ≡ p ∷ rest → wrong ≡ wrong_name before n p.at → Some at ≡ sooner wrong p.first → first_argument before names ps ≡ whole → Some at ≡ whole
+argument_found before names further n ps rest p wrong at whole h q r s w = ap (λ x. sooner x (first_argument (with_name before n) further rest)) (s ∙ ap (λ x. sooner x p.first) r) ∙ argument_split before names further n ps rest p whole h q w
+
+pub argument_next : (before more : List (List ℕ)) (names further : List (Option ArgName)) (n : Option ArgName) (ps rest : List Part) (p : Part) (wrong whole : Option Pos) → names ≡ n ∷ further → ps ≡ p ∷ rest → wrong ≡ wrong_name before n p.at → None ≡ sooner wrong p.first → more ≡ with_name before n → first_argument before names ps ≡ whole → first_argument more further rest ≡ whole
+argument_next before more names further n ps rest p wrong whole h q r s m w = ap (λ x. first_argument x further rest) m ∙ ap (λ x. sooner x (first_argument (with_name before n) further rest)) (s ∙ ap (λ x. sooner x p.first) r) ∙ argument_split before names further n ps rest p whole h q w
+
+-- FORMS with rows of parts
+pub tuple_is : (at : Pos) (kind : ExprKind) (es : Rc (Vec (Rc Expr Global) Global) Global) → kind ≡ v.Tuple es → first_of (firsts es.value.items) ≡ first_place (in_tree (tree_at at kind))
+tuple_is at kind es h = ap first_of (sym (rows_are es.value)) ∙ sym (places_are (each (trees_on Empty (hide es.value)))) ∙ ap (λ k. first_place (in_tree (tree_at at k))) (sym h)
+
+pub list_is : (at : Pos) (kind : ExprKind) (es : Rc (Vec (Rc Expr Global) Global) Global) → kind ≡ v.List es → first_of (firsts es.value.items) ≡ first_place (in_tree (tree_at at kind))
+list_is at kind es h = ap first_of (sym (rows_are es.value)) ∙ sym (places_are (each (trees_on Empty (hide es.value)))) ∙ ap (λ k. first_place (in_tree (tree_at at k))) (sym h)
+
+pub dict_is : (at : Pos) (kind : ExprKind) (ks es : Rc (Vec (Rc Expr Global) Global) Global) → kind ≡ v.Dict ks es → first_by_turns (firsts ks.value.items) (firsts es.value.items) ≡ first_place (in_tree (tree_at at kind))
+dict_is at kind ks es h = ap (λ x. first_by_turns x (firsts es.value.items)) (sym (rows_are ks.value)) ∙ ap (λ x. first_by_turns (all_seen (each (trees_on Empty (hide ks.value)))) x) (sym (rows_are es.value)) ∙ sym (turns_are (each (trees_on Empty (hide ks.value))) (each (trees_on Empty (hide es.value)))) ∙ ap (λ k. first_place (in_tree (tree_at at k))) (sym h)
+
+pub call_is : (at : Pos) (kind : ExprKind) (f : Rc Expr Global) (es : Rc (Vec (Rc Expr Global) Global) Global) (names : Rc (Vec (Option ArgName) Global) Global) → kind ≡ v.Call f es names → sooner (first_place (in_tree (tree f.value))) (first_argument [] names.value.items (firsts es.value.items)) ≡ first_place (in_tree (tree_at at kind))
+call_is at kind f es names h = ap (λ x. sooner (first_place (in_tree (tree f.value))) (first_argument [] names.value.items x)) (sym (rows_are es.value)) ∙ ap (λ x. sooner (first_place (in_tree (tree f.value))) x) (sym (arguments_are [] names.value.items (each (trees_on Empty (hide es.value))))) ∙ sym (first_append (in_tree (tree f.value)) _) ∙ ap (λ k. first_place (in_tree (tree_at at k))) (sym h)
+
+chained : (e : Tree) (es : Rc (Vec (Rc Expr Global) Global) Global) → sooner (first_place (in_tree e)) (first_of (firsts es.value.items)) ≡ first_place (in_tree e ++ all_places (each (trees_on Empty (hide es.value))))
+chained e es = ap (λ x. sooner (first_place (in_tree e)) (first_of x)) (sym (rows_are es.value)) ∙ ap (λ x. sooner (first_place (in_tree e)) x) (sym (places_are (each (trees_on Empty (hide es.value))))) ∙ sym (first_append (in_tree e) _)
+
+pub compare_is : (at : Pos) (kind : ExprKind) (l : Rc Expr Global) (ops : Rc (Vec CmpOp Global) Global) (es : Rc (Vec (Rc Expr Global) Global) Global) → kind ≡ v.Compare l ops es → sooner (first_place (in_tree (tree l.value))) (first_of (firsts es.value.items)) ≡ first_place (in_tree (tree_at at kind))
+compare_is at kind l ops es h = chained (tree l.value) es ∙ ap (λ k. first_place (in_tree (tree_at at k))) (sym h)
+
+pub and_is : (at : Pos) (kind : ExprKind) (l : Rc Expr Global) (es : Rc (Vec (Rc Expr Global) Global) Global) → kind ≡ v.And l es → sooner (first_place (in_tree (tree l.value))) (first_of (firsts es.value.items)) ≡ first_place (in_tree (tree_at at kind))
+and_is at kind l es h = chained (tree l.value) es ∙ ap (λ k. first_place (in_tree (tree_at at k))) (sym h)
+
+pub or_is : (at : Pos) (kind : ExprKind) (l : Rc Expr Global) (es : Rc (Vec (Rc Expr Global) Global) Global) → kind ≡ v.Or l es → sooner (first_place (in_tree (tree l.value))) (first_of (firsts es.value.items)) ≡ first_place (in_tree (tree_at at kind))
+or_is at kind l es h = chained (tree l.value) es ∙ ap (λ k. first_place (in_tree (tree_at at k))) (sym h)
+
+pub ruleset first_rules = (part_found, part_on, part_none)
+
+pub ruleset turn_rules = (turns_over, turns_keys, turns_found, turns_next)
+
+pub ruleset argument_rules = (argument_none, argument_unnamed, argument_found, argument_next)
+
+slice_tree : (at : Pos) (e : Rc Expr Global) (x y z : Option (Rc Expr Global)) → tree_at at (v.Slice e x y z) ≡ Slice at (tree e.value) (some_tree x) (some_tree y) (some_tree z)
+slice_tree at e None None None = refl
+slice_tree at e None None (Some z) = refl
+slice_tree at e None (Some y) None = refl
+slice_tree at e None (Some y) (Some z) = refl
+slice_tree at e (Some x) None None = refl
+slice_tree at e (Some x) None (Some z) = refl
+slice_tree at e (Some x) (Some y) None = refl
+slice_tree at e (Some x) (Some y) (Some z) = refl
+
+abbrev pub part_at : Pos → Option Pos → Part
+part_at at first = record { at = at; first = first }
+
+-- one more part
+pub each_goes : (es : List (Rc Expr Global)) (i : ℕ) (e : Rc Expr Global) (x y : Expr) (first : Option Pos) (ps qs whole : List Part) → i < length es → e ≡ get_or es i e → x ≡ e.value → y ≡ e.value → first ≡ first_place (in_tree (tree x)) → qs ≡ ps ++ part_at y.at first ∷ [] → ps ++ firsts (drop i es) ≡ whole → qs ++ firsts (drop (i + 1) es) ≡ whole
+each_goes es i e x y first ps qs whole h is p q f g w =
+    ap (λ z. z ++ firsts (drop (i + 1) es)) (g ∙ ap (λ z. ps ++ z ∷ []) same) ∙ append_assoc ps (part e.value ∷ []) (firsts (drop (i + 1) es)) ∙ ap (λ z. ps ++ z) (sym step) ∙ w
+  where
+    same : part_at y.at first ≡ part e.value
+    same = ap (λ a. part_at a first) (ap (λ z. z.at) q ∙ sym (place_is e.value)) ∙ ap (part_at (at_of (tree e.value))) (f ∙ ap (λ z. first_place (in_tree (tree z))) p)
+
+    step : firsts (drop i es) ≡ part e.value ∷ firsts (drop (i + 1) es)
+    step = at_drop_more firsts es i e h ∙ ap (λ z. firsts (z ∷ drop (i + 1) es)) (sym is)
+
+-- FORM BY FORM, as the code meets them: what the calls gave, and what they say of the parts
+module _ (at : Pos) (kind : ExprKind) where
+  pub tuple_form : (es : Rc (Vec (Rc Expr Global) Global) Global) (ps : List Part) (r : Option Pos) → kind ≡ v.Tuple es → ps ≡ firsts es.value.items → r ≡ first_of ps → r ≡ first_place (in_tree (tree_at at kind))
+  tuple_form es ps r is p q = q ∙ ap first_of p ∙ tuple_is at kind es is
+
+  pub list_form : (es : Rc (Vec (Rc Expr Global) Global) Global) (ps : List Part) (r : Option Pos) → kind ≡ v.List es → ps ≡ firsts es.value.items → r ≡ first_of ps → r ≡ first_place (in_tree (tree_at at kind))
+  list_form es ps r is p q = q ∙ ap first_of p ∙ list_is at kind es is
+
+  pub dict_form : (ks es : Rc (Vec (Rc Expr Global) Global) Global) (ps qs : List Part) (r : Option Pos) → kind ≡ v.Dict ks es → ps ≡ firsts ks.value.items → qs ≡ firsts es.value.items → r ≡ first_by_turns ps qs → r ≡ first_place (in_tree (tree_at at kind))
+  dict_form ks es ps qs r is p q h = h ∙ ap (λ x. first_by_turns x qs) p ∙ ap (first_by_turns (firsts ks.value.items)) q ∙ dict_is at kind ks es is
+
+  pub call_form : (f : Rc Expr Global) (es : Rc (Vec (Rc Expr Global) Global) Global) (names : Rc (Vec (Option ArgName) Global) Global) (a b r : Option Pos) (ps : List Part) → kind ≡ v.Call f es names → a ≡ first_place (in_tree (tree f.value)) → ps ≡ firsts es.value.items → b ≡ first_argument [] names.value.items ps → r ≡ sooner a b → r ≡ first_place (in_tree (tree_at at kind))
+  call_form f es names a b r ps is p q h i = i ∙ ap (λ x. sooner x b) p ∙ ap (λ x. sooner (first_place (in_tree (tree f.value))) x) (h ∙ ap (first_argument [] names.value.items) q) ∙ call_is at kind f es names is
+
+  pub compare_form : (l : Rc Expr Global) (ops : Rc (Vec CmpOp Global) Global) (es : Rc (Vec (Rc Expr Global) Global) Global) (a b r : Option Pos) (ps : List Part) → kind ≡ v.Compare l ops es → a ≡ first_place (in_tree (tree l.value)) → ps ≡ firsts es.value.items → b ≡ first_of ps → r ≡ sooner a b → r ≡ first_place (in_tree (tree_at at kind))
+  compare_form l ops es a b r ps is p q h i = i ∙ ap (λ x. sooner x b) p ∙ ap (λ x. sooner (first_place (in_tree (tree l.value))) x) (h ∙ ap first_of q) ∙ compare_is at kind l ops es is
+
+  pub and_form : (l : Rc Expr Global) (es : Rc (Vec (Rc Expr Global) Global) Global) (a b r : Option Pos) (ps : List Part) → kind ≡ v.And l es → a ≡ first_place (in_tree (tree l.value)) → ps ≡ firsts es.value.items → b ≡ first_of ps → r ≡ sooner a b → r ≡ first_place (in_tree (tree_at at kind))
+  and_form l es a b r ps is p q h i = i ∙ ap (λ x. sooner x b) p ∙ ap (λ x. sooner (first_place (in_tree (tree l.value))) x) (h ∙ ap first_of q) ∙ and_is at kind l es is
+
+  pub or_form : (l : Rc Expr Global) (es : Rc (Vec (Rc Expr Global) Global) Global) (a b r : Option Pos) (ps : List Part) → kind ≡ v.Or l es → a ≡ first_place (in_tree (tree l.value)) → ps ≡ firsts es.value.items → b ≡ first_of ps → r ≡ sooner a b → r ≡ first_place (in_tree (tree_at at kind))
+  or_form l es a b r ps is p q h i = i ∙ ap (λ x. sooner x b) p ∙ ap (λ x. sooner (first_place (in_tree (tree l.value))) x) (h ∙ ap first_of q) ∙ or_is at kind l es is
+
+  pub subscript_form : (e i : Rc Expr Global) (a b r : Option Pos) → kind ≡ v.Subscript e i → a ≡ first_place (in_tree (tree e.value)) → b ≡ first_place (in_tree (tree i.value)) → r ≡ sooner a b → r ≡ first_place (in_tree (tree_at at kind))
+  subscript_form e i a b r is p q h = rw (is, h, p, q) (sym (first_append (in_tree (tree e.value)) (in_tree (tree i.value))))
+
+  pub binary_form : (e i : Rc Expr Global) (op : BinOp) (a b r : Option Pos) → kind ≡ v.Binary e op i → a ≡ first_place (in_tree (tree e.value)) → b ≡ first_place (in_tree (tree i.value)) → r ≡ sooner a b → r ≡ first_place (in_tree (tree_at at kind))
+  binary_form e i op a b r is p q h = rw (is, h, p, q) (sym (first_append (in_tree (tree e.value)) (in_tree (tree i.value))))
+
+  pub choice_form : (e i o : Rc Expr Global) (a b c d r : Option Pos) → kind ≡ v.IfElse e i o → a ≡ first_place (in_tree (tree e.value)) → b ≡ first_place (in_tree (tree i.value)) → c ≡ first_place (in_tree (tree o.value)) → d ≡ sooner b c → r ≡ sooner a d → r ≡ first_place (in_tree (tree_at at kind))
+  choice_form e i o a b c d r is p q s h k = rw (is, k, h, p, q, s) (sym (three_append (in_tree (tree e.value)) (in_tree (tree i.value)) (in_tree (tree o.value))))
+
+  pub slice_form : (e : Rc Expr Global) (x y z : Option (Rc Expr Global)) (a b c d m n r : Option Pos) → kind ≡ v.Slice e x y z → a ≡ first_place (in_tree (tree e.value)) → b ≡ first_place (in_maybe (some_tree x)) → c ≡ first_place (in_maybe (some_tree y)) → d ≡ first_place (in_maybe (some_tree z)) → m ≡ sooner c d → n ≡ sooner b m → r ≡ sooner a n → r ≡ first_place (in_tree (tree_at at kind))
+  slice_form e x y z a b c d m n r is p q s t h i k = rw (is, k, i, h, p, q, s, t) (sym (slice_is (in_tree (tree e.value)) (in_maybe (some_tree x)) (in_maybe (some_tree y)) (in_maybe (some_tree z))) ∙ ap (λ u. first_place (in_tree u)) (sym (slice_tree at e x y z)))
+
+pub ruleset form_rules = (tuple_form, list_form, dict_form, call_form, compare_form, and_form, or_form, subscript_form, binary_form, choice_form, slice_form)

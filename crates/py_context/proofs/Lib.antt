@@ -1,0 +1,2 @@
+pub mod ExpressionPlaces
+pub mod StatementPlaces

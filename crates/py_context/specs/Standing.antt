@@ -1,0 +1,13 @@
+-- Where a statement stands, as the definition says it.
+use Rattle.py_grammar.specs.Context as c
+use Rattle.py_context.specs.declared.statements.Scope.{Scope}
+use Rattle.py_context.specs.declared.statements.Scope.TheVariants as s
+use Rattle.py_context.specs.declared.statements.Where.{Where}
+
+abbrev pub scope_of : Scope → c.Scope
+scope_of s.Module = c.OfModule
+scope_of s.Class = c.OfClass
+scope_of s.Function = c.OfFunction
+
+abbrev pub where_of : Where → c.Where
+where_of w = record { scope = scope_of w.scope; in_loop = w.in_loop; may_yield = w.may_yield }

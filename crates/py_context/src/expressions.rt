@@ -1,0 +1,246 @@
+ghost use Rattle.std.specs.Prelude.{◌≡◌, ◌∷◌, [], IfOk, MatchOption};
+ghost use Rattle.py_tree.specs.Trees.{tree, trees, some_tree};
+ghost use Rattle.py_tree.specs.Names.{is_among};
+ghost use Rattle.py_grammar.specs.Context.{first_place, in_tree, in_trees, in_maybe};
+ghost use Rattle.py_context.specs.First.{sooner, wrong_name, with_name};
+ghost use Rattle.py_context.specs.Parts.{firsts, first_of, first_by_turns, first_argument};
+
+use py_source::{Pos, SrcText};
+use py_tree::{ArgName, Expr, ExprKind};
+use seq::OutOfMemory;
+use std::alloc::Global;
+use std::rc::Rc;
+
+/// A part of an expression: where it begins, and the first place in it where something may not stand.
+#[derive(Clone, Copy, Debug)]
+pub struct Part {
+    pub at: Pos,
+    pub first: Option<Pos>,
+}
+
+/// Whether a name is one of some.
+pub fn is_one_of(names: &[SrcText], name: &SrcText) -> bool
+    ensures { result ≡ is_among names.now name.now }
+{
+    names.iter().any(|n| n == name)
+}
+
+/// The first of two places, of which the first stands before the second.
+pub fn sooner(first: Option<Pos>, second: Option<Pos>) -> Option<Pos>
+    ensures { result ≡ sooner first second }
+{
+    match first {
+        Some(at) => Some(at),
+        None => second,
+    }
+}
+
+/// The first of some parts, and those behind it.
+fn parted(parts: &[Part]) -> Option<(&Part, &[Part])>
+    ensures { MatchOption result (parts.now ≡ []) (λ x. parts.now ≡ x.0.now ∷ x.1.now) }
+{
+    match parts {
+        [first, rest @ ..] => Some((first, rest)),
+        [] => None,
+    }
+}
+
+/// The first of some names, and those behind it.
+fn named(names: &[Option<ArgName>]) -> Option<(&Option<ArgName>, &[Option<ArgName>])>
+    ensures { MatchOption result (names.now ≡ []) (λ x. names.now ≡ x.0.now ∷ x.1.now) }
+{
+    match names {
+        [first, rest @ ..] => Some((first, rest)),
+        [] => None,
+    }
+}
+
+/// The first place in parts.
+#[tactic(auto, using(crate::proofs::ExpressionPlaces::first_rules))]
+fn first_of(parts: &[Part]) -> Option<Pos>
+    ensures { result ≡ first_of parts.now }
+{
+    let mut parts = parts;
+    while let Some((part, rest)) = parted(parts) {
+        if let Some(at) = part.first {
+            return Some(at);
+        }
+        parts = rest;
+    }
+    None
+}
+
+/// The first place in keys and the value of each.
+#[tactic(auto, using(crate::proofs::ExpressionPlaces::turn_rules))]
+fn first_by_turns(keys: &[Part], values: &[Part]) -> Option<Pos>
+    ensures { result ≡ first_by_turns keys.now values.now }
+{
+    let mut keys = keys;
+    let mut values = values;
+    while let Some((key, further)) = parted(keys) {
+        let Some((value, others)) = parted(values) else {
+            return first_of(keys);
+        };
+        if let Some(at) = sooner(key.first, value.first) {
+            return Some(at);
+        }
+        keys = further;
+        values = others;
+    }
+    first_of(values)
+}
+
+/// The place of an argument that may not stand there: one without a name behind one with a name, or one whose name is given already.
+fn wrong_name(before: &[SrcText], name: &Option<ArgName>, at: Pos) -> Option<Pos>
+    ensures { result ≡ wrong_name before.now name.now at }
+{
+    match name {
+        Some(given) if is_one_of(before, &given.name) => Some(given.at),
+        Some(_given) => None,
+        None if before.is_empty() => None,
+        None => Some(at),
+    }
+}
+
+/// The names given so far, with that of one more argument, if it has one.
+fn with_name(before: Vec<SrcText>, name: &Option<ArgName>) -> Result<Vec<SrcText>, OutOfMemory>
+    ensures { IfOk result (λ all. all.items ≡ with_name before.items name.now) }
+{
+    let mut before = before;
+    if let Some(given) = name {
+        before.push(given.name.clone()?)?;
+    }
+    Ok(before)
+}
+
+/// The first place in arguments with their names.
+#[tactic(auto, using(crate::proofs::ExpressionPlaces::argument_rules))]
+fn first_argument(
+    alloc: Global,
+    names: &[Option<ArgName>],
+    arguments: &[Part],
+) -> Result<Option<Pos>, OutOfMemory>
+    ensures { IfOk result (λ at. at ≡ first_argument [] names.now arguments.now) }
+{
+    let mut before = Vec::new(alloc);
+    let mut names = names;
+    let mut arguments = arguments;
+    while let Some((argument, others)) = parted(arguments) {
+        let Some((name, further)) = named(names) else {
+            return Ok(first_of(arguments));
+        };
+        if let Some(at) = sooner(wrong_name(&before, name, argument.at), argument.first) {
+            return Ok(Some(at));
+        }
+        before = with_name(before, name)?;
+        names = further;
+        arguments = others;
+    }
+    Ok(None)
+}
+
+/// The first place in an expression where something may not stand.
+#[tactic(auto, using(crate::proofs::ExpressionPlaces::form_rules))]
+#[cycle(expression)]
+pub fn in_expr(alloc: Global, expr: &Expr) -> Result<Option<Pos>, OutOfMemory>
+    ensures { IfOk result (λ at. at ≡ first_place (in_tree (tree expr.now))) }
+{
+    match &expr.kind {
+        ExprKind::Name(_)
+        | ExprKind::Number(_)
+        | ExprKind::Text(_)
+        | ExprKind::True
+        | ExprKind::False
+        | ExprKind::None => Ok(None),
+        ExprKind::Paren(of) => in_expr(alloc, of),
+        ExprKind::Tuple(items) => Ok(first_of(&in_each(alloc, items)?)),
+        ExprKind::List(items) => Ok(first_of(&in_each(alloc, items)?)),
+        ExprKind::Dict(keys, values) => {
+            let keys = in_each(alloc, keys)?;
+            let values = in_each(alloc, values)?;
+            Ok(first_by_turns(&keys, &values))
+        }
+        ExprKind::Attribute(of, _) => in_expr(alloc, of),
+        ExprKind::Call(function, arguments, names) => {
+            let first = in_expr(alloc, function)?;
+            let arguments = in_each(alloc, arguments)?;
+            Ok(sooner(first, first_argument(alloc, names, &arguments)?))
+        }
+        ExprKind::Subscript(of, index) => Ok(sooner(in_expr(alloc, of)?, in_expr(alloc, index)?)),
+        ExprKind::Slice(of, from, to, by) => {
+            let first = in_expr(alloc, of)?;
+            let second = in_optional(alloc, from)?;
+            let third = in_optional(alloc, to)?;
+            let last = in_optional(alloc, by)?;
+            Ok(sooner(first, sooner(second, sooner(third, last))))
+        }
+        ExprKind::Unary(_, operand) => in_expr(alloc, operand),
+        ExprKind::Binary(left, _, right) => {
+            Ok(sooner(in_expr(alloc, left)?, in_expr(alloc, right)?))
+        }
+        ExprKind::Compare(first, _, further) => {
+            let first = in_expr(alloc, first)?;
+            Ok(sooner(first, first_of(&in_each(alloc, further)?)))
+        }
+        ExprKind::Not(operand) => in_expr(alloc, operand),
+        ExprKind::And(first, further) => {
+            let first = in_expr(alloc, first)?;
+            Ok(sooner(first, first_of(&in_each(alloc, further)?)))
+        }
+        ExprKind::Or(first, further) => {
+            let first = in_expr(alloc, first)?;
+            Ok(sooner(first, first_of(&in_each(alloc, further)?)))
+        }
+        ExprKind::IfElse(value, condition, other) => {
+            let first = in_expr(alloc, value)?;
+            let second = in_expr(alloc, condition)?;
+            Ok(sooner(first, sooner(second, in_expr(alloc, other)?)))
+        }
+    }
+}
+
+/// Each of some expressions, as a part.
+#[cycle(expression)]
+pub fn in_each(alloc: Global, items: &[Rc<Expr>]) -> Result<Vec<Part>, OutOfMemory>
+    ensures { IfOk result (λ all. all.items ≡ firsts items.now) }
+{
+    let mut all = Vec::new(alloc);
+    for item in items {
+        let first = in_expr(alloc, item)?;
+        all.push(Part { at: item.at, first })?;
+    }
+    Ok(all)
+}
+
+/// The first in a part that may be absent.
+#[cycle(expression)]
+pub fn in_optional(alloc: Global, part: &Option<Rc<Expr>>) -> Result<Option<Pos>, OutOfMemory>
+    ensures { IfOk result (λ at. at ≡ first_place (in_maybe (some_tree part.now))) }
+{
+    match part {
+        Some(part) => in_expr(alloc, part),
+        None => Ok(None),
+    }
+}
+
+/// The first in a part of an expression.
+pub fn in_part(alloc: Global, part: &Rc<Expr>) -> Result<Option<Pos>, OutOfMemory>
+    ensures { IfOk result (λ at. at ≡ first_place (in_tree (tree part.now.value))) }
+{
+    in_expr(alloc, part)
+}
+
+/// The first in two parts.
+pub fn in_two(alloc: Global, left: &Rc<Expr>, right: &Rc<Expr>) -> Result<Option<Pos>, OutOfMemory>
+    ensures { IfOk result (λ at. at ≡ sooner (first_place (in_tree (tree left.now.value))) (first_place (in_tree (tree right.now.value)))) }
+{
+    Ok(sooner(in_part(alloc, left)?, in_part(alloc, right)?))
+}
+
+/// The first in parts of an expression.
+#[tactic(auto, using(crate::proofs::ExpressionPlaces::all_firsts))]
+pub fn in_all(alloc: Global, parts: &Rc<Vec<Rc<Expr>>>) -> Result<Option<Pos>, OutOfMemory>
+    ensures { IfOk result (λ at. at ≡ first_place (in_trees (trees parts.now.value.items))) }
+{
+    Ok(first_of(&in_each(alloc, parts)?))
+}

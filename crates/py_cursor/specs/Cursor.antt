@@ -1,0 +1,48 @@
+-- What a function that reads tokens gives.
+use Rattle.std.specs.Prelude.{◌≡◌, ℕ, Bool, true, false, List, [], ◌∷◌, Result, Ok, Err}
+use Rattle.py_tokens.specs.declared.op.Op.{Op}
+use Rattle.py_tokens.specs.declared.token.Token.{Token}
+use Rattle.parsing.specs.Reading.{Read, Found, Bad, Deep}
+use Rattle.token_kinds.specs.Kinds.{op_number}
+use Rattle.py_cursor.specs.declared.cursor.Sign.{Sign}
+use Rattle.py_cursor.specs.declared.cursor.Sign.TheVariants as sign
+use Rattle.py_cursor.specs.declared.stop.Stop.{Stop}
+use Rattle.py_cursor.specs.declared.stop.Stop.TheVariants as stops
+
+-- the number of a kind
+abbrev pub number_on : Sign → ℕ
+number_on sign.Name = 0
+number_on sign.Number = 1
+number_on sign.Text = 2
+number_on sign.Newline = 3
+number_on sign.Indent = 4
+number_on sign.Dedent = 5
+number_on sign.End = 6
+number_on (sign.Op o) = op_number o
+
+abbrev pub kinds_of : List Sign → List ℕ
+kinds_of [] = []
+kinds_of (s ∷ set) = number_on s ∷ kinds_of set
+
+-- a table of operators, by their numbers
+abbrev pub rows_of : {V : Type 0} → List (Op × V) → List (ℕ × V)
+rows_of [] = []
+rows_of (r ∷ rows) = (op_number r.0, r.1) ∷ rows_of rows
+
+-- What a function returned is what the reader gives, unless memory ran out: the value and the tokens behind it, or the tokens from the fault on.
+abbrev pub FailsAs : {A : Type 0} → Stop → Read Token A → Type 0
+FailsAs (stops.Bad s) read = read ≡ Bad s.now
+FailsAs (stops.Deep s) read = read ≡ Deep s.now
+FailsAs stops.Memory read = Unit {0}
+
+abbrev pub Gives : {X A : Type 0} → (X → A × List Token) → Result X Stop → Read Token A → Type 0
+Gives seen (Ok x) read = read ≡ Found (seen x).0 (seen x).1
+Gives seen (Err e) read = FailsAs e read
+
+-- the fault where no level is left: the first token is too deep, where it begins what is read; else it is wrong
+abbrev pub IsBlocked : Bool → List Token → Stop → Type 0
+IsBlocked true ts (stops.Deep s) = s.now ≡ ts
+IsBlocked false ts (stops.Bad s) = s.now ≡ ts
+IsBlocked true ts (stops.Bad s) = ⊥
+IsBlocked false ts (stops.Deep s) = ⊥
+IsBlocked b ts stops.Memory = ⊥

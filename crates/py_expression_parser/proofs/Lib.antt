@@ -1,0 +1,7 @@
+pub mod Lines
+pub mod Ladder
+pub mod Texts
+pub mod Shapes
+pub mod Items
+pub mod Trailers
+pub mod Chains

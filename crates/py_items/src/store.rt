@@ -1,0 +1,207 @@
+// Stores and deletions of items.
+
+ghost use Rattle.std.specs.Prelude.{◌≡◌, ◌≤◌, IfOk, length, slice_get};
+ghost use Rattle.py_values.specs.Ends.{finished, within, steps_of};
+ghost use Rattle.py_values.specs.Keys.{key_of};
+ghost use Rattle.py_values.specs.Kinds as kinds;
+ghost use Rattle.py_values.specs.Numbers.{number_of};
+ghost use Rattle.py_values.specs.Pairs.{find_pair};
+ghost use Rattle.py_values.specs.declared.value.Value.TheVariants as val;
+ghost use Rattle.py_ops.specs.Faults as faults;
+ghost use Rattle.py_items.specs.Items as items;
+
+use crate::index::{Found, find_place};
+use py_ops::faults::{key_fault, no_index, no_key, not_subscriptable, out_of_range, too_long};
+use py_values::OutOfMemory;
+use py_values::change::Change;
+use py_values::dict::Dict;
+use py_values::end::{Made, OpEnd, finish, made_within};
+use py_values::heap::Heap;
+use py_values::key::Key;
+use py_values::keys::{Keyed, key};
+use py_values::limits::MOST_ELEMENTS;
+use py_values::number::number;
+use py_values::object::Obj;
+use py_values::value::{ObjId, Value};
+use std::alloc::Global;
+
+/// A pair stored in a dict, which has room for one more where the key is new.
+fn pair_put(
+    alloc: Global,
+    id: ObjId,
+    dict: &Dict,
+    k: Key,
+    at: Value,
+    v: Value,
+) -> Result<Made, OutOfMemory>
+    ensures { IfOk result (λ m. m ≡ items.pair_put id dict.now k at v) }
+{
+    let cost = k.cost();
+    if dict.get(&k).is_none() && dict.len() >= MOST_ELEMENTS {
+        return too_long(alloc, cost);
+    }
+    Ok(Made::Put(id, Change::Pair(k, at, v), Value::None, cost))
+}
+
+fn store_key(
+    alloc: Global,
+    heap: &Heap,
+    id: ObjId,
+    dict: &Dict,
+    at: Value,
+    v: Value,
+) -> Result<Made, OutOfMemory>
+    ensures { IfOk result (λ m. m ≡ items.store_key heap.now id dict.now at v (key_of heap.now at)) }
+{
+    match key(alloc, heap, at)? {
+        Keyed::Key(k) => pair_put(alloc, id, dict, k, at, v),
+        Keyed::Fault(fault, cost) => {
+            let raise = key_fault(alloc, heap, fault)?;
+            Ok(Made::Fail(raise, cost))
+        }
+    }
+}
+
+fn store_at(
+    alloc: Global,
+    id: ObjId,
+    len: usize,
+    index: Option<i128>,
+    v: Value,
+) -> Result<Made, OutOfMemory>
+    ensures { IfOk result (λ m. m ≡ items.store_at id len index v) }
+{
+    match find_place(len, index) {
+        Found::Place(at) => Ok(Made::Put(id, Change::Item(at, v), Value::None, 0)),
+        Found::Outside => out_of_range(alloc),
+        Found::NoNumber => no_index(alloc),
+    }
+}
+
+fn refused(alloc: Global, heap: &Heap, a: Value) -> Result<Made, OutOfMemory>
+    ensures { IfOk result (λ m. m ≡ Made.Fail (faults.not_subscriptable (kinds.kind_name heap.now a)) 0) }
+{
+    let raise = not_subscriptable(alloc, heap, a)?;
+    Ok(Made::Fail(raise, 0))
+}
+
+fn store_in(alloc: Global, heap: &Heap, id: ObjId, at: Value, v: Value) -> Result<Made, OutOfMemory>
+    ensures { IfOk result (λ m. m ≡ items.store_in heap.now (faults.not_subscriptable (kinds.kind_name heap.now (val.Ref id))) id (slice_get heap.now id.at) at v) }
+{
+    match heap.get(id) {
+        Some(Obj::List(vs)) => store_at(alloc, id, vs.items().len(), number(at), v),
+        Some(Obj::Dict(d)) => store_key(alloc, heap, id, d, at, v),
+        _ => refused(alloc, heap, Value::Ref(id)),
+    }
+}
+
+/// What the store of an item makes.
+#[tactic(auto, unfolding(crate::specs::Items::store_of))]
+pub fn store_made(
+    alloc: Global,
+    heap: &Heap,
+    a: Value,
+    at: Value,
+    v: Value,
+) -> Result<Made, OutOfMemory>
+    ensures { IfOk result (λ m. m ≡ items.store_of heap.now a at v) }
+{
+    match a {
+        Value::Ref(id) => store_in(alloc, heap, id, at, v),
+        Value::None | Value::Bool(_) | Value::Int(_) => refused(alloc, heap, a),
+    }
+}
+
+/// The store of an item (Language Reference, assignment statements), within a budget of steps.
+#[tactic(auto, using(crate::proofs::Within::within_cost))]
+pub fn store_item(
+    alloc: Global,
+    heap: &mut Heap,
+    a: Value,
+    index: Value,
+    v: Value,
+    budget: u64,
+) -> Result<OpEnd, OutOfMemory>
+    ensures end { IfOk result (λ e. (e, heap.new) ≡ finished heap.old (within budget (items.store_of heap.old a index v))) }
+    ensures cost { IfOk result (λ e. steps_of e ≤ budget) }
+{
+    let made = store_made(alloc, heap, a, index, v)?;
+    finish(heap, made_within(made, budget))
+}
+
+/// A pair taken from a dict.
+fn pair_taken(alloc: Global, id: ObjId, dict: &Dict, k: Key, at: Value) -> Result<Made, OutOfMemory>
+    ensures { IfOk result (λ m. m ≡ items.pair_taken id at k (find_pair k dict.now)) }
+{
+    let cost = k.cost();
+    if dict.get(&k).is_none() {
+        let raise = no_key(alloc, at)?;
+        return Ok(Made::Fail(raise, cost));
+    }
+    Ok(Made::Put(id, Change::WithoutPair(k), Value::None, cost))
+}
+
+fn delete_key(
+    alloc: Global,
+    heap: &Heap,
+    id: ObjId,
+    dict: &Dict,
+    at: Value,
+) -> Result<Made, OutOfMemory>
+    ensures { IfOk result (λ m. m ≡ items.delete_key heap.now id dict.now at (key_of heap.now at)) }
+{
+    match key(alloc, heap, at)? {
+        Keyed::Key(k) => pair_taken(alloc, id, dict, k, at),
+        Keyed::Fault(fault, cost) => {
+            let raise = key_fault(alloc, heap, fault)?;
+            Ok(Made::Fail(raise, cost))
+        }
+    }
+}
+
+fn delete_at(alloc: Global, id: ObjId, len: usize, index: Option<i128>) -> Result<Made, OutOfMemory>
+    ensures { IfOk result (λ m. m ≡ items.delete_at id len index) }
+{
+    match find_place(len, index) {
+        Found::Place(at) => Ok(Made::Put(id, Change::WithoutItem(at), Value::None, 0)),
+        Found::Outside => out_of_range(alloc),
+        Found::NoNumber => no_index(alloc),
+    }
+}
+
+fn delete_in(alloc: Global, heap: &Heap, id: ObjId, at: Value) -> Result<Made, OutOfMemory>
+    ensures { IfOk result (λ m. m ≡ items.delete_in heap.now (faults.not_subscriptable (kinds.kind_name heap.now (val.Ref id))) id (slice_get heap.now id.at) at) }
+{
+    match heap.get(id) {
+        Some(Obj::List(vs)) => delete_at(alloc, id, vs.items().len(), number(at)),
+        Some(Obj::Dict(d)) => delete_key(alloc, heap, id, d, at),
+        _ => refused(alloc, heap, Value::Ref(id)),
+    }
+}
+
+/// What the deletion of an item makes.
+#[tactic(auto, unfolding(crate::specs::Items::delete_of))]
+pub fn delete_made(alloc: Global, heap: &Heap, a: Value, at: Value) -> Result<Made, OutOfMemory>
+    ensures { IfOk result (λ m. m ≡ items.delete_of heap.now a at) }
+{
+    match a {
+        Value::Ref(id) => delete_in(alloc, heap, id, at),
+        Value::None | Value::Bool(_) | Value::Int(_) => refused(alloc, heap, a),
+    }
+}
+
+/// The deletion of an item (Language Reference, the `del` statement), within a budget of steps.
+#[tactic(auto, using(crate::proofs::Within::within_cost))]
+pub fn delete_item(
+    alloc: Global,
+    heap: &mut Heap,
+    a: Value,
+    index: Value,
+    budget: u64,
+) -> Result<OpEnd, OutOfMemory>
+    ensures end { IfOk result (λ e. (e, heap.new) ≡ finished heap.old (within budget (items.delete_of heap.old a index))) }
+    ensures cost { IfOk result (λ e. steps_of e ≤ budget) }
+{
+    let made = delete_made(alloc, heap, a, index)?;
+    finish(heap, made_within(made, budget))
+}

@@ -1,0 +1,136 @@
+// Subscripts.
+
+ghost use Rattle.std.specs.Prelude.{◌≡◌, ◌≤◌, IfOk, option_copied};
+ghost use Rattle.py_values.specs.Ends.{finished, within, steps_of};
+ghost use Rattle.py_values.specs.Keys.{key_of};
+ghost use Rattle.py_values.specs.Kinds as kinds;
+ghost use Rattle.py_values.specs.Numbers.{number_of};
+ghost use Rattle.py_items.specs.Items as items;
+ghost use Rattle.py_ops.specs.Faults as faults;
+
+use crate::index::{char_item, range_item, value_item};
+use crate::slice::{list_slice, parts_of, text_slice, tuple_slice};
+use py_ops::faults::{key_fault, no_key, not_subscriptable};
+use py_values::OutOfMemory;
+use py_values::dict::{Dict, Pair};
+use py_values::end::{Made, OpEnd, finish, made_within};
+use py_values::heap::Heap;
+use py_values::index::Index;
+use py_values::keys::{Keyed, key};
+use py_values::number::number;
+use py_values::object::Obj;
+use py_values::value::Value;
+use std::alloc::Global;
+
+/// The object that a value is.
+pub fn object_at(heap: &Heap, v: Value) -> Option<&Obj>
+    ensures { option_copied result ≡ items.object_at heap.now v }
+{
+    match v {
+        Value::Ref(id) => heap.get(id),
+        Value::None | Value::Bool(_) | Value::Int(_) => None,
+    }
+}
+
+/// What stands under a key that costs so much.
+fn pair_given(
+    alloc: Global,
+    key: Value,
+    cost: u64,
+    pair: Option<&Pair>,
+) -> Result<Made, OutOfMemory>
+    ensures { IfOk result (λ m. m ≡ items.pair_given key cost (option_copied pair.entry)) }
+{
+    match pair {
+        Some(pair) => Ok(Made::Give(pair.value, cost)),
+        None => {
+            let raise = no_key(alloc, key)?;
+            Ok(Made::Fail(raise, cost))
+        }
+    }
+}
+
+/// What stands in a dict under a key.
+fn under_key(alloc: Global, heap: &Heap, dict: &Dict, at: Value) -> Result<Made, OutOfMemory>
+    ensures { IfOk result (λ m. m ≡ items.under_key heap.now dict.now at (key_of heap.now at)) }
+{
+    match key(alloc, heap, at)? {
+        Keyed::Key(key) => pair_given(alloc, at, key.cost(), dict.get(&key)),
+        Keyed::Fault(fault, cost) => {
+            let raise = key_fault(alloc, heap, fault)?;
+            Ok(Made::Fail(raise, cost))
+        }
+    }
+}
+
+fn refused(alloc: Global, heap: &Heap, a: Value) -> Result<Made, OutOfMemory>
+    ensures { IfOk result (λ m. m ≡ Made.Fail (faults.not_subscriptable (kinds.kind_name heap.now a)) 0) }
+{
+    let raise = not_subscriptable(alloc, heap, a)?;
+    Ok(Made::Fail(raise, 0))
+}
+
+/// An element by its index, a value by its key.
+fn item_made(alloc: Global, heap: &Heap, a: Value, at: Value) -> Result<Made, OutOfMemory>
+    ensures { IfOk result (λ m. m ≡ items.item_of heap.now (faults.not_subscriptable (kinds.kind_name heap.now a)) (items.object_at heap.now a) at) }
+{
+    match object_at(heap, a) {
+        Some(Obj::Text(t)) => char_item(alloc, t.chars(), number(at)),
+        Some(Obj::List(vs)) => value_item(alloc, vs.items(), number(at)),
+        Some(Obj::Tuple(vs)) => value_item(alloc, vs.items(), number(at)),
+        Some(Obj::Range(r)) => range_item(alloc, r, number(at)),
+        Some(Obj::Dict(d)) => under_key(alloc, heap, d, at),
+        _ => refused(alloc, heap, a),
+    }
+}
+
+/// A slice.
+fn slice_made(
+    alloc: Global,
+    heap: &Heap,
+    a: Value,
+    start: Option<Value>,
+    stop: Option<Value>,
+    step: Option<Value>,
+) -> Result<Made, OutOfMemory>
+    ensures { IfOk result (λ m. m ≡ items.slice_of (faults.not_subscriptable (kinds.kind_name heap.now a)) (items.object_at heap.now a) (items.parts_of start stop step)) }
+{
+    match object_at(heap, a) {
+        Some(Obj::Text(t)) => text_slice(alloc, t.chars(), parts_of(start, stop, step)),
+        Some(Obj::List(vs)) => list_slice(alloc, vs.items(), parts_of(start, stop, step)),
+        Some(Obj::Tuple(vs)) => tuple_slice(alloc, vs.items(), parts_of(start, stop, step)),
+        _ => refused(alloc, heap, a),
+    }
+}
+
+/// What a subscript makes.
+#[tactic(auto, unfolding(crate::specs::Items::subscript_of))]
+pub fn subscript_made(
+    alloc: Global,
+    heap: &Heap,
+    a: Value,
+    index: &Index,
+) -> Result<Made, OutOfMemory>
+    ensures { IfOk result (λ m. m ≡ items.subscript_of heap.now a index.now) }
+{
+    match index {
+        Index::At(at) => item_made(alloc, heap, a, *at),
+        Index::Slice(start, stop, step) => slice_made(alloc, heap, a, *start, *stop, *step),
+    }
+}
+
+/// A subscript (Language Reference, subscriptions and slicings), within a budget of steps.
+#[tactic(auto, using(crate::proofs::Within::within_cost))]
+pub fn subscript(
+    alloc: Global,
+    heap: &mut Heap,
+    a: Value,
+    index: &Index,
+    budget: u64,
+) -> Result<OpEnd, OutOfMemory>
+    ensures end { IfOk result (λ e. (e, heap.new) ≡ finished heap.old (within budget (items.subscript_of heap.old a index.now))) }
+    ensures cost { IfOk result (λ e. steps_of e ≤ budget) }
+{
+    let made = subscript_made(alloc, heap, a, index)?;
+    finish(heap, made_within(made, budget))
+}

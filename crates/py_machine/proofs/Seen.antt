@@ -1,0 +1,101 @@
+-- What a world of core code shows of its sources.
+use Rattle.std.proofs.Common.{◌≡◌, ◌∙◌, ℕ, List, [], ◌∷◌, ◌++◌, map, Option, Some, Bool, true, false, cond, refl, sym, ap, subst}
+use Rattle.std.proofs.Math.Logic.{∥∥₁_map}
+use Rattle.source_meaning.specs.Requests.{Script}
+use Rattle.py_core.specs.declared.stmt.Core.{Core}
+use Rattle.py_core.specs.declared.stmt.CoreFn.{CoreFn}
+use Rattle.py_values.specs.declared.object.Obj.{Obj}
+use Rattle.py_values.specs.declared.value.Value.{Value}
+use Rattle.py_values.specs.Names.{name_eq}
+use Rattle.py_world.specs.declared.ended.Ended.{Ended}
+use Rattle.py_world.specs.declared.load.Load.{Load}
+use Rattle.py_world.specs.World.{Kinds, World, Source, Coded, Code, Fault, Stored, Frozen, world_with_printed}
+use Rattle.py_world.specs.Runs.{source_at}
+use Rattle.core_meaning.specs.Requests.{Layer}
+use Rattle.core_meaning.specs.Meaning.{CoreWorld, core_call, core_module}
+use Rattle.source_meaning.specs.Meaning.{SourceWorld, source_call, source_module}
+use Rattle.lower_law.specs.Alike as alike
+use Rattle.lower_law.specs.Alike.{CodedAlike, SourcesAlike, worlds, source_with, world_with}
+use Rattle.lower_law.specs.Law.{Lowering, LoweredWorld}
+use Rattle.lower_law.specs.View.{coded_view, file_view, frozen_view, stored_view, source_view, view_told, Sound}
+use Rattle.lower_law.proofs.Viewed.{call_viewed, call_sound, module_viewed, module_sound}
+use Rattle.py_machine.specs.Lines.{line_in, line_at}
+use Rattle.py_machine.specs.Worlds.{fault_in, fault_of, Stands}
+
+-- calls and loads
+pub call_told : (w w' : CoreWorld) (f : Value) (args : List Value) (budget : ℕ) (e : Ended) → Sound w → core_call f args budget w ≡ (e, w') → (e, source_view w') ≡ source_call f args budget (source_view w)
+call_told w w' f args budget e sound h = sym (ap view_told h) ∙ call_viewed w sound f args budget
+
+pub call_kept : (w w' : CoreWorld) (f : Value) (args : List Value) (budget : ℕ) (e : Ended) → Sound w → core_call f args budget w ≡ (e, w') → Sound w'
+call_kept w w' f args budget e sound h = subst (λ t. Sound t.1) h (call_sound w sound f args budget)
+
+pub load_told : (w w' : CoreWorld) (path : List ℕ) (budget : ℕ) (e : Ended) → Sound w → core_module path budget w ≡ (e, w') → (e, source_view w') ≡ source_module path budget (source_view w)
+load_told w w' path budget e sound h = sym (ap view_told h) ∙ module_viewed w sound path budget
+
+pub load_kept : (w w' : CoreWorld) (path : List ℕ) (budget : ℕ) (e : Ended) → Sound w → core_module path budget w ≡ (e, w') → Sound w'
+load_kept w w' path budget e sound h = subst (λ t. Sound t.1) h (module_sound w sound path budget)
+
+merely : {P : Type 0} → P → ∥ P ∥₁
+merely p = ∣ p ∣₁
+
+-- no code at all
+pub bare_sound : (sources : List (Source Core)) (modules : List (List ℕ × Load)) (heap : List Obj) (codes : List (Stored CoreFn)) (printed : List ℕ) (frozen : List (Option (Frozen (List Layer))))
+    → sources ≡ [] → codes ≡ [] → frozen ≡ [] → Sound (world_with sources modules heap codes printed frozen)
+bare_sound sources modules heap codes printed frozen e h f = rw (e, h, f) (merely (worlds alike.none alike.none alike.none modules heap printed))
+
+printed_alike : (printed : List ℕ) {w : SourceWorld} {z : CoreWorld} → LoweredWorld w z → LoweredWorld (world_with_printed printed w) (world_with_printed printed z)
+printed_alike printed (worlds xs ys zs modules heap p) = worlds xs ys zs modules heap printed
+
+pub printed_sound : (printed : List ℕ) (w : CoreWorld) → Sound w → Sound (world_with_printed printed w)
+printed_sound printed w sound = ∥∥₁_map sound (λ h. printed_alike printed h)
+
+-- one source more
+map_more : (xs : List (Source Core)) (x : Source Core) → map file_view (xs ++ x ∷ []) ≡ map file_view xs ++ file_view x ∷ []
+map_more [] x = refl
+map_more (y ∷ xs) x = ap (λ ys. file_view y ∷ ys) (map_more xs x)
+
+sources_more : {bs : List (Source Script)} {cs : List (Source Core)} → SourcesAlike Lowering bs cs → (path bytes : List ℕ) {b : Coded Script} {c : Coded Core} → CodedAlike Lowering b c → SourcesAlike Lowering (bs ++ source_with path bytes b ∷ []) (cs ++ source_with path bytes c ∷ [])
+sources_more alike.none path bytes h = alike.more path bytes h alike.none
+sources_more (alike.more p b x xs) path bytes h = alike.more p b x (sources_more xs path bytes h)
+
+abbrev more : {K : Kinds} → Source K.script → World K → World K
+more x w = world_with (w.sources ++ x ∷ []) w.modules w.heap w.codes w.printed w.frozen
+
+more_alike : (path bytes : List ℕ) {b : Coded Script} {c : Coded Core} → CodedAlike Lowering b c → {w : SourceWorld} {z : CoreWorld} → LoweredWorld w z → LoweredWorld (more (source_with path bytes b) w) (more (source_with path bytes c) z)
+more_alike path bytes h (worlds xs ys zs modules heap printed) = worlds (sources_more xs path bytes h) ys zs modules heap printed
+
+pub more_viewed : (path bytes : List ℕ) (c : Coded Core) (z : CoreWorld) → source_view (more (source_with path bytes c) z) ≡ more (source_with path bytes (coded_view c)) (source_view z)
+more_viewed path bytes c z = ap (λ (xs : List (Source Script)). world_with xs z.modules z.heap (map stored_view z.codes) z.printed (map frozen_view z.frozen)) (map_more z.sources (source_with path bytes c))
+
+alike_of : (c : Coded Core) → Stands c → CodedAlike Lowering (coded_view c) c
+alike_of (Code core) h = alike.code h
+alike_of (Fault f) h = alike.fault f
+
+pub more_sound : (path bytes : List ℕ) (c : Coded Core) (z : CoreWorld) → Stands c → Sound z → Sound (more (source_with path bytes c) z)
+more_sound path bytes c z h sound = ∥∥₁_map sound (λ g. subst (λ w. LoweredWorld w (more (source_with path bytes c) z)) (sym (more_viewed path bytes c z)) (more_alike path bytes (alike_of c h) g))
+
+-- a source more, as its list tells it
+pub pushed_sound : (items old : List (Source Core)) (x : Source Core) (path bytes : List ℕ) (c : Coded Core) (modules : List (List ℕ × Load)) (heap : List Obj) (codes : List (Stored CoreFn)) (printed : List ℕ) (frozen : List (Option (Frozen (List Layer))))
+    → items ≡ old ++ x ∷ [] → x ≡ source_with path bytes c → Stands c → Sound (world_with old modules heap codes printed frozen) → Sound (world_with items modules heap codes printed frozen)
+pushed_sound items old x path bytes c modules heap codes printed frozen e h stands sound = rw (e, h) (more_sound path bytes c (world_with old modules heap codes printed frozen) stands sound)
+
+-- sources by their paths
+code_viewed : (c : Coded Core) → fault_in (coded_view c) ≡ fault_in c
+code_viewed (Code m) = refl
+code_viewed (Fault f) = refl
+
+fault_cond : (b : Bool) (x : Source Core) (o : Option (Source Core)) (q : Option (Source Script)) → fault_of q ≡ fault_of o → fault_of (cond b (Some (file_view x)) q) ≡ fault_of (cond b (Some x) o)
+fault_cond true x o q h = code_viewed x.code
+fault_cond false x o q h = h
+
+pub fault_viewed : (path : List ℕ) (xs : List (Source Core)) → fault_of (source_at path (map file_view xs)) ≡ fault_of (source_at path xs)
+fault_viewed path [] = refl
+fault_viewed path (x ∷ xs) = fault_cond (name_eq path x.path) x (source_at path xs) (source_at path (map file_view xs)) (fault_viewed path xs)
+
+line_cond : (b : Bool) (n : ℕ) (x : Source Core) (o : Option (Source Core)) (q : Option (Source Script)) → line_in q n ≡ line_in o n → line_in (cond b (Some (file_view x)) q) n ≡ line_in (cond b (Some x) o) n
+line_cond true n x o q h = refl
+line_cond false n x o q h = h
+
+pub line_viewed : (path : List ℕ) (n : ℕ) (xs : List (Source Core)) → line_at path n (map file_view xs) ≡ line_at path n xs
+line_viewed path n [] = refl
+line_viewed path n (x ∷ xs) = line_cond (name_eq path x.path) n x (source_at path xs) (source_at path (map file_view xs)) (line_viewed path n xs)

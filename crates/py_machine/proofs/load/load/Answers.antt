@@ -1,0 +1,18 @@
+use Rattle.std.proofs.Common.{◌≡◌, ◌∙◌, ℕ, List, ap, chars}
+use Rattle.std.proofs.lemmas.Result.{IfOk-weaker}
+use Rattle.core_meaning.specs.Meaning.{core_module}
+use Rattle.machine_state.specs.Frames.{ends, world_of}
+use Rattle.py_world.specs.declared.load.Load.{Load}
+use Rattle.py_world.specs.Runs.{load_at, told_by}
+use Rattle.py_machine.proofs.Loading.{has_body, load_tree, module_loads}
+use Rattle.py_machine.proofs.load.load.Goals as goal
+
+pub returns-in-Some-2 : goal.returns-in-Some-2
+returns-in-Some-2 c =
+    let w = world_of c.args.m.now in
+    let w1 = world_of c.load_first.new.m in
+    IfOk-weaker c.load_first.result
+    (λ e. told_by c.args.budget (ends c.args.budget (load_tree c.in_ok-text.text c.in-Some-2.body.value w)) ≡ (e, w1))
+    (λ e. core_module (chars c.args.path.now) c.args.budget w ≡ (e, w1))
+    (λ e h. module_loads (chars c.args.path.now) c.in_ok-text.text c.args.budget w w1 c.in-Some-2.body e c.in_ok-text.ensures (c.in_default.ensures ∙ ap (λ (ms : List (List ℕ × Load)). load_at c.in_ok-text.text ms) c.deref.ensures.value)
+    (has_body (chars c.args.path.now) c.in_ok-body.field-0 c.in-Some-2.body c.deref-2.result.now c.args.m.now.sources.items c.in-Some-2.is c.deref-2.ensures.value c.in_ok-body.ensures) h) c.load_first.ensures

@@ -1,0 +1,18 @@
+use Rattle.std.proofs.Common.{map, ap, ◌∙◌}
+use Rattle.machine_state.specs.Frames.{frozen_of, world_of}
+use Rattle.source_meaning.specs.Meaning.{source_call}
+use Rattle.py_machine.proofs.Seen.{call_told, call_kept, bare_sound}
+use Rattle.py_machine.proofs.world.call.Goals as goal
+
+pub invariant_of-world : goal.invariant_of-world
+invariant_of-world c =
+    call_kept (world_of c.world.inside.machine) (world_of c.call.new.m) c.args.f c.args.args.now c.args.budget c.in-Ok.ended c.world.invariant c.in-Ok.ensures
+
+pub invariant_of-world-in-Err : goal.invariant_of-world-in-Err
+invariant_of-world-in-Err c =
+    let m = c.forget_code.new.m in bare_sound m.sources.items m.modules.items m.heap m.codes.items m.printed.items (map frozen_of m.frozen.items) c.forget_code.ensures.sources c.forget_code.ensures.codes (ap (map frozen_of) c.forget_code.ensures.frozen)
+
+pub returns-in-Ok : goal.returns-in-Ok
+returns-in-Ok c =
+    call_told (world_of c.world.inside.machine) (world_of c.call.new.m) c.args.f c.args.args.now c.args.budget c.in-Ok.ended c.world.invariant c.in-Ok.ensures
+    ∙ ap (source_call c.args.f c.args.args.now c.args.budget) c.world.view_is

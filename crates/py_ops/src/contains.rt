@@ -1,0 +1,256 @@
+// Membership.
+
+ghost use Rattle.std.specs.Prelude.{◌≡◌, ℕ, IfOk, slice_get, option_copied, codes, pos, ◌+ℤ◌, ◌*ℤ◌};
+ghost use Rattle.std.specs.Ordering.{int_eq};
+ghost use Rattle.py_compare.specs.Equal.{told, equal_of};
+ghost use Rattle.py_values.specs.Ends.{within};
+ghost use Rattle.py_values.specs.Keys.{key_of};
+ghost use Rattle.py_values.specs.Kinds as kinds;
+ghost use Rattle.py_values.specs.Ranges.{range_items};
+ghost use Rattle.py_values.specs.declared.value.Value.TheVariants as val;
+ghost use Rattle.py_ops.specs.Binary as binary;
+ghost use Rattle.py_ops.specs.Compare as compare;
+ghost use Rattle.py_ops.specs.Faults as faults;
+ghost use Rattle.py_ops.specs.Ranges as ranges;
+
+use crate::faults::{key_fault, kinds_error, not_iterable, too_deep};
+use crate::ranges::nth;
+use py_compare::equal::equal;
+use py_compare::tested::Tested;
+use py_values::dict::Dict;
+use py_values::end::{Made, made_within};
+use py_values::heap::Heap;
+use py_values::keys::{Keyed, key};
+use py_values::kinds::kind_name;
+use py_values::number::number;
+use py_values::object::Obj;
+use py_values::range::RangeObj;
+use py_values::value::{ObjId, Value};
+use py_values::{OutOfMemory, PyText};
+use std::alloc::Global;
+
+/// Looks for the first equal element.
+fn search_in(heap: &Heap, a: Value, vs: &[Value], budget: u64) -> Tested
+    ensures { result ≡ told budget (compare.search_in (equal_of heap.now a) vs.now) }
+{
+    let mut used = 0u64;
+    for v in vs {
+        if used == budget {
+            return Tested::Exhausted;
+        }
+        match equal(heap, a, *v, budget - used - 1) {
+            Tested::Yes(n) => return Tested::Yes(used + 1 + n),
+            Tested::No(n) => used = used + 1 + n,
+            Tested::TooDeep(n) => return Tested::TooDeep(used + 1 + n),
+            Tested::NotOrdered(n) => return Tested::NotOrdered(used + 1 + n),
+            Tested::Exhausted => return Tested::Exhausted,
+        }
+    }
+    Tested::No(used)
+}
+
+/// Whether a text has another as a part.
+fn has_part(part: &[char], text: &[char]) -> bool
+    ensures { result ≡ compare.has_part part.now text.now }
+{
+    for i in 0..text.len() {
+        if text[i..].starts_with(part) {
+            return true;
+        }
+    }
+    part.is_empty()
+}
+
+/// Whether a number is that of a range at a place.
+fn is_nth(start: i128, step: i128, at: usize, n: i128) -> bool
+    ensures { result ≡ int_eq (start +ℤ step *ℤ pos at) n }
+{
+    match nth(start, step, at) {
+        Some(z) => z == n,
+        None => false,
+    }
+}
+
+fn is_nth_number(range: &RangeObj, at: usize, n: Option<i128>) -> bool
+    ensures { result ≡ compare.is_number (ranges.nth_of range.now at) n }
+{
+    match n {
+        Some(n) => is_nth(range.start, range.step, at, n),
+        None => false,
+    }
+}
+
+/// Whether a number is one of a range.
+fn in_range(range: &RangeObj, n: Option<i128>) -> bool
+    ensures { result ≡ compare.in_range (range_items range.now) n }
+{
+    for i in 0..range.length {
+        if is_nth_number(range, i, n) {
+            return true;
+        }
+    }
+    false
+}
+
+/// What a verdict gives where no order is asked for.
+pub fn judge(alloc: Global, wanted: bool, told: Tested) -> Result<Option<Made>, OutOfMemory>
+    ensures { IfOk result (λ m. m ≡ compare.judged_told wanted told) }
+{
+    match told {
+        Tested::Yes(cost) => Ok(Some(Made::Give(Value::Bool(wanted), cost))),
+        Tested::No(cost) => Ok(Some(Made::Give(Value::Bool(!wanted), cost))),
+        Tested::TooDeep(cost) | Tested::NotOrdered(cost) => {
+            let raise = too_deep(alloc)?;
+            Ok(Some(Made::Fail(raise, cost)))
+        }
+        Tested::Exhausted => Ok(None),
+    }
+}
+
+/// Whether what was found is what is asked for.
+fn found_is(wanted: bool, found: bool) -> bool
+    ensures { result ≡ compare.found_is wanted found }
+{
+    if wanted { found } else { !found }
+}
+
+/// A key of a dict.
+fn in_pairs(
+    alloc: Global,
+    heap: &Heap,
+    dict: &Dict,
+    wanted: bool,
+    a: Value,
+) -> Result<Made, OutOfMemory>
+    ensures { IfOk result (λ m. m ≡ compare.in_pairs heap.now dict.now wanted (key_of heap.now a)) }
+{
+    match key(alloc, heap, a)? {
+        Keyed::Key(k) => {
+            let found = dict.get(&k).is_some();
+            Ok(Made::Give(Value::Bool(found_is(wanted, found)), k.cost()))
+        }
+        Keyed::Fault(fault, cost) => {
+            let raise = key_fault(alloc, heap, fault)?;
+            Ok(Made::Fail(raise, cost))
+        }
+    }
+}
+
+/// A part of a text, where it is a text.
+fn text_of(heap: &Heap, a: Value) -> Option<&PyText>
+    ensures { option_copied result ≡ compare.text_of heap.now a }
+{
+    let Value::Ref(id) = a else {
+        return None;
+    };
+    match heap.get(id) {
+        Some(Obj::Text(part)) => Some(part),
+        _ => None,
+    }
+}
+
+fn no_text(alloc: Global, heap: &Heap, op: &str, a: Value) -> Result<Made, OutOfMemory>
+    ensures { IfOk result (λ m. m ≡ binary.unsupported op.now (kinds.kind_name heap.now a) (codes "str")) }
+{
+    let left = kind_name(alloc, heap, a)?;
+    let raise = kinds_error(
+        alloc,
+        "unsupported operand type(s) for ",
+        op,
+        ": '",
+        left.chars(),
+        &['s', 't', 'r'],
+    )?;
+    Ok(Made::Fail(raise, 0))
+}
+
+/// A part of a text.
+fn in_text(
+    alloc: Global,
+    heap: &Heap,
+    op: &str,
+    wanted: bool,
+    a: Value,
+    text: &[char],
+) -> Result<Made, OutOfMemory>
+    ensures { IfOk result (λ m. m ≡ compare.in_text (binary.unsupported op.now (kinds.kind_name heap.now a) (codes "str")) wanted text.now (compare.text_of heap.now a)) }
+{
+    match text_of(heap, a) {
+        Some(part) => {
+            let found = has_part(part.chars(), text);
+            Ok(Made::Give(Value::Bool(found_is(wanted, found)), text.len() as u64))
+        }
+        None => no_text(alloc, heap, op, a),
+    }
+}
+
+#[tactic(auto, using(crate::proofs::Judging::judged_within))]
+fn in_values(
+    alloc: Global,
+    heap: &Heap,
+    wanted: bool,
+    a: Value,
+    vs: &[Value],
+    budget: u64,
+) -> Result<Option<Made>, OutOfMemory>
+    ensures { IfOk result (λ m. m ≡ within budget (compare.judged_found wanted (compare.search_in (equal_of heap.now a) vs.now))) }
+{
+    let told = search_in(heap, a, vs, budget);
+    judge(alloc, wanted, told)
+}
+
+fn refused(alloc: Global, heap: &Heap, b: Value) -> Result<Option<Made>, OutOfMemory>
+    ensures { IfOk result (λ m. (budget : ℕ) → m ≡ within budget (Made.Fail (faults.not_iterable (kinds.kind_name heap.now b)) 0)) }
+{
+    let raise = not_iterable(alloc, heap, b)?;
+    Ok(Some(Made::Fail(raise, 0)))
+}
+
+fn in_object(
+    alloc: Global,
+    heap: &Heap,
+    op: &str,
+    wanted: bool,
+    a: Value,
+    id: ObjId,
+    budget: u64,
+) -> Result<Option<Made>, OutOfMemory>
+    ensures { IfOk result (λ m. m ≡ within budget (compare.in_object (binary.unsupported op.now (kinds.kind_name heap.now a) (codes "str"))
+        (faults.not_iterable (kinds.kind_name heap.now (val.Ref id))) wanted heap.now a (slice_get heap.now id.at))) }
+{
+    match heap.get(id) {
+        Some(Obj::List(vs)) => in_values(alloc, heap, wanted, a, vs.items(), budget),
+        Some(Obj::Tuple(vs)) => in_values(alloc, heap, wanted, a, vs.items(), budget),
+        Some(Obj::Dict(d)) => {
+            let made = in_pairs(alloc, heap, d, wanted, a)?;
+            Ok(made_within(made, budget))
+        }
+        Some(Obj::Range(r)) => {
+            let found = in_range(r, number(a));
+            Ok(Some(Made::Give(Value::Bool(found_is(wanted, found)), 0)))
+        }
+        Some(Obj::Text(t)) => {
+            let made = in_text(alloc, heap, op, wanted, a, t.chars())?;
+            Ok(made_within(made, budget))
+        }
+        _ => refused(alloc, heap, Value::Ref(id)),
+    }
+}
+
+/// Whether a value is in another (Language Reference, membership test operations).
+pub fn contains(
+    alloc: Global,
+    heap: &Heap,
+    op: &str,
+    wanted: bool,
+    a: Value,
+    b: Value,
+    budget: u64,
+) -> Result<Option<Made>, OutOfMemory>
+    ensures { IfOk result (λ m. m ≡ within budget (compare.contains_of op.now wanted heap.now a b)) }
+{
+    match b {
+        Value::Ref(id) => in_object(alloc, heap, op, wanted, a, id, budget),
+        Value::None | Value::Bool(_) | Value::Int(_) => refused(alloc, heap, b),
+    }
+}

@@ -1,0 +1,10 @@
+use Rattle.std.proofs.Common.{◌≡◌, length}
+use Rattle.py_tree.specs.Statements.{parameters}
+use Rattle.statement_readers.specs.Words.{params_on}
+use Rattle.py_parse.proofs.heads.further_params.Given as goal
+
+abbrev pub invariant-loop-comma : goal.invariant-loop-comma
+invariant-loop-comma l = params_on (parameters l.all.items, l.rest) ≡ params_on (parameters l.fn.first.items, l.tokens)
+
+abbrev pub decreases-loop-comma : goal.decreases-loop-comma
+decreases-loop-comma l = length l.rest

@@ -1,0 +1,10 @@
+use Rattle.std.proofs.Common.{◌≡◌, length}
+use Rattle.token_kinds.specs.Kinds.{op_number}
+use Rattle.statement_readers.specs.Words.{names_on}
+use Rattle.py_parse.proofs.parts.further_names.Given as goal
+
+abbrev pub invariant-loop-separator : goal.invariant-loop-separator
+invariant-loop-separator l = names_on (op_number l.separator) (l.all.items, l.rest) ≡ names_on (op_number l.separator) (l.fn.first.items, l.tokens)
+
+abbrev pub decreases-loop-separator : goal.decreases-loop-separator
+decreases-loop-separator l = length l.rest

@@ -1,0 +1,8 @@
+use Rattle.std.proofs.Common.{[], ◌∷◌, arith}
+use Rattle.token_kinds.specs.Numbers as k
+use Rattle.statement_readers.proofs.Turns.{first_takes}
+use Rattle.statement_readers.proofs.Loops.{alias_takes}
+use Rattle.py_parse.proofs.simple.further_aliases.Goals as goal
+
+pub loop-comma-smaller : goal.loop-comma-smaller
+loop-comma-smaller c = omega (arith, first_takes (k.comma ∷ []) c.loop-comma.rest.now c.in-Some._comma.now c.in-Some.after.now c.in-Some.ensures, alias_takes c.in-Some.after.now c.in_ok-next.next c.in_ok-next.after.now c.in_ok-next.ensures)

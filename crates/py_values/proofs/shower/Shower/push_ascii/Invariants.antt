@@ -1,8 +1,0 @@
-use Rattle.std.proofs.Common.{◌≡◌, take}
-use Rattle.std.specs.List.{fold}
-use Rattle.py_values.specs.Adding.{add}
-use Rattle.py_values.specs.Symbols.{plain}
-use Rattle.py_values.proofs.shower.Shower.push_ascii.Given as goal
-
-abbrev pub invariant-loop-b : goal.invariant-loop-b
-invariant-loop-b l = l.self ≡ fold add l.fn.self (plain (take l.b-index l.text))

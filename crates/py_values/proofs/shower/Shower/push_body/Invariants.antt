@@ -1,9 +1,0 @@
-use Rattle.std.proofs.Common.{◌≡◌, drop}
-use Rattle.std.specs.List.{fold}
-use Rattle.py_values.specs.Adding.{add}
-use Rattle.py_values.specs.Symbols.{plain}
-use Rattle.py_values.specs.Repr.{body}
-use Rattle.py_values.proofs.shower.Shower.push_body.Given as goal
-
-abbrev pub invariant-loop-c : goal.invariant-loop-c
-invariant-loop-c l = fold add l.fn.self (plain (body l.quote l.text)) ≡ fold add l.self (plain (body l.quote (drop l.c-index l.text)))

@@ -1,8 +1,0 @@
-use Rattle.std.proofs.Common.{◌≡◌, take}
-use Rattle.std.specs.List.{fold}
-use Rattle.py_values.specs.Adding.{add}
-use Rattle.py_values.specs.Symbols.{plain}
-use Rattle.py_values.proofs.shower.Shower.push_chars.Given as goal
-
-abbrev pub invariant-loop-c : goal.invariant-loop-c
-invariant-loop-c l = l.self ≡ fold add l.fn.self (plain (take l.c-index l.text))

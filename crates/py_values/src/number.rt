@@ -1,0 +1,18 @@
+// The numbers that values are.
+
+ghost use Rattle.std.specs.Prelude.{◌≡◌};
+ghost use Rattle.py_values.specs.Numbers.{number_of};
+
+use crate::value::Value;
+
+/// The number that a value is; booleans are 0 and 1.
+pub fn number(v: Value) -> Option<i128>
+    ensures { result ≡ number_of v }
+{
+    match v {
+        Value::Bool(true) => Some(1),
+        Value::Bool(false) => Some(0),
+        Value::Int(n) => Some(n),
+        Value::None | Value::Ref(_) => None,
+    }
+}

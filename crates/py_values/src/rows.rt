@@ -1,0 +1,134 @@
+// Small types over lists.
+
+ghost use Rattle.std.specs.Prelude.{◌≡◌, ◌++◌, ◌∷◌, [], OnOk, slice_set, remove};
+
+use crate::value::Value;
+use py_text::{OutOfMemory, PyText};
+use std::alloc::Global;
+use std::marker::Model;
+
+/// Values in a row.
+#[derive(Drop)]
+pub struct Values {
+    items: Vec<Value>,
+}
+
+impl Model for Values {
+    ghost use Rattle.std.specs.Prelude.{List};
+    ghost use Rattle.py_values.specs.declared.value.Value.{Value as PyValue};
+
+    ghost Value = { List PyValue };
+
+    ghost view = { λ v. v.items.items };
+}
+
+impl Values {
+    pub fn new(alloc: Global) -> Self
+        ensures { result ≡ [] }
+    {
+        Values {
+            items: Vec::new(alloc),
+        }
+    }
+
+    pub fn from_vec(items: Vec<Value>) -> Self
+        ensures { result ≡ items.items }
+    {
+        Values { items }
+    }
+
+    pub fn items(&self) -> &[Value]
+        ensures { result.now ≡ self.now }
+    {
+        &self.items
+    }
+
+    pub fn push(&mut self, v: Value) -> Result<(), OutOfMemory>
+        ensures { OnOk result (self.new ≡ self.old ++ v ∷ []) }
+    {
+        self.items.push(v)?;
+        Ok(())
+    }
+
+    /// Another value at a place; nothing changes where there is none.
+    pub fn set(&mut self, at: usize, v: Value)
+        ensures { self.new ≡ slice_set self.old at v }
+    {
+        if at < self.items.len() {
+            self.items[at] = v;
+        }
+    }
+
+    /// Takes the value at a place away; nothing changes where there is none.
+    pub fn remove(&mut self, at: usize)
+        ensures { self.new ≡ remove self.old at }
+    {
+        if at < self.items.len() {
+            let _gone = self.items.remove(at);
+        }
+    }
+}
+
+/// Texts in a row.
+#[derive(Drop)]
+pub struct Texts {
+    items: Vec<PyText>,
+}
+
+impl Model for Texts {
+    ghost use Rattle.std.specs.Prelude.{List, ℕ};
+
+    ghost Value = { List (List ℕ) };
+
+    ghost view = { λ t. t.items.items };
+}
+
+impl Texts {
+    pub fn from_vec(items: Vec<PyText>) -> Self
+        ensures { result ≡ items.items }
+    {
+        Texts { items }
+    }
+
+    pub fn items(&self) -> &[PyText]
+        ensures { result.now ≡ self.now }
+    {
+        &self.items
+    }
+}
+
+/// A parameter of a function, and its default where it has one.
+#[derive(Drop)]
+pub struct Param {
+    pub name: PyText,
+    pub default: Option<Value>,
+}
+
+/// The parameters of a function, in order.
+#[derive(Drop)]
+pub struct Params {
+    items: Vec<Param>,
+}
+
+impl Model for Params {
+    ghost use Rattle.std.specs.Prelude.{List};
+    ghost use Rattle.py_values.specs.declared.rows.Param.{Param};
+
+    ghost Value = { List Param };
+
+    ghost view = { λ p. p.items.items };
+}
+
+impl Params {
+    pub fn from_vec(items: Vec<Param>) -> Self
+        ensures { result ≡ items.items }
+    {
+        Params { items }
+    }
+
+    pub fn items(&self) -> &[Param]
+        ensures { result.now ≡ self.now }
+    {
+        &self.items
+    }
+}

@@ -1,0 +1,6 @@
+use Rattle.std.proofs.Common.{◌≡◌, [], drop}
+use Rattle.py_world.specs.Arguments.{fitted}
+use Rattle.py_world.proofs.fitting.fit.Given as goal
+
+abbrev pub invariant-loop-i : goal.invariant-loop-i
+invariant-loop-i l = fitted l.fn.params l.fn.args [] [] ≡ fitted (drop l.i l.fn.params) (drop l.i l.fn.args) [] l.names

@@ -1,0 +1,4 @@
+pub mod Blanks
+pub mod Exceptions
+pub mod Limits
+pub mod Outcomes

@@ -1,7 +1,0 @@
-//! Tests of the report's parts, with their bytes written out from worked reports.
-//!
-//! They stand in a crate of their own, so that a change of them doesn't prove `report_text` again.
-#![tactic(auto)]
-
-#[cfg(test)]
-mod tests;

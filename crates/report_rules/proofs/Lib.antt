@@ -1,0 +1,13 @@
+pub mod Lists
+pub mod Unique
+pub mod Exists
+pub mod Parts
+pub mod Once
+pub mod Workers
+pub mod Journals
+pub mod Alone
+pub mod Placed
+pub mod Headline
+pub mod Rows
+pub mod Failing
+pub mod Files

@@ -1,0 +1,13 @@
+pub mod Collected
+pub mod Groups
+pub mod Rows
+pub mod Shares
+pub mod Shown
+pub mod Items
+pub mod Answer
+pub mod Report
+pub mod Fits
+pub mod Once
+pub mod Alone
+pub mod Placed
+pub mod Headline

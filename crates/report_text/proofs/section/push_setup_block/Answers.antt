@@ -1,8 +1,0 @@
-use Rattle.std.proofs.Common.{append_assoc}
-use Rattle.report_text.specs.Blocks.{setup_block, block}
-use Rattle.report_text.proofs.section.push_setup_block.Goals as goal
-
-pub returns-in_ok-push_setup_details : goal.returns-in_ok-push_setup_details
-unfolding setup_block block
-returns-in_ok-push_setup_details c =
-    rw (← c.if-is_raised.ensures, c.in_ok-push_setup_details.ensures, c.in_ok-push_opening.ensures, c.as_str.ensures.value, c.in_ok-title.ensures, c.text.ensures) (simp append_assoc)

@@ -1,8 +1,0 @@
-use Rattle.std.proofs.Common.{append_assoc}
-use Rattle.report_text.specs.Blocks.{teardown_block, block}
-use Rattle.report_text.proofs.section.push_teardown_block.Goals as goal
-
-pub returns-in_ok-push_teardown_details : goal.returns-in_ok-push_teardown_details
-unfolding teardown_block block
-returns-in_ok-push_teardown_details c =
-    rw (← c.if-is_raised.ensures, c.in_ok-push_teardown_details.ensures, c.in_ok-push_opening.ensures, c.as_str.ensures.value, c.in_ok-title.ensures, c.text.ensures) (simp append_assoc)

@@ -1,0 +1,4 @@
+use seq::Seq;
+
+/// A list of numbers.
+pub type Numbers = Seq<u64>;

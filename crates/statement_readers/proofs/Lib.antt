@@ -1,0 +1,10 @@
+pub mod Expressions
+pub mod Turns
+pub mod Rounds
+pub mod Pieces
+pub mod SimpleLines
+pub mod BlockLines
+pub mod Takes
+pub mod Loops
+pub mod Signatures
+pub mod Suites

@@ -1,0 +1,96 @@
+// Rows on classes of the sources.
+
+use crate::objects::class;
+use crate::shown::value_told;
+use crate::spelled::{Tried, count, values};
+use py_values::class::{ClassForm, ClassRef, ExcClass};
+use py_values::classes::{is_a, root_of};
+use py_values::heap::Heap;
+use py_values::names::Names;
+use py_values::object::{InstanceObj, Obj};
+use py_values::rows::Values;
+use py_values::throw::throw_with;
+use py_values::value::{ObjId, Value};
+use std::alloc::Global;
+
+fn added(
+    alloc: Global,
+    heap: &mut Heap,
+    name: &str,
+    form: ClassForm,
+    base: Option<ObjId>,
+) -> Tried<ObjId> {
+    let obj = class(alloc, name, form, base)?;
+    heap.add(obj)
+}
+
+fn built_in(
+    alloc: Global,
+    heap: &mut Heap,
+    name: &str,
+    class: ExcClass,
+    base: Option<ObjId>,
+) -> Tried<ObjId> {
+    added(alloc, heap, name, ClassForm::Exception(class), base)
+}
+
+fn source(alloc: Global, heap: &mut Heap, name: &str, base: Option<ObjId>) -> Tried<ObjId> {
+    added(alloc, heap, name, ClassForm::Source, base)
+}
+
+fn pair(alloc: Global, heap: &mut Heap, a: ObjId, b: ObjId) -> Tried<Value> {
+    let mut items = Values::new(alloc);
+    items.push(Value::Ref(a))?;
+    items.push(Value::Ref(b))?;
+    Ok(Value::Ref(heap.add(Obj::Tuple(items))?))
+}
+
+/// An exception of a class of the sources that stands on `KeyError`; whether it is a `LookupError`, one of its own class, one of
+/// another, and one of the other or of `KeyError`.
+fn own_told(alloc: Global, operands: &str) -> Tried<String> {
+    let mut heap = Heap::new(alloc)?;
+    let args = values(alloc, &mut heap, operands)?;
+    let look = built_in(alloc, &mut heap, "LookupError", ExcClass::LookupError, None)?;
+    let key = built_in(alloc, &mut heap, "KeyError", ExcClass::KeyError, Some(look))?;
+    let own = source(alloc, &mut heap, "Missing", Some(key))?;
+    let other = source(alloc, &mut heap, "Other", None)?;
+    let both = pair(alloc, &mut heap, other, key)?;
+    let class = ClassRef::Defined(own);
+    let exc = throw_with(alloc, &mut heap, class, Values::from_vec(args))?;
+    let shown = value_told(alloc, &heap, exc)?;
+    let a = is_a(&heap, exc, Value::Ref(look));
+    let b = is_a(&heap, exc, Value::Ref(own));
+    let c = is_a(&heap, exc, Value::Ref(other));
+    let d = is_a(&heap, exc, both);
+    Ok(format!(in alloc; "{shown} {a} {b} {c} {d}")?)
+}
+
+/// The last of so many classes, each standing on the one before.
+fn last_of(alloc: Global, heap: &mut Heap, first: ObjId, levels: usize) -> Tried<ObjId> {
+    let mut last = first;
+    for _ in 0..levels {
+        last = source(alloc, heap, "C", Some(last))?;
+    }
+    Ok(last)
+}
+
+/// Whether an instance of the last is one of the first, and whether the last stands on no class of exceptions.
+fn chain_told(alloc: Global, levels: usize) -> Tried<String> {
+    let mut heap = Heap::new(alloc)?;
+    let first = source(alloc, &mut heap, "C", None)?;
+    let last = last_of(alloc, &mut heap, first, levels)?;
+    let names = Names::new(alloc);
+    let of = heap.add(Obj::Instance(InstanceObj { class: last, names }))?;
+    let below = is_a(&heap, Value::Ref(of), Value::Ref(first));
+    let none = root_of(&heap, ClassRef::Defined(last)).is_none();
+    Ok(format!(in alloc; "{below} {none}")?)
+}
+
+/// What is given, where a row asks for something of classes.
+pub fn given(alloc: Global, word: &str, rest: &str, operands: &str) -> Tried<Option<String>> {
+    match word {
+        "own" => Ok(Some(own_told(alloc, operands)?)),
+        "chain" => Ok(Some(chain_told(alloc, count(rest))?)),
+        _ => Ok(None),
+    }
+}
