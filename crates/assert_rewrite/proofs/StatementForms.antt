@@ -1,50 +1,52 @@
--- The lowered forms of statements, for the tactics.
+-- The lowered forms of compound statements, blocks, branches, functions and sources, for the tactics.
 use Rattle.std.proofs.Common.{◌≡◌, ℕ, List, [], ◌∷◌, ◌++◌, Option, refl, sym, ap, ◌∙◌, subst, ◌+◌, ◌<◌, ◌≤◌, length, take, get_or, Vec}
 use Rattle.std.proofs.lemmas.List.{take_more, take_all}
 use Rattle.std.specs.declared.alloc.Global.{Global}
 use Rattle.std.specs.declared.rc.Rc.{Rc}
 use Rattle.py_source.specs.declared.pos.Pos.{Pos}
 use Rattle.py_tree.specs.declared.expr.Expr.{Expr}
-use Rattle.py_tree.specs.declared.op.BinOp.{BinOp}
-use Rattle.py_tree.specs.declared.stmt.Alias.{Alias}
 use Rattle.py_tree.specs.declared.stmt.Branch as branch
 use Rattle.py_tree.specs.declared.stmt.Branch.{Branch, out-Branch, roll-Branch, roll-out-Branch}
-use Rattle.py_tree.specs.declared.stmt.Class.{Class, out-Class, roll-Class, roll-out-Class}
+use Rattle.py_tree.specs.declared.stmt.Class as class
 use Rattle.py_tree.specs.declared.stmt.Function.{Function, out-Function, roll-Function, roll-out-Function}
 use Rattle.py_tree.specs.declared.stmt.Handler.{Handler}
 use Rattle.py_tree.specs.declared.stmt.Module.{Module}
-use Rattle.py_tree.specs.declared.stmt.Single.{Single}
 use Rattle.py_tree.specs.declared.stmt.Stmt.{Stmt}
+use Rattle.py_tree.specs.declared.stmt.StmtKind as k
 use Rattle.py_tree.specs.declared.stmt.StmtKind.{StmtKind}
-use Rattle.py_tree.specs.declared.stmt.StmtKind.TheBlock.{hidden-the_row-Stmt-1, hidden-the_row-Branch-0 as hide_branches}
+use Rattle.py_tree.specs.declared.stmt.StmtKind.TheBlock.{hidden-the_row-Stmt-1, hidden-the_row-Branch-0 as hide_branches, hidden-the_row-Handler-2 as hide_handlers}
 use Rattle.py_tree.specs.declared.stmt.StmtKind.TheVariants as s
 use Rattle.py_tree.specs.declared.stmt.Target.{Target}
-use Rattle.py_tree.specs.declared.stmt.Yield.{Yield}
 use Rattle.py_tree.specs.Names.{names_of, locals_of, yields_in}
 use Rattle.py_tree.specs.Trees.{Tree, Trees, Empty, More, Maybe, Absent, Present, tree, trees, some_tree}
 use Rattle.py_tree.specs.Statements as st
-use Rattle.py_tree.specs.Statements.{Statement, Block, Parameter, NoStatement, Branches, NoBranch, Place, statement, statement_at, block_on, block, block_behind, branches_on, branches_behind, branches, place, parameters, module_tree}
-use Rattle.py_tree.proofs.Rows.{block_hidden, branches_hidden, block_more}
+use Rattle.py_tree.specs.Statements.{Statement, Block, Parameter, NoStatement, Branches, NoBranch, Place, statement, statement_at, block_on, block, block_behind, branches_on, branches_behind, branches, NoHandler, handlers_on, handlers, parameters, module_tree}
+use Rattle.py_tree.proofs.Rows.{block_hidden, branches_hidden, handlers_hidden, block_more}
 use Rattle.py_core.specs.declared.expr.CoreExpr.{CoreExpr}
 use Rattle.py_core.specs.declared.stmt.CoreBranch.{CoreBranch, roll-CoreBranch}
 use Rattle.py_core.specs.declared.stmt.CoreFn.{CoreFn, roll-CoreFn}
-use Rattle.py_core.specs.declared.stmt.CoreSingle.{CoreSingle}
+use Rattle.py_core.specs.declared.stmt.CoreGuard.{CoreGuard}
+use Rattle.py_core.specs.declared.stmt.CoreHandler.{CoreHandler}
 use Rattle.py_core.specs.declared.stmt.CoreStmt.{CoreStmt}
 use Rattle.py_core.specs.declared.stmt.CoreStmtKind.{CoreStmtKind, items-the_row-CoreBranch as row_branches}
 use Rattle.py_core.specs.declared.stmt.CoreStmtKind.TheBlock.{items_hidden-the_row-CoreStmt-1 as core_items_hidden, hidden-the_row-CoreStmt-1, items_hidden-the_row-CoreBranch-0 as core_branches_hidden, hidden-the_row-CoreBranch-0 as core_hide_branches}
 use Rattle.py_core.specs.declared.stmt.CoreStmtKind.TheVariants as c
 use Rattle.py_core.specs.declared.stmt.CoreTarget.{CoreTarget}
-use Rattle.py_core.specs.declared.stmt.Template.TheVariants.{Plain}
 use Rattle.source_meaning.specs.Statements.{listed, function as source_function}
-use Rattle.lower_law.specs.Built.{BuiltStatement, BuiltBlock, BuiltBranches, NoTrees, NoMaybe}
+use Rattle.lower_law.specs.Built.{BuiltStatement, BuiltBlock, BuiltBranches, BuiltHandlers, NoTrees, NoMaybe}
 use Rattle.lower_law.specs.Lowered as low
 use Rattle.source_meaning.specs.Statements.{script}
 use Rattle.std.specs.Prelude.{Bool, false as plain}
 use Rattle.py_core.specs.Blocks.{explains_in, source_in, stmts_in}
 use Rattle.py_core.specs.declared.stmt.CoreBlock.{CoreBlock, roll-CoreBlock}
 use Rattle.lower_law.specs.Sourced.{function_in, module_of, sources_in}
-use Rattle.lower_law.specs.Lowered.{LoweredExpr, LoweredSome, LoweredStatement, LoweredBlock, LoweredBody, LoweredBranches, LoweredFunction, LoweredModule, PlainParameters, Choice, choice_at, branches_listed, core_at}
-use Rattle.assert_rewrite.specs.Lowers.{Lowers, LowersSome, LoweredPlace, named, LowersSingle, LowersTargets, LowersStatement, LowersBlock, LowersBody, Carries, LowersBranches, LowersFunction, EmptyBranch, empty}
+use Rattle.lower_law.specs.Lowered.{LoweredExpr, LoweredStatement, LoweredBlock, LoweredBody, LoweredBranches, LoweredHandlers, LoweredGuard, LoweredFunction, LoweredModule, PlainParameters, Choice, choice_at, branches_listed, handlers_listed, core_at}
+use Rattle.assert_rewrite.specs.Lowers.{Lowers, LowersTarget, LowersStatement, LowersBlock, LowersBody, Carries, LowersBranches, LowersHandlers, Guards, LowersFunction}
+use Rattle.assert_rewrite.specs.Groups.{stmt_group}
+use Rattle.assert_rewrite.specs.declared.groups.StmtGroup.{StmtGroup}
+use Rattle.assert_rewrite.specs.declared.groups.StmtGroup.TheVariants.{Missing}
+use Rattle.assert_rewrite.proofs.SimpleForms.{items_rolled}
+use Rattle.assert_rewrite.proofs.HandlerForms.{guard_made}
 
 -- blocks and branches, as rows
 body_row : (stmts : Vec Stmt Global) (core : CoreBlock) → LowersBody stmts.items core → BuiltBlock (block_on NoStatement (hidden-the_row-Stmt-1 stmts)) → LoweredBody plain (listed (block_on NoStatement (hidden-the_row-Stmt-1 stmts))) core
@@ -54,8 +56,11 @@ branches_row : (all : Vec Branch Global) (cores : Vec CoreBranch Global) → Low
 branches_row all cores h =
     subst (λ t. BuiltBranches t → LoweredBranches plain (branches_listed t) (row_branches _ (core_hide_branches cores))) (sym (branches_hidden all)) (subst (λ xs. BuiltBranches (branches all.items) → LoweredBranches plain (branches_listed (branches all.items)) xs) (sym (core_branches_hidden cores)) h.by)
 
-augmented : (at : Pos) (op : BinOp) (p : Place) (core : CoreSingle) (e : Tree) (x : Rc CoreExpr Global) → LoweredPlace p core → LoweredExpr e x.value → LoweredStatement plain (st.AugAssign at p op e) at (c.AugAssign core op x)
-augmented at op p core e x (named place name) h = low.augment at place name op h
+handlers_row : (all : Vec Handler Global) (cores : List CoreHandler) → LowersHandlers all.items cores → BuiltHandlers (handlers_on NoHandler (hide_handlers all)) → LoweredHandlers plain (handlers_listed (handlers all.items)) cores
+handlers_row all cores h = subst (λ t. BuiltHandlers t → LoweredHandlers plain (handlers_listed (handlers all.items)) cores) (sym (handlers_hidden all)) h.by
+
+guard_row : (all : Vec Handler Global) (source : List Handler) (other last : Block) (cores : List CoreHandler) (x y : CoreBlock) (g : CoreGuard) → source ≡ all.items → Guards source cores x y g → LoweredHandlers plain (handlers_listed (handlers all.items)) cores → LoweredBody plain (listed other) x → LoweredBody plain (listed last) y → LoweredGuard plain (handlers_on NoHandler (hide_handlers all)) (listed other) (listed last) g
+guard_row all source other last cores x y g same is h f e = subst (λ t. LoweredGuard plain t (listed other) (listed last) g) (sym (handlers_hidden all)) (guard_made all.items source other last cores x y g same is h f e)
 
 -- a function at its `def`
 def_rolled : (at : Pos) (f : Rc Function Global) → statement_at at (s.Def (record { ptr = f.ptr; value = roll-Function (out-Function f.value) })) ≡ st.Def at (trees (out-Function f.value).decorators.value.items) (out-Function f.value).at (out-Function f.value).name (parameters (out-Function f.value).params.value.items) (some_tree (out-Function f.value).returns) (block (out-Function f.value).body.value.items)
@@ -78,38 +83,7 @@ defined at word name Empty params Absent body r a b h = low.define at word name 
 defined at word name Empty params (Present e) body r a b h = elim b [ ]
 defined at word name (More ds e) params returns body r a b h = elim a [ ]
 
-class_rolled : (at : Pos) (r : Rc Class Global) (core : CoreStmtKind) → LowersStatement at (s.Class (record { ptr = r.ptr; value = roll-Class (out-Class r.value) })) core
-unfolding roll-Class denote.Hole.Carrier.roll hidden-the_row-Stmt-1
-class_rolled at r core = record { by = λ b. elim b [ ] }
-
 module _ (at : Pos) (kind : StmtKind) where
-  pub do_form : (e : Rc Expr Global) (x : Rc CoreExpr Global) → kind ≡ s.Expr e → Lowers e.value x.value → LowersStatement at kind (c.Expr x)
-  do_form e x is h = rw is (record { by = λ b. low.do_it at (h.by b) })
-
-  pub assign_form : (ts : Rc (Vec Target Global) Global) (e : Rc Expr Global) (xs : Rc (Vec CoreTarget Global) Global) (x : Rc CoreExpr Global) → kind ≡ s.Assign ts e → LowersTargets ts.value.items xs.value.items → Lowers e.value x.value → LowersStatement at kind (c.Assign xs x)
-  assign_form ts e xs x is g h = rw is (record { by = λ b. low.assign at (g.by b.0) (h.by b.1) })
-
-  pub augment_form : (target : Single) (op : BinOp) (e : Rc Expr Global) (core : CoreSingle) (x : Rc CoreExpr Global) → kind ≡ s.AugAssign target op e → LowersSingle target core → Lowers e.value x.value → LowersStatement at kind (c.AugAssign core op x)
-  augment_form target op e core x is g h = rw is (record { by = λ b. augmented at op (place target) core (tree e.value) x (g.by b.0) (h.by b.1) })
-
-  pub return_form : (e : Option (Rc Expr Global)) (x : Option (Rc CoreExpr Global)) → kind ≡ s.Return e → LowersSome e x → LowersStatement at kind (c.Return x)
-  return_form e x is h = rw is (record { by = λ b. low.return_it at (h.by b) })
-
-  pub assert_form : (e : Rc Expr Global) (m : Option (Rc Expr Global)) (core : CoreStmtKind) → kind ≡ s.Assert e m → LowersStatement at (s.Assert e m) core → LowersStatement at kind core
-  assert_form e m core is h = rw is h
-
-  pub global_form : (names copy : Rc (Vec (List ℕ) Global) Global) → kind ≡ s.Global names → copy.value ≡ names.value → LowersStatement at kind (c.Global copy)
-  global_form names copy is same = rw is (record { by = λ b. low.globals at (ap (λ (v : Vec (List ℕ) Global). v.items) same) })
-
-  pub pass_form : kind ≡ s.Pass → LowersStatement at kind c.Pass
-  pass_form is = rw is (record { by = λ b. low.pass at })
-
-  pub break_form : kind ≡ s.Break → LowersStatement at kind c.Break
-  break_form is = rw is (record { by = λ b. low.leave at })
-
-  pub continue_form : kind ≡ s.Continue → LowersStatement at kind c.Continue
-  continue_form is = rw is (record { by = λ b. low.again at })
-
   pub if_form : (all : Rc (Vec Branch Global) Global) (other : Rc (Vec Stmt Global) Global) (xs : Rc (Vec CoreBranch Global) Global) (ys : Rc CoreBlock Global) → kind ≡ s.If all other → LowersBranches all.value.items xs.value.items → LowersBody other.value.items ys.value → LowersStatement at kind (c.If xs ys)
   if_form all other xs ys is g h = rw is (record { by = λ b. low.choose at (branches_row all.value xs.value g b.0) (body_row other.value ys.value h b.1) })
 
@@ -121,47 +95,55 @@ module _ (at : Pos) (kind : StmtKind) where
       let g : LowersFunction f.value r.value = rw same h in
       rw is (record { by = subst (λ t. BuiltStatement t → LoweredStatement plain t at (c.Def r)) (sym (def_is at f)) (λ b. defined at _ _ _ _ _ _ r b.0 b.1 (g.by b.2 b.3)) })
 
-  -- any core stands for a form that the language doesn't have yet
-  pub assign_yield_form : (ts : Rc (Vec Target Global) Global) (y : Yield) (core : CoreStmtKind) → kind ≡ s.AssignYield ts y → LowersStatement at kind core
-  assign_yield_form ts y core is = rw is (record { by = λ b. elim b [ ] })
+  pub for_form : (target : Target) (e : Rc Expr Global) (body : Rc (Vec Stmt Global) Global) (t : CoreTarget) (r : Rc CoreTarget Global) (x : Rc CoreExpr Global) (ys : Rc CoreBlock Global) → kind ≡ s.For target e body → r.value ≡ t → LowersTarget target t → Lowers e.value x.value → LowersBody body.value.items ys.value → LowersStatement at kind (c.For r x ys)
+  for_form target e body t r x ys is same f g h =
+      let k : LowersTarget target r.value = rw same f in
+      rw is (record { by = λ b. low.for_each at (k.by b.0) (g.by b.1) (body_row body.value ys.value h b.2) })
 
-  pub return_yield_form : (y : Yield) (core : CoreStmtKind) → kind ≡ s.ReturnYield y → LowersStatement at kind core
-  return_yield_form y core is = rw is (record { by = λ b. elim b [ ] })
+  pub with_form : (e : Rc Expr Global) (name copy : Option (List ℕ)) (body : Rc (Vec Stmt Global) Global) (x : Rc CoreExpr Global) (ys : Rc CoreBlock Global) → kind ≡ s.With e name body → copy ≡ name → Lowers e.value x.value → LowersBody body.value.items ys.value → LowersStatement at kind (c.With x copy ys)
+  with_form e name copy body x ys is same g h = rw (is, same) (record { by = λ b. low.with_it at (g.by b.0) (body_row body.value ys.value h b.1) })
 
-  pub raise_form : (e : Option (Rc Expr Global)) (core : CoreStmtKind) → kind ≡ s.Raise e → LowersStatement at kind core
-  raise_form e core is = rw is (record { by = λ b. elim b [ ] })
+  pub try_form : (body : Rc (Vec Stmt Global) Global) (all : Rc (Vec Handler Global) Global) (other last : Rc (Vec Stmt Global) Global) (source : Rc (Vec Handler Global) Global) (cores : List CoreHandler) (ys zs ws : Rc CoreBlock Global) (g : Rc CoreGuard Global) → kind ≡ s.Try body all other last → source.value ≡ all.value → Guards source.value.items cores zs.value ws.value g.value → LowersBody body.value.items ys.value → LowersHandlers all.value.items cores → LowersBody other.value.items zs.value → LowersBody last.value.items ws.value → LowersStatement at kind (c.Try ys g)
+  try_form body all other last source cores ys zs ws g is same made h f o l =
+      rw is (record {
+        by = λ b. low.try_it at (body_row body.value ys.value h b.0)
+            (guard_row all.value source.value.items (block_on NoStatement (hidden-the_row-Stmt-1 other.value)) (block_on NoStatement (hidden-the_row-Stmt-1 last.value)) cores zs.value ws.value g.value (ap (λ (v : Vec Handler Global). v.items) same) made (handlers_row all.value cores f b.1) (body_row other.value zs.value o b.2) (body_row last.value ws.value l b.3));
+      })
 
-  pub del_form : (target : Single) (core : CoreStmtKind) → kind ≡ s.Del target → LowersStatement at kind core
-  del_form target core is = rw is (record { by = λ b. elim b [ ] })
+pub ruleset forms = (if_form, while_form, for_form, with_form, try_form, def_form)
 
-  pub yield_form : (y : Yield) (core : CoreStmtKind) → kind ≡ s.Yield y → LowersStatement at kind core
-  yield_form y core is = rw is (record { by = λ b. elim b [ ] })
+-- any core stands for a form that the language doesn't have yet
+missing_kind : (at : Pos) (kind : StmtKind) (core : CoreStmtKind) → stmt_group kind ≡ Missing → LowersStatement at kind core
+missing_kind at (s.AssignYield ts y) core is = record { by = λ b. elim b [ ] }
+missing_kind at (s.ReturnYield y) core is = record { by = λ b. elim b [ ] }
+missing_kind at (s.Yield y) core is = record { by = λ b. elim b [ ] }
+missing_kind at (s.Import names alias) core is = record { by = λ b. elim b [ ] }
+missing_kind at (s.ImportFrom names all) core is = record { by = λ b. elim b [ ] }
+missing_kind at (k.Class' p (class.Class' ds word name base q n body)) core is = record { by = λ b. elim b [ ] }
+missing_kind at (s.Expr x) core is = absurd (cc)
+missing_kind at (s.Assign ts x) core is = absurd (cc)
+missing_kind at (s.AugAssign t op x) core is = absurd (cc)
+missing_kind at (s.Return x) core is = absurd (cc)
+missing_kind at (s.Raise x) core is = absurd (cc)
+missing_kind at (s.Assert x m) core is = absurd (cc)
+missing_kind at (s.Del t) core is = absurd (cc)
+missing_kind at (s.Global names) core is = absurd (cc)
+missing_kind at s.Pass core is = absurd (cc)
+missing_kind at s.Break core is = absurd (cc)
+missing_kind at s.Continue core is = absurd (cc)
+missing_kind at (k.If' p n bs q m other) core is = absurd (cc)
+missing_kind at (k.While' x p n body) core is = absurd (cc)
+missing_kind at (k.For' t x p n body) core is = absurd (cc)
+missing_kind at (k.Try' p n body q m hs r l other o j last) core is = absurd (cc)
+missing_kind at (k.With' x name p n body) core is = absurd (cc)
+missing_kind at (k.Def' p f) core is = absurd (cc)
 
-  pub import_form : (names : Rc (Vec (List ℕ) Global) Global) (alias : Option (List ℕ)) (core : CoreStmtKind) → kind ≡ s.Import names alias → LowersStatement at kind core
-  import_form names alias core is = rw is (record { by = λ b. elim b [ ] })
+pub missing_form : (at : Pos) (kind : StmtKind) (core : CoreStmtKind) (group : StmtGroup) → group ≡ Missing → group ≡ stmt_group kind → LowersStatement at kind core
+missing_form at kind core group is same = missing_kind at kind core (sym same ∙ is)
 
-  pub import_from_form : (names : Rc (Vec (List ℕ) Global) Global) (all : Rc (Vec Alias Global) Global) (core : CoreStmtKind) → kind ≡ s.ImportFrom names all → LowersStatement at kind core
-  import_from_form names all core is = rw is (record { by = λ b. elim b [ ] })
-
-  pub for_form : (target : Target) (e : Rc Expr Global) (body : Rc (Vec Stmt Global) Global) (core : CoreStmtKind) → kind ≡ s.For target e body → LowersStatement at kind core
-  for_form target e body core is = rw is (record { by = λ b. elim b [ ] })
-
-  pub try_form : (body : Rc (Vec Stmt Global) Global) (all : Rc (Vec Handler Global) Global) (other last : Rc (Vec Stmt Global) Global) (core : CoreStmtKind) → kind ≡ s.Try body all other last → LowersStatement at kind core
-  try_form body all other last core is = rw is (record { by = λ b. elim b [ ] })
-
-  pub with_form : (e : Rc Expr Global) (name : Option (List ℕ)) (body : Rc (Vec Stmt Global) Global) (core : CoreStmtKind) → kind ≡ s.With e name body → LowersStatement at kind core
-  with_form e name body core is = rw is (record { by = λ b. elim b [ ] })
-
-  pub class_form : (r : Rc Class Global) (core : CoreStmtKind) → kind ≡ s.Class r → LowersStatement at kind core
-  class_form r core is = rw is (subst (λ y. LowersStatement at (s.Class (record { ptr = r.ptr; value = y })) core) (roll-out-Class r.value) (class_rolled at r core))
-
-pub ruleset forms = (do_form, assign_form, augment_form, return_form, assert_form, global_form, pass_form, break_form, continue_form, if_form, while_form, def_form, assign_yield_form, return_yield_form, raise_form, del_form, yield_form, import_form, import_from_form, for_form, try_form, with_form, class_form)
+pub ruleset missing = (missing_form)
 
 -- a block of core with these statements
-items_rolled : (source : Rc (Vec Stmt Global) Global) (x : Bool) (stmts : Vec CoreStmt Global) → stmts_in (roll-CoreBlock (record { source = source; explains = x; stmts = stmts })) ≡ stmts.items
-unfolding roll-CoreBlock denote.Hole.Carrier.roll hidden-the_row-CoreStmt-1
-items_rolled source x stmts = core_items_hidden stmts
-
 source_rolled : (source : Rc (Vec Stmt Global) Global) (x : Bool) (stmts : Vec CoreStmt Global) → source_in (roll-CoreBlock (record { source = source; explains = x; stmts = stmts })) ≡ source.value.items
 unfolding roll-CoreBlock denote.Hole.Carrier.roll hidden-the_row-CoreStmt-1
 source_rolled source x stmts = refl
@@ -169,11 +151,6 @@ source_rolled source x stmts = refl
 explains_rolled : (source : Rc (Vec Stmt Global) Global) (x : Bool) (stmts : Vec CoreStmt Global) → explains_in (roll-CoreBlock (record { source = source; explains = x; stmts = stmts })) ≡ x
 unfolding roll-CoreBlock denote.Hole.Carrier.roll hidden-the_row-CoreStmt-1
 explains_rolled source x stmts = refl
-
-pub bare_form : (source : Rc (Vec Stmt Global) Global) (x : Bool) (stmts : Vec CoreStmt Global) (b : Rc CoreBlock Global) → b.value ≡ roll-CoreBlock (record { source = source; explains = x; stmts = stmts }) → stmts_in b.value ≡ stmts.items
-bare_form source x stmts b is = ap stmts_in is ∙ items_rolled source x stmts
-
-pub ruleset bare_blocks = (bare_form)
 
 pub carries_form : (ss : Rc (Vec Stmt Global) Global) (source : Rc (Vec Stmt Global) Global) (stmts : Vec CoreStmt Global) (b : Rc CoreBlock Global) → b.value ≡ roll-CoreBlock (record { source = source; explains = plain; stmts = stmts }) → source.value ≡ ss.value → Carries ss.value.items b.value
 carries_form ss source stmts b is same =
@@ -187,24 +164,6 @@ body_form ss source stmts b is same h =
     })
 
 pub ruleset bodies = (carries_form, body_form)
-
--- an assert at its place
-branch_empty : (at : Pos) (x : Rc CoreExpr Global) (body : Rc CoreBlock Global) → stmts_in body.value ≡ [] → EmptyBranch at x (roll-CoreBranch (record { at = at; condition = x; body = body }) ∷ [])
-unfolding roll-CoreBranch denote.Hole.Carrier.roll
-branch_empty at x body none = empty none
-
-pub empty_form : (at : Pos) (x : Rc CoreExpr Global) (body : Rc CoreBlock Global) (all : List CoreBranch) → all ≡ roll-CoreBranch (record { at = at; condition = x; body = body }) ∷ [] → stmts_in body.value ≡ [] → EmptyBranch at x all
-empty_form at x body all is none = rw is (branch_empty at x body none)
-
-pub ruleset empties = (empty_form)
-
-failing : (at : Pos) (e : Tree) (m : Maybe) (x : Rc CoreExpr Global) (y : Option (Rc CoreExpr Global)) (all : Rc (Vec CoreBranch Global) Global) (other : Rc CoreBlock Global) (items : List CoreBranch) → all.value.items ≡ items → EmptyBranch at x items → LoweredExpr e x.value → LoweredSome m y → stmts_in other.value ≡ core_at at (c.FailWith Plain y) ∷ [] → LoweredStatement plain (st.Assert at e m) at (c.If all other)
-failing at e m x y all other items is (empty none) h g o = low.assert_it at h g (core_branches_hidden all.value ∙ is) none o
-
-pub assert_is : (at : Pos) (e : Rc Expr Global) (m : Option (Rc Expr Global)) (x : Rc CoreExpr Global) (y : Option (Rc CoreExpr Global)) (all : Rc (Vec CoreBranch Global) Global) (other : Rc CoreBlock Global) → Lowers e.value x.value → LowersSome m y → EmptyBranch at x all.value.items → stmts_in other.value ≡ core_at at (c.FailWith Plain y) ∷ [] → LowersStatement at (s.Assert e m) (c.If all other)
-assert_is at e m x y all other h g b o = record { by = λ t. failing at (tree e.value) (some_tree m) x y all other all.value.items refl b (h.by t.0) (g.by t.1) o }
-
-pub ruleset asserts = (assert_is)
 
 statements_push : {ss : List Statement} {xs : List CoreStmt} (s : Statement) (at : Pos) (kind : CoreStmtKind) → LoweredBlock plain ss xs → LoweredStatement plain s at kind → LoweredBlock plain (ss ++ s ∷ []) (xs ++ core_at at kind ∷ [])
 statements_push s at kind low.LoweredBlock.ends h = low.LoweredBlock.goes_on h low.LoweredBlock.ends

@@ -21,7 +21,10 @@
 //! Which core code comes for a source with a form that the language doesn't have yet; callers ask first.
 #![tactic(auto)]
 
+mod asserts;
 mod expressions;
+mod groups;
+mod simple;
 mod statements;
 mod targets;
 #[cfg(test)]

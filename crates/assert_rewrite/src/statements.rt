@@ -1,83 +1,18 @@
 ghost use Rattle.std.specs.Prelude.{IfOk, ◌≡◌, ◌∷◌, []};
 ghost use Rattle.py_tree.specs.Names.{names_of};
 ghost use Rattle.py_tree.specs.Statements.{parameters};
-ghost use Rattle.py_tree.specs.declared.stmt.StmtKind.TheVariants as source;
-ghost use Rattle.assert_rewrite.specs.Lowers.{Carries, LowersStatement, LowersBlock, LowersBody, LowersBranches, LowersFunction, EmptyBranch};
-ghost use Rattle.lower_law.specs.Lowered.{core_at};
-ghost use Rattle.py_core.specs.Blocks.{stmts_in};
-ghost use Rattle.py_core.specs.declared.stmt.CoreStmtKind.TheVariants as core;
-ghost use Rattle.py_core.specs.declared.stmt.Template.TheVariants.{Plain};
+ghost use Rattle.assert_rewrite.specs.Groups as groups;
+ghost use Rattle.assert_rewrite.specs.Lowers.{Carries, LowersStatement, LowersBlock, LowersBody, LowersBranches, LowersHandlers, Guards, LowersFunction};
 
 use crate::expressions::{lower_expr, lower_some};
-use crate::targets::{lower_single, lower_targets};
-use py_core::{CoreBlock, CoreBranch, CoreExpr, CoreFn, CoreStmt, CoreStmtKind, Template};
+use crate::groups::{StmtGroup, stmt_group};
+use crate::simple::lower_simple;
+use crate::targets::lower_target;
+use py_core::{CoreBlock, CoreBranch, CoreFn, CoreGuard, CoreHandler, CoreStmt, CoreStmtKind};
 use py_text::OutOfMemory;
-use py_tree::{Branch, Expr, Function, Names, Param, Pos, Stmt, StmtKind, bindings_of};
+use py_tree::{Branch, Function, Handler, Names, Param, SrcText, Stmt, StmtKind, bindings_of};
 use std::alloc::Global;
 use std::rc::Rc;
-
-/// A block that stands for no statements of the source.
-#[tactic(auto, using(crate::proofs::StatementForms::bare_blocks))]
-fn bare_block(alloc: Global, stmts: Vec<CoreStmt>) -> Result<Rc<CoreBlock>, OutOfMemory>
-    ensures { IfOk result (λ b. stmts_in b.value ≡ stmts.items) }
-{
-    let source = Rc::new(alloc, Vec::new(alloc))?;
-    let block = CoreBlock {
-        source,
-        explains: false,
-        stmts,
-    };
-    Ok(Rc::new(alloc, block)?)
-}
-
-/// A branch at a place that does nothing.
-#[tactic(auto, using(crate::proofs::StatementForms::empties))]
-fn empty_branch(
-    alloc: Global,
-    at: Pos,
-    condition: Rc<CoreExpr>,
-) -> Result<Rc<Vec<CoreBranch>>, OutOfMemory>
-    ensures { IfOk result (λ branches. EmptyBranch at condition branches.value.items) }
-{
-    let body = bare_block(alloc, Vec::new(alloc))?;
-    let mut branches = Vec::new(alloc);
-    branches.push(CoreBranch {
-        at,
-        condition,
-        body,
-    })?;
-    Ok(Rc::new(alloc, branches)?)
-}
-
-/// The failure of an assert at a place.
-fn failure(
-    alloc: Global,
-    at: Pos,
-    message: Option<Rc<CoreExpr>>,
-) -> Result<Rc<CoreBlock>, OutOfMemory>
-    ensures { IfOk result (λ b. stmts_in b.value ≡ core_at at (core.FailWith Plain message) ∷ []) }
-{
-    let mut stmts = Vec::new(alloc);
-    let kind = CoreStmtKind::FailWith(Template::Plain, message);
-    stmts.push(CoreStmt { at, kind })?;
-    bare_block(alloc, stmts)
-}
-
-/// The core form of an assert at a place: an `if` there that does nothing, whose `else` is the failure.
-#[tactic(auto, using(crate::proofs::StatementForms::asserts))]
-fn lower_assert(
-    alloc: Global,
-    at: Pos,
-    condition: &Rc<Expr>,
-    message: &Option<Rc<Expr>>,
-) -> Result<CoreStmtKind, OutOfMemory>
-    ensures { IfOk result (λ made. LowersStatement at (source.Assert condition.now message.now) made) }
-{
-    let condition = lower_expr(alloc, condition)?;
-    let message = lower_some(alloc, message)?;
-    let branches = empty_branch(alloc, at, condition)?;
-    Ok(CoreStmtKind::If(branches, failure(alloc, at, message)?))
-}
 
 /// The names of parameters, in their order.
 fn param_names(alloc: Global, params: &[Param]) -> Result<Names, OutOfMemory>
@@ -88,6 +23,36 @@ fn param_names(alloc: Global, params: &[Param]) -> Result<Names, OutOfMemory>
         names.push(param.name.clone()?)?;
     }
     Ok(Names::from_vec(names))
+}
+
+/// A name, if there is one.
+fn copy_name(name: &Option<SrcText>) -> Result<Option<SrcText>, OutOfMemory>
+    ensures { IfOk result (λ copy. copy ≡ name.now) }
+{
+    match name {
+        None => Ok(None),
+        Some(name) => Ok(Some(name.clone()?)),
+    }
+}
+
+/// What guards a block.
+#[tactic(auto, using(crate::proofs::HandlerForms::guards))]
+fn guard(
+    alloc: Global,
+    source: Rc<Vec<Handler>>,
+    handlers: Vec<CoreHandler>,
+    other: Rc<CoreBlock>,
+    last: Rc<CoreBlock>,
+) -> Result<Rc<CoreGuard>, OutOfMemory>
+    ensures { IfOk result (λ g. Guards source.value.items handlers.items other.value last.value g.value) }
+{
+    let guard = CoreGuard {
+        source,
+        handlers,
+        other,
+        last,
+    };
+    Ok(Rc::new(alloc, guard)?)
 }
 
 /// The core code of statements, in their order.
@@ -121,26 +86,25 @@ pub fn lower_body(alloc: Global, stmts: &Rc<Vec<Stmt>>) -> Result<Rc<CoreBlock>,
 
 /// The core form of a statement. `pass` stands for a form that the language doesn't have yet.
 #[cycle(block)]
-#[tactic(auto, using(crate::proofs::StatementForms::forms))]
+#[tactic(auto, using(crate::proofs::StatementForms::missing))]
 fn lower_statement(alloc: Global, stmt: &Stmt) -> Result<CoreStmtKind, OutOfMemory>
     ensures { IfOk result (λ made. LowersStatement stmt.now.at stmt.now.kind made) }
 {
+    match stmt_group(&stmt.kind) {
+        StmtGroup::Simple => lower_simple(alloc, stmt),
+        StmtGroup::Compound => lower_compound(alloc, stmt),
+        StmtGroup::Missing => Ok(CoreStmtKind::Pass),
+    }
+}
+
+/// The core form of a compound statement.
+#[cycle(block)]
+#[tactic(auto, using(crate::proofs::StatementForms::forms))]
+fn lower_compound(alloc: Global, stmt: &Stmt) -> Result<CoreStmtKind, OutOfMemory>
+    requires { groups.stmt_group stmt.now.kind ≡ StmtGroup.Compound }
+    ensures { IfOk result (λ made. LowersStatement stmt.now.at stmt.now.kind made) }
+{
     match &stmt.kind {
-        StmtKind::Expr(e) => Ok(CoreStmtKind::Expr(lower_expr(alloc, e)?)),
-        StmtKind::Assign(targets, value) => {
-            let targets = lower_targets(alloc, stmt.at, targets)?;
-            Ok(CoreStmtKind::Assign(targets, lower_expr(alloc, value)?))
-        }
-        StmtKind::AugAssign(single, op, value) => {
-            let single = lower_single(alloc, single)?;
-            Ok(CoreStmtKind::AugAssign(single, *op, lower_expr(alloc, value)?))
-        }
-        StmtKind::Return(value) => Ok(CoreStmtKind::Return(lower_some(alloc, value)?)),
-        StmtKind::Assert(condition, message) => lower_assert(alloc, stmt.at, condition, message),
-        StmtKind::Global(names) => Ok(CoreStmtKind::Global(names.clone()?)),
-        StmtKind::Pass => Ok(CoreStmtKind::Pass),
-        StmtKind::Break => Ok(CoreStmtKind::Break),
-        StmtKind::Continue => Ok(CoreStmtKind::Continue),
         StmtKind::If(branches, other) => {
             let branches = lower_branches(alloc, branches)?;
             Ok(CoreStmtKind::If(branches, lower_body(alloc, other)?))
@@ -149,21 +113,29 @@ fn lower_statement(alloc: Global, stmt: &Stmt) -> Result<CoreStmtKind, OutOfMemo
             let condition = lower_expr(alloc, condition)?;
             Ok(CoreStmtKind::While(condition, lower_body(alloc, body)?))
         }
+        StmtKind::For(target, items, body) => {
+            let target = Rc::new(alloc, lower_target(alloc, target)?)?;
+            let items = lower_expr(alloc, items)?;
+            Ok(CoreStmtKind::For(target, items, lower_body(alloc, body)?))
+        }
+        StmtKind::Try(body, handlers, other, last) => {
+            let body = lower_body(alloc, body)?;
+            let cores = lower_handlers(alloc, handlers)?;
+            let other = lower_body(alloc, other)?;
+            let last = lower_body(alloc, last)?;
+            let guard = guard(alloc, handlers.clone()?, cores, other, last)?;
+            Ok(CoreStmtKind::Try(body, guard))
+        }
+        StmtKind::With(context, name, body) => {
+            let context = lower_expr(alloc, context)?;
+            let name = copy_name(name)?;
+            Ok(CoreStmtKind::With(context, name, lower_body(alloc, body)?))
+        }
         StmtKind::Def(function) => {
             let function = lower_function(alloc, function)?;
             Ok(CoreStmtKind::Def(Rc::new(alloc, function)?))
         }
-        StmtKind::AssignYield(_, _)
-        | StmtKind::ReturnYield(_)
-        | StmtKind::Raise(_)
-        | StmtKind::Del(_)
-        | StmtKind::Yield(_)
-        | StmtKind::Import(_, _)
-        | StmtKind::ImportFrom(_, _)
-        | StmtKind::For(_, _, _)
-        | StmtKind::Try(_, _, _, _)
-        | StmtKind::With(_, _, _)
-        | StmtKind::Class(_) => Ok(CoreStmtKind::Pass),
+        _ => unreachable!(),
     }
 }
 
@@ -193,6 +165,31 @@ fn lower_branch(alloc: Global, branch: &Branch) -> Result<CoreBranch, OutOfMemor
         condition,
         body,
     })
+}
+
+/// The core forms of handlers, in their order.
+#[cycle(block)]
+#[tactic(auto, using(crate::proofs::HandlerForms::handler_lists))]
+fn lower_handlers(alloc: Global, all: &[Handler]) -> Result<Vec<CoreHandler>, OutOfMemory>
+    ensures { IfOk result (λ cores. LowersHandlers all.now cores.items) }
+{
+    let mut done = Vec::new(alloc);
+    for handler in all {
+        done.push(lower_handler(alloc, handler)?)?;
+    }
+    Ok(done)
+}
+
+/// The core form of a handler.
+#[cycle(block)]
+#[tactic(auto, using(crate::proofs::HandlerForms::handler_forms))]
+fn lower_handler(alloc: Global, handler: &Handler) -> Result<CoreHandler, OutOfMemory>
+    ensures { IfOk result (λ made. LowersHandlers (handler.now ∷ []) (made ∷ [])) }
+{
+    let class = lower_some(alloc, &handler.class)?;
+    let name = copy_name(&handler.name)?;
+    let body = lower_body(alloc, &handler.body)?;
+    Ok(CoreHandler { class, name, body })
 }
 
 /// The core form of a function, where its `def` stands.

@@ -3,9 +3,12 @@ use Rattle.std.specs.Prelude.{ℕ, ◌+◌, List, [], ◌∷◌, drop, map, Opti
 use Rattle.std.specs.declared.alloc.Global.{Global}
 use Rattle.std.specs.declared.rc.Rc.{Rc}
 use Rattle.py_core.specs.declared.expr.CoreExpr.{CoreExpr}
-use Rattle.py_core.specs.Blocks.{stmts_in}
+use Rattle.py_core.specs.Blocks.{stmts_in, handlers_in, other_in, last_in}
 use Rattle.py_core.specs.declared.stmt.CoreBlock.{CoreBlock}
 use Rattle.py_core.specs.declared.stmt.CoreBranch as branch
+use Rattle.py_core.specs.declared.stmt.CoreGuard.{CoreGuard}
+use Rattle.py_core.specs.declared.stmt.CoreHandler as handler
+use Rattle.py_core.specs.declared.stmt.CoreSingle.{CoreSingle}
 use Rattle.py_core.specs.declared.stmt.CoreFn as fn
 use Rattle.py_core.specs.declared.stmt.CoreFn.{CoreFn}
 use Rattle.py_core.specs.declared.stmt.CoreSingleKind.{CoreSingleKind}
@@ -21,11 +24,15 @@ use Rattle.py_core.specs.declared.stmt.CoreStmtKind.TheVariants as v
 use Rattle.py_tree.specs.declared.op.BinOp.{BinOp}
 use Rattle.py_tree.specs.Trees.{tree}
 use Rattle.core_meaning.specs.Expressions.{CorePart, eval}
-use Rattle.core_meaning.specs.Requests.{core_kinds, Layer, Statements, Turn, StatementOf, TurnOf}
+use Rattle.core_meaning.specs.Requests.{core_kinds, Layer, Statements, Guard, Turn, StatementOf, TurnOf, ForOf}
 use Rattle.py_world.specs.Site.{site}
 use Rattle.py_world.specs.Arguments.{required}
-use Rattle.py_world.specs.Outcome.{Body, Next, on_next}
-use Rattle.py_world.specs.Statements.{Store, Choice, asked, expression_statement, store_name, assign, augment_name, return_value, yield_value, pass, leave_loop, next_turn, fail, fail_explained, choose, loop, turn_of, define}
+use Rattle.py_world.specs.Outcome.{Body, After, Next, on_next}
+use Rattle.py_world.specs.Statements.{Choice, asked, expression_statement, return_value, yield_value, pass, leave_loop, next_turn, fail, fail_explained, choose, loop, turn_of, define}
+use Rattle.py_world.specs.Names.{delete_name}
+use Rattle.py_world.specs.Targets.{Store, store_name, store_attribute, store_item, unpack, assign, augment_name, augment_attribute, augment_item, delete_attribute, delete_item}
+use Rattle.py_world.specs.Exceptions.{Handling, raise_value, guarded, try_statement, with_statement}
+use Rattle.py_world.specs.Loops.{for_statement, for_turn}
 use Rattle.py_world.specs.Calls.{Entry}
 
 abbrev pub CoreBody : Type 0
@@ -37,11 +44,21 @@ CoreStore = Store core_kinds
 abbrev pub CoreChoice : Type 0
 CoreChoice = Choice core_kinds
 
+abbrev pub CoreHandling : Type 0
+CoreHandling = Handling core_kinds
+
 abbrev pub store_at : CoreSingleKind → CoreStore
 store_at (single.Name name) = store_name name
+store_at (single.Attribute e name) = store_attribute (eval e.value) name
+store_at (single.Subscript e i) = store_item (eval e.value) (eval i.value)
+
+abbrev pub store_singles : List CoreSingle → List CoreStore
+store_singles [] = []
+store_singles (s ∷ ss) = store_at s.kind ∷ store_singles ss
 
 abbrev pub store : CoreTarget → CoreStore
 store (target.Single s) = store_at s.kind
+store (target.Unpack ss) = unpack (store_singles ss.value.items)
 
 abbrev pub stores : List CoreTarget → List CoreStore
 stores [] = []
@@ -49,6 +66,13 @@ stores (t ∷ ts) = store t ∷ stores ts
 
 abbrev pub augment_at : CoreSingleKind → BinOp → CorePart → CorePart
 augment_at (single.Name name) op e = augment_name name op e
+augment_at (single.Attribute a name) op e = augment_attribute (eval a.value) name op e
+augment_at (single.Subscript a i) op e = augment_item (eval a.value) (eval i.value) op e
+
+abbrev pub delete_at : CoreSingleKind → CorePart
+delete_at (single.Name name) = delete_name name
+delete_at (single.Attribute e name) = delete_attribute (eval e.value) name
+delete_at (single.Subscript e i) = delete_item (eval e.value) (eval i.value)
 
 abbrev pub some_part : Option (Rc CoreExpr Global) → Option CorePart
 some_part None = None
@@ -74,6 +98,11 @@ begun_at (f.If' p n branches q other) ls st = asked (StatementOf ls st)
 begun_at (v.Yield e) ls st = asked (StatementOf ls st)
 begun_at (f.While' e p body) ls st = asked (StatementOf ls st)
 begun_at (f.Def' p fn) ls st = asked (StatementOf ls st)
+begun_at (v.Raise e) ls st = asked (StatementOf ls st)
+begun_at (v.Del t) ls st = asked (StatementOf ls st)
+begun_at (f.For' t e p body) ls st = asked (StatementOf ls st)
+begun_at (f.Try' p body q g) ls st = asked (StatementOf ls st)
+begun_at (f.With' e name p body) ls st = asked (StatementOf ls st)
 
 abbrev pub begun : List Layer → CoreStmt → CorePart
 begun ls st = begun_at st.kind ls st
@@ -87,10 +116,23 @@ block_from ls b at (st ∷ rest) scene s k =
 abbrev pub block : List Layer → CoreBlock → CoreBody
 block ls b = block_from ls b 0 (stmts_in b)
 
--- what remains of a body, the innermost block first
-abbrev pub remains : List Layer → CorePart
-remains [] p s k = k (Next s)
-remains (Statements b at ∷ ls) p s k = block_from ls b at (drop at (stmts_in b)) p.scene s (λ o. on_next o k (λ s. remains ls p s k))
+abbrev pub handling_of : List Layer → handler.CoreHandler → CoreHandling
+handling_of ls (handler.CoreHandler' class name p body) = (some_part class, (name, block ls body))
+
+-- the handlers of a `try`
+abbrev pub handlings : List Layer → List handler.CoreHandler → List CoreHandling
+handlings ls [] = []
+handlings ls (h ∷ hs) = handling_of ls h ∷ handlings ls hs
+
+-- what guards the block of a `try`
+abbrev pub guard : List Layer → CoreGuard → After core_kinds
+guard ls g = guarded (handlings ls (handlers_in g)) (block ls (other_in g)) (block ls (last_in g))
+
+-- what remains of a body does with the end of the part before it, the innermost block first
+abbrev pub remains : List Layer → After core_kinds
+remains [] p o k = k o
+remains (Statements b at ∷ ls) p o k = on_next o (λ o. remains ls p o k) (λ s. block_from ls b at (drop at (stmts_in b)) p.scene s (λ o. remains ls p o k))
+remains (Guard g line ∷ ls) p o k = guard ls g (site p.scene line) o (λ o. remains ls p o k)
 
 abbrev pub choice : List Layer → branch.CoreBranch → CoreChoice
 choice ls (branch.CoreBranch' at condition p body) = (at.line, (eval condition.value, block ls body))
@@ -101,6 +143,10 @@ choices ls (b ∷ rest) = choice ls b ∷ choices ls rest
 
 abbrev pub define_fn : CoreFn → CorePart
 define_fn (fn.CoreFn' source at name params locals yields p body) = define name at.line (map required params) yields (fn.CoreFn' source at name params locals yields p body)
+
+-- a `try`, which guards its block on its line
+abbrev pub try_at : List Layer → CoreBlock → CoreGuard → CorePart
+try_at ls body g p s k = try_statement (block (Guard g p.line ∷ ls) body) (handlings ls (handlers_in g)) (block ls (other_in g)) (block ls (last_in g)) p s k
 
 -- WHAT A STATEMENT DOES, its step being taken
 abbrev pub statement_at : List Layer → CoreStmtKind → CorePart
@@ -117,6 +163,11 @@ statement_at ls v.Continue = next_turn
 statement_at ls (f.If' p n branches q other) = choose (choices ls (items-the_row-CoreBranch _ branches)) (block ls other)
 statement_at ls (f.While' e p body) = loop (TurnOf e.value body) (eval e.value)
 statement_at ls (f.Def' p fn) = define_fn fn
+statement_at ls (v.Raise e) = raise_value (some_part e)
+statement_at ls (v.Del t) = delete_at t.kind
+statement_at ls (f.For' t e p body) = for_statement (ForOf t.value body) (eval e.value)
+statement_at ls (f.Try' p body q g) = try_at ls body g
+statement_at ls (f.With' e name p body) = with_statement (eval e.value) name (block ls body)
 
 abbrev pub statement : List Layer → CoreStmt → CorePart
 statement ls st = statement_at ls st.kind
@@ -124,6 +175,7 @@ statement ls st = statement_at ls st.kind
 abbrev pub act : Turn → CorePart
 act (StatementOf ls st) = statement ls st
 act (TurnOf e body) = turn_of (TurnOf e body) (eval e) (block [] body)
+act (ForOf t body at) = for_turn (ForOf t body) (store t) (block [] body) at
 
 abbrev pub entry : CoreFn → Entry core_kinds
 entry (fn.CoreFn' source at name params locals yields p body) = record { name = name; own = locals; body = block [] body }

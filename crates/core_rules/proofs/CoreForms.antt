@@ -9,7 +9,7 @@ use Rattle.py_values.specs.declared.value.Value.{Value}
 use Rattle.py_values.specs.declared.value.Value.TheVariants as val
 use Rattle.py_core.specs.declared.expr.CoreExpr.{CoreExpr}
 use Rattle.py_core.specs.declared.expr.CoreExprKind as f
-use Rattle.py_core.specs.declared.expr.CoreExprKind.{CoreExprKind, Row_of-CoreExprKind-Call-1-1 as Row, end_of-CoreExprKind-Call-1-1 as end, more_of-CoreExprKind-Call-1-1 as more}
+use Rattle.py_core.specs.declared.expr.CoreExprKind.{CoreExprKind, Row_of-CoreExprKind-Call-1-1 as Row, end_of-CoreExprKind-Call-1-1 as end, more_of-CoreExprKind-Call-1-1 as more, Held-CoreExprKind-Slice-1 as Held}
 use Rattle.py_core.specs.declared.expr.CoreExprKind.TheVariants as v
 use Rattle.py_core.specs.declared.stmt.CoreBranch as branch
 use Rattle.py_core.specs.declared.stmt.CoreFn as fn
@@ -24,20 +24,24 @@ use Rattle.py_core.specs.declared.stmt.CoreStmt.{CoreStmt}
 use Rattle.py_core.specs.declared.stmt.CoreStmtKind as c
 use Rattle.py_core.specs.declared.stmt.CoreStmtKind.{CoreStmtKind, items-the_row-CoreBranch}
 use Rattle.py_core.specs.declared.stmt.CoreBlock.{CoreBlock}
-use Rattle.py_core.specs.Blocks.{stmts_in}
+use Rattle.py_core.specs.declared.stmt.CoreGuard.{CoreGuard}
+use Rattle.py_core.specs.declared.stmt.CoreHandler as handler
+use Rattle.py_core.specs.declared.stmt.CoreSingle.{CoreSingle}
+use Rattle.py_core.specs.Blocks.{stmts_in, handlers_in, other_in, last_in}
 use Rattle.py_core.specs.declared.stmt.CoreStmtKind.TheVariants as k
 use Rattle.py_tree.specs.Trees as Rattle_tree
-use Rattle.core_meaning.specs.Requests.{core_kinds, Layer, Statements, Turn, StatementOf, TurnOf}
+use Rattle.core_meaning.specs.Requests.{core_kinds, Layer, Statements, Guard, Turn, StatementOf, TurnOf, ForOf}
 use Rattle.core_meaning.specs.Meaning.{core}
-use Rattle.core_meaning.specs.Expressions.{CorePart, eval_at, eval, parts}
-use Rattle.core_meaning.specs.Statements.{remains, store_at, store, stores, augment_at, some_part, failure, begun_at, block_from, block, choices, define_fn, statement_at, statement, act, entry}
+use Rattle.core_meaning.specs.Expressions.{CorePart, eval_at, eval, parts, held}
+use Rattle.core_meaning.specs.Statements.{remains, store_at, store_singles, store, stores, augment_at, delete_at, some_part, failure, begun_at, block_from, block, handlings, guard, choices, define_fn, try_at, statement_at, statement, act, entry}
 use Rattle.py_world.specs.World.{State}
 use Rattle.py_world.specs.Site.{Around, Scene, Site, site}
 use Rattle.py_world.specs.Arguments.{Arguments, plain}
 use Rattle.py_world.specs.Outcome.{Then}
 use Rattle.py_world.specs.Calls.{invoke, body_of}
+use Rattle.core_rules.proofs.LinearFlow as flow
 use Rattle.core_rules.proofs.Linear as line
-use Rattle.core_rules.proofs.Linear.{Linear, LinearBody, LinearAll, LinearMeaning}
+use Rattle.core_rules.proofs.Linear.{Linear, LinearBody, LinearAfter, LinearAll, LinearMeaning}
 
 mutual
   eval_linear : (at : Pos) (e : CoreExprKind) → Linear (eval_at at e)
@@ -56,6 +60,12 @@ mutual
   eval_linear at (f.And' p a e q n es) = line.noted_linear at (line.and_linear (eval_linear a e) (parts_linear es))
   eval_linear at (f.Or' p a e q n es) = line.noted_linear at (line.or_linear (eval_linear a e) (parts_linear es))
   eval_linear at (f.IfElse' p a e q b c r d o) = line.noted_linear at (line.choice_linear (eval_linear a e) (eval_linear b c) (eval_linear d o))
+  eval_linear at (f.Tuple' p n es) = line.noted_linear at (flow.tuple_linear (parts_linear es))
+  eval_linear at (f.List' p n es) = line.noted_linear at (flow.list_linear (parts_linear es))
+  eval_linear at (f.Dict' p n ks q m es) = line.noted_linear at (flow.dict_linear (parts_linear ks) (parts_linear es))
+  eval_linear at (f.Attribute' p a e name) = line.noted_linear at (flow.attribute_linear name (eval_linear a e))
+  eval_linear at (f.Subscript' p a e q b i) = line.noted_linear at (flow.subscript_linear (eval_linear a e) (eval_linear b i))
+  eval_linear at (f.Slice' p a e from to by) = line.noted_linear at (flow.slice_linear (eval_linear a e) (held_linear from) (held_linear to) (held_linear by))
   eval_linear at (f.SetTemp' t p a e) = line.kept_linear t (eval_linear a e)
   eval_linear at (v.Temp t) = line.temp_linear t
 
@@ -63,21 +73,40 @@ mutual
   parts_linear end = line.nil
   parts_linear (more p a e row) = line.cons (eval_linear a e) (parts_linear row)
 
+  held_linear : (m : Held) → line.LinearSome (held m)
+  held_linear f.CoreExprKind-Slice-1-None' = line.none
+  held_linear (f.Some' p a e) = line.some (eval_linear a e)
+
 some_linear : (m : Option (Rc CoreExpr Global)) → line.LinearSome (some_part m)
 some_linear None = line.none
 some_linear (Some e) = line.some (eval_linear e.value.at e.value.kind)
 
-store_linear : (t : CoreTarget) → line.LinearStore (store t)
-store_linear (target.Single s) = single_linear s.kind where
-  single_linear : (x : CoreSingleKind) → line.LinearStore (store_at x)
-  single_linear (single.Name name) = line.store_name_linear name
+single_linear : (x : CoreSingleKind) → flow.LinearStore (store_at x)
+single_linear (single.Name name) = flow.store_name_linear name
+single_linear (single.Attribute e name) = flow.store_attribute_linear name (eval_linear e.value.at e.value.kind)
+single_linear (single.Subscript e i) = flow.store_item_linear (eval_linear e.value.at e.value.kind) (eval_linear i.value.at i.value.kind)
 
-stores_linear : (ts : List CoreTarget) → line.LinearStores (stores ts)
-stores_linear [] = line.nil
-stores_linear (t ∷ ts) = line.cons (store_linear t) (stores_linear ts)
+singles_linear : (ss : List CoreSingle) → flow.LinearStores (store_singles ss)
+singles_linear [] = flow.nil
+singles_linear (s ∷ ss) = flow.cons (single_linear s.kind) (singles_linear ss)
+
+store_linear : (t : CoreTarget) → flow.LinearStore (store t)
+store_linear (target.Single s) = single_linear s.kind
+store_linear (target.Unpack ss) = flow.unpack_linear (singles_linear ss.value.items)
+
+stores_linear : (ts : List CoreTarget) → flow.LinearStores (stores ts)
+stores_linear [] = flow.nil
+stores_linear (t ∷ ts) = flow.cons (store_linear t) (stores_linear ts)
 
 augment_linear : (x : CoreSingleKind) (op : BinOp) {e : CorePart} → Linear e → Linear (augment_at x op e)
-augment_linear (single.Name name) op e = line.augment_linear name op e
+augment_linear (single.Name name) op e = flow.augment_linear name op e
+augment_linear (single.Attribute a name) op e = flow.augment_attribute_linear name op (eval_linear a.value.at a.value.kind) e
+augment_linear (single.Subscript a i) op e = flow.augment_item_linear op (eval_linear a.value.at a.value.kind) (eval_linear i.value.at i.value.kind) e
+
+delete_linear : (x : CoreSingleKind) → Linear (delete_at x)
+delete_linear (single.Name name) = flow.delete_name_linear name
+delete_linear (single.Attribute e name) = flow.delete_attribute_linear name (eval_linear e.value.at e.value.kind)
+delete_linear (single.Subscript e i) = flow.delete_item_linear (eval_linear e.value.at e.value.kind) (eval_linear i.value.at i.value.kind)
 
 failure_linear : (t : Template) (m : Option (Rc CoreExpr Global)) → Linear (failure t m)
 failure_linear Plain m = line.fail_linear (some_linear m)
@@ -97,6 +126,11 @@ begun_linear k.Continue ls st = line.asked_linear (StatementOf ls st)
 begun_linear (c.If' p n branches q other) ls st = line.asked_linear (StatementOf ls st)
 begun_linear (c.While' e p body) ls st = line.asked_linear (StatementOf ls st)
 begun_linear (c.Def' p x) ls st = line.asked_linear (StatementOf ls st)
+begun_linear (k.Raise e) ls st = line.asked_linear (StatementOf ls st)
+begun_linear (k.Del t) ls st = line.asked_linear (StatementOf ls st)
+begun_linear (c.For' t e p body) ls st = line.asked_linear (StatementOf ls st)
+begun_linear (c.Try' p body q g) ls st = line.asked_linear (StatementOf ls st)
+begun_linear (c.With' e name p body) ls st = line.asked_linear (StatementOf ls st)
 
 from_linear : (ls : List Layer) (b : CoreBlock) (at : ℕ) (ss : List CoreStmt) → LinearBody (block_from ls b at ss)
 from_linear ls b at [] = record { does = λ scene s k l. refl }
@@ -105,9 +139,21 @@ from_linear ls b at (st ∷ rest) = record { does = λ scene s k l. line.then_li
 block_linear : (ls : List Layer) (b : CoreBlock) → LinearBody (block ls b)
 block_linear ls b = record { does = λ scene s k l. (from_linear ls b 0 (stmts_in b)).does scene s k l }
 
-remains_linear : (ls : List Layer) → Linear (remains ls)
-remains_linear [] = record { does = λ p s k l. refl }
-remains_linear (Statements b at ∷ ls) = record { does = λ p s k l. line.body_then (from_linear ls b at (drop at (stmts_in b))) p.scene s _ _ l (line.next_bind k l _ _ (λ s. (remains_linear ls).does p s k l)) }
+handlings_linear : (ls : List Layer) (hs : List handler.CoreHandler) → flow.LinearHandlers (handlings ls hs)
+handlings_linear ls [] = flow.nil
+handlings_linear ls (handler.CoreHandler' class name p body ∷ hs) = flow.cons name (some_linear class) (block_linear ls body) (handlings_linear ls hs)
+
+guard_linear : (ls : List Layer) (g : CoreGuard) → LinearAfter (guard ls g)
+guard_linear ls g = flow.guarded_linear (handlings_linear ls (handlers_in g)) (block_linear ls (other_in g)) (block_linear ls (last_in g))
+
+remains_linear : (ls : List Layer) → LinearAfter (remains ls)
+remains_linear [] = record { does = λ p o k l. refl }
+remains_linear (Statements b at ∷ ls) =
+    record { does = λ p o k l. flow.next_then (λ o. remains ls p o k) (λ o. remains ls p o (line.Behind l k)) l _ _ (λ o. (remains_linear ls).does p o k l) (λ s. line.body_then (from_linear ls b at (drop at (stmts_in b))) p.scene s _ _ l (λ o. (remains_linear ls).does p o k l)) o }
+remains_linear (Guard g n ∷ ls) = record { does = λ p o k l. flow.after_then (guard_linear ls g) (site p.scene n) o _ _ l (λ o. (remains_linear ls).does p o k l) }
+
+try_linear : (ls : List Layer) (body : CoreBlock) (g : CoreGuard) → Linear (try_at ls body g)
+try_linear ls body g = record { does = λ p s k l. (flow.try_linear (block_linear (Guard g p.line ∷ ls) body) (handlings_linear ls (handlers_in g)) (block_linear ls (other_in g)) (block_linear ls (last_in g))).does p s k l }
 
 choices_linear : (ls : List Layer) (bs : List branch.CoreBranch) → line.LinearChoices (choices ls bs)
 choices_linear ls [] = line.nil
@@ -118,7 +164,7 @@ define_linear (fn.CoreFn' source at name params locals yields p body) = line.def
 
 statement_linear : (ls : List Layer) (kind : CoreStmtKind) → Linear (statement_at ls kind)
 statement_linear ls (k.Expr e) = line.expression_linear (eval_linear e.value.at e.value.kind)
-statement_linear ls (k.Assign ts e) = line.assign_linear (stores_linear ts.value.items) (eval_linear e.value.at e.value.kind)
+statement_linear ls (k.Assign ts e) = flow.assign_linear (stores_linear ts.value.items) (eval_linear e.value.at e.value.kind)
 statement_linear ls (k.AugAssign t op e) = augment_linear t.kind op (eval_linear e.value.at e.value.kind)
 statement_linear ls (k.Return e) = line.return_linear (some_linear e)
 statement_linear ls (k.FailWith template message) = failure_linear template message
@@ -130,10 +176,16 @@ statement_linear ls k.Continue = line.again_linear
 statement_linear ls (c.If' p n branches q other) = line.choose_linear (choices_linear ls (items-the_row-CoreBranch _ branches)) (block_linear ls other)
 statement_linear ls (c.While' e p body) = line.loop_linear _ (eval_linear e.value.at e.value.kind)
 statement_linear ls (c.Def' p x) = define_linear x
+statement_linear ls (k.Raise e) = flow.raise_linear (some_linear e)
+statement_linear ls (k.Del t) = delete_linear t.kind
+statement_linear ls (c.For' t e p body) = flow.for_linear (ForOf t.value body) (eval_linear e.value.at e.value.kind)
+statement_linear ls (c.Try' p body q g) = try_linear ls body g
+statement_linear ls (c.With' e name p body) = flow.with_linear name (eval_linear e.value.at e.value.kind) (block_linear ls body)
 
 act_linear : (what : Turn) → Linear (act what)
 act_linear (StatementOf ls st) = statement_linear ls st.kind
 act_linear (TurnOf e body) = line.turn_linear _ (eval_linear e.at e.kind) (block_linear [] body)
+act_linear (ForOf t body at) = flow.for_turn_linear (ForOf t body) (store_linear t) (block_linear [] body) at
 
 entry_linear : (x : CoreFn) → LinearBody (entry x).body
 entry_linear (fn.CoreFn' source at name params locals yields p body) = block_linear [] body

@@ -1,5 +1,5 @@
 -- What all forms keep: what holds of a world, and still holds of it with an object more or changed, with a name of a module bound,
--- with text printed, and with a function more.
+-- with text printed, with a function more, and with the trace of an exception.
 use Rattle.std.proofs.Common.{◌≡◌, refl, ℕ, zero, suc, List, [], ◌∷◌, ◌++◌, Bool, true, false, Option, Some, None}
 use Rattle.std.specs.Prelude.{cond, slice_get, length, nat_lt, codes, Result, Ok, Err}
 use Rattle.run_tree.specs.Todo.{spend_all}
@@ -18,6 +18,7 @@ use Rattle.py_values.specs.declared.class.ClassForm.{ClassForm}
 use Rattle.py_values.specs.declared.class.ClassForm.TheVariants.{Source, Exception, Kind}
 use Rattle.py_values.specs.declared.rows.Param.{Param}
 use Rattle.py_values.specs.declared.object.FunctionObj.{FunctionObj}
+use Rattle.py_values.specs.declared.class.ExcClass.{ExcClass}
 use Rattle.py_values.specs.declared.class.ExcClass.TheVariants.{MemoryError}
 use Rattle.py_values.specs.declared.end.Made.{Made}
 use Rattle.py_values.specs.declared.end.Made.TheVariants.{Give, New, Put, Fail}
@@ -27,7 +28,8 @@ use Rattle.py_values.specs.declared.object.Obj.TheVariants as obj
 use Rattle.py_values.specs.declared.value.Value.{Value}
 use Rattle.py_values.specs.declared.value.Value.TheVariants as val
 use Rattle.py_values.specs.Ends.{cost_of, id_at}
-use Rattle.py_values.specs.Kinds.{kind_name}
+use Rattle.py_values.specs.Kinds.{class_name, kind_name}
+use Rattle.py_values.specs.Limits.{most_elements}
 use Rattle.py_values.specs.Raises.{raise, exception, thrown_by, thrown_with}
 use Rattle.py_values.specs.Truth.{truth}
 use Rattle.py_ops.specs.Binary.{binary_of}
@@ -39,15 +41,15 @@ use Rattle.py_world.specs.declared.trace.TraceFrame.{TraceFrame}
 use Rattle.py_world.specs.declared.load.Load.{Load}
 use Rattle.py_world.specs.declared.load.Load.TheVariants.{Running, Loaded, Failed}
 use Rattle.py_world.specs.Arguments.{Arguments}
-use Rattle.py_world.specs.World.{Kinds, World, State, Locals, Stored, heap_of, unset, with_object, world_with_heap, world_with_printed, world_with_code, world_with_modules}
+use Rattle.py_world.specs.World.{Kinds, World, State, Locals, Stored, heap_of, unset, with_object, world_with_heap, world_with_printed, world_with_code, world_with_modules, world_with_traces, put_trace}
 use Rattle.py_world.specs.Site.{Around, around_of, Own, InModule, InFunction, InClass, Scene, Site, site, trace_of}
-use Rattle.py_world.specs.Outcome.{Outcome, Gave, Next, Returned, Broke, Continued, Raised, Spent, Paused, Rest, Then, Part, Body, Request, CallOf, DoOf, Ways, route, onward, raised, made, call_end, on_value, on_next, on_turn, if_true, costing, operated}
+use Rattle.py_world.specs.Outcome.{Outcome, Gave, Next, Returned, Broke, Continued, Raised, Spent, Paused, Rest, Then, Part, After, Body, Request, CallOf, DoOf, Ways, route, onward, raised, made, call_end, on_value, on_next, on_turn, if_true, costing, operated}
 use Rattle.py_world.specs.Names.{with_name, name_end, named, bound, bound_by, bound_global}
 use Rattle.py_world.specs.Expressions.{noted, constant, name_part, text_part, unary_part, binary_part, compared, compare_on, compare_part, not_part, and_on, and_part, or_on, or_part, choice_part, called, call_on, call_part, kept_part}
-use Rattle.py_world.specs.Statements.{Store, Choice, asked, expression_statement, store_name, store_all, assign, augmented, augment_name, return_value, yield_value, pass, leave_loop, next_turn, assertion, fail, failed_with, fail_explained, branches_on, choose, loop, turn_of, with_function, stored, define}
+use Rattle.py_world.specs.Statements.{Choice, asked, expression_statement, return_value, yield_value, pass, leave_loop, next_turn, assertion, fail, failed_with, fail_explained, branches_on, choose, loop, turn_of, with_function, stored, define}
 use Rattle.py_world.specs.ModuleNames.{module_name, module_object}
 use Rattle.py_world.specs.Runs.{load_at, with_load, naming_heap, module_place, with_module, module_end, module_scene, start, executed, first_load, load_by, load_part}
-use Rattle.py_world.specs.Calls.{Meaning, most_open, not_callable, too_deep, arguments_for, entered, function_called, builtin_called, class_called, object_called, value_called, invoke, body_of}
+use Rattle.py_world.specs.Calls.{Meaning, most_open, exception_called, not_callable, wrong_arguments, too_deep, arguments_for, entered, function_called, builtin_called, class_called, object_called, value_called, invoke, body_of}
 
 -- what the forms do to a world; a module is loaded only where its path is fresh
 pub record Closed {K : Kinds} (Good : World K → Type 0) (Fresh : List ℕ → Type 0) : Type 0 where
@@ -55,6 +57,7 @@ pub record Closed {K : Kinds} (Good : World K → Type 0) (Fresh : List ℕ → 
   pub change : (w : World K) (f : Obj → Obj) (at : ℕ) → Good w → Good (world_with_heap (changed f at w.heap (slice_get w.heap at)) w)
   pub print : (w : World K) (bytes : List ℕ) → Good w → Good (world_with_printed (w.printed ++ bytes) w)
   pub code : (w : World K) (c : Stored K.code) → Good w → Good (world_with_code c w)
+  pub trace : (w : World K) (at : ℕ) (t : List TraceFrame) → Good w → Good (world_with_traces (put_trace at t w.traces) w)
   pub fresh : (w : World K) (path : List ℕ) → load_at path w.modules ≡ None → Good w → Fresh path
   pub load : (w : World K) (path : List ℕ) (l : Load) → Fresh path → Good w → Good (world_with_modules (with_load path l w.modules) w)
 
@@ -98,6 +101,9 @@ module _ {K : Kinds} (Good : World K → Type 0) (Fresh : List ℕ → Type 0) (
   pub record BodyKept (b : Body K) : Type 0 where
     pub does : (scene : Scene) (s : State K) → GoodState s → (k : Then K) → Behind k → Kept (b scene s k)
 
+  pub record AfterKept (f : After K) : Type 0 where
+    pub does : (p : Site) (o : Outcome K) → GoodEnd o → (k : Then K) → Behind k → Kept (f p o k)
+
   pub data PartsKept : List (Part K) → Type 0 where
     nil : PartsKept []
     cons : {e : Part K} {es : List (Part K)} → PartKept e → PartsKept es → PartsKept (e ∷ es)
@@ -133,7 +139,7 @@ module _ {K : Kinds} (Good : World K → Type 0) (Fresh : List ℕ → Type 0) (
       let w : WaysKept (onward k) = onward_kept k h in
       route_kept (record { gave = w.gave; next = go_kept; returned = w.returned; broke = w.broke; continued = w.continued; raised = w.raised }) o g
 
-  turn_kept : (k : Then K) → Behind k → (go : State K → Rest K) → ((s : State K) → GoodState s → Kept (go s)) → (o : Outcome K) → GoodEnd o → Kept (on_turn o k go)
+  pub turn_kept : (k : Then K) → Behind k → (go : State K → Rest K) → ((s : State K) → GoodState s → Kept (go s)) → (o : Outcome K) → GoodEnd o → Kept (on_turn o k go)
   turn_kept k h go go_kept o g =
       let w : WaysKept (onward k) = onward_kept k h in
       route_kept (record { gave = w.gave; next = go_kept; returned = w.returned; broke = w.next; continued = go_kept; raised = w.raised }) o g
@@ -151,7 +157,7 @@ module _ {K : Kinds} (Good : World K → Type 0) (Fresh : List ℕ → Type 0) (
   spend_kept (suc n) x t g h = (g, spend_kept n x t g h)
 
   -- an exception with its tuple of arguments
-  thrown_with_kept : (class : ClassRef) (args : List Value) (w : World K) → Good w → Good (world_with_heap (thrown_with class args w.heap).1 w)
+  pub thrown_with_kept : (class : ClassRef) (args : List Value) (w : World K) → Good w → Good (world_with_heap (thrown_with class args w.heap).1 w)
   thrown_with_kept class args w g = closed.object (world_with_heap (w.heap ++ obj.Tuple args ∷ []) w) (exception class (id_at (length w.heap))) (closed.object w (obj.Tuple args) g)
 
   thrown_kept : (class : ClassRef) (text : List ℕ) (arg : Option Value) (w : World K) → Good w → Good (world_with_heap (thrown_by class text arg w.heap).1 w)
@@ -162,16 +168,16 @@ module _ {K : Kinds} (Good : World K → Type 0) (Fresh : List ℕ → Type 0) (
   pub raised_kept : (r : Raise) (trace : List TraceFrame) (s : State K) → GoodState s → GoodEnd (raised r trace s)
   raised_kept r trace s g = thrown_kept (ref.Builtin r.class) r.text r.arg s.world g
 
-  made_kept : (m : Made) (trace : List TraceFrame) (s : State K) → GoodState s → GoodEnd (made m trace s)
+  pub made_kept : (m : Made) (trace : List TraceFrame) (s : State K) → GoodState s → GoodEnd (made m trace s)
   made_kept (Give v n) trace s g = g
   made_kept (New o n) trace s g = closed.object s.world o g
   made_kept (Put id c v n) trace s g = closed.change s.world (object_after c) id.at g
   made_kept (Fail r n) trace s g = raised_kept r trace s g
 
-  costing_kept : (m : Made) (trace : List TraceFrame) (s : State K) → GoodState s → (k : Then K) → Behind k → Kept (costing m trace s k)
+  pub costing_kept : (m : Made) (trace : List TraceFrame) (s : State K) → GoodState s → (k : Then K) → Behind k → Kept (costing m trace s k)
   costing_kept m trace s g k h = spend_kept (cost_of m) _ _ g (h (made m trace s) (made_kept m trace s g))
 
-  operated_kept : (m : Made) (p : Site) (s : State K) → GoodState s → (k : Then K) → Behind k → Kept (operated m p s k)
+  pub operated_kept : (m : Made) (p : Site) (s : State K) → GoodState s → (k : Then K) → Behind k → Kept (operated m p s k)
   operated_kept m p s g k h = (g, costing_kept m (trace_of p) s g k h)
 
   pub call_end_kept : (caller : State K) (o : Outcome K) → GoodEnd o → GoodEnd (call_end caller o)
@@ -188,14 +194,14 @@ module _ {K : Kinds} (Good : World K → Type 0) (Fresh : List ℕ → Type 0) (
   pub constant_kept : (v : Value) → PartKept (constant v)
   constant_kept v = record { does = λ p s g k h. h (Gave v s) g }
 
-  name_end_kept : (name : List ℕ) (p : Site) (s : State K) → GoodState s → GoodEnd (name_end name p s)
+  pub name_end_kept : (name : List ℕ) (p : Site) (s : State K) → GoodState s → GoodEnd (name_end name p s)
   name_end_kept name p s g = made_kept (named name p.scene s.locals (heap_of s)) (trace_of p) s g
 
   pub name_kept : (name : List ℕ) → PartKept (name_part name)
   name_kept name = record { does = λ p s g k h. h (name_end name p s) (name_end_kept name p s g) }
 
   pub text_kept : (text : List ℕ) → PartKept (text_part text)
-  text_kept text = record { does = λ p s g k h. cond_kept (nat_lt 65536 (length text)) _ _ (h _ (raised_kept (raise MemoryError (codes "sequence too long")) (trace_of p) s g)) (h _ (closed.object s.world (obj.Text text) g)) }
+  text_kept text = record { does = λ p s g k h. cond_kept (nat_lt most_elements (length text)) _ _ (h _ (raised_kept (raise MemoryError (codes "sequence too long")) (trace_of p) s g)) (h _ (closed.object s.world (obj.Text text) g)) }
 
   pub unary_kept : (op : UnOp) {e : Part K} → PartKept e → PartKept (unary_part op e)
   unary_kept op x = record { does = λ p s g k h. x.does p s g _ (value_kept k h _ (λ v s g. operated_kept (unary_of op (heap_of s) v) p s g k h)) }
@@ -257,7 +263,7 @@ module _ {K : Kinds} (Good : World K → Type 0) (Fresh : List ℕ → Type 0) (
   global_kept : (name : List ℕ) (v : Value) (scene : Scene) (s : State K) → GoodState s → GoodState (bound_global name v scene s)
   global_kept name v scene s g = closed.change s.world (with_name name v) scene.home g
 
-  state_cond : (b : Bool) (s r : State K) → GoodState s → GoodState r → GoodState (cond b s r)
+  pub state_cond : (b : Bool) (s r : State K) → GoodState s → GoodState r → GoodState (cond b s r)
   state_cond true s r g h = g
   state_cond false s r g h = h
 
@@ -266,32 +272,8 @@ module _ {K : Kinds} (Good : World K → Type 0) (Fresh : List ℕ → Type 0) (
   bound_by_kept (InFunction own) name v scene s g = state_cond (is_among own name) _ _ g (global_kept name v scene s g)
   bound_by_kept InClass name v scene s g = g
 
-  bound_kept : (name : List ℕ) (v : Value) (scene : Scene) (s : State K) → GoodState s → GoodState (bound name v scene s)
+  pub bound_kept : (name : List ℕ) (v : Value) (scene : Scene) (s : State K) → GoodState s → GoodState (bound name v scene s)
   bound_kept name v scene s g = bound_by_kept scene.own name v scene s g
-
-  pub record StoreKept (t : Store K) : Type 0 where
-    pub stores : (v : Value) → PartKept (t v)
-
-  pub data StoresKept : List (Store K) → Type 0 where
-    nil : StoresKept []
-    cons : {t : Store K} {ts : List (Store K)} → StoreKept t → StoresKept ts → StoresKept (t ∷ ts)
-
-  pub store_name_kept : (name : List ℕ) → StoreKept (store_name name)
-  store_name_kept name = record { stores = λ v. record { does = λ p s g k h. h _ (bound_kept name v p.scene s g) } }
-
-  store_all_kept : {ts : List (Store K)} → StoresKept ts → (v : Value) → PartKept (store_all ts v)
-  store_all_kept nil v = record { does = λ p s g k h. h _ g }
-  store_all_kept (cons t ts) v = record { does = λ p s g k h. (t.stores v).does p s g _ (next_kept k h _ (λ s g. (store_all_kept ts v).does p s g k h)) }
-
-  pub assign_kept : {ts : List (Store K)} {e : Part K} → StoresKept ts → PartKept e → PartKept (assign ts e)
-  assign_kept ts e = record { does = λ p s g k h. e.does p s g _ (value_kept k h _ (λ v s g. (store_all_kept ts v).does p s g k h)) }
-
-  augmented_kept : (x : Value) (op : BinOp) (y : Value) {t : Store K} → StoreKept t → PartKept (augmented x op y t)
-  augmented_kept x op y {t = target} t = record { does = λ p s g k h. operated_kept (binary_of op (heap_of s) x y) p s g (λ o. on_value o k (λ v s. target v p s k)) (value_kept k h (λ v s. target v p s k) (λ v s g. (t.stores v).does p s g k h)) }
-
-  pub augment_kept : (name : List ℕ) (op : BinOp) {e : Part K} → PartKept e → PartKept (augment_name name op e)
-  augment_kept name op e =
-      record { does = λ p s g k h. value_kept k h _ (λ x s g. e.does p s g _ (value_kept k h _ (λ y s g. (augmented_kept x op y (store_name_kept name)).does p s g k h))) (name_end name p s) (name_end_kept name p s g) }
 
   pub data SomeKept : Option (Part K) → Type 0 where
     none : SomeKept None
@@ -351,7 +333,7 @@ module _ {K : Kinds} (Good : World K → Type 0) (Fresh : List ℕ → Type 0) (
     pub entries : (c : K.code) → BodyKept (m.entry c).body
     pub acts : (what : K.turn) → PartKept (m.act what)
     pub bodies : (c : K.script) → BodyKept (m.body c)
-    pub remains : (rest : K.rest) → PartKept (m.remains rest)
+    pub remains : (rest : K.rest) → AfterKept (m.remains rest)
 
   module _ (m : Meaning K) (kept : MeaningKept m) where
     entered_kept : (st : Stored K.code) (names : Result Locals Raise) (a : Around) (s : State K) → GoodState s → (k : Then K) → Behind k → Kept (entered m st names a s k)
@@ -365,10 +347,14 @@ module _ {K : Kinds} (Good : World K → Type 0) (Fresh : List ℕ → Type 0) (
     builtin_kept : (c : Called) (a : Around) (s : State K) → GoodState s → (k : Then K) → Behind k → Kept (builtin_called m c a s k)
     builtin_kept c a s g k h = spend_kept (cost_of c.made) _ _ g (h _ (made_kept c.made a.trace _ (closed.print s.world c.printed g)))
 
+    exception_kept : (c : ExcClass) (args : List Value) (named : List (List ℕ × Value)) (a : Around) (s : State K) → GoodState s → GoodEnd (exception_called c args named a s)
+    exception_kept c args [] a s g = thrown_with_kept (ref.Builtin c) args s.world g
+    exception_kept c args (n ∷ ns) a s g = raised_kept (wrong_arguments (class_name c)) a.trace s g
+
     class_kept : (c : ClassForm) (r : Raise) (args : Arguments) (a : Around) (s : State K) → GoodState s → (k : Then K) → Behind k → Kept (class_called m c r args a s k)
     class_kept (Kind b) r args a s g k h = builtin_kept (called_of b (heap_of s) args.plain args.named) a s g k h
     class_kept Source r args a s g k h = h _ (raised_kept r a.trace s g)
-    class_kept (Exception c) r args a s g k h = h _ (raised_kept r a.trace s g)
+    class_kept (Exception c) r args a s g k h = h _ (exception_kept c args.plain args.named a s g)
 
     object_kept : (o : Option Obj) (r : Raise) (args : Arguments) (a : Around) (s : State K) → GoodState s → (k : Then K) → Behind k → Kept (object_called m o r args a s k)
     object_kept (Some (obj.Function f)) r args a s g k h = function_kept (slice_get s.world.codes f.code) f r args a s g k h

@@ -4,18 +4,19 @@ use Rattle.py_tree.specs.declared.op.BinOp.{BinOp}
 use Rattle.py_tree.specs.Trees as t
 use Rattle.py_tree.specs.Trees.{Tree, Trees, Empty, More, Maybe, Absent, Present}
 use Rattle.py_tree.specs.Statements as st
-use Rattle.py_tree.specs.Statements.{Statement, Block, Branches, Place, NamePlace, AttributePlace, SubscriptPlace, Taker, One, Unpack}
+use Rattle.py_tree.specs.Statements.{Statement, Block, Branches, Handlers, Place, NamePlace, AttributePlace, SubscriptPlace, Taker, One, Unpack}
 use Rattle.py_values.specs.declared.value.Value.TheVariants as val
 use Rattle.py_values.specs.Truth.{truth}
-use Rattle.source_meaning.specs.Requests.{source_kinds, Layer, Statements, Turn, StatementOf, TurnOf, Function}
+use Rattle.source_meaning.specs.Requests.{source_kinds, Layer, Statements, Guard, Turn, StatementOf, TurnOf, ForOf, Function}
 use Rattle.source_meaning.specs.Meaning.{source}
 use Rattle.source_meaning.specs.Watched.{watch, watch_all}
-use Rattle.source_meaning.specs.Expressions.{SourcePart, missing, eval, parts}
-use Rattle.source_meaning.specs.Statements.{SourceBody, SourceChoice, position, store_missing, store_place, store, stores, augment, some_part, assert, assert_as, remains, listed, sequence, choices, statement, act, entry}
+use Rattle.source_meaning.specs.Expressions.{SourcePart, missing, eval, parts, some_part}
+use Rattle.source_meaning.specs.Statements.{SourceBody, SourceChoice, SourceHandling, position, store_place, store_places, store, stores, augment, delete, assert, assert_as, handlings, guard, remains, listed, sequence, choices, try_at, statement, act, entry}
 use Rattle.py_world.specs.World.{World, heap_of, unset}
 use Rattle.py_world.specs.Site.{site}
 use Rattle.py_world.specs.Arguments.{arguments_of}
-use Rattle.py_world.specs.Outcome.{on_next}
+use Rattle.py_world.specs.Outcome.{After, on_next}
+use Rattle.core_rules.proofs.KeepingFlow as flow
 use Rattle.core_rules.proofs.Keeping as keep
 use Rattle.core_rules.proofs.Keeping.{Closed}
 
@@ -25,6 +26,9 @@ module _ (Good : World source_kinds → Type 0) (Fresh : List ℕ → Type 0) (c
 
   abbrev PartsKept : List SourcePart → Type 0
   PartsKept = keep.PartsKept Good Fresh closed
+
+  abbrev AfterKept : After source_kinds → Type 0
+  AfterKept = keep.AfterKept Good Fresh closed
 
   abbrev BodyKept : SourceBody → Type 0
   BodyKept = keep.BodyKept Good Fresh closed
@@ -53,41 +57,47 @@ module _ (Good : World source_kinds → Type 0) (Fresh : List ℕ → Type 0) (c
     eval_kept (t.And at e es) = keep.noted_kept Good Fresh closed at (keep.and_kept Good Fresh closed (eval_kept e) (parts_kept es))
     eval_kept (t.Or at e es) = keep.noted_kept Good Fresh closed at (keep.or_kept Good Fresh closed (eval_kept e) (parts_kept es))
     eval_kept (t.IfElse at e c o) = keep.noted_kept Good Fresh closed at (keep.choice_kept Good Fresh closed (eval_kept e) (eval_kept c) (eval_kept o))
-    eval_kept (t.Tuple at es) = missing_kept
-    eval_kept (t.Listed at es) = missing_kept
-    eval_kept (t.Dict at ks es) = missing_kept
-    eval_kept (t.Attribute at e name) = missing_kept
-    eval_kept (t.Subscript at e i) = missing_kept
-    eval_kept (t.Slice at e a b c) = missing_kept
+    eval_kept (t.Tuple at es) = keep.noted_kept Good Fresh closed at (flow.tuple_kept Good Fresh closed (parts_kept es))
+    eval_kept (t.Listed at es) = keep.noted_kept Good Fresh closed at (flow.list_kept Good Fresh closed (parts_kept es))
+    eval_kept (t.Dict at ks es) = keep.noted_kept Good Fresh closed at (flow.dict_kept Good Fresh closed (parts_kept ks) (parts_kept es))
+    eval_kept (t.Attribute at e name) = keep.noted_kept Good Fresh closed at (flow.attribute_kept Good Fresh closed name (eval_kept e))
+    eval_kept (t.Subscript at e i) = keep.noted_kept Good Fresh closed at (flow.subscript_kept Good Fresh closed (eval_kept e) (eval_kept i))
+    eval_kept (t.Slice at e from to by) = keep.noted_kept Good Fresh closed at (flow.slice_kept Good Fresh closed (eval_kept e) (some_kept from) (some_kept to) (some_kept by))
 
     parts_kept : (es : Trees) → PartsKept (parts es)
     parts_kept Empty = keep.nil
     parts_kept (More es e) = all_more (parts_kept es) (eval_kept e)
 
-  some_kept : (m : Maybe) → keep.SomeKept Good Fresh closed (some_part m)
-  some_kept Absent = keep.none
-  some_kept (Present e) = keep.some (eval_kept e)
+    some_kept : (m : Maybe) → keep.SomeKept Good Fresh closed (some_part m)
+    some_kept Absent = keep.none
+    some_kept (Present e) = keep.some (eval_kept e)
 
-  missing_store : keep.StoreKept Good Fresh closed store_missing
-  missing_store = record { stores = λ v. missing_kept }
+  place_kept : (p : Place) → flow.StoreKept Good Fresh closed (store_place p)
+  place_kept (NamePlace at name) = flow.store_name_kept Good Fresh closed name
+  place_kept (AttributePlace at e name) = flow.store_attribute_kept Good Fresh closed name (eval_kept e)
+  place_kept (SubscriptPlace at e i) = flow.store_item_kept Good Fresh closed (eval_kept e) (eval_kept i)
 
-  place_kept : (p : Place) → keep.StoreKept Good Fresh closed (store_place p)
-  place_kept (NamePlace at name) = keep.store_name_kept Good Fresh closed name
-  place_kept (AttributePlace at e name) = missing_store
-  place_kept (SubscriptPlace at e i) = missing_store
+  places_kept : (ps : List Place) → flow.StoresKept Good Fresh closed (store_places ps)
+  places_kept [] = flow.nil
+  places_kept (p ∷ ps) = flow.cons (place_kept p) (places_kept ps)
 
-  store_kept : (x : Taker) → keep.StoreKept Good Fresh closed (store x)
+  store_kept : (x : Taker) → flow.StoreKept Good Fresh closed (store x)
   store_kept (One p) = place_kept p
-  store_kept (Unpack ps) = missing_store
+  store_kept (Unpack ps) = flow.unpack_kept Good Fresh closed (places_kept ps)
 
-  stores_kept : (xs : List Taker) → keep.StoresKept Good Fresh closed (stores xs)
-  stores_kept [] = keep.nil
-  stores_kept (x ∷ xs) = keep.cons (store_kept x) (stores_kept xs)
+  stores_kept : (xs : List Taker) → flow.StoresKept Good Fresh closed (stores xs)
+  stores_kept [] = flow.nil
+  stores_kept (x ∷ xs) = flow.cons (store_kept x) (stores_kept xs)
 
   augment_kept : (p : Place) (op : BinOp) {e : SourcePart} → PartKept e → PartKept (augment p op e)
-  augment_kept (NamePlace at name) op e = keep.augment_kept Good Fresh closed name op e
-  augment_kept (AttributePlace at a name) op e = missing_kept
-  augment_kept (SubscriptPlace at a i) op e = missing_kept
+  augment_kept (NamePlace at name) op e = flow.augment_kept Good Fresh closed name op e
+  augment_kept (AttributePlace at a name) op e = flow.augment_attribute_kept Good Fresh closed name op (eval_kept a) e
+  augment_kept (SubscriptPlace at a i) op e = flow.augment_item_kept Good Fresh closed op (eval_kept a) (eval_kept i) e
+
+  delete_kept : (p : Place) → PartKept (delete p)
+  delete_kept (NamePlace at name) = flow.delete_name_kept Good Fresh closed name
+  delete_kept (AttributePlace at e name) = flow.delete_attribute_kept Good Fresh closed name (eval_kept e)
+  delete_kept (SubscriptPlace at e i) = flow.delete_item_kept Good Fresh closed (eval_kept e) (eval_kept i)
 
   mutual
     watch_kept : (n : ℕ) (e : Tree) → PartKept (watch n e)
@@ -106,12 +116,12 @@ module _ (Good : World source_kinds → Type 0) (Fresh : List ℕ → Type 0) (c
     watch_kept n (t.False at) = keep.temporary_kept Good Fresh closed n (eval_kept (t.False at))
     watch_kept n (t.NoneTree at) = keep.temporary_kept Good Fresh closed n (eval_kept (t.NoneTree at))
     watch_kept n (t.IfElse at e c o) = keep.temporary_kept Good Fresh closed n (eval_kept (t.IfElse at e c o))
-    watch_kept n (t.Tuple at es) = keep.temporary_kept Good Fresh closed n missing_kept
-    watch_kept n (t.Listed at es) = keep.temporary_kept Good Fresh closed n missing_kept
-    watch_kept n (t.Dict at ks es) = keep.temporary_kept Good Fresh closed n missing_kept
-    watch_kept n (t.Attribute at e name) = keep.temporary_kept Good Fresh closed n missing_kept
-    watch_kept n (t.Subscript at e i) = keep.temporary_kept Good Fresh closed n missing_kept
-    watch_kept n (t.Slice at e a b c) = keep.temporary_kept Good Fresh closed n missing_kept
+    watch_kept n (t.Tuple at es) = keep.temporary_kept Good Fresh closed n (eval_kept (t.Tuple at es))
+    watch_kept n (t.Listed at es) = keep.temporary_kept Good Fresh closed n (eval_kept (t.Listed at es))
+    watch_kept n (t.Dict at ks es) = keep.temporary_kept Good Fresh closed n (eval_kept (t.Dict at ks es))
+    watch_kept n (t.Attribute at e name) = keep.temporary_kept Good Fresh closed n (keep.noted_kept Good Fresh closed at (flow.attribute_kept Good Fresh closed name (watch_kept (suc n) e)))
+    watch_kept n (t.Subscript at e i) = keep.temporary_kept Good Fresh closed n (eval_kept (t.Subscript at e i))
+    watch_kept n (t.Slice at e a b c) = keep.temporary_kept Good Fresh closed n (eval_kept (t.Slice at e a b c))
 
     watch_all_kept : (n : ℕ) (es : Trees) → PartsKept (watch_all n es)
     watch_all_kept n Empty = keep.nil
@@ -128,9 +138,26 @@ module _ (Good : World source_kinds → Type 0) (Fresh : List ℕ → Type 0) (c
   sequence_kept x ls [] = record { does = λ scene s g k h. h _ g }
   sequence_kept x ls (st ∷ rest) = record { does = λ scene s g k h. (keep.asked_kept Good Fresh closed (StatementOf x (Statements x rest ∷ ls) st)).does (site scene (position st).line) s g (λ o. on_next o k (λ s. sequence x ls rest scene s k)) (keep.next_kept Good Fresh closed k h (λ s. sequence x ls rest scene s k) (λ s g. (sequence_kept x ls rest).does scene s g k h)) }
 
-  remains_kept : (ls : List Layer) → PartKept (remains ls)
-  remains_kept [] = record { does = λ p s g k h. h _ g }
-  remains_kept (Statements x ss ∷ ls) = record { does = λ p s g k h. (sequence_kept x ls ss).does p.scene s g _ (keep.next_kept Good Fresh closed k h _ (λ s g. (remains_kept ls).does p s g k h)) }
+  handlers_more : {hs : List SourceHandling} → flow.HandlersKept Good Fresh closed hs → {class : Option SourcePart} → keep.SomeKept Good Fresh closed class → (name : Option (List ℕ)) {b : SourceBody} → BodyKept b → flow.HandlersKept Good Fresh closed (hs ++ (class, (name, b)) ∷ [])
+  handlers_more flow.nil class name b = flow.cons name class b flow.nil
+  handlers_more (flow.cons n c x hs) class name b = flow.cons n c x (handlers_more hs class name b)
+
+  handlings_kept : (x : Bool) (ls : List Layer) (hs : Handlers) → flow.HandlersKept Good Fresh closed (handlings x ls hs)
+  handlings_kept x ls st.NoHandler = flow.nil
+  handlings_kept x ls (st.Handler before at class name body) = handlers_more (handlings_kept x ls before) (some_kept class) name (sequence_kept x ls (listed body))
+
+  guard_kept : (x : Bool) (ls : List Layer) (hs : Handlers) (other last : List Statement) → AfterKept (guard x ls hs other last)
+  guard_kept x ls hs other last = flow.guarded_kept Good Fresh closed (handlings_kept x ls hs) (sequence_kept x ls other) (sequence_kept x ls last)
+
+  remains_kept : (ls : List Layer) → AfterKept (remains ls)
+  remains_kept [] = record { does = λ p o g k h. h o g }
+  remains_kept (Statements x ss ∷ ls) =
+      record { does = λ p o g k h. keep.next_kept Good Fresh closed (λ o. remains ls p o k) (λ o g. (remains_kept ls).does p o g k h) (λ s. sequence x ls ss p.scene s (λ o. remains ls p o k)) (λ s g. (sequence_kept x ls ss).does p.scene s g (λ o. remains ls p o k) (λ o g. (remains_kept ls).does p o g k h)) o g }
+  remains_kept (Guard x n hs other last ∷ ls) = record { does = λ p o g k h. (guard_kept x ls hs other last).does (site p.scene n) o g (λ o. remains ls p o k) (λ o g. (remains_kept ls).does p o g k h) }
+
+  try_at_kept : (x : Bool) (ls : List Layer) (body : Block) (hs : Handlers) (other last : List Statement) → PartKept (try_at x ls body hs other last)
+  try_at_kept x ls body hs other last =
+      record { does = λ p s g k h. (flow.try_kept Good Fresh closed (sequence_kept x (Guard x p.line hs other last ∷ ls) (listed body)) (handlings_kept x ls hs) (sequence_kept x ls other) (sequence_kept x ls last)).does p s g k h }
 
   choices_more : {xs : List SourceChoice} → keep.ChoicesKept Good Fresh closed xs → (n : ℕ) {e : SourcePart} {b : SourceBody} → PartKept e → BodyKept b → keep.ChoicesKept Good Fresh closed (xs ++ (n, (e, b)) ∷ [])
   choices_more keep.nil n e b = keep.cons n e b keep.nil
@@ -142,7 +169,7 @@ module _ (Good : World source_kinds → Type 0) (Fresh : List ℕ → Type 0) (c
 
   statement_kept : (z : Bool) (ls : List Layer) (x : Statement) → PartKept (statement z ls x)
   statement_kept z ls (st.Do at e) = keep.expression_kept Good Fresh closed (eval_kept e)
-  statement_kept z ls (st.Assign at ts e) = keep.assign_kept Good Fresh closed (stores_kept ts) (eval_kept e)
+  statement_kept z ls (st.Assign at ts e) = flow.assign_kept Good Fresh closed (stores_kept ts) (eval_kept e)
   statement_kept z ls (st.AugAssign at p op e) = augment_kept p op (eval_kept e)
   statement_kept z ls (st.Return at e) = keep.return_kept Good Fresh closed (some_kept e)
   statement_kept z ls (st.Assert at e m) = assert_as_kept z e (some_kept m)
@@ -155,19 +182,20 @@ module _ (Good : World source_kinds → Type 0) (Fresh : List ℕ → Type 0) (c
   statement_kept z ls (st.Def at ds word name params returns body) = keep.define_kept Good Fresh closed name word.line _ _ _
   statement_kept z ls (st.AssignYield at ts word e) = missing_kept
   statement_kept z ls (st.ReturnYield at word e) = missing_kept
-  statement_kept z ls (st.Raise at e) = missing_kept
-  statement_kept z ls (st.Del at p) = missing_kept
+  statement_kept z ls (st.Raise at e) = flow.raise_kept Good Fresh closed (some_kept e)
+  statement_kept z ls (st.Del at p) = delete_kept p
   statement_kept z ls (st.YieldOf at word e) = keep.yield_kept Good Fresh closed (some_kept e) ls
   statement_kept z ls (st.Import at names alias) = missing_kept
   statement_kept z ls (st.ImportFrom at names all) = missing_kept
-  statement_kept z ls (st.For at x e body) = missing_kept
-  statement_kept z ls (st.Try at body hs other final) = missing_kept
-  statement_kept z ls (st.With at e name body) = missing_kept
+  statement_kept z ls (st.For at x e body) = flow.for_kept Good Fresh closed (ForOf z x body) (eval_kept e)
+  statement_kept z ls (st.Try at body hs other final) = try_at_kept z ls body hs (listed other) (listed final)
+  statement_kept z ls (st.With at e name body) = flow.with_kept Good Fresh closed name (eval_kept e) (sequence_kept z ls (listed body))
   statement_kept z ls (st.Class at ds word name base body) = missing_kept
 
   act_kept : (what : Turn) → PartKept (act what)
   act_kept (StatementOf z ls x) = statement_kept z ls x
   act_kept (TurnOf z e body) = keep.turn_of_kept Good Fresh closed _ (eval_kept e) (sequence_kept z [] (listed body))
+  act_kept (ForOf z x body at) = flow.for_turn_kept Good Fresh closed (ForOf z x body) (store_kept x) (sequence_kept z [] (listed body)) at
 
   entry_kept : (x : Function) → BodyKept (entry x).body
   entry_kept x = sequence_kept x.explains [] (listed x.body)

@@ -188,6 +188,7 @@ module _ {K : Kinds} where
         change = λ x f at r. record { sources = r.sources; frozen = r.frozen; objects = (let e : length (changed f at x.heap (slice_get x.heap at)) ≡ length x.heap = changed_length f at x.heap (slice_get x.heap at) in omega (arith, e, r.objects)); codes = r.codes; printed = r.printed; loads = r.loads };
         print = λ x bytes r. record { sources = r.sources; frozen = r.frozen; objects = r.objects; codes = r.codes; printed = (r.printed.0 ++ bytes, ap (λ p. p ++ bytes) r.printed.1 ∙ append_assoc w.printed r.printed.0 bytes); loads = r.loads };
         code = λ x c r. record { sources = r.sources; frozen = r.frozen; objects = r.objects; codes = (r.codes.0 ++ c ∷ [], ap (λ p. p ++ c ∷ []) r.codes.1 ∙ append_assoc w.codes r.codes.0 (c ∷ [])); printed = r.printed; loads = r.loads };
+        trace = λ x at t r. record { sources = r.sources; frozen = r.frozen; objects = r.objects; codes = r.codes; printed = r.printed; loads = r.loads };
         fresh = λ x path h r. fresh_by w x path (load_at path w.modules) refl h r;
         load = λ x path l f r. record { sources = r.sources; frozen = r.frozen; objects = r.objects; codes = r.codes; printed = r.printed; loads = λ other m h. put_elsewhere path l other (differs w path other m f h) x.modules ∙ r.loads other m h };
       }
@@ -222,7 +223,7 @@ module _ {K : Kinds} where
 
   -- that a path is known is kept too
   pub known_closed : (path : List ℕ) → Closed (λ (w : World K). IsSome (load_at path w.modules)) (λ other. Unit {0})
-  known_closed path = record { object = λ w o g. g; change = λ w f at g. g; print = λ w bytes g. g; code = λ w c g. g; fresh = λ w other h g. tt; load = λ w other l f g. known_put path other l w.modules g }
+  known_closed path = record { object = λ w o g. g; change = λ w f at g. g; print = λ w bytes g. g; code = λ w c g. g; trace = λ w at t g. g; fresh = λ w other h g. tt; load = λ w other l f g. known_put path other l w.modules g }
 
   pub known_spent : (path : List ℕ) (budget : ℕ) (trace : List TraceFrame) (w : World K) → IsSome (load_at path w.modules) → IsSome (load_at path (out_of_steps budget trace w).modules)
   known_spent path budget trace w g = known_cond (list_any is_running w.modules) _ _ (still_known (thrown (raise StepLimit (step_limit budget)) w.heap).0 trace path _ _ (fails (thrown (raise StepLimit (step_limit budget)) w.heap).0 trace path w.modules) g) g where

@@ -301,11 +301,14 @@ function_code = hlevel (codes, block_code, parameters_code)
 script_code : Coded Script
 script_code = hlevel (codes, block_code)
 
+handlers_code : Coded Handlers
+handlers_code = record { code = to_Handlers; inj = inj_Handlers }
+
 statement_code : Coded Statement
 statement_code = record { code = to_Statement; inj = inj_Statement }
 
 layer_code : Coded Layer
-layer_code = hlevel (codes, statement_code)
+layer_code = hlevel (codes, statement_code, handlers_code)
 
 frozen_code : Coded (Frozen (List Layer))
 frozen_code = hlevel (codes, layer_code)

@@ -11,11 +11,14 @@ use Rattle.py_world.specs.Explained.{kept_count, kept_count_all}
 use Rattle.source_meaning.specs.Watched.{watch, watch_all}
 use Rattle.py_core.specs.declared.stmt.Template.{Template}
 use Rattle.py_tree.specs.Statements as st
-use Rattle.py_tree.specs.Statements.{Statement, Block, Branches, Taker}
+use Rattle.py_tree.specs.Statements.{Statement, Block, Branches, Handlers, Place, Taker}
 use Rattle.py_values.specs.declared.value.Value.TheVariants as val
 use Rattle.py_core.specs.declared.expr.CoreExpr.{CoreExpr}
-use Rattle.py_core.specs.declared.expr.CoreExprKind.{CoreExprKind, Row_of-CoreExprKind-Call-1-1 as Row, end_of-CoreExprKind-Call-1-1 as end, more_of-CoreExprKind-Call-1-1 as more_of, items-the_row-CoreExprKind-Call-1-1 as row_items}
+use Rattle.py_core.specs.declared.expr.CoreExprKind.{CoreExprKind, Row_of-CoreExprKind-Call-1-1 as Row, end_of-CoreExprKind-Call-1-1 as end, more_of-CoreExprKind-Call-1-1 as more_of, items-the_row-CoreExprKind-Call-1-1 as row_items, Held-CoreExprKind-Slice-1 as Held}
 use Rattle.py_core.specs.Blocks.{stmts_in, explains_in}
+use Rattle.py_core.specs.declared.stmt.CoreGuard.{CoreGuard}
+use Rattle.py_core.specs.declared.stmt.CoreHandler as handler
+use Rattle.py_core.specs.declared.stmt.CoreSingle.{CoreSingle}
 use Rattle.py_core.specs.declared.stmt.CoreBlock.{CoreBlock}
 use Rattle.py_core.specs.declared.stmt.CoreBranch as branch
 use Rattle.py_core.specs.declared.stmt.CoreFn.{CoreFn}
@@ -37,10 +40,11 @@ use Rattle.py_world.specs.Site.{Scene, Site, site}
 use Rattle.py_world.specs.World.{State}
 use Rattle.py_world.specs.Arguments.{plain, with_plain, arguments_of, required}
 use Rattle.py_tree.specs.Names.{names_of, yields_in}
-use Rattle.py_world.specs.Outcome.{Outcome, Next, Rest, Then, on_next}
+use Rattle.py_world.specs.Outcome.{Outcome, Next, Rest, Then, After, on_next}
 use Rattle.py_world.specs.Statements.{asked, choose, define, fail_explained}
 use Rattle.py_world.specs.Expressions.{call_part, compare_part, kept_part}
 use Rattle.py_tree.specs.declared.op.CmpOp.{CmpOp}
+use Rattle.py_tree.specs.declared.op.BinOp.{BinOp}
 use Rattle.py_tree.specs.declared.expr.ArgName.{ArgName}
 use Rattle.py_values.specs.declared.value.Value.{Value}
 use Rattle.source_meaning.specs.Statements.{listed}
@@ -50,12 +54,13 @@ use Rattle.py_core.specs.declared.stmt.Core.{Core}
 use Rattle.lower_law.specs.Alike as alike
 use Rattle.lower_law.specs.Alike.{StatesAlike, EndsAlike, gave, next, returned, broke, continued}
 use Rattle.lower_law.specs.Lowered as low
-use Rattle.lower_law.specs.Lowered.{Watched, WatchedEach, IsLeaf, Lowered, LoweredEach, LoweredExpr, LoweredSome, LoweredTargets, LoweredStatement, LoweredBlock, LoweredBody, LoweredLayers, LoweredRest, LoweredBranches, LoweredFunction, LoweredModule, Unnamed, trees_listed, branches_listed, choice_at, core_at}
-use Rattle.lower_law.specs.Law.{LoweredCode, LoweredTurn, statement, turn, Lowering}
+use Rattle.lower_law.specs.Lowered.{Watched, WatchedEach, IsLeaf, Lowered, LoweredEach, LoweredExpr, LoweredHeld, LoweredSome, LoweredPlace, LoweredPlaces, LoweredTarget, LoweredTargets, LoweredHandlers, LoweredGuard, LoweredStatement, LoweredBlock, LoweredBody, LoweredLayers, LoweredRest, LoweredBranches, LoweredFunction, LoweredModule, Unnamed, trees_listed, branches_listed, choice_at, handlers_listed, catch_at, core_at}
+use Rattle.lower_law.specs.Law.{LoweredCode, LoweredTurn, statement, turn, for_turn, Lowering}
 use Rattle.lower_law.specs.Sourced.{sources_in, module_of}
 use Rattle.lower_law.proofs.Parts as part
 use Rattle.lower_law.proofs.Parts.{none, more}
 use Rattle.lower_law.proofs.Blocks as block
+use Rattle.lower_law.proofs.Flow as flow
 
 abbrev PartSame : source.SourcePart → core.CorePart → Type 0
 PartSame = part.PartSame Lowering
@@ -125,6 +130,16 @@ mutual
   eval_same (low.conjunction at {es = es} {row = row} x xs) = part.noted_same _ at (part.and_same _ (eval_same x) (listed_same es row (each_same xs)))
   eval_same (low.disjunction at {es = es} {row = row} x xs) = part.noted_same _ at (part.or_same _ (eval_same x) (listed_same es row (each_same xs)))
   eval_same (low.choice at x y z) = part.noted_same _ at (part.choice_same _ (eval_same x) (eval_same y) (eval_same z))
+  eval_same (low.tuple at {es = es} {row = row} xs) = part.noted_same _ at (flow.tuple_same _ (listed_same es row (each_same xs)))
+  eval_same (low.list at {es = es} {row = row} xs) = part.noted_same _ at (flow.list_same _ (listed_same es row (each_same xs)))
+  eval_same (low.dict at {ks = ks} {es = es} {keys = keys} {row = row} xs ys) = part.noted_same _ at (flow.dict_same _ (listed_same ks keys (each_same xs)) (listed_same es row (each_same ys)))
+  eval_same (low.attribute at name x) = part.noted_same _ at (flow.attribute_same _ name (eval_same x))
+  eval_same (low.subscript at x y) = part.noted_same _ at (flow.subscript_same _ (eval_same x) (eval_same y))
+  eval_same (low.slice at x a b c) = part.noted_same _ at (flow.slice_same _ (eval_same x) (held_same a) (held_same b) (held_same c))
+
+  held_same : {m : Maybe} {x : Held} → LoweredHeld m x → block.SomeSame Lowering (source.some_part m) (core.held x)
+  held_same low.absent = block.none
+  held_same (low.present x) = block.some (eval_same x)
 
   each_same : {es : List Tree} {xs : List (Rc CoreExpr Global)} → LoweredEach es xs → PartsSame (map source.eval es) (map (λ (e : Rc CoreExpr Global). core.eval e.value) xs)
   each_same low.nil = none
@@ -167,6 +182,7 @@ watch_leaf n (tree.Compare at e ops es) h = absurd h
 watch_leaf n (tree.Not at e) h = absurd h
 watch_leaf n (tree.And at e es) h = absurd h
 watch_leaf n (tree.Or at e es) h = absurd h
+watch_leaf n (tree.Attribute at e name) h = absurd h
 watch_leaf n _ h = refl
 
 mutual
@@ -180,6 +196,7 @@ mutual
   watch_same (low.negation n at x) = part.noted_same _ at (part.not_same _ (watch_same x))
   watch_same (low.conjunction n at {e = e} {es = es} {row = row} x xs) = part.noted_same _ at (part.and_same _ (watch_same x) (watched_rows (n + kept_count e) es row (watch_each xs)))
   watch_same (low.disjunction n at {e = e} {es = es} {row = row} x xs) = part.noted_same _ at (part.or_same _ (watch_same x) (watched_rows (n + kept_count e) es row (watch_each xs)))
+  watch_same (low.attribute n at b name x) = part.kept_same _ n (part.noted_same _ at (flow.attribute_same _ name (watch_same x)))
 
   watch_each : {n : ℕ} {es : List Tree} {xs : List (Rc CoreExpr Global)} → WatchedEach n es xs → PartsSame (watch_list n es) (map (λ (e : Rc CoreExpr Global). core.eval e.value) xs)
   watch_each (low.nil n) = none
@@ -188,19 +205,42 @@ mutual
 pub expression_same : {e : Tree} {x : CoreExpr} → LoweredExpr e x → PartSame (source.eval e) (core.eval x)
 expression_same h = eval_same h
 
-some_same : {m : Maybe} {y : Option (Rc CoreExpr Global)} → LoweredSome m y → block.SomeSame Lowering (src.some_part m) (cor.some_part y)
-some_same low.none = block.none
-some_same (low.some x) = block.some (eval_same x)
+some_same : {m : Maybe} {y : Option (Rc CoreExpr Global)} → LoweredSome m y → block.SomeSame Lowering (source.some_part m) (cor.some_part y)
+some_same low.LoweredSome.none = block.none
+some_same (low.LoweredSome.some x) = block.some (eval_same x)
 
-targets_same : {ts : List Taker} {xs : List CoreTarget} → LoweredTargets ts xs → block.StoresSame Lowering (src.stores ts) (cor.stores xs)
-targets_same low.none = block.none
-targets_same (low.more at name h) = block.more (block.store_name_same _ name) (targets_same h)
+place_same : {p : Place} {x : CoreSingle} → LoweredPlace p x → flow.StoreSame Lowering (src.store_place p) (cor.store_at x.kind)
+place_same (low.LoweredPlace.name at n) = flow.store_name_same _ n
+place_same (low.LoweredPlace.attribute at n x) = flow.store_attribute_same _ n (eval_same x)
+place_same (low.LoweredPlace.subscript at x y) = flow.store_item_same _ (eval_same x) (eval_same y)
+
+places_same : {ps : List Place} {xs : List CoreSingle} → LoweredPlaces ps xs → flow.StoresSame Lowering (src.store_places ps) (cor.store_singles xs)
+places_same low.LoweredPlaces.none = flow.none
+places_same (low.LoweredPlaces.more x xs) = flow.more (place_same x) (places_same xs)
+
+target_same : {t : Taker} {x : CoreTarget} → LoweredTarget t x → flow.StoreSame Lowering (src.store t) (cor.store x)
+target_same (low.one x) = place_same x
+target_same (low.unpack xs) = flow.unpack_same _ (places_same xs)
+
+targets_same : {ts : List Taker} {xs : List CoreTarget} → LoweredTargets ts xs → flow.StoresSame Lowering (src.stores ts) (cor.stores xs)
+targets_same low.LoweredTargets.none = flow.none
+targets_same (low.LoweredTargets.more x xs) = flow.more (target_same x) (targets_same xs)
+
+augment_same : {p : Place} {x : CoreSingle} → LoweredPlace p x → (op : BinOp) {e : source.SourcePart} {f : core.CorePart} → PartSame e f → PartSame (src.augment p op e) (cor.augment_at x.kind op f)
+augment_same (low.LoweredPlace.name at n) op e = flow.augment_same _ n op e
+augment_same (low.LoweredPlace.attribute at n x) op e = flow.augment_attribute_same _ n op (eval_same x) e
+augment_same (low.LoweredPlace.subscript at x y) op e = flow.augment_item_same _ op (eval_same x) (eval_same y) e
+
+delete_same : {p : Place} {x : CoreSingle} → LoweredPlace p x → PartSame (src.delete p) (cor.delete_at x.kind)
+delete_same (low.LoweredPlace.name at n) = flow.delete_name_same _ n
+delete_same (low.LoweredPlace.attribute at n x) = flow.delete_attribute_same _ n (eval_same x)
+delete_same (low.LoweredPlace.subscript at x y) = flow.delete_item_same _ (eval_same x) (eval_same y)
 
 -- a statement stands where its source does
 position_of : {z : Bool} {s : Statement} {at : Pos} {x : CoreStmtKind} → LoweredStatement z s at x → src.position s ≡ at
 position_of (low.do_it at x) = refl
 position_of (low.assign at ts x) = refl
-position_of (low.augment at place name op x) = refl
+position_of (low.augment at op p x) = refl
 position_of (low.return_it at x) = refl
 position_of (low.assert_it at x m bs body other) = refl
 position_of (low.assert_explained at c x m bs body other) = refl
@@ -212,12 +252,17 @@ position_of (low.again at) = refl
 position_of (low.choose at bs b) = refl
 position_of (low.loop at x b) = refl
 position_of (low.define at word name h) = refl
+position_of (low.raise_it at x) = refl
+position_of (low.delete at p) = refl
+position_of (low.for_each at t x b) = refl
+position_of (low.try_it at b g) = refl
+position_of (low.with_it at x b) = refl
 
 -- it begins with a step: none is a failure
 begun_of : {z : Bool} {s : Statement} {at : Pos} {x : CoreStmtKind} → LoweredStatement z s at x → (ls : List c.Layer) (st : CoreStmt) → cor.begun_at x ls st ≡ asked (c.StatementOf ls st)
 begun_of (low.do_it at x) ls st = refl
 begun_of (low.assign at ts x) ls st = refl
-begun_of (low.augment at place name op x) ls st = refl
+begun_of (low.augment at op p x) ls st = refl
 begun_of (low.return_it at x) ls st = refl
 begun_of (low.assert_it at x m bs body other) ls st = refl
 begun_of (low.assert_explained at c x m bs body other) ls st = refl
@@ -229,6 +274,11 @@ begun_of (low.again at) ls st = refl
 begun_of (low.choose at bs b) ls st = refl
 begun_of (low.loop at x b) ls st = refl
 begun_of (low.define at word name h) ls st = refl
+begun_of (low.raise_it at x) ls st = refl
+begun_of (low.delete at p) ls st = refl
+begun_of (low.for_each at t x b) ls st = refl
+begun_of (low.try_it at b g) ls st = refl
+begun_of (low.with_it at x b) ls st = refl
 
 begun_same : {z : Bool} {ls : List s.Layer} {ks : List c.Layer} → LoweredLayers z ls ks → {sm : Statement} {at : Pos} {x : CoreStmtKind} → LoweredStatement z sm at x → (scene : Scene) {u : State source_kinds} {r : State core_kinds} → States u r → (k : Then source_kinds) (l : Then core_kinds) → Behind k l → Follow (src.begun z ls sm (site scene (src.position sm).line) u k) (cor.begun ks (core_at at x) (site scene at.line) r l)
 begun_same {z = z} {ls = ls} {ks = ks} hl {sm = sm} {at = at} {x = x} h scene {u = u} {r = r} ss k l g =
@@ -251,12 +301,44 @@ from_same {z = z} hl b n flag from is (low.goes_on {ss = ss} h hs) =
 pub sequence_same : {z : Bool} {ls : List s.Layer} {ks : List c.Layer} → LoweredLayers z ls ks → {ss : List Statement} {b : CoreBlock} → LoweredBody z ss b → BodySame (src.sequence z ls ss) (cor.block ks b)
 sequence_same hl {b = b} (low.body flag from h) = from_same hl b 0 flag from refl h
 
-layers_same : {z : Bool} {ls : List s.Layer} {ks : List c.Layer} → LoweredLayers z ls ks → PartSame (src.remains ls) (cor.remains ks)
-layers_same low.LoweredLayers.none = record { does = λ p ss k l h. h _ _ (next ss) }
-layers_same (low.LoweredLayers.more b n flag from h hl) = record { does = λ p ss k l g. (from_same hl b n flag from refl h).does p.scene ss _ _ (λ o q m. block.next_same _ m k l g _ _ (λ s r ss. (layers_same hl).does p ss k l g)) }
+-- handlers
+abbrev handling_of : Bool → List s.Layer → low.Catch → src.SourceHandling
+handling_of z ls (catch_at class name b) = (source.some_part class, (name, src.block z ls b))
 
-remains_same : (ls : List s.Layer) (ks : List c.Layer) → LoweredRest ls ks → PartSame (src.remains ls) (cor.remains ks)
+handlings_listed : (z : Bool) (ls : List s.Layer) (hs : Handlers) → src.handlings z ls hs ≡ map (handling_of z ls) (handlers_listed hs)
+handlings_listed z ls st.NoHandler = refl
+handlings_listed z ls (st.Handler before at class name b) = ap (λ xs. xs ++ (source.some_part class, (name, src.block z ls b)) ∷ []) (handlings_listed z ls before) ∙ sym (map_more (handling_of z ls) (handlers_listed before) (catch_at class name b))
+
+catches_same : {z : Bool} {ls : List s.Layer} {ks : List c.Layer} → LoweredLayers z ls ks → {hs : List low.Catch} {xs : List handler.CoreHandler} → LoweredHandlers z hs xs → flow.HandlersSame Lowering (map (handling_of z ls) hs) (cor.handlings ks xs)
+catches_same hl low.unhandled = flow.none
+catches_same hl (low.handles name x b hs) = flow.more name (some_same x) (sequence_same hl b) (catches_same hl hs)
+
+handlings_same : {z : Bool} {ls : List s.Layer} {ks : List c.Layer} → LoweredLayers z ls ks → (hs : Handlers) {xs : List handler.CoreHandler} → LoweredHandlers z (handlers_listed hs) xs → flow.HandlersSame Lowering (src.handlings z ls hs) (cor.handlings ks xs)
+handlings_same {z = z} {ls = ls} {ks = ks} hl hs {xs = xs} h = subst (λ gs. flow.HandlersSame Lowering gs (cor.handlings ks xs)) (sym (handlings_listed z ls hs)) (catches_same hl h)
+
+abbrev AfterSame : After source_kinds → After core_kinds → Type 0
+AfterSame = block.AfterSame Lowering
+
+guard_same : {z : Bool} {ls : List s.Layer} {ks : List c.Layer} → LoweredLayers z ls ks → {hs : Handlers} {other last : List Statement} {g : CoreGuard} → LoweredGuard z hs other last g → AfterSame (src.guard z ls hs other last) (cor.guard ks g)
+guard_same hl {hs = hs} (low.guard from h other last) = flow.guarded_same _ (handlings_same hl hs h) (sequence_same hl other) (sequence_same hl last)
+
+-- what follows the end of a statement, where each other end is handed on to what is the same
+next_then : {o : Outcome source_kinds} {q : Outcome core_kinds} → EndsAlike Lowering o q → (k : Then source_kinds) (l : Then core_kinds) → Behind k l → (go : State source_kinds → Rest source_kinds) (go' : State core_kinds → Rest core_kinds) → ((u : State source_kinds) (r : State core_kinds) → States u r → Follow (go u) (go' r)) → Follow (on_next o k go) (on_next q l go')
+next_then n k l h go go' g = block.next_same _ n k l h go go' g
+
+layers_same : {z : Bool} {ls : List s.Layer} {ks : List c.Layer} → LoweredLayers z ls ks → AfterSame (src.remains ls) (cor.remains ks)
+layers_same low.LoweredLayers.none = record { does = λ p n k l h. h _ _ n }
+layers_same (low.LoweredLayers.more {ss = ss} {ls = ls} {ks = ks} b at flag from h hl) =
+    record { does = λ p n k l g. next_then n (λ o. src.remains ls p o k) (λ o. cor.remains ks p o l) (λ o q m. (layers_same hl).does p m k l g) _ _ (λ u r us. (from_same hl b at flag from refl h).does p.scene us (λ o. src.remains ls p o k) (λ o. cor.remains ks p o l) (λ o q m. (layers_same hl).does p m k l g)) }
+layers_same (low.LoweredLayers.guarded {ls = ls} {ks = ks} g line h hl) = record { does = λ p n k l b. (guard_same hl h).does (site p.scene line) n (λ o. src.remains ls p o k) (λ o. cor.remains ks p o l) (λ o q m. (layers_same hl).does p m k l b) }
+
+remains_same : (ls : List s.Layer) (ks : List c.Layer) → LoweredRest ls ks → AfterSame (src.remains ls) (cor.remains ks)
 remains_same ls ks h = layers_same h.1
+
+-- a `try`, which guards its block on its line
+try_here : {z : Bool} {ls : List s.Layer} {ks : List c.Layer} → LoweredLayers z ls ks → (b : Block) {hs : Handlers} {other last : List Statement} {body : CoreBlock} {g : CoreGuard} → LoweredBody z (listed b) body → LoweredGuard z hs other last g → (p : Site) {u : State source_kinds} {r : State core_kinds} → States u r → (k : Then source_kinds) (l : Then core_kinds) → Behind k l → Follow (src.try_at z ls b hs other last p u k) (cor.try_at ks body g p r l)
+try_here hl source_block {hs = hs} {g = g} b (low.guard from h other last) p ss k l f =
+    (flow.try_same _ (sequence_same (low.LoweredLayers.guarded g p.line (low.guard from h other last) hl) b) (handlings_same hl hs h) (sequence_same hl other) (sequence_same hl last)).does p ss k l f
 
 abbrev choice_of : Bool → List s.Layer → low.Choice → src.SourceChoice
 choice_of z ls (choice_at at e b) = (at.line, (source.eval e, src.block z ls b))
@@ -298,8 +380,8 @@ define_same word (low.made {z = z} _ name {params = params} {body = body} {ps = 
 -- WHAT A STATEMENT DOES
 statement_same : {z : Bool} {ls : List s.Layer} {ks : List c.Layer} → LoweredLayers z ls ks → {sm : Statement} {at : Pos} {x : CoreStmtKind} → LoweredStatement z sm at x → (scene : Scene) {u : State source_kinds} {r : State core_kinds} → States u r → (k : Then source_kinds) (l : Then core_kinds) → Behind k l → Follow (src.statement z ls sm (site scene at.line) u k) (cor.statement_at ks x (site scene at.line) r l)
 statement_same hl (low.do_it at x) scene = (block.expression_same _ (eval_same x)).does (site scene at.line)
-statement_same hl (low.assign at ts x) scene = (block.assign_same _ (targets_same ts) (eval_same x)).does (site scene at.line)
-statement_same hl (low.augment at place name op x) scene = (block.augment_same _ name op (eval_same x)).does (site scene at.line)
+statement_same hl (low.assign at ts x) scene = (flow.assign_same _ (targets_same ts) (eval_same x)).does (site scene at.line)
+statement_same hl (low.augment at op p x) scene = (augment_same p op (eval_same x)).does (site scene at.line)
 statement_same hl (low.return_it at x) scene = (block.return_same _ (some_same x)).does (site scene at.line)
 statement_same {ks = ks} hl (low.assert_it at {x = c} {y = m} {p = p} {n = n} {q = q} {r = r} {branches = branches} {other = other} {body = body} x y bs bb ob) scene = assert_at at ks c Plain m p n q r branches other body (eval_same x) (block.fail_same _ (some_same y)) bs bb ob scene
 statement_same {ks = ks} hl (low.assert_explained at {e = e} {x = c} {d = d} {y = m} {p = p} {n = n} {q = q} {r = r} {branches = branches} {other = other} {body = body} is x y bs bb ob) scene = assert_at at ks c (Explain d) m p n q r branches other body (watch_same x) (explained_as d e m is (some_same y)) bs bb ob scene
@@ -311,10 +393,16 @@ statement_same hl (low.again at) scene = (block.again_same _).does (site scene a
 statement_same {z = z} {ls = ls} hl (low.choose at {bs = bs} hs h) scene = λ ss k l g. rw (choices_listed z ls bs) ((block.choose_same _ (choices_same hl hs) (sequence_same hl h)).does (site scene at.line) ss k l g)
 statement_same hl (low.loop at x b) scene = (block.loop_same _ (λ n. turn x b) (eval_same x)).does (site scene at.line)
 statement_same hl (low.define at word name h) scene = (define_same word h).does (site scene at.line)
+statement_same hl (low.raise_it at x) scene = (flow.raise_same _ (some_same x)).does (site scene at.line)
+statement_same hl (low.delete at p) scene = (delete_same p).does (site scene at.line)
+statement_same hl (low.for_each at t x b) scene = (flow.for_same _ (λ n i. for_turn t b i) (eval_same x)).does (site scene at.line)
+statement_same hl (low.try_it at {body = source_block} b g) scene = try_here hl source_block b g (site scene at.line)
+statement_same hl (low.with_it at {name = name} x b) scene = (flow.with_same _ name (eval_same x) (sequence_same hl b)).does (site scene at.line)
 
 pub acts_same : (what : s.Turn) (other : c.Turn) (p : Site) → LoweredTurn p.line what other → (u : State source_kinds) (r : State core_kinds) → States u r → (k : Then source_kinds) (l : Then core_kinds) → Behind k l → Follow (src.act what p u k) (cor.act other p r l)
 acts_same _ _ p (statement {z = z} {ls = ls} {ks = ks} {st = sm} {at = at} {x = x} is hl h) u r ss k l g =
     subst (λ n. Follow (src.statement z ls sm (site p.scene n) u k) (cor.statement_at ks x (site p.scene n) r l)) (sym is) (statement_same hl h p.scene ss k l g)
+acts_same _ _ p (for_turn {b = loop_block} t b at) u r ss k l g = (flow.for_turn_same _ (λ n i. for_turn {b = loop_block} t b i) (target_same t) (sequence_same low.LoweredLayers.none b) at).does p ss k l g
 acts_same _ _ p (turn x b) u r ss k l g = (block.turn_of_same _ (λ n. turn x b) (eval_same x) (sequence_same low.LoweredLayers.none b)).does p ss k l g
 
 pub entries_same : (f : Function) (x : CoreFn) → LoweredCode f x → block.EntrySame Lowering (src.entry f) (cor.entry x)

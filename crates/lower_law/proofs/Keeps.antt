@@ -63,7 +63,7 @@ world_cond true w w' z z' h g = h
 world_cond false w w' z z' h g = g
 
 spent_world : (budget : ℕ) (trace : List TraceFrame) {w : SourceWorld} {z : CoreWorld} → LoweredWorld w z → LoweredWorld (out_of_steps budget trace w) (out_of_steps budget trace z)
-spent_world budget trace (worlds xs ys zs modules heap printed) = world_cond (list_any is_running modules) _ _ _ _ (worlds xs ys zs _ _ printed) (worlds xs ys zs modules heap printed)
+spent_world budget trace (worlds xs ys zs modules heap printed traces) = world_cond (list_any is_running modules) _ _ _ _ (worlds xs ys zs _ _ printed traces) (worlds xs ys zs modules heap printed traces)
 
 spent_told : (budget : ℕ) {x : Spent source_kinds} {y : Spent core_kinds} → SpentAlike Lowering x y → SameTold (ended_spent budget x) (ended_spent budget y)
 spent_told budget (out trace (states a t ws)) = (refl, spent_world budget trace ws)
@@ -111,11 +111,11 @@ function_begun_same block.absent g f args w z ws = invoked f args w z ws
 function_begun_same (block.present path home h) g f args w z ws = fitting_begun_same (arguments_for g (plain args)) (frame g.path g.line g.name ∷ []) f args w z ws
 
 object_begun_same : (o : Option FunctionObj) (f : Value) (args : List Value) {w : SourceWorld} {z : CoreWorld} → LoweredWorld w z → Follow (object_begun source o f args (start w)) (object_begun core o f args (start z))
-object_begun_same (Some x) f args (worlds xs ys zs modules heap printed) = function_begun_same (block.found _ ys x.code) x f args _ _ (worlds xs ys zs modules heap printed)
+object_begun_same (Some x) f args (worlds xs ys zs modules heap printed traces) = function_begun_same (block.found _ ys x.code) x f args _ _ (worlds xs ys zs modules heap printed traces)
 object_begun_same None f args ws = invoked f args _ _ ws
 
 begun_by_runner_same : (f : Value) (args : List Value) {w : SourceWorld} {z : CoreWorld} → LoweredWorld w z → Follow (begun_by_runner source f args (start w)) (begun_by_runner core f args (start z))
-begun_by_runner_same (val.Ref id) args (worlds xs ys zs modules heap printed) = object_begun_same (function_of_object (slice_get heap id.at)) (val.Ref id) args (worlds xs ys zs modules heap printed)
+begun_by_runner_same (val.Ref id) args (worlds xs ys zs modules heap printed traces) = object_begun_same (function_of_object (slice_get heap id.at)) (val.Ref id) args (worlds xs ys zs modules heap printed traces)
 begun_by_runner_same val.None args ws = invoked val.None args _ _ ws
 begun_by_runner_same (val.Bool b) args ws = invoked (val.Bool b) args _ _ ws
 begun_by_runner_same (val.Int n) args ws = invoked (val.Int n) args _ _ ws
@@ -125,7 +125,7 @@ pub calls_same : (w : SourceWorld) (z : CoreWorld) → LoweredWorld w z → (f :
 calls_same w z ws f args budget = run_told budget _ _ (begun_by_runner_same f args ws)
 
 loaded_same : (path : List ℕ) (load : Load) {s : State source_kinds} {r : State core_kinds} → StatesAlike Lowering s r → StatesAlike Lowering (with_module_load path load s) (with_module_load path load r)
-loaded_same path load (states a t (worlds xs ys zs modules heap printed)) = states a t (worlds xs ys zs _ heap printed)
+loaded_same path load (states a t (worlds xs ys zs modules heap printed traces)) = states a t (worlds xs ys zs _ heap printed traces)
 
 module_end_same : (path : List ℕ) (id : ℕ) {o : Outcome source_kinds} {q : Outcome core_kinds} → Ends o q → Ends (module_end path id o) (module_end path id q)
 module_end_same path id (gave v ss) = gave _ (loaded_same path _ ss)
@@ -136,8 +136,8 @@ module_end_same path id (continued ss) = gave _ (loaded_same path _ ss)
 module_end_same path id (alike.raised e trace ss) = alike.raised e trace (loaded_same path _ ss)
 
 executed_same : (path : List ℕ) (b : Script) (code : Core) → LoweredModule b code → (a : Around) {w : SourceWorld} {z : CoreWorld} → LoweredWorld w z → (k : Then source_kinds) (l : Then core_kinds) → part.Behind Lowering k l → Follow (executed source path b a w k) (executed core path code a z l)
-executed_same path b code h a (worlds xs ys zs modules heap printed) k l g =
-    (meanings_same.bodies b code h).does (module_scene path (length (naming_heap path heap)) a) (states [] [] (worlds xs ys zs _ _ printed)) _ _ (λ o q n. g _ _ (module_end_same path (length (naming_heap path heap)) n))
+executed_same path b code h a (worlds xs ys zs modules heap printed traces) k l g =
+    (meanings_same.bodies b code h).does (module_scene path (length (naming_heap path heap)) a) (states [] [] (worlds xs ys zs _ _ printed traces)) _ _ (λ o q n. g _ _ (module_end_same path (length (naming_heap path heap)) n))
 
 loading_same : (path : List ℕ) (b : Script) (code : Core) → LoweredModule b code → {w : SourceWorld} {z : CoreWorld} → LoweredWorld w z → Follow (loading source path b w) (loading core path code z)
 loading_same path b code h ws = executed_same path b code h no_call ws (λ o. Done o) (λ o. Done o) (λ o q n. n)
@@ -168,10 +168,10 @@ load_by_same : (load : Option Load) (path : List ℕ) {x : Part source_kinds} {y
 load_by_same (Some (Running id)) path x p ss k l g = g _ _ (gave _ ss)
 load_by_same (Some (Loaded id)) path x p ss k l g = g _ _ (gave _ ss)
 load_by_same (Some (Failed e trace)) path x p ss k l g = g _ _ (alike.raised e trace ss)
-load_by_same None path x p (states a t (worlds xs ys zs modules heap printed)) k l g = first_load_same (code_found path xs) path x p (states a t (worlds xs ys zs modules heap printed)) k l g
+load_by_same None path x p (states a t (worlds xs ys zs modules heap printed traces)) k l g = first_load_same (code_found path xs) path x p (states a t (worlds xs ys zs modules heap printed traces)) k l g
 
 load_part_same : (path : List ℕ) {x : Part source_kinds} {y : Part core_kinds} → part.PartSame Lowering x y → (p : Site) {s : State source_kinds} {r : State core_kinds} → StatesAlike Lowering s r → (k : Then source_kinds) (l : Then core_kinds) → part.Behind Lowering k l → Follow (load_part source path x p s k) (load_part core path y p r l)
-load_part_same path x p (states a t (worlds xs ys zs modules heap printed)) k l g = load_by_same (load_at path modules) path x p (states a t (worlds xs ys zs modules heap printed)) k l g
+load_part_same path x p (states a t (worlds xs ys zs modules heap printed traces)) k l g = load_by_same (load_at path modules) path x p (states a t (worlds xs ys zs modules heap printed traces)) k l g
 
 pub load_same : (path : List ℕ) {x : Part source_kinds} {y : Part core_kinds} → part.PartSame Lowering x y → part.PartSame Lowering (load_part source path x) (load_part core path y)
 load_same path x = record { does = λ p ss k l g. load_part_same path x p ss k l g }
@@ -184,10 +184,10 @@ loaded_by_same : (load : Option Load) (path : List ℕ) (budget : ℕ) {w : Sour
 loaded_by_same (Some (Running id)) path budget ws = (refl, ws)
 loaded_by_same (Some (Loaded id)) path budget ws = (refl, ws)
 loaded_by_same (Some (Failed e trace)) path budget ws = (refl, ws)
-loaded_by_same None path budget (worlds xs ys zs modules heap printed) = loaded_first_same (code_found path xs) path budget (worlds xs ys zs modules heap printed)
+loaded_by_same None path budget (worlds xs ys zs modules heap printed traces) = loaded_first_same (code_found path xs) path budget (worlds xs ys zs modules heap printed traces)
 
 modules_from : (path : List ℕ) (budget : ℕ) {w : SourceWorld} {z : CoreWorld} → LoweredWorld w z → SameTold (source_module path budget w) (core_module path budget z)
-modules_from path budget (worlds xs ys zs modules heap printed) = loaded_by_same (load_at path modules) path budget (worlds xs ys zs modules heap printed)
+modules_from path budget (worlds xs ys zs modules heap printed traces) = loaded_by_same (load_at path modules) path budget (worlds xs ys zs modules heap printed traces)
 
 -- LOADS OF MODULES
 pub modules_same : (w : SourceWorld) (z : CoreWorld) → LoweredWorld w z → (path : List ℕ) (budget : ℕ) → SameTold (source_module path budget w) (core_module path budget z)

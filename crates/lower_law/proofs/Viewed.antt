@@ -40,6 +40,7 @@ sources_viewed (alike.more path bytes h hs) = λ i. source_with path bytes (code
 layers_viewed : {z : Bool} {ls : List s.Layer} {ks : List c.Layer} → LoweredLayers z ls ks → map layer_view ks ≡ ls
 layers_viewed low.LoweredLayers.none = refl
 layers_viewed (low.LoweredLayers.more b at flag from h hl) = λ i. s.Statements (flag i) (from i) ∷ layers_viewed hl i
+layers_viewed (low.LoweredLayers.guarded g line (low.guard from h (low.body flag others _) (low.body flag' lasts _)) hl) = λ i. s.Guard (flag i) line (from i) (others i) (lasts i) ∷ layers_viewed hl i
 
 frozen_viewed : {fs : List (Option (Frozen (List s.Layer)))} {gs : List (Option (Frozen (List c.Layer)))} → FrozenAlike Lowering fs gs → map frozen_view gs ≡ fs
 frozen_viewed alike.none = refl
@@ -47,7 +48,7 @@ frozen_viewed (alike.taken hs) = λ i. None ∷ frozen_viewed hs i
 frozen_viewed (alike.more p a h hs) = λ i. Some (frozen_with (layers_viewed h.1 i) p a) ∷ frozen_viewed hs i
 
 pub viewed : {w : SourceWorld} {z : CoreWorld} → LoweredWorld w z → source_view z ≡ w
-viewed (worlds xs ys zs modules heap printed) = λ i. world_with (sources_viewed xs i) modules heap (codes_viewed ys i) printed (frozen_viewed zs i)
+viewed (worlds xs ys zs modules heap printed traces) = λ i. world_with (sources_viewed xs i) modules heap (codes_viewed ys i) printed (frozen_viewed zs i) traces
 
 told_viewed : (a : Told source_kinds) (b : Told core_kinds) → SameTold a b → view_told b ≡ a
 told_viewed a b h = λ i. (sym h.0 i, viewed h.1 i)

@@ -11,20 +11,23 @@ use Rattle.py_tree.specs.declared.op.CmpOp.{CmpOp}
 use Rattle.py_tree.specs.Trees as t
 use Rattle.py_tree.specs.Trees.{Tree, Trees, Empty, More, Maybe, Absent, Present}
 use Rattle.py_tree.specs.Statements as st
-use Rattle.py_tree.specs.Statements.{Statement, Block, Branches, NoBranch, Branch, Place, NamePlace, Taker, One, Parameter}
+use Rattle.py_tree.specs.Statements.{Statement, Block, Branches, NoBranch, Branch, Handlers, NoHandler, Place, NamePlace, AttributePlace, SubscriptPlace, Taker, One, Unpack, Parameter, handlers}
 use Rattle.py_tree.specs.Names.{names_of, locals_of, yields_in}
 use Rattle.py_tree.specs.declared.expr.Expr.{Expr}
 use Rattle.py_tree.specs.Trees.{tree}
 use Rattle.py_world.specs.Explained.{kept_count}
 use Rattle.py_core.specs.declared.expr.CoreExpr.{CoreExpr}
 use Rattle.py_core.specs.declared.expr.CoreExprKind as f
-use Rattle.py_core.specs.declared.expr.CoreExprKind.{CoreExprKind, Row_of-CoreExprKind-Call-1-1 as Row, items-the_row-CoreExprKind-Call-1-1 as row_items}
+use Rattle.py_core.specs.declared.expr.CoreExprKind.{CoreExprKind, Row_of-CoreExprKind-Call-1-1 as Row, items-the_row-CoreExprKind-Call-1-1 as row_items, Held-CoreExprKind-Slice-1 as Held}
 use Rattle.py_core.specs.declared.expr.CoreExprKind.TheVariants as v
 use Rattle.py_core.specs.declared.stmt.CoreBranch as branch
 use Rattle.py_core.specs.declared.stmt.CoreFn as fn
 use Rattle.py_core.specs.declared.stmt.CoreFn.{CoreFn}
 use Rattle.py_core.specs.declared.stmt.Core.{Core}
+use Rattle.py_core.specs.declared.stmt.CoreSingle.{CoreSingle}
 use Rattle.py_core.specs.declared.stmt.CoreSingleKind.TheVariants as single
+use Rattle.py_core.specs.declared.stmt.CoreGuard.{CoreGuard}
+use Rattle.py_core.specs.declared.stmt.CoreHandler as handler
 use Rattle.py_core.specs.declared.stmt.CoreTarget.{CoreTarget}
 use Rattle.py_core.specs.declared.stmt.CoreTarget.TheVariants as target
 use Rattle.py_core.specs.declared.stmt.Template.TheVariants.{Plain, Explain}
@@ -32,7 +35,7 @@ use Rattle.py_core.specs.declared.stmt.CoreStmt.{CoreStmt}
 use Rattle.py_core.specs.declared.stmt.CoreStmtKind as c
 use Rattle.py_core.specs.declared.stmt.CoreStmtKind.{CoreStmtKind, Row_of-CoreBranch, items-the_row-CoreBranch}
 use Rattle.py_core.specs.declared.stmt.CoreBlock.{CoreBlock}
-use Rattle.py_core.specs.Blocks.{stmts_in, explains_in}
+use Rattle.py_core.specs.Blocks.{stmts_in, explains_in, handlers_in, handlers_source, other_in, last_in}
 use Rattle.py_core.specs.declared.stmt.CoreStmtKind.TheVariants as k
 use Rattle.py_tree.specs.declared.stmt.Function as f_tree
 use Rattle.lower_law.specs.Sourced.{function_in, module_of, sources_in}
@@ -75,6 +78,17 @@ mutual
     conjunction : (at : Pos) {e : Tree} {es : Trees} {p q n : _} {a : Pos} {x : CoreExprKind} {row : Row _} → Lowered e a x → LoweredEach (trees_listed es) (row_items _ row) → Lowered (t.And at e es) at (f.And' p a x q n row)
     disjunction : (at : Pos) {e : Tree} {es : Trees} {p q n : _} {a : Pos} {x : CoreExprKind} {row : Row _} → Lowered e a x → LoweredEach (trees_listed es) (row_items _ row) → Lowered (t.Or at e es) at (f.Or' p a x q n row)
     choice : (at : Pos) {e b o : Tree} {p q r : _} {a a' a'' : Pos} {x y z : CoreExprKind} → Lowered e a x → Lowered b a' y → Lowered o a'' z → Lowered (t.IfElse at e b o) at (f.IfElse' p a x q a' y r a'' z)
+    tuple : (at : Pos) {es : Trees} {p n : _} {row : Row _} → LoweredEach (trees_listed es) (row_items _ row) → Lowered (t.Tuple at es) at (f.Tuple' p n row)
+    list : (at : Pos) {es : Trees} {p n : _} {row : Row _} → LoweredEach (trees_listed es) (row_items _ row) → Lowered (t.Listed at es) at (f.List' p n row)
+    dict : (at : Pos) {ks es : Trees} {p n q m : _} {keys row : Row _} → LoweredEach (trees_listed ks) (row_items _ keys) → LoweredEach (trees_listed es) (row_items _ row) → Lowered (t.Dict at ks es) at (f.Dict' p n keys q m row)
+    attribute : (at : Pos) {e : Tree} {p : _} {a : Pos} {x : CoreExprKind} (name : List ℕ) → Lowered e a x → Lowered (t.Attribute at e name) at (f.Attribute' p a x name)
+    subscript : (at : Pos) {e i : Tree} {p q : _} {a b : Pos} {x y : CoreExprKind} → Lowered e a x → Lowered i b y → Lowered (t.Subscript at e i) at (f.Subscript' p a x q b y)
+    slice : (at : Pos) {e : Tree} {from to by : Maybe} {p : _} {a : Pos} {x : CoreExprKind} {start stop step : Held} → Lowered e a x → LoweredHeld from start → LoweredHeld to stop → LoweredHeld by step → Lowered (t.Slice at e from to by) at (f.Slice' p a x start stop step)
+
+  -- a bound of a slice
+  pub data LoweredHeld : Maybe → Held → Type 0 where
+    absent : LoweredHeld Absent f.CoreExprKind-Slice-1-None'
+    present : {e : Tree} {p : _} {a : Pos} {x : CoreExprKind} → Lowered e a x → LoweredHeld (Present e) (f.Some' p a x)
 
   pub data LoweredEach : List Tree → List (Rc CoreExpr Global) → Type 0 where
     nil : LoweredEach [] []
@@ -90,6 +104,7 @@ IsLeaf (t.Compare at e ops es) = ⊥
 IsLeaf (t.Not at e) = ⊥
 IsLeaf (t.And at e es) = ⊥
 IsLeaf (t.Or at e es) = ⊥
+IsLeaf (t.Attribute at e member) = ⊥
 IsLeaf _ = Unit {0}
 
 mutual
@@ -103,6 +118,7 @@ mutual
     negation : (n : ℕ) (at : Pos) {e : Tree} {p : _} {a : Pos} {x : CoreExprKind} → Watched n e a x → Watched n (t.Not at e) at (f.Not' p a x)
     conjunction : (n : ℕ) (at : Pos) {e : Tree} {es : Trees} {p q m : _} {a : Pos} {x : CoreExprKind} {row : Row _} → Watched n e a x → WatchedEach (n + kept_count e) (trees_listed es) (row_items _ row) → Watched n (t.And at e es) at (f.And' p a x q m row)
     disjunction : (n : ℕ) (at : Pos) {e : Tree} {es : Trees} {p q m : _} {a : Pos} {x : CoreExprKind} {row : Row _} → Watched n e a x → WatchedEach (n + kept_count e) (trees_listed es) (row_items _ row) → Watched n (t.Or at e es) at (f.Or' p a x q m row)
+    attribute : (n : ℕ) (at b : Pos) {e : Tree} {p r : _} {a : Pos} {x : CoreExprKind} (name : List ℕ) → Watched (suc n) e a x → Watched n (t.Attribute at e name) b (f.SetTemp' n r at (f.Attribute' p a x name))
 
   pub data WatchedEach : ℕ → List Tree → List (Rc CoreExpr Global) → Type 0 where
     nil : (n : ℕ) → WatchedEach n [] []
@@ -115,12 +131,35 @@ pub data LoweredSome : Maybe → Option (Rc CoreExpr Global) → Type 0 where
   none : LoweredSome Absent None
   some : {e : Tree} {x : Rc CoreExpr Global} → LoweredExpr e x.value → LoweredSome (Present e) (Some x)
 
+-- what takes one value
+pub data LoweredPlace : Place → CoreSingle → Type 0 where
+  name : (at : Pos) (n : List ℕ) → LoweredPlace (NamePlace at n) (record { at = at; kind = single.Name n })
+  attribute : (at : Pos) (n : List ℕ) {e : Tree} {x : Rc CoreExpr Global} → LoweredExpr e x.value → LoweredPlace (AttributePlace at e n) (record { at = at; kind = single.Attribute x n })
+  subscript : (at : Pos) {e i : Tree} {x y : Rc CoreExpr Global} → LoweredExpr e x.value → LoweredExpr i y.value → LoweredPlace (SubscriptPlace at e i) (record { at = at; kind = single.Subscript x y })
+
+pub data LoweredPlaces : List Place → List CoreSingle → Type 0 where
+  none : LoweredPlaces [] []
+  more : {p : Place} {ps : List Place} {x : CoreSingle} {xs : List CoreSingle} → LoweredPlace p x → LoweredPlaces ps xs → LoweredPlaces (p ∷ ps) (x ∷ xs)
+
+-- what takes a value
+pub data LoweredTarget : Taker → CoreTarget → Type 0 where
+  one : {p : Place} {x : CoreSingle} → LoweredPlace p x → LoweredTarget (One p) (target.Single x)
+  unpack : {ps : List Place} {xs : Rc (Vec CoreSingle Global) Global} → LoweredPlaces ps xs.value.items → LoweredTarget (Unpack ps) (target.Unpack xs)
+
 pub data LoweredTargets : List Taker → List CoreTarget → Type 0 where
   none : LoweredTargets [] []
-  more : (at : Pos) (name : List ℕ) {ts : List Taker} {xs : List CoreTarget} → LoweredTargets ts xs → LoweredTargets (One (NamePlace at name) ∷ ts) (target.Single (record { at = at; kind = single.Name name }) ∷ xs)
+  more : {t : Taker} {ts : List Taker} {x : CoreTarget} {xs : List CoreTarget} → LoweredTarget t x → LoweredTargets ts xs → LoweredTargets (t ∷ ts) (x ∷ xs)
 
 abbrev pub core_at : Pos → CoreStmtKind → CoreStmt
 core_at at kind = record { at = at; kind = kind }
+
+-- handlers, the first one first
+pub data Catch : Type 0 where
+  catch_at : Maybe → Option (List ℕ) → Block → Catch
+
+abbrev pub handlers_listed : Handlers → List Catch
+handlers_listed NoHandler = []
+handlers_listed (st.Handler before at class alias block) = handlers_listed before ++ catch_at class alias block ∷ []
 
 -- branches, the first one first
 pub data Choice : Type 0 where
@@ -134,7 +173,7 @@ mutual
   pub data LoweredStatement : Bool → Statement → Pos → CoreStmtKind → Type 0 where
     do_it : {z : Bool} (at : Pos) {e : Tree} {x : Rc CoreExpr Global} → LoweredExpr e x.value → LoweredStatement z (st.Do at e) at (k.Expr x)
     assign : {z : Bool} (at : Pos) {ts : List Taker} {e : Tree} {xs : Rc (Vec CoreTarget Global) Global} {x : Rc CoreExpr Global} → LoweredTargets ts xs.value.items → LoweredExpr e x.value → LoweredStatement z (st.Assign at ts e) at (k.Assign xs x)
-    augment : {z : Bool} (at place : Pos) (name : List ℕ) (op : BinOp) {e : Tree} {x : Rc CoreExpr Global} → LoweredExpr e x.value → LoweredStatement z (st.AugAssign at (NamePlace place name) op e) at (k.AugAssign (record { at = place; kind = single.Name name }) op x)
+    augment : {z : Bool} (at : Pos) {p : Place} {s : CoreSingle} (op : BinOp) {e : Tree} {x : Rc CoreExpr Global} → LoweredPlace p s → LoweredExpr e x.value → LoweredStatement z (st.AugAssign at p op e) at (k.AugAssign s op x)
     return_it : {z : Bool} (at : Pos) {e : Maybe} {x : Option (Rc CoreExpr Global)} → LoweredSome e x → LoweredStatement z (st.Return at e) at (k.Return x)
     assert_it : (at : Pos) {e : Tree} {m : Maybe} {x : Rc CoreExpr Global} {y : Option (Rc CoreExpr Global)} {p n q r : _} {branches : Row_of-CoreBranch _} {other body : CoreBlock} → LoweredExpr e x.value → LoweredSome m y → items-the_row-CoreBranch _ branches ≡ branch.CoreBranch' at x r body ∷ [] → stmts_in body ≡ [] → stmts_in other ≡ core_at at (k.FailWith Plain y) ∷ [] → LoweredStatement plain (st.Assert at e m) at (c.If' p n branches q other)
     assert_explained : (at : Pos) {e : Tree} {m : Maybe} {x : Rc CoreExpr Global} {d : Rc Expr Global} {y : Option (Rc CoreExpr Global)} {p n q r : _} {branches : Row_of-CoreBranch _} {other body : CoreBlock} → tree d.value ≡ e → Watched 0 e x.value.at x.value.kind → LoweredSome m y → items-the_row-CoreBranch _ branches ≡ branch.CoreBranch' at x r body ∷ [] → stmts_in body ≡ [] → stmts_in other ≡ core_at at (k.FailWith (Explain d) y) ∷ [] → LoweredStatement explained (st.Assert at e m) at (c.If' p n branches q other)
@@ -146,6 +185,11 @@ mutual
     choose : {z : Bool} (at : Pos) {bs : Branches} {other : Block} {p n q : _} {branches : Row_of-CoreBranch _} {block : CoreBlock} → LoweredBranches z (branches_listed bs) (items-the_row-CoreBranch _ branches) → LoweredBody z (listed other) block → LoweredStatement z (st.If at bs other) at (c.If' p n branches q block)
     loop : {z : Bool} (at : Pos) {e : Tree} {body : Block} {x : Rc CoreExpr Global} {p : _} {block : CoreBlock} → LoweredExpr e x.value → LoweredBody z (listed body) block → LoweredStatement z (st.While at e body) at (c.While' x p block)
     define : {z : Bool} (at word : Pos) (name : List ℕ) {params : List Parameter} {body : Block} {p : _} {x : CoreFn} → LoweredFunction word (function z name params body) x → LoweredStatement z (st.Def at Empty word name params Absent body) at (c.Def' p x)
+    raise_it : {z : Bool} (at : Pos) {e : Maybe} {x : Option (Rc CoreExpr Global)} → LoweredSome e x → LoweredStatement z (st.Raise at e) at (k.Raise x)
+    delete : {z : Bool} (at : Pos) {p : Place} {x : CoreSingle} → LoweredPlace p x → LoweredStatement z (st.Del at p) at (k.Del x)
+    for_each : {z : Bool} (at : Pos) {t : Taker} {e : Tree} {body : Block} {x : Rc CoreTarget Global} {y : Rc CoreExpr Global} {p : _} {block : CoreBlock} → LoweredTarget t x.value → LoweredExpr e y.value → LoweredBody z (listed body) block → LoweredStatement z (st.For at t e body) at (c.For' x y p block)
+    try_it : {z : Bool} (at : Pos) {body : Block} {hs : Handlers} {other last : Block} {p q : _} {block : CoreBlock} {g : CoreGuard} → LoweredBody z (listed body) block → LoweredGuard z hs (listed other) (listed last) g → LoweredStatement z (st.Try at body hs other last) at (c.Try' p block q g)
+    with_it : {z : Bool} (at : Pos) {e : Tree} {name : Option (List ℕ)} {body : Block} {x : Rc CoreExpr Global} {p : _} {block : CoreBlock} → LoweredExpr e x.value → LoweredBody z (listed body) block → LoweredStatement z (st.With at e name body) at (c.With' x name p block)
 
   pub data LoweredBlock : Bool → List Statement → List CoreStmt → Type 0 where
     ends : {z : Bool} → LoweredBlock z [] []
@@ -159,6 +203,14 @@ mutual
     none : {z : Bool} → LoweredBranches z [] []
     more : {z : Bool} (at : Pos) {e : Tree} {body : Block} {bs : List Choice} {x : Rc CoreExpr Global} {p : _} {block : CoreBlock} {xs : List branch.CoreBranch} → LoweredExpr e x.value → LoweredBody z (listed body) block → LoweredBranches z bs xs → LoweredBranches z (choice_at at e body ∷ bs) (branch.CoreBranch' at x p block ∷ xs)
 
+  pub data LoweredHandlers : Bool → List Catch → List handler.CoreHandler → Type 0 where
+    unhandled : {z : Bool} → LoweredHandlers z [] []
+    handles : {z : Bool} {class : Maybe} (name : Option (List ℕ)) {body : Block} {hs : List Catch} {x : Option (Rc CoreExpr Global)} {p : _} {block : CoreBlock} {xs : List handler.CoreHandler} → LoweredSome class x → LoweredBody z (listed body) block → LoweredHandlers z hs xs → LoweredHandlers z (catch_at class name body ∷ hs) (handler.CoreHandler' x name p block ∷ xs)
+
+  -- what guards the block of a `try` carries the handlers of its source
+  pub data LoweredGuard : Bool → Handlers → List Statement → List Statement → CoreGuard → Type 0 where
+    guard : {z : Bool} {hs : Handlers} {other last : List Statement} {g : CoreGuard} → handlers (handlers_source g) ≡ hs → LoweredHandlers z (handlers_listed hs) (handlers_in g) → LoweredBody z other (other_in g) → LoweredBody z last (last_in g) → LoweredGuard z hs other last g
+
   -- a function has the parameters and the local names of its source
   pub data LoweredFunction : Pos → Function → CoreFn → Type 0 where
     made : {z : Bool} (word : Pos) (name : List ℕ) {params : List Parameter} {body : Block} {ps ls : List (List ℕ)} {ys : Bool} {source : Rc f_tree.Function Global} {p : _} {block : CoreBlock} → PlainParameters params → function_in z source.value ≡ function z name params body → ps ≡ names_of params → ls ≡ locals_of params body → ys ≡ yields_in body → LoweredBody z (listed body) block → LoweredFunction word (function z name params body) (fn.CoreFn' source word name ps ls ys p block)
@@ -167,6 +219,7 @@ mutual
 pub data LoweredLayers (z : Bool) : List s.Layer → List r.Layer → Type 0 where
   none : LoweredLayers z [] []
   more : {ss : List Statement} {ls : List s.Layer} {ks : List r.Layer} (b : CoreBlock) (at : ℕ) → explains_in b ≡ z → drop at (sources_in b) ≡ ss → LoweredBlock z ss (drop at (stmts_in b)) → LoweredLayers z ls ks → LoweredLayers z (s.Statements z ss ∷ ls) (r.Statements b at ∷ ks)
+  guarded : {hs : Handlers} {other last : List Statement} {ls : List s.Layer} {ks : List r.Layer} (g : CoreGuard) (line : ℕ) → LoweredGuard z hs other last g → LoweredLayers z ls ks → LoweredLayers z (s.Guard z line hs other last ∷ ls) (r.Guard g line ∷ ks)
 
 -- what remains of a body
 abbrev pub LoweredRest : List s.Layer → List r.Layer → Type 0

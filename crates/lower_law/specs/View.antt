@@ -1,6 +1,7 @@
 -- THE VIEW of a world of core code: the world of the sources that its code carries. And which worlds are sound.
 use Rattle.std.specs.Prelude.{List, map, drop, Option, Some, None}
-use Rattle.py_core.specs.Blocks.{explains_in}
+use Rattle.py_core.specs.Blocks.{explains_in, other_in, last_in, handlers_source}
+use Rattle.py_tree.specs.Statements.{handlers}
 use Rattle.py_core.specs.declared.stmt.Core.{Core}
 use Rattle.py_core.specs.declared.stmt.CoreFn.{CoreFn}
 use Rattle.source_meaning.specs.Requests as s
@@ -24,9 +25,10 @@ coded_view (Fault f) = Fault f
 abbrev pub file_view : Source Core → Source Script
 file_view x = record { path = x.path; bytes = x.bytes; code = coded_view x.code }
 
--- what remains of a block
+-- what remains of a block, and what guards one
 abbrev pub layer_view : c.Layer → s.Layer
 layer_view (c.Statements b at) = s.Statements (explains_in b) (drop at (sources_in b))
+layer_view (c.Guard g line) = s.Guard (explains_in (other_in g)) line (handlers (handlers_source g)) (sources_in (other_in g)) (sources_in (last_in g))
 
 abbrev pub frozen_view : Option (Frozen (List c.Layer)) → Option (Frozen (List s.Layer))
 frozen_view (Some f) = Some (record { rest = map layer_view f.rest; site = f.site; locals = f.locals })
@@ -34,7 +36,7 @@ frozen_view None = None
 
 -- the core side is forgotten
 abbrev pub source_view : CoreWorld → SourceWorld
-source_view w = record { sources = map file_view w.sources; modules = w.modules; heap = w.heap; codes = map stored_view w.codes; printed = w.printed; frozen = map frozen_view w.frozen }
+source_view w = record { sources = map file_view w.sources; modules = w.modules; heap = w.heap; codes = map stored_view w.codes; printed = w.printed; frozen = map frozen_view w.frozen; traces = w.traces }
 
 abbrev pub view_told : Told core_kinds → Told source_kinds
 view_told t = (t.0, source_view t.1)

@@ -19,7 +19,7 @@ use Rattle.machine_state.specs.declared.frame.Frame.{Frame}
 use Rattle.machine_state.specs.declared.frame.Frame.TheVariants.{Flow, Caller}
 use Rattle.machine_state.specs.declared.frame.FlowFrame.TheVariants.{Block}
 use Rattle.run_tree.specs.Todo.{Done}
-use Rattle.machine_state.specs.Frames.{CoreState, CoreOutcome, CoreThen, after, no_world, rest_of, site_now, state_of, world_of}
+use Rattle.machine_state.specs.Frames.{CoreState, CoreOutcome, CoreThen, after, handling_of, no_world, rest_of, site_now, state_of, world_of}
 
 -- a call's end looks at the caller's names and temporaries alone
 call_end_same : (s : CoreState) (w : CoreWorld) (o : CoreOutcome) → call_end (state s.locals s.temps w) o ≡ call_end s o
@@ -45,10 +45,10 @@ pub code_enters : (m : Machine) (code : Stored CoreFn) (names : List (List ℕ �
     → fs ≡ Flow (Block b 0 0) ∷ fs1 → fs1 ≡ Caller c ∷ fs2 → fs2 ≡ m.stack
     → h ≡ record { place = Function code; around = around; line = 0 } → s ≡ state names [] (world_of m)
     → after fs h (Next s)
-    ≡ (entry code.code).body (scene_of core code (record { trace = trace_of (site_now m); depth = around; handling = None })) (state names [] (world_of m)) (λ o. rest_of m (call_end (state_of m) o))
+    ≡ (entry code.code).body (scene_of core code (record { trace = trace_of (site_now m); depth = around; handling = handling_of m.stack })) (state names [] (world_of m)) (λ o. rest_of m (call_end (state_of m) o))
 code_enters m code names around b c fs fs1 fs2 h s is caller pushed below stack place begun =
     rw (pushed, below, stack, caller, place, begun)
-    (body_begins b code (scene_of core code (record { trace = trace_of (site_now m); depth = around; handling = None })) (state names [] (world_of m)) _ _ is (caller_rest (state_of m) no_world (rest_of m)))
+    (body_begins b code (scene_of core code (record { trace = trace_of (site_now m); depth = around; handling = handling_of m.stack })) (state names [] (world_of m)) _ _ is (caller_rest (state_of m) no_world (rest_of m)))
 
 -- a function that the runner calls
 pub runner_enters : (m : Machine) (code : Stored CoreFn) (names : List (List ℕ × Value)) (b : Rc CoreBlock Global) (c : CallerFrame)

@@ -5,7 +5,6 @@ ghost use Rattle.py_world.specs.Arguments.{fitted, plain};
 ghost use Rattle.py_world.specs.Calls as world;
 ghost use Rattle.py_world.specs.Fitting.{value_given};
 
-use machine_expr::names::raise_about;
 use machine_state::locals::Locals;
 use py_text::{OutOfMemory, PyText};
 use py_values::class::ExcClass;
@@ -58,13 +57,11 @@ fn raise_misfit(alloc: Global, name: &PyText) -> Result<Raise, OutOfMemory>
 fn raise_yields(alloc: Global, name: &PyText) -> Result<Raise, OutOfMemory>
     ensures { IfOk result (λ r. r ≡ world.yields_uncalled name.now) }
 {
-    raise_about(
-        alloc,
-        ExcClass::TypeError,
-        "yield function ",
-        name.chars(),
-        " cannot be called",
-    )
+    let mut text = Vec::new(alloc);
+    push_ascii(&mut text, "yield function ")?;
+    text.extend_from_slice(name.chars())?;
+    push_ascii(&mut text, " cannot be called")?;
+    Raise::from_chars(alloc, ExcClass::TypeError, &text)
 }
 
 /// The local names with which a function begins that is called with arguments by position alone, or the raise where it yields or

@@ -10,7 +10,7 @@ ghost use Rattle.py_world.specs.Arguments.{plain};
 ghost use Rattle.py_world.specs.Site.{no_call};
 ghost use Rattle.core_meaning.specs.Meaning.{core};
 ghost use Rattle.core_meaning.specs.Statements.{entry};
-ghost use Rattle.machine_state.specs.Frames.{after, around_by, outcome, on_caller, outer_of, here_from, rest_of, site_now, state_of, todo, Follows};
+ghost use Rattle.machine_state.specs.Frames.{after, around_by, handling_of, outcome, on_caller, outer_of, here_from, rest_of, site_now, state_of, todo, Follows};
 ghost use Rattle.machine_state.specs.Work.{doing_work, stack_work, Falls};
 ghost use Rattle.machine_call.specs.Depth.{depth_by};
 
@@ -23,11 +23,13 @@ use machine_state::place::{Here, Place};
 use py_calls::call::called;
 use py_text::OutOfMemory;
 use py_values::builtin::Builtin;
-use py_values::class::{ClassForm, ExcClass};
+use py_values::class::{ClassForm, ClassRef, ExcClass};
 use py_values::end::{Raise, push_ascii};
 use py_values::heap::Heap;
 use py_values::kinds::push_kind;
 use py_values::object::{BuiltinObj, Obj};
+use py_values::rows::Values;
+use py_values::throw::throw_with;
 use py_values::value::Value;
 use std::alloc::Global;
 use std::mem;
@@ -78,7 +80,7 @@ fn enter_by_code(
     names: Locals,
     around: usize,
 ) -> Result<Doing, OutOfMemory>
-    ensures next { IfOk result (λ d. todo d m.new ≡ (entry code.code).body (world.scene_of core code (record { trace = trace_of (site_now m.old); depth = around; handling = None })) (state names [] (world_of m.old)) (λ o. rest_of m.old (call_end (state_of m.old) o))) }
+    ensures next { IfOk result (λ d. todo d m.new ≡ (entry code.code).body (world.scene_of core code (record { trace = trace_of (site_now m.old); depth = around; handling = handling_of m.old.stack })) (state names [] (world_of m.old)) (λ o. rest_of m.old (call_end (state_of m.old) o))) }
     ensures left { m.new.left ≡ m.old.left }
 {
     let body = code.body()?;
@@ -249,7 +251,23 @@ fn call_received(
 
 ghost use Rattle.py_values.specs.Builtins.{with_receiver as received};
 
-/// Calls a class: that of a built-in kind is called like a built-in function.
+/// Makes an exception of a class, with these arguments.
+fn call_exception(m: &mut Machine, class: ExcClass, args: &[Value]) -> Result<Doing, OutOfMemory>
+    ensures next { IfOk result (λ d. todo d m.new ≡ rest_of m.old (call_end (state_of m.old) (gave_in (thrown_with (exc_class class) args.now m.old.heap) (state_of m.old)))) }
+    ensures left { m.new.left ≡ m.old.left }
+{
+    let mut all = Vec::new(m.alloc);
+    all.extend_from_slice(args)?;
+    let class = ClassRef::Builtin(class);
+    let exc = throw_with(m.alloc, &mut m.heap, class, Values::from_vec(all))?;
+    Ok(Doing::Back(End::Value(exc)))
+}
+
+ghost use Rattle.py_values.specs.declared.class.ClassRef.TheVariants.{Builtin as exc_class};
+ghost use Rattle.py_values.specs.Raises.{thrown_with};
+ghost use Rattle.py_world.specs.Outcome.{gave_in};
+
+/// Calls a class: that of a built-in kind is called like a built-in function, one of exceptions makes an exception.
 fn call_class(
     m: &mut Machine,
     callee: Value,
@@ -263,7 +281,7 @@ fn call_class(
     match form {
         ClassForm::Kind(which) => call_builtin(m, which, args, origin),
         ClassForm::Source => Ok(TurnEnd::Go(not_callable(m, callee, origin)?)),
-        ClassForm::Exception(_) => Ok(TurnEnd::Go(not_callable(m, callee, origin)?)),
+        ClassForm::Exception(class) => Ok(TurnEnd::Go(call_exception(m, class, args)?)),
     }
 }
 

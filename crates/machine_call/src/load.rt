@@ -9,32 +9,10 @@ ghost use Rattle.machine_call.specs.Loads.{PutsAt};
 use machine_state::frame::End;
 use machine_state::machine::{Doing, Machine};
 use machine_state::source::ModuleLoad;
+use machine_state::traces::copy_trace;
 use py_text::{OutOfMemory, PyText};
 use py_values::value::{ObjId, Value};
-use py_world::{Load, Trace, TraceFrame};
-use std::alloc::Global;
-
-/// The same text.
-pub fn copy_text(alloc: Global, text: &PyText) -> Result<PyText, OutOfMemory>
-    ensures { IfOk result (λ t. t ≡ text.now) }
-{
-    PyText::from_chars(alloc, text.chars())
-}
-
-/// The same trace.
-pub fn copy_trace(alloc: Global, trace: &Trace) -> Result<Trace, OutOfMemory>
-    ensures { IfOk result (λ t. t ≡ trace.now) }
-{
-    let mut frames = Vec::new(alloc);
-    for frame in trace.items() {
-        frames.push(TraceFrame {
-            path: copy_text(alloc, &frame.path)?,
-            line: frame.line,
-            name: copy_text(alloc, &frame.name)?,
-        })?;
-    }
-    Ok(Trace::from_vec(frames))
-}
+use py_world::Load;
 
 /// Where the module of a path stands.
 #[tactic(auto, using(crate::proofs::Loading::puts_here, crate::proofs::Loading::none_more, crate::proofs::Loading::puts_last))]

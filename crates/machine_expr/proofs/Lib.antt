@@ -1,4 +1,6 @@
 pub mod Parts
+pub mod Pairs
+pub mod Displays
 pub mod Rows
 pub mod Naming
 pub mod Temps

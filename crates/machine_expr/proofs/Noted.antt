@@ -26,6 +26,12 @@ ends_noted n at (f.Not' p a e) u = ends_note n at u
 ends_noted n at (f.And' p a e q m es) u = ends_note n at u
 ends_noted n at (f.Or' p a e q m es) u = ends_note n at u
 ends_noted n at (f.IfElse' p a e q b c r d o) u = ends_note n at u
+ends_noted n at (f.Tuple' p m es) u = ends_note n at u
+ends_noted n at (f.List' p m es) u = ends_note n at u
+ends_noted n at (f.Dict' p m ks q l es) u = ends_note n at u
+ends_noted n at (f.Attribute' p a e name) u = ends_note n at u
+ends_noted n at (f.Subscript' p a e q b i) u = ends_note n at u
+ends_noted n at (f.Slice' p a e from to by) u = ends_note n at u
 
 -- an expression begins, and its run goes on
 pub evaluates : (n n' : ℕ) (at : Pos) (kind : CoreExprKind) (u t : CoreRest) → with_note at kind u ≡ t → n' ≡ n → ends n' u ≡ ends n t

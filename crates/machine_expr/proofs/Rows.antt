@@ -1,5 +1,5 @@
 -- The parts of an expression as a list.
-use Rattle.std.proofs.Common.{◌≡◌, ℕ, List, ◌∷◌, map, refl, sym, ap, ◌∙◌, ◌+◌, arith}
+use Rattle.std.proofs.Common.{◌≡◌, ◌≤◌, ℕ, List, ◌∷◌, map, refl, sym, ap, ◌∙◌, ◌+◌, arith, Option, Some, None}
 use Rattle.run_tree.specs.Todo.{Note}
 use Rattle.std.specs.declared.alloc.Global.{Global}
 use Rattle.std.specs.declared.rc.Rc.{Rc}
@@ -16,11 +16,17 @@ use Rattle.py_tree.specs.declared.op.CmpOp.{CmpOp}
 use Rattle.py_tree.specs.declared.op.UnOp.{UnOp}
 use Rattle.py_world.specs.Site.{Site}
 use Rattle.py_world.specs.Arguments.{plain}
+use Rattle.py_world.specs.Attributes.{attribute_part}
+use Rattle.py_world.specs.Displays.{collected, displayed, dict_part, subscript_part, slice_part}
 use Rattle.py_world.specs.Expressions.{call_part, and_part, or_part, compare_part, unary_part, binary_part, choice_part, kept_part}
 use Rattle.core_meaning.specs.Expressions.{CorePart, eval, eval_at, parts}
+use Rattle.core_meaning.specs.Statements.{some_part}
 use Rattle.machine_state.specs.Frames.{CoreState, CoreThen, parts_from}
-use Rattle.machine_state.specs.Work.{weight, weight_at, weights, weight_from}
+use Rattle.machine_state.specs.Work.{weight, weight_at, weights, weight_from, some_weight}
 use Rattle.machine_expr.specs.Noting.{with_note}
+use Rattle.machine_expr.specs.Parts.{pairs_weight}
+use Rattle.machine_expr.proofs.Pairs.{pairs_light}
+use Rattle.py_values.specs.declared.object.Obj.TheVariants as obj
 
 parts_row : {n : _} (row : Row n) → parts row ≡ map (λ e. eval e.value) (items n row)
 parts_row end = refl
@@ -65,6 +71,81 @@ module _ (kind : CoreExprKind) (at : Pos) (p : Site) (s : CoreState) (k : CoreTh
 
   pub keep_begins : (t : ℕ) (a : Rc CoreExpr Global) → kind ≡ v.SetTemp t a → with_note at kind (kept_part t (eval a.value) p s k) ≡ eval_at at kind p s k
   keep_begins t a is = rw is refl
+
+-- the bounds of a slice
+slice_form : (at : Pos) (a : Rc CoreExpr Global) (from to by : Option (Rc CoreExpr Global)) (p : Site) (s : CoreState) (k : CoreThen)
+    → Note at (slice_part (eval a.value) (some_part from) (some_part to) (some_part by) p s k) ≡ eval_at at (v.Slice a from to by) p s k
+slice_form at a None None None p s k = refl
+slice_form at a None None (Some z) p s k = refl
+slice_form at a None (Some y) None p s k = refl
+slice_form at a None (Some y) (Some z) p s k = refl
+slice_form at a (Some x) None None p s k = refl
+slice_form at a (Some x) None (Some z) p s k = refl
+slice_form at a (Some x) (Some y) None p s k = refl
+slice_form at a (Some x) (Some y) (Some z) p s k = refl
+
+slice_weighs : (a : Rc CoreExpr Global) (from to by : Option (Rc CoreExpr Global))
+    → weight_at (v.Slice a from to by) ≡ weight a.value + some_weight from + some_weight to + some_weight by + 5
+slice_weighs a None None None = refl
+slice_weighs a None None (Some z) = refl
+slice_weighs a None (Some y) None = refl
+slice_weighs a None (Some y) (Some z) = refl
+slice_weighs a (Some x) None None = refl
+slice_weighs a (Some x) None (Some z) = refl
+slice_weighs a (Some x) (Some y) None = refl
+slice_weighs a (Some x) (Some y) (Some z) = refl
+
+module _ (kind : CoreExprKind) (at : Pos) (p : Site) (s : CoreState) (k : CoreThen) where
+  pub tuple_begins : (es : Rc (Vec (Rc CoreExpr Global) Global) Global) → kind ≡ v.Tuple es
+      → with_note at kind (collected (λ heap vs. displayed obj.Tuple vs) (parts_from 0 es) p s k) ≡ eval_at at kind p s k
+  tuple_begins es is = rw is (ap (λ (ps : List CorePart). Note at (collected (λ heap vs. displayed obj.Tuple vs) ps p s k)) (sym (parts_items es.value)))
+
+  pub list_begins : (es : Rc (Vec (Rc CoreExpr Global) Global) Global) → kind ≡ v.List es
+      → with_note at kind (collected (λ heap vs. displayed obj.List vs) (parts_from 0 es) p s k) ≡ eval_at at kind p s k
+  list_begins es is = rw is (ap (λ (ps : List CorePart). Note at (collected (λ heap vs. displayed obj.List vs) ps p s k)) (sym (parts_items es.value)))
+
+  pub dict_begins : (ks es : Rc (Vec (Rc CoreExpr Global) Global) Global) → kind ≡ v.Dict ks es
+      → with_note at kind (dict_part (parts_from 0 ks) (parts_from 0 es) p s k) ≡ eval_at at kind p s k
+  dict_begins ks es is =
+      rw is
+      (ap (λ (ps : List CorePart). Note at (dict_part ps (parts_from 0 es) p s k)) (sym (parts_items ks.value))
+      ∙ ap (λ (ps : List CorePart). Note at (dict_part (parts (hidden ks.value)) ps p s k)) (sym (parts_items es.value)))
+
+  pub attribute_begins : (a : Rc CoreExpr Global) (name : List ℕ) → kind ≡ v.Attribute a name
+      → with_note at kind (attribute_part (eval a.value) name p s k) ≡ eval_at at kind p s k
+  attribute_begins a name is = rw is refl
+
+  pub subscript_begins : (a i : Rc CoreExpr Global) → kind ≡ v.Subscript a i
+      → with_note at kind (subscript_part (eval a.value) (eval i.value) p s k) ≡ eval_at at kind p s k
+  subscript_begins a i is = rw is refl
+
+  pub slice_begins : (a : Rc CoreExpr Global) (from to by : Option (Rc CoreExpr Global)) → kind ≡ v.Slice a from to by
+      → with_note at kind (slice_part (eval a.value) (some_part from) (some_part to) (some_part by) p s k) ≡ eval_at at kind p s k
+  slice_begins a from to by is = rw is (slice_form at a from to by p s k)
+
+module _ (kind : CoreExprKind) (es : Rc (Vec (Rc CoreExpr Global) Global) Global) where
+  pub tuple_weight : kind ≡ v.Tuple es → weight_from 0 es + 2 ≡ weight_at kind
+  tuple_weight is = let e : weights (hidden es.value) ≡ weight_from 0 es = weights_items es.value in rw is (omega (arith, e))
+
+  pub list_weight : kind ≡ v.List es → weight_from 0 es + 2 ≡ weight_at kind
+  list_weight is = let e : weights (hidden es.value) ≡ weight_from 0 es = weights_items es.value in rw is (omega (arith, e))
+
+  pub dict_weight : (ks : Rc (Vec (Rc CoreExpr Global) Global) Global) → kind ≡ v.Dict ks es → pairs_weight 0 ks es + 2 ≤ weight_at kind
+  dict_weight ks is =
+      let d : weights (hidden ks.value) ≡ weight_from 0 ks = weights_items ks.value in
+      let e : weights (hidden es.value) ≡ weight_from 0 es = weights_items es.value in
+      let l : pairs_weight 0 ks es ≤ weight_from 0 ks + weight_from 0 es = pairs_light ks es in rw is (omega (arith, d, e, l))
+
+module _ (kind : CoreExprKind) (a : Rc CoreExpr Global) where
+  pub attribute_weight : (name : List ℕ) → kind ≡ v.Attribute a name → weight a.value + 2 ≡ weight_at kind
+  attribute_weight name is = rw is refl
+
+  pub subscript_weight : (i : Rc CoreExpr Global) → kind ≡ v.Subscript a i → weight a.value + weight i.value + 3 ≡ weight_at kind
+  subscript_weight i is = rw is refl
+
+  pub slice_weight : (from to by : Option (Rc CoreExpr Global)) → kind ≡ v.Slice a from to by
+      → weight a.value + some_weight from + some_weight to + some_weight by + 5 ≡ weight_at kind
+  slice_weight from to by is = rw is (sym (slice_weighs a from to by))
 
 module _ (kind : CoreExprKind) (a : Rc CoreExpr Global) (es : Rc (Vec (Rc CoreExpr Global) Global) Global) where
   pub call_weight : kind ≡ v.Call a es → weight a.value + (weight_from 0 es + 4) ≡ weight_at kind

@@ -1,3 +1,4 @@
+pub mod Groups
 pub mod Noting
 pub mod Parts
 pub mod AtOnce

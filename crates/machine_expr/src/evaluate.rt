@@ -6,31 +6,32 @@ ghost use Rattle.py_world.specs.Outcome.{Gave};
 ghost use Rattle.py_world.specs.Arguments.{plain};
 ghost use Rattle.py_world.specs.Expressions as world;
 ghost use Rattle.core_meaning.specs.Expressions.{eval};
-ghost use Rattle.machine_state.specs.Frames.{after, ends, outer_of, parts_from, rest_of, site_now, site_of, state_of, todo};
+ghost use Rattle.machine_state.specs.Frames.{after, ends, handling_of, outer_of, parts_from, rest_of, site_now, site_of, state_of, todo};
 ghost use Rattle.machine_state.specs.Work.{doing_work, frame_work, stack_work, weight, weight_from};
+ghost use Rattle.machine_expr.specs.Groups.{group_of};
 ghost use Rattle.machine_expr.specs.Noting.{with_note};
 ghost use Rattle.machine_expr.specs.Parts.{IsNext};
 
 use crate::chains::part_at;
+use crate::containers::{begin_attribute, begin_dict, begin_display, begin_slice, begin_subscript};
+use crate::group::{Group, kind_group};
 use crate::immediate::at_once;
 use crate::names::look_up;
-use machine_state::frame::{CallFrame, ChainFrame, End, Frame, OperandFrame};
+use machine_state::frame::{CallFrame, ChainFrame, Display, End, Frame, OperandFrame};
 use machine_state::machine::{Doing, Machine, Origin};
 use py_core::{CmpOp, CoreExpr, CoreExprKind, SrcText};
 use py_text::{OutOfMemory, PyText};
 use py_values::class::ExcClass;
 use py_values::end::Raise;
+use py_values::limits::MOST_ELEMENTS;
 use py_values::object::Obj;
 use py_values::value::Value;
 use std::rc::Rc;
 
-/// The most characters of a text.
-const MOST_LONG: usize = 65536;
-
 /// Puts a frame on the stack, and goes on with an expression.
 pub fn descend(m: &mut Machine, frame: Frame, e: &Rc<CoreExpr>) -> Result<Doing, OutOfMemory>
     ensures next { IfOk result (λ d. todo d m.new
-        ≡ eval e.now.value (site_of m.old.here (outer_of (frame ∷ m.old.stack))) (state_of m.old) (after (frame ∷ m.old.stack) m.old.here)) }
+        ≡ eval e.now.value (site_of m.old.here (outer_of (frame ∷ m.old.stack)) (handling_of (frame ∷ m.old.stack))) (state_of m.old) (after (frame ∷ m.old.stack) m.old.here)) }
     ensures left { m.new.left ≡ m.old.left }
     ensures work { IfOk result (λ d. doing_work d + stack_work m.new ≡ weight e.now.value + (frame_work frame + stack_work m.old)) }
 {
@@ -56,7 +57,7 @@ fn text_made(m: &mut Machine, text: &SrcText) -> Result<Doing, OutOfMemory>
     ensures work { IfOk result (λ d. doing_work d ≡ 0) }
     ensures stack { m.new.stack ≡ m.old.stack }
 {
-    if text.chars().len() > MOST_LONG {
+    if text.chars().len() > MOST_ELEMENTS {
         let raise = Raise::from_ascii(m.alloc, ExcClass::MemoryError, "sequence too long")?;
         return m.raise(raise, Origin::Code);
     }
@@ -146,8 +147,9 @@ fn begin_compare(
     descend(m, frame, a)
 }
 
-/// Begins an expression.
-fn begin(m: &mut Machine, e: &CoreExpr) -> Result<Doing, OutOfMemory>
+/// Begins an expression that has no parts.
+fn begin_leaf(m: &mut Machine, e: &CoreExpr) -> Result<Doing, OutOfMemory>
+    requires { group_of e.now.kind ≡ Group.Leaf }
     ensures next { IfOk result (λ d. with_note e.now.at e.now.kind (todo d m.new) ≡ eval e.now (site_now m.old) (state_of m.old) (rest_of m.old)) }
     ensures left { m.new.left ≡ m.old.left }
     ensures work { IfOk result (λ d. doing_work d + stack_work m.new < weight e.now + stack_work m.old) }
@@ -159,28 +161,85 @@ fn begin(m: &mut Machine, e: &CoreExpr) -> Result<Doing, OutOfMemory>
         CoreExprKind::True => Ok(Doing::Back(End::Value(Value::Bool(true)))),
         CoreExprKind::False => Ok(Doing::Back(End::Value(Value::Bool(false)))),
         CoreExprKind::None => Ok(Doing::Back(End::Value(Value::None))),
+        CoreExprKind::Temp(t) => Ok(Doing::Back(End::Value(temp_value(m, *t)))),
+        _ => unreachable!(),
+    }
+}
+
+/// Begins an expression with one operator.
+fn begin_operator(m: &mut Machine, e: &CoreExpr) -> Result<Doing, OutOfMemory>
+    requires { group_of e.now.kind ≡ Group.Operator }
+    ensures next { IfOk result (λ d. with_note e.now.at e.now.kind (todo d m.new) ≡ eval e.now (site_now m.old) (state_of m.old) (rest_of m.old)) }
+    ensures left { m.new.left ≡ m.old.left }
+    ensures work { IfOk result (λ d. doing_work d + stack_work m.new < weight e.now + stack_work m.old) }
+{
+    match &e.kind {
         CoreExprKind::Paren(a) => Ok(Doing::Evaluate(a.clone()?)),
-        CoreExprKind::Call(f, es) => begin_call(m, f, es),
         CoreExprKind::Unary(op, a) => { descend(m, Frame::Operand(OperandFrame::Unary(*op)), a) }
         CoreExprKind::Binary(a, op, b) => {
             let frame = Frame::Operand(OperandFrame::Right(*op, b.clone()?));
             descend(m, frame, a)
         }
-        CoreExprKind::Compare(a, ops, es) => begin_compare(m, a, ops, es),
         CoreExprKind::Not(a) => descend(m, Frame::Operand(OperandFrame::Not), a),
-        CoreExprKind::And(a, es) => begin_and(m, a, es),
-        CoreExprKind::Or(a, es) => begin_or(m, a, es),
         CoreExprKind::IfElse(a, condition, b) => {
             let frame = Frame::Operand(OperandFrame::Choice(a.clone()?, b.clone()?));
             descend(m, frame, condition)
         }
         CoreExprKind::SetTemp(t, a) => descend(m, Frame::Operand(OperandFrame::Keep(*t)), a),
-        CoreExprKind::Temp(t) => Ok(Doing::Back(End::Value(temp_value(m, *t)))),
+        _ => unreachable!(),
+    }
+}
+
+/// Begins an expression with a first part and a row of others.
+fn begin_chain(m: &mut Machine, e: &CoreExpr) -> Result<Doing, OutOfMemory>
+    requires { group_of e.now.kind ≡ Group.Chain }
+    ensures next { IfOk result (λ d. with_note e.now.at e.now.kind (todo d m.new) ≡ eval e.now (site_now m.old) (state_of m.old) (rest_of m.old)) }
+    ensures left { m.new.left ≡ m.old.left }
+    ensures work { IfOk result (λ d. doing_work d + stack_work m.new < weight e.now + stack_work m.old) }
+{
+    match &e.kind {
+        CoreExprKind::Call(f, es) => begin_call(m, f, es),
+        CoreExprKind::Compare(a, ops, es) => begin_compare(m, a, ops, es),
+        CoreExprKind::And(a, es) => begin_and(m, a, es),
+        CoreExprKind::Or(a, es) => begin_or(m, a, es),
+        _ => unreachable!(),
+    }
+}
+
+/// Begins a display, or what is read of an object.
+fn begin_container(m: &mut Machine, e: &CoreExpr) -> Result<Doing, OutOfMemory>
+    requires { group_of e.now.kind ≡ Group.Container }
+    ensures next { IfOk result (λ d. with_note e.now.at e.now.kind (todo d m.new) ≡ eval e.now (site_now m.old) (state_of m.old) (rest_of m.old)) }
+    ensures left { m.new.left ≡ m.old.left }
+    ensures work { IfOk result (λ d. doing_work d + stack_work m.new < weight e.now + stack_work m.old) }
+{
+    match &e.kind {
+        CoreExprKind::Tuple(es) => begin_display(m, Display::Tuple, es),
+        CoreExprKind::List(es) => begin_display(m, Display::List, es),
+        CoreExprKind::Dict(ks, es) => begin_dict(m, ks, es),
+        CoreExprKind::Attribute(a, name) => begin_attribute(m, a, name),
+        CoreExprKind::Subscript(a, i) => begin_subscript(m, a, i),
+        CoreExprKind::Slice(a, from, to, by) => begin_slice(m, a, from, to, by),
+        _ => unreachable!(),
+    }
+}
+
+/// Begins an expression.
+fn begin(m: &mut Machine, e: &CoreExpr) -> Result<Doing, OutOfMemory>
+    ensures next { IfOk result (λ d. with_note e.now.at e.now.kind (todo d m.new) ≡ eval e.now (site_now m.old) (state_of m.old) (rest_of m.old)) }
+    ensures left { m.new.left ≡ m.old.left }
+    ensures work { IfOk result (λ d. doing_work d + stack_work m.new < weight e.now + stack_work m.old) }
+{
+    match kind_group(&e.kind) {
+        Group::Leaf => begin_leaf(m, e),
+        Group::Operator => begin_operator(m, e),
+        Group::Chain => begin_chain(m, e),
+        Group::Container => begin_container(m, e),
     }
 }
 
 /// The argument behind those whose values are there.
-fn next_argument(
+pub fn next_argument(
     es: &Rc<Vec<Rc<CoreExpr>>>,
     so_far: &Vec<Value>,
 ) -> Result<Option<Rc<CoreExpr>>, OutOfMemory>

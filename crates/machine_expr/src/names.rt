@@ -68,7 +68,7 @@ fn value_among(alloc: Global, names: &Names, name: &SrcText) -> Result<Option<Va
 }
 
 /// The value of a name of a module.
-fn module_value(
+pub fn module_value(
     alloc: Global,
     heap: &Heap,
     home: usize,
@@ -83,7 +83,7 @@ fn module_value(
 }
 
 /// A name that is neither the module's nor built in.
-fn not_defined(alloc: Global, name: &SrcText) -> Result<Raise, OutOfMemory>
+pub fn not_defined(alloc: Global, name: &SrcText) -> Result<Raise, OutOfMemory>
     ensures { IfOk result (λ r. r ≡ raises.raise ExcClass.NameError (world.not_defined name.now)) }
 {
     raise_about(
@@ -96,7 +96,7 @@ fn not_defined(alloc: Global, name: &SrcText) -> Result<Raise, OutOfMemory>
 }
 
 /// A local name that has no value yet.
-fn unbound(alloc: Global, name: &SrcText) -> Result<Raise, OutOfMemory>
+pub fn unbound(alloc: Global, name: &SrcText) -> Result<Raise, OutOfMemory>
     ensures { IfOk result (λ r. r ≡ raises.raise ExcClass.UnboundLocalError (world.unbound_local name.now)) }
 {
     raise_about(

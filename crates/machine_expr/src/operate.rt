@@ -1,22 +1,27 @@
-// Operators.
+// Operators and subscripts.
 
-ghost use Rattle.std.specs.Prelude.{◌≡◌, ℕ, IfOk};
+ghost use Rattle.std.specs.Prelude.{◌≡◌, ◌+◌, ℕ, IfOk};
+ghost use Rattle.py_items.specs.Items.{subscript_of};
 ghost use Rattle.py_ops.specs.Binary.{binary_of};
 ghost use Rattle.py_ops.specs.Compare.{compare_of};
 ghost use Rattle.py_ops.specs.Unary.{unary_of};
-ghost use Rattle.py_world.specs.Outcome.{operated};
+ghost use Rattle.py_world.specs.Outcome.{costing, operated};
+ghost use Rattle.py_world.specs.Site.{trace_of};
+ghost use Rattle.py_values.specs.declared.end.Made.{Made};
 ghost use Rattle.machine_state.specs.Frames.{rest_of, site_now, state_of, Follows};
-ghost use Rattle.machine_state.specs.Work.{Falls};
+ghost use Rattle.machine_state.specs.Work.{stack_work, Falls};
 ghost use Rattle.py_values.specs.Ends.{within};
 
 use machine_state::machine::{Machine, Origin, TurnEnd};
 use py_core::{BinOp, CmpOp, UnOp};
+use py_items::subscript::subscript_made;
 use py_ops::binary::binary_made;
 use py_ops::compare::compare_made;
 use py_ops::unary::unary_made;
 use py_text::OutOfMemory;
 use py_values::end::{Made, made_within};
 use py_values::heap::Heap;
+use py_values::index::Index;
 use py_values::value::Value;
 use std::alloc::Global;
 
@@ -68,4 +73,45 @@ pub fn compare(m: &mut Machine, op: CmpOp, x: Value, y: Value) -> Result<TurnEnd
     }
     let made = compare_made(m.alloc, &m.heap, op, x, y, m.left)?;
     m.pay(made, Origin::Code)
+}
+
+/// What a subscript makes, under a budget.
+fn subscript_within(
+    alloc: Global,
+    heap: &Heap,
+    x: Value,
+    index: &Index,
+    budget: u64,
+) -> Result<Option<Made>, OutOfMemory>
+    ensures { IfOk result (λ m. m ≡ within budget (subscript_of heap.now x index.now)) }
+{
+    let made = subscript_made(alloc, heap, x, index)?;
+    Ok(made_within(made, budget))
+}
+
+/// A subscript of a value: its step, its cost, and its end.
+pub fn subscript(m: &mut Machine, x: Value, index: &Index) -> Result<TurnEnd, OutOfMemory>
+    ensures next { IfOk result (λ t. Follows t m.new m.old.left (operated (subscript_of m.old.heap x index.now) (site_now m.old) (state_of m.old) (rest_of m.old))) }
+    ensures work { IfOk result (λ t. (work : ℕ) → Falls t m.new m.old.left work) }
+{
+    if !m.spend() {
+        return Ok(TurnEnd::Exhausted(m.trace(Origin::Code)?));
+    }
+    let made = subscript_within(m.alloc, &m.heap, x, index, m.left)?;
+    m.pay(made, Origin::Code)
+}
+
+/// Pays for what is made without a step of its own, and goes on with it.
+#[tactic(auto, using(machine_state::proofs::Costs::paid, machine_state::proofs::Costs::unpaid))]
+pub fn settle(m: &mut Machine, made: Option<Made>) -> Result<TurnEnd, OutOfMemory>
+    ensures next { IfOk result (λ t. (x : Made) → made ≡ within m.old.left x → Follows t m.new m.old.left (costing x (trace_of (site_now m.old)) (state_of m.old) (rest_of m.old))) }
+    ensures work { IfOk result (λ t. Falls t m.new m.old.left (1 + stack_work m.old)) }
+{
+    match made {
+        Some(made) => {
+            m.left = m.left.saturating_sub(made.cost());
+            Ok(TurnEnd::Go(m.make(made, Origin::Code)?))
+        }
+        None => Ok(TurnEnd::Exhausted(m.trace(Origin::Code)?)),
+    }
 }

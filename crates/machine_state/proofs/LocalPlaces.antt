@@ -1,8 +1,9 @@
 -- The place of a name among those of a call.
 use Rattle.std.proofs.Common.{◌≡◌, ◌<◌, ◌+◌, ◌∙◌, ℕ, zero, suc, List, [], ◌∷◌, ◌++◌, length, get_or, Option, Some, None, Bool, true, false, refl, sym, ap, subst, arith, add-one}
-use Rattle.std.specs.Prelude.{slice_set}
+use Rattle.std.specs.Prelude.{slice_set, take, drop}
+use Rattle.std.specs.List.{remove}
 use Rattle.py_values.specs.declared.value.Value.{Value}
-use Rattle.py_values.specs.Names.{bind_name, find_name, name_eq}
+use Rattle.py_values.specs.Names.{bind_name, find_name, unbind_name, name_eq}
 use Rattle.machine_state.specs.LocalNames.{Bindings, IsPlaceOf, NoneBefore}
 
 module _ (name : List ℕ) where
@@ -28,6 +29,13 @@ module _ (name : List ℕ) where
       rw u (ap (λ (y : List ℕ × Value). (y.0, v) ∷ xs) (sym h))
   bind_here v (x ∷ xs) (suc i) e w t n h = rw n.0 (ap (λ (ys : Bindings). x ∷ ys) (bind_here v xs i e (omega arith) t n.1 h))
 
+  unbind_here : (es : Bindings) (i : ℕ) (e : List ℕ × Value) → i < length es → name_eq name e.0 ≡ true → NoneBefore name i es → e ≡ get_or es i e → unbind_name name es ≡ take i es ++ drop (suc i) es
+  unbind_here [] i e w t n h = absurd (omega arith)
+  unbind_here (x ∷ xs) zero e w t n h =
+      let u : name_eq name x.0 ≡ true = ap (λ (y : List ℕ × Value). name_eq name y.0) (sym h) ∙ t in
+      rw u refl
+  unbind_here (x ∷ xs) (suc i) e w t n h = rw n.0 (ap (λ (ys : Bindings). x ∷ ys) (unbind_here xs i e (omega arith) t n.1 h))
+
   same_at : (es : Bindings) (i : ℕ) (e d : List ℕ × Value) → i < length es → e ≡ get_or es i e → d ≡ get_or es i d → e ≡ d
   same_at [] i e d w h g = absurd (omega arith)
   same_at (x ∷ xs) zero e d w h g = h ∙ sym g
@@ -37,9 +45,12 @@ module _ (name : List ℕ) where
   pub place_here : (es : Bindings) (i : ℕ) (e : List ℕ × Value) → i < length es → e ≡ get_or es i e → name_eq name e.0 ≡ true → NoneBefore name i es → IsPlaceOf name es (Some i)
   place_here es i e w h t n = (
     w,
-    λ d g.
-        let u : name_eq name d.0 ≡ true = subst (λ (y : List ℕ × Value). name_eq name y.0 ≡ true) (same_at es i e d w h g) t in
-        (find_here es i d w u n g, λ v. bind_here v es i d w u n g),
+    (
+      λ d g.
+          let u : name_eq name d.0 ≡ true = subst (λ (y : List ℕ × Value). name_eq name y.0 ≡ true) (same_at es i e d w h g) t in
+          (find_here es i d w u n g, λ v. bind_here v es i d w u n g),
+      unbind_here es i e w t n h,
+    ),
   )
 
   find_nowhere : (es : Bindings) → NoneBefore name (length es) es → find_name name es ≡ None
@@ -50,8 +61,12 @@ module _ (name : List ℕ) where
   bind_last v [] n = refl
   bind_last v (x ∷ xs) n = rw n.0 (ap (λ (ys : Bindings). x ∷ ys) (bind_last v xs n.1))
 
+  unbind_none : (es : Bindings) → NoneBefore name (length es) es → unbind_name name es ≡ es
+  unbind_none [] n = refl
+  unbind_none (x ∷ xs) n = rw n.0 (ap (λ (ys : Bindings). x ∷ ys) (unbind_none xs n.1))
+
   -- a name stands nowhere
   pub place_nowhere : (es : Bindings) (i : ℕ) → i ≡ length es → NoneBefore name i es → IsPlaceOf name es None
   place_nowhere es i e n =
       let m : NoneBefore name (length es) es = subst (λ (j : ℕ). NoneBefore name j es) e n in
-      (find_nowhere es m, λ v. bind_last v es m)
+      (find_nowhere es m, (λ v. bind_last v es m, unbind_none es m))

@@ -1,7 +1,7 @@
 // The names of a call.
 
 ghost use Rattle.std.specs.Prelude.{◌≡◌, [], OnOk};
-ghost use Rattle.py_values.specs.Names.{bind_name, find_name};
+ghost use Rattle.py_values.specs.Names.{bind_name, find_name, unbind_name};
 ghost use Rattle.machine_state.specs.LocalNames.{IsPlaceOf};
 
 use py_core::SrcText;
@@ -57,6 +57,15 @@ impl Locals {
                 self.entries.push((name.clone()?, v))?;
                 Ok(())
             }
+        }
+    }
+
+    /// Takes a name away; those behind it move up.
+    pub fn unbind(&mut self, name: &SrcText)
+        ensures { self.new ≡ unbind_name name.now self.old }
+    {
+        if let Some(at) = place_of(&self.entries, name) {
+            let _gone = self.entries.remove(at);
         }
     }
 }

@@ -2,7 +2,7 @@ ghost use Rattle.std.specs.Prelude.{◌≡◌, ◌+◌, [], min, IfOk, IfErr, Ma
 ghost use Rattle.std.specs.Str.{chars};
 ghost use Rattle.parsing.specs.Answer.{finish};
 ghost use Rattle.parsing.specs.Reading.{strip};
-ghost use Rattle.mark_expr.specs.Answer.{Answer, IsAnswer, IsCause, IsExpression, Gave};
+ghost use Rattle.mark_expr.specs.Answer.{Answer, IsAnswer, IsCause, IsExpression, Gave, most_nested};
 ghost use Rattle.mark_expr.specs.Expression.{Conjunction, Disjunction, joined, view};
 ghost use Rattle.mark_expr.specs.Grammar.{Gives, IsExact, closed_at, is, not_at, and_at, or_at};
 ghost use Rattle.mark_expr.specs.Text.{column_of, place_of};
@@ -170,7 +170,7 @@ fn or_expr(alloc: Global, levels: u32, tokens: &[Token]) -> Result<(MarkExpr, &[
 
 /// The expression that all the tokens are.
 fn whole_expr(alloc: Global, tokens: &[Token]) -> Result<MarkExpr, Stop<'_>>
-    ensures { Gives (λ expr. (view expr, [])) result (finish (or_at 100 tokens.now)) }
+    ensures { Gives (λ expr. (view expr, [])) result (finish (or_at most_nested tokens.now)) }
 {
     let (expr, rest) = or_expr(alloc, MOST_NESTED, tokens)?;
     if !rest.is_empty() {
@@ -189,7 +189,7 @@ fn column_of(length: usize, rest: &[Token]) -> u32
 
 /// The expression that the tokens are, of a text of this many characters.
 fn read_tokens(alloc: Global, length: usize, tokens: &[Token]) -> Result<MarkExpr, ExprFault>
-    ensures { IsExact length result (finish (or_at 100 tokens.now)) }
+    ensures { IsExact length result (finish (or_at most_nested tokens.now)) }
 {
     match whole_expr(alloc, tokens) {
         Ok(expr) => Ok(expr),

@@ -1,5 +1,5 @@
 -- Form by form, as the code meets them.
-use Rattle.std.proofs.Common.{◌≡◌, ℕ, ◌+◌, ◌<◌, Bool, true, false, ◌&&◌, List, [], ◌∷◌, length, drop, get_or, refl, sym, ap, ◌∙◌, subst, Vec, Global}
+use Rattle.std.proofs.Common.{◌≡◌, ℕ, ◌+◌, ◌<◌, Bool, true, false, ◌&&◌, List, [], ◌∷◌, length, drop, get_or, Option, refl, sym, ap, ◌∙◌, subst, Vec, Global}
 use Rattle.std.proofs.lemmas.List.{at_drop_more}
 use Rattle.std.specs.declared.rc.Rc.{Rc}
 use Rattle.py_source.specs.declared.pos.Pos.{Pos}
@@ -7,16 +7,18 @@ use Rattle.py_tree.specs.declared.expr.Expr.{Expr}
 use Rattle.py_tree.specs.declared.stmt.Stmt.{Stmt}
 use Rattle.py_tree.specs.declared.stmt.Branch as branch
 use Rattle.py_tree.specs.declared.stmt.Branch.{out-Branch, roll-Branch, roll-out-Branch}
+use Rattle.py_tree.specs.declared.stmt.Handler.{Handler, out-Handler, roll-Handler, roll-out-Handler}
+use Rattle.py_tree.specs.declared.stmt.Target.{Target}
 use Rattle.py_tree.specs.declared.stmt.Function.{Function, out-Function, roll-Function, roll-out-Function}
 use Rattle.py_tree.specs.declared.stmt.StmtKind.{StmtKind}
 use Rattle.py_tree.specs.declared.stmt.StmtKind.TheVariants as s
-use Rattle.py_tree.specs.declared.stmt.StmtKind.TheBlock.{hidden-the_row-Stmt-1, hidden-the_row-Branch-0 as hide_branches}
+use Rattle.py_tree.specs.declared.stmt.StmtKind.TheBlock.{hidden-the_row-Stmt-1, hidden-the_row-Branch-0 as hide_branches, hidden-the_row-Handler-2 as hide_handlers}
 use Rattle.py_tree.specs.Trees.{tree, trees, trees_behind, Trees, Empty, More, some_tree}
 use Rattle.py_tree.specs.Statements as st
-use Rattle.py_tree.specs.Statements.{Block, NoStatement, Next, Branches, NoBranch, Branch, statement, statement_at, parameters, block_on, block_behind, block, branches_on, branches_behind}
-use Rattle.py_tree.proofs.Rows.{block_hidden, branches_hidden}
-use Rattle.py_built.specs.Built.{built, is_absent, is_empty, params_built, statement_built, block_built, branches_built}
-use Rattle.py_built.specs.Lists.{stmts_built, branch_list_built, no_exprs, function_is_built}
+use Rattle.py_tree.specs.Statements.{Block, NoStatement, Next, Branches, NoBranch, Branch, Handlers, NoHandler, taker, statement, statement_at, parameters, block_on, block_behind, block, branches_on, branches_behind, handlers_on, handlers_behind}
+use Rattle.py_tree.proofs.Rows.{block_hidden, branches_hidden, handlers_hidden}
+use Rattle.py_built.specs.Built.{built, some_built, taker_built, is_absent, is_empty, params_built, statement_built, block_built, branches_built, handlers_built}
+use Rattle.py_built.specs.Lists.{stmts_built, branch_list_built, handler_is_built, handler_list_built, no_exprs, function_is_built}
 use Rattle.py_built.proofs.Forms.{both_assoc, both_true}
 
 stmts_behind : (before : Block) (stmts : List Stmt) → block_built (block_behind before stmts) ≡ block_built before && stmts_built stmts
@@ -61,6 +63,27 @@ branch_stops all i item a b h e p q n v = stops_first (a && b) (branch_list_buil
 pub branch_goes : (all : List branch.Branch) (i : ℕ) (item : branch.Branch) (a b : Bool) → i < length all → item ≡ get_or all i item → a ≡ built (tree (out-Branch item).condition.value) → b ≡ stmts_built (out-Branch item).body.value.items → (a && b) ≡ true → branch_list_built (drop i all) ≡ branch_list_built all → branch_list_built (drop (i + 1) all) ≡ branch_list_built all
 branch_goes all i item a b h e p q n v = goes (a && b) (branch_list_built (drop i all)) (branch_list_built (drop (i + 1) all)) (branch_list_built all) n v (branch_at all i item a b h e p q)
 
+handler_rolled : (before : Handlers) (h : Handler) (rest : List Handler) → handlers_behind before (roll-Handler (out-Handler h) ∷ rest) ≡ handlers_behind (st.Handler before (out-Handler h).at (some_tree (out-Handler h).class) (out-Handler h).name (block (out-Handler h).body.value.items)) rest
+unfolding roll-Handler denote.Hole.Carrier.roll out-Handler
+handler_rolled before h rest = ap (λ b. handlers_behind (st.Handler before (out-Handler h).at (some_tree (out-Handler h).class) (out-Handler h).name b) rest) (block_hidden (out-Handler h).body.value)
+
+handler_step : (before : Handlers) (h : Handler) (rest : List Handler) → handlers_behind before (h ∷ rest) ≡ handlers_behind (st.Handler before (out-Handler h).at (some_tree (out-Handler h).class) (out-Handler h).name (block (out-Handler h).body.value.items)) rest
+handler_step before h rest = subst (λ y. handlers_behind before (y ∷ rest) ≡ handlers_behind (st.Handler before (out-Handler h).at (some_tree (out-Handler h).class) (out-Handler h).name (block (out-Handler h).body.value.items)) rest) (roll-out-Handler h) (handler_rolled before h rest)
+
+handler_list_behind : (before : Handlers) (all : List Handler) → handlers_built (handlers_behind before all) ≡ handlers_built before && handler_list_built all
+handler_list_behind before [] = sym (both_true (handlers_built before))
+handler_list_behind before (h ∷ rest) =
+    ap handlers_built (handler_step before h rest)
+    ∙ handler_list_behind (st.Handler before (out-Handler h).at (some_tree (out-Handler h).class) (out-Handler h).name (block (out-Handler h).body.value.items)) rest
+    ∙ ap (λ v. (handlers_built before && (some_built (some_tree (out-Handler h).class) && v)) && handler_list_built rest) (block_is (out-Handler h).body.value.items)
+    ∙ both_assoc (handlers_built before) (handler_is_built h) (handler_list_built rest)
+
+handlers_row : (all : Vec Handler Global) → handlers_built (handlers_on NoHandler (hide_handlers all)) ≡ handler_list_built all.items
+handlers_row all = ap handlers_built (handlers_hidden all) ∙ handler_list_behind NoHandler all.items
+
+four : (a b c d x y z u : Bool) → a ≡ x → b ≡ y → c ≡ z → d ≡ u → (a && (b && (c && d))) ≡ (x && (y && (z && u)))
+four a b c d x y z u p q r o = rw (p, q, r, o) refl
+
 def_rolled : (at : Pos) (f : Rc Function Global) → statement_at at (s.Def (record { ptr = f.ptr; value = roll-Function (out-Function f.value) })) ≡ st.Def at (trees (out-Function f.value).decorators.value.items) (out-Function f.value).at (out-Function f.value).name (parameters (out-Function f.value).params.value.items) (some_tree (out-Function f.value).returns) (block (out-Function f.value).body.value.items)
 unfolding roll-Function denote.Hole.Carrier.roll hidden-the_row-Stmt-1
 def_rolled at f = ap (λ b. st.Def at (trees (out-Function f.value).decorators.value.items) (out-Function f.value).at (out-Function f.value).name (parameters (out-Function f.value).params.value.items) (some_tree (out-Function f.value).returns) b) (block_hidden (out-Function f.value).body.value)
@@ -83,12 +106,21 @@ module _ (at : Pos) (kind : StmtKind) where
   pub while_form : (e : Rc Expr Global) (body : Rc (Vec Stmt Global) Global) (a b : Bool) → kind ≡ s.While e body → a ≡ built (tree e.value) → b ≡ stmts_built body.value.items → (a && b) ≡ statement_built (statement_at at kind)
   while_form e body a b is p q = rw (is, p, q) (ap (λ v. built (tree e.value) && v) (sym (block_row body.value)))
 
+  pub with_form : (e : Rc Expr Global) (name : Option (List ℕ)) (body : Rc (Vec Stmt Global) Global) (a b : Bool) → kind ≡ s.With e name body → a ≡ built (tree e.value) → b ≡ stmts_built body.value.items → (a && b) ≡ statement_built (statement_at at kind)
+  with_form e name body a b is p q = rw (is, p, q) (ap (λ v. built (tree e.value) && v) (sym (block_row body.value)))
+
+  pub for_form : (u : Target) (e : Rc Expr Global) (body : Rc (Vec Stmt Global) Global) (a b c : Bool) → kind ≡ s.For u e body → a ≡ taker_built (taker u) → b ≡ built (tree e.value) → c ≡ stmts_built body.value.items → (a && (b && c)) ≡ statement_built (statement_at at kind)
+  for_form u e body a b c is p q r = rw (is, p, q, r) (ap (λ v. taker_built (taker u) && (built (tree e.value) && v)) (sym (block_row body.value)))
+
+  pub try_form : (body : Rc (Vec Stmt Global) Global) (all : Rc (Vec Handler Global) Global) (other last : Rc (Vec Stmt Global) Global) (a b c d : Bool) → kind ≡ s.Try body all other last → a ≡ stmts_built body.value.items → b ≡ handler_list_built all.value.items → c ≡ stmts_built other.value.items → d ≡ stmts_built last.value.items → (a && (b && (c && d))) ≡ statement_built (statement_at at kind)
+  try_form body all other last a b c d is p q r o = rw is (four a b c d _ _ _ _ (p ∙ sym (block_row body.value)) (q ∙ sym (handlers_row all.value)) (r ∙ sym (block_row other.value)) (o ∙ sym (block_row last.value)))
+
   pub def_form : (f : Rc Function Global) (r : Bool) → kind ≡ s.Def f → r ≡ function_is_built f.value → r ≡ statement_built (statement_at at kind)
   def_form f r is p = rw (is, p)
       (ap (λ v. v && (is_absent (some_tree (out-Function f.value).returns) && (params_built (parameters (out-Function f.value).params.value.items) && stmts_built (out-Function f.value).body.value.items))) (sym (empty_is (out-Function f.value).decorators.value.items))
       ∙ ap (λ v. is_empty (trees (out-Function f.value).decorators.value.items) && (is_absent (some_tree (out-Function f.value).returns) && (params_built (parameters (out-Function f.value).params.value.items) && v))) (sym (block_is (out-Function f.value).body.value.items))
       ∙ ap statement_built (sym (def_is at f)))
 
-pub ruleset forms = (if_form, while_form, def_form)
+pub ruleset forms = (if_form, while_form, with_form, for_form, try_form, def_form)
 
 pub ruleset modules = (block_is)

@@ -1,4 +1,3 @@
 pub mod Names
-pub mod Operators
 pub mod Built
 pub mod Lists

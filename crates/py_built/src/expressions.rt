@@ -3,9 +3,8 @@ ghost use Rattle.py_built.specs.Built as built;
 ghost use Rattle.py_built.specs.Lists.{each_built};
 ghost use Rattle.py_tree.specs.Trees.{tree, some_tree};
 
-use crate::names::is_unbuilt;
-use crate::operators::{is_binary, is_comparison, is_unary};
-use py_tree::{ArgName, CmpOp, Expr, ExprKind};
+use crate::names::{is_unbuilt, is_unbuilt_method};
+use py_tree::{ArgName, Expr, ExprKind};
 use std::rc::Rc;
 
 fn all_unnamed(names: &[Option<ArgName>]) -> bool
@@ -13,17 +12,6 @@ fn all_unnamed(names: &[Option<ArgName>]) -> bool
 {
     for name in names {
         if name.is_some() {
-            return false;
-        }
-    }
-    true
-}
-
-fn all_comparisons(ops: &[CmpOp]) -> bool
-    ensures { result ≡ built.all_comparisons ops.now }
-{
-    for op in ops {
-        if !is_comparison(*op) {
             return false;
         }
     }
@@ -38,34 +26,32 @@ pub fn expr_built(e: &Expr) -> bool
 {
     match &e.kind {
         ExprKind::Name(name) => !is_unbuilt(name.chars()),
-        ExprKind::Number(_) => true,
-        ExprKind::Text(_) => true,
-        ExprKind::True => true,
-        ExprKind::False => true,
-        ExprKind::None => true,
-        ExprKind::Paren(inner) => expr_built(inner),
+        ExprKind::Number(_)
+        | ExprKind::Text(_)
+        | ExprKind::True
+        | ExprKind::False
+        | ExprKind::None => true,
+        ExprKind::Paren(inner) | ExprKind::Unary(_, inner) | ExprKind::Not(inner) => {
+            expr_built(inner)
+        }
+        ExprKind::Tuple(parts) | ExprKind::List(parts) => all_built(parts),
+        ExprKind::Dict(keys, values) => all_built(keys) & all_built(values),
+        ExprKind::Attribute(of, name) => !is_unbuilt_method(name.chars()) & expr_built(of),
         ExprKind::Call(callee, args, names) => {
             all_unnamed(names) & (expr_built(callee) & all_built(args))
         }
-        ExprKind::Unary(op, operand) => is_unary(*op) & expr_built(operand),
-        ExprKind::Binary(left, op, right) => {
-            is_binary(*op) & (expr_built(left) & expr_built(right))
+        ExprKind::Subscript(left, right) | ExprKind::Binary(left, _, right) => {
+            expr_built(left) & expr_built(right)
         }
-        ExprKind::Compare(first, ops, rest) => {
-            all_comparisons(ops) & (expr_built(first) & all_built(rest))
+        ExprKind::Slice(of, from, to, by) => {
+            expr_built(of) & (some_built(from) & (some_built(to) & some_built(by)))
         }
-        ExprKind::Not(operand) => expr_built(operand),
-        ExprKind::And(first, rest) => expr_built(first) & all_built(rest),
-        ExprKind::Or(first, rest) => expr_built(first) & all_built(rest),
+        ExprKind::Compare(first, _, rest)
+        | ExprKind::And(first, rest)
+        | ExprKind::Or(first, rest) => expr_built(first) & all_built(rest),
         ExprKind::IfElse(value, condition, other) => {
             expr_built(value) & (expr_built(condition) & expr_built(other))
         }
-        ExprKind::Tuple(_) => false,
-        ExprKind::List(_) => false,
-        ExprKind::Dict(_, _) => false,
-        ExprKind::Attribute(_, _) => false,
-        ExprKind::Subscript(_, _) => false,
-        ExprKind::Slice(_, _, _, _) => false,
     }
 }
 
@@ -81,6 +67,7 @@ fn all_built(all: &[Rc<Expr>]) -> bool
     true
 }
 
+#[cycle(expression)]
 pub fn some_built(e: &Option<Rc<Expr>>) -> bool
     ensures { result ≡ built.some_built (some_tree e.now) }
 {

@@ -18,8 +18,8 @@
 
 mod expressions;
 mod names;
-mod operators;
 mod statements;
+mod targets;
 
-pub use names::UNBUILT_NAMES;
+pub use names::{UNBUILT_METHODS, UNBUILT_NAMES};
 pub use statements::is_built;

@@ -1,8 +1,8 @@
 ghost use Rattle.std.specs.Prelude.{◌≡◌, map};
-ghost use Rattle.py_built.specs.Names.{is_text, is_in, names};
+ghost use Rattle.py_built.specs.Names.{is_text, is_in, names, methods};
 
-/// Built-in names that aren't there yet: functions, classes of built-in kinds, and classes of exceptions.
-pub const UNBUILT_NAMES: [&'static str; 45] = [
+/// Built-in names that aren't there yet: functions, and classes of built-in kinds.
+pub const UNBUILT_NAMES: [&'static str; 24] = [
     "abs",
     "divmod",
     "ord",
@@ -27,27 +27,37 @@ pub const UNBUILT_NAMES: [&'static str; 45] = [
     "sum",
     "min",
     "max",
-    "BaseException",
-    "Exception",
-    "ArithmeticError",
-    "OverflowError",
-    "ZeroDivisionError",
-    "AssertionError",
-    "AttributeError",
-    "ImportError",
-    "ModuleNotFoundError",
-    "LookupError",
-    "IndexError",
-    "KeyError",
-    "MemoryError",
-    "NameError",
-    "UnboundLocalError",
-    "RuntimeError",
-    "NotImplementedError",
-    "RecursionError",
-    "SyntaxError",
-    "TypeError",
-    "ValueError",
+];
+
+/// Methods of built-in kinds that aren't there yet: of lists, of dicts, of tuples and of texts.
+pub const UNBUILT_METHODS: [&'static str; 27] = [
+    "append",
+    "clear",
+    "copy",
+    "count",
+    "extend",
+    "index",
+    "insert",
+    "pop",
+    "remove",
+    "reverse",
+    "sort",
+    "get",
+    "items",
+    "keys",
+    "setdefault",
+    "update",
+    "values",
+    "endswith",
+    "find",
+    "isdigit",
+    "join",
+    "lower",
+    "replace",
+    "split",
+    "startswith",
+    "strip",
+    "upper",
 ];
 
 /// Whether characters are those of a text in ASCII.
@@ -84,4 +94,12 @@ pub fn is_unbuilt(name: &[char]) -> bool
     ensures { result ≡ is_in name.now names }
 {
     is_in(name, &UNBUILT_NAMES)
+}
+
+/// Whether a name is that of a method of a built-in kind that isn't there yet.
+#[tactic(auto, unfolding(crate::specs::Names::methods))]
+pub fn is_unbuilt_method(name: &[char]) -> bool
+    ensures { result ≡ is_in name.now methods }
+{
+    is_in(name, &UNBUILT_METHODS)
 }

@@ -1,38 +1,13 @@
 ghost use Rattle.std.specs.Prelude.{◌≡◌};
 ghost use Rattle.py_built.specs.Built as built;
-ghost use Rattle.py_built.specs.Lists.{stmts_built, branch_list_built, no_exprs, function_is_built};
+ghost use Rattle.py_built.specs.Lists.{stmts_built, branch_list_built, handler_list_built, handler_is_built, no_exprs, function_is_built};
 ghost use Rattle.py_tree.specs.Trees.{some_tree};
-ghost use Rattle.py_tree.specs.Statements.{place, takers, parameters, statement, module_tree};
+ghost use Rattle.py_tree.specs.Statements.{parameters, statement, module_tree};
 
 use crate::expressions::{expr_built, some_built};
-use crate::operators::is_binary;
-use py_tree::{Branch, Expr, Function, Module, Param, Single, SingleKind, Stmt, StmtKind, Target};
+use crate::targets::{single_built, target_built, targets_built};
+use py_tree::{Branch, Expr, Function, Handler, Module, Param, Stmt, StmtKind};
 use std::rc::Rc;
-
-fn is_name(single: &Single) -> bool
-    ensures { result ≡ built.place_built (place single.now) }
-{
-    match &single.kind {
-        SingleKind::Name(_) => true,
-        SingleKind::Attribute(_, _) => false,
-        SingleKind::Subscript(_, _) => false,
-    }
-}
-
-fn are_names(targets: &[Target]) -> bool
-    ensures { result ≡ built.takers_built (takers targets.now) }
-{
-    for target in targets {
-        let one = match target {
-            Target::Single(single) => is_name(single),
-            Target::Unpack(_) => false,
-        };
-        if !one {
-            return false;
-        }
-    }
-    true
-}
 
 fn is_absent(e: &Option<Rc<Expr>>) -> bool
     ensures { result ≡ built.is_absent (some_tree e.now) }
@@ -71,24 +46,27 @@ fn stmt_built(stmt: &Stmt) -> bool
 {
     match &stmt.kind {
         StmtKind::Expr(e) => expr_built(e),
-        StmtKind::Assign(targets, e) => are_names(targets) & expr_built(e),
-        StmtKind::AugAssign(single, op, e) => is_name(single) & (is_binary(*op) & expr_built(e)),
-        StmtKind::Return(e) => some_built(e),
+        StmtKind::Assign(targets, e) => targets_built(targets) & expr_built(e),
+        StmtKind::AugAssign(single, _, e) => single_built(single) & expr_built(e),
+        StmtKind::Return(e) | StmtKind::Raise(e) => some_built(e),
         StmtKind::Assert(e, message) => expr_built(e) & some_built(message),
+        StmtKind::Del(single) => single_built(single),
         StmtKind::If(branches, other) => branches_built(branches) & block_built(other),
-        StmtKind::While(e, body) => expr_built(e) & block_built(body),
+        StmtKind::While(e, body) | StmtKind::With(e, _, body) => expr_built(e) & block_built(body),
+        StmtKind::For(target, e, body) => {
+            target_built(target) & (expr_built(e) & block_built(body))
+        }
+        StmtKind::Try(body, handlers, other, last) => {
+            let ends = block_built(other) & block_built(last);
+            block_built(body) & (handlers_built(handlers) & ends)
+        }
         StmtKind::Def(function) => function_built(function),
         StmtKind::Global(_) | StmtKind::Pass | StmtKind::Break | StmtKind::Continue => true,
         StmtKind::AssignYield(_, _)
         | StmtKind::ReturnYield(_)
-        | StmtKind::Raise(_)
-        | StmtKind::Del(_)
         | StmtKind::Yield(_)
         | StmtKind::Import(_, _)
         | StmtKind::ImportFrom(_, _)
-        | StmtKind::For(_, _, _)
-        | StmtKind::Try(_, _, _, _)
-        | StmtKind::With(_, _, _)
         | StmtKind::Class(_) => false,
     }
 }
@@ -126,12 +104,31 @@ fn branches_built(all: &[Branch]) -> bool
     true
 }
 
+/// Whether an `except` is there.
+#[cycle(block)]
+fn handler_built(handler: &Handler) -> bool
+    ensures { result ≡ handler_is_built handler.now }
+{
+    some_built(&handler.class) & block_built(&handler.body)
+}
+
+#[cycle(block)]
+fn handlers_built(all: &[Handler]) -> bool
+    ensures { result ≡ handler_list_built all.now }
+{
+    for handler in all {
+        if !handler_built(handler) {
+            return false;
+        }
+    }
+    true
+}
+
 /// Whether all forms of a source are there: what isn't there is refused and never run.
 ///
-/// There are names but those of built-in functions and exceptions that [`crate::UNBUILT_NAMES`] lists, numbers, texts, `True`,
-/// `False`, `None`, parentheses, calls with arguments by position, `-`, `+`, `*`, `//`, `%`, the six orders and equalities, `not`,
-/// `and`, `or`, `if else`; expressions as statements, assignments and augmented assignments to names, `return`, `assert`, `global`,
-/// `pass`, `break`, `continue`, `if`, `while`, and functions without decorators, annotations, and defaults.
+/// There are all forms of expressions but named arguments in calls, the names of built-in functions that [`crate::UNBUILT_NAMES`]
+/// lists, and attributes with the name of a method that [`crate::UNBUILT_METHODS`] lists; and all forms of statements but `yield`,
+/// `import`, classes, and functions with decorators, annotations or defaults.
 pub fn is_built(module: &Module) -> bool
     ensures { result ≡ built.block_built (module_tree «module».now) }
 {

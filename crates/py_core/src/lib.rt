@@ -8,15 +8,16 @@
 //!
 //! # What is proved
 //!
-//! `CoreBlock::len` and `stmt` are the number of its statements and the one at a place. The rest are types.
+//! `CoreBlock::len` and `stmt` are the number of its statements and the one at a place, `CoreGuard::len` and `handler` those of its
+//! handlers. The rest are types.
 #![tactic(auto)]
 
 mod expr;
 mod stmt;
 
 pub use expr::{CoreExpr, CoreExprKind};
-pub use py_tree::{BinOp, CmpOp, Expr, Function, Names, Pos, SrcText, Stmt, UnOp};
+pub use py_tree::{BinOp, CmpOp, Expr, Function, Handler, Names, Pos, SrcText, Stmt, UnOp};
 pub use stmt::{
-    Core, CoreBlock, CoreBranch, CoreFn, CoreSingle, CoreSingleKind, CoreStmt, CoreStmtKind,
-    CoreTarget, Template,
+    Core, CoreBlock, CoreBranch, CoreFn, CoreGuard, CoreHandler, CoreSingle, CoreSingleKind,
+    CoreStmt, CoreStmtKind, CoreTarget, Template,
 };

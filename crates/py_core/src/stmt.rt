@@ -1,11 +1,11 @@
 // Core statements.
 
 ghost use Rattle.std.specs.Prelude.{◌≡◌, ◌<◌, length, get_or};
-ghost use Rattle.py_core.specs.Blocks.{stmts_in};
+ghost use Rattle.py_core.specs.Blocks.{stmts_in, handlers_in};
 
 use crate::expr::CoreExpr;
 use py_source::{Pos, SrcText};
-use py_tree::{BinOp, Expr, Function, Names, Stmt};
+use py_tree::{BinOp, Expr, Function, Handler, Names, Stmt};
 use std::rc::Rc;
 
 /// The core code of a source.
@@ -69,6 +69,51 @@ pub enum CoreStmtKind {
     Yield(Option<Rc<CoreExpr>>),
     While(Rc<CoreExpr>, Rc<CoreBlock>),
     Def(Rc<CoreFn>),
+    /// `raise`, and what it raises.
+    Raise(Option<Rc<CoreExpr>>),
+    Del(CoreSingle),
+    For(Rc<CoreTarget>, Rc<CoreExpr>, Rc<CoreBlock>),
+    /// The block, and what guards it.
+    Try(Rc<CoreBlock>, Rc<CoreGuard>),
+    /// The context, the name behind `as`, and the block.
+    With(Rc<CoreExpr>, Option<SrcText>, Rc<CoreBlock>),
+}
+
+/// What guards the block of a `try`: its handlers, the source's handlers for which they stand, and the blocks behind `else` and
+/// `finally`, which are empty where these are absent.
+#[derive(Drop)]
+#[cycle(statement)]
+pub struct CoreGuard {
+    pub source: Rc<Vec<Handler>>,
+    pub handlers: Vec<CoreHandler>,
+    pub other: Rc<CoreBlock>,
+    pub last: Rc<CoreBlock>,
+}
+
+impl CoreGuard {
+    /// The number of its handlers.
+    pub fn len(&self) -> usize
+        ensures { result ≡ length (handlers_in self.now) }
+    {
+        self.handlers.len()
+    }
+
+    /// The handler at a place.
+    pub fn handler(&self, at: usize) -> &CoreHandler
+        requires { at < length (handlers_in self.now) }
+        ensures { result.now ≡ get_or (handlers_in self.now) at result.now }
+    {
+        &self.handlers[at]
+    }
+}
+
+/// What an `except` takes, the name that it binds, and its block.
+#[derive(Drop)]
+#[cycle(statement)]
+pub struct CoreHandler {
+    pub class: Option<Rc<CoreExpr>>,
+    pub name: Option<SrcText>,
+    pub body: Rc<CoreBlock>,
 }
 
 /// A condition and its block, at `if` or `elif`.
@@ -102,6 +147,8 @@ pub struct CoreFn {
 #[derive(Drop)]
 pub enum CoreTarget {
     Single(CoreSingle),
+    /// The value is unpacked.
+    Unpack(Rc<Vec<CoreSingle>>),
 }
 
 /// What takes one value, at its first token.
@@ -115,6 +162,8 @@ pub struct CoreSingle {
 #[derive(Drop)]
 pub enum CoreSingleKind {
     Name(SrcText),
+    Attribute(Rc<CoreExpr>, SrcText),
+    Subscript(Rc<CoreExpr>, Rc<CoreExpr>),
 }
 
 /// What the failure of an assert shows beside its message.

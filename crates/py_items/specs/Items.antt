@@ -1,9 +1,10 @@
 -- Subscripts, slices, stores and deletions of items, and the turns of a `for` (Language Reference, subscriptions, slicings,
 -- assignment statements, the `del` and the `for` statement).
-use Rattle.std.specs.Prelude.{ℕ, zero, suc, ◌+◌, ◌-◌, ◌/◌, ℤ, pos, negsuc, ◌+ℤ◌, ◌*ℤ◌, Bool, true, false, List, [], ◌∷◌, length, nat_lt, if◌then◌else◌, Option, Some, None, codes, slice_get, is_some, min, option_map, not, ◌&&◌, ◌++◌}
+use Rattle.std.specs.Prelude.{ℕ, zero, suc, ◌+◌, ◌-◌, ◌/◌, ℤ, pos, negsuc, ◌+ℤ◌, ◌*ℤ◌, Bool, true, false, List, [], ◌∷◌, length, nat_le, nat_lt, if◌then◌else◌, Option, Some, None, codes, slice_get, is_some, min, option_map, not, ◌&&◌, ◌++◌}
 use Rattle.std.specs.Ordering.{int_eq}
 use Rattle.py_values.specs.Keys.{key_of}
 use Rattle.py_values.specs.Kinds.{kind_name}
+use Rattle.py_values.specs.Limits.{most_elements}
 use Rattle.py_values.specs.Numbers.{number_of}
 use Rattle.py_values.specs.Pairs.{find_pair}
 use Rattle.py_values.specs.Raises.{raise}
@@ -182,7 +183,7 @@ subscript_of heap a i = index_of heap (not_subscriptable (kind_name heap a)) (ob
 -- a pair stored in a dict, which has room for one more where the key is new
 abbrev pub pair_put : ObjId → List (List Atom × Pair) → List Atom → Value → Value → Made
 pair_put id es k key v =
-    if not (is_some (find_pair k es)) && nat_lt 65535 (length es) then too_long (length k - 1)
+    if not (is_some (find_pair k es)) && nat_le most_elements (length es) then too_long (length k - 1)
     else Put id (change.Pair k key v) val.None (length k - 1)
 
 abbrev pub store_key : List Obj → ObjId → List (List Atom × Pair) → Value → Value → Keyed → Made

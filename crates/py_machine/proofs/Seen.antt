@@ -9,7 +9,7 @@ use Rattle.py_values.specs.declared.value.Value.{Value}
 use Rattle.py_values.specs.Names.{name_eq}
 use Rattle.py_world.specs.declared.ended.Ended.{Ended}
 use Rattle.py_world.specs.declared.load.Load.{Load}
-use Rattle.py_world.specs.World.{Kinds, World, Source, Coded, Code, Fault, Stored, Frozen, world_with_printed}
+use Rattle.py_world.specs.World.{Kinds, World, Source, Coded, Code, Fault, Stored, Frozen, Traces, world_with_printed}
 use Rattle.py_world.specs.Runs.{source_at}
 use Rattle.core_meaning.specs.Requests.{Layer}
 use Rattle.core_meaning.specs.Meaning.{CoreWorld, core_call, core_module}
@@ -39,12 +39,12 @@ merely : {P : Type 0} → P → ∥ P ∥₁
 merely p = ∣ p ∣₁
 
 -- no code at all
-pub bare_sound : (sources : List (Source Core)) (modules : List (List ℕ × Load)) (heap : List Obj) (codes : List (Stored CoreFn)) (printed : List ℕ) (frozen : List (Option (Frozen (List Layer))))
-    → sources ≡ [] → codes ≡ [] → frozen ≡ [] → Sound (world_with sources modules heap codes printed frozen)
-bare_sound sources modules heap codes printed frozen e h f = rw (e, h, f) (merely (worlds alike.none alike.none alike.none modules heap printed))
+pub bare_sound : (sources : List (Source Core)) (modules : List (List ℕ × Load)) (heap : List Obj) (codes : List (Stored CoreFn)) (printed : List ℕ) (frozen : List (Option (Frozen (List Layer)))) (traces : Traces)
+    → sources ≡ [] → codes ≡ [] → frozen ≡ [] → Sound (world_with sources modules heap codes printed frozen traces)
+bare_sound sources modules heap codes printed frozen traces e h f = rw (e, h, f) (merely (worlds alike.none alike.none alike.none modules heap printed traces))
 
 printed_alike : (printed : List ℕ) {w : SourceWorld} {z : CoreWorld} → LoweredWorld w z → LoweredWorld (world_with_printed printed w) (world_with_printed printed z)
-printed_alike printed (worlds xs ys zs modules heap p) = worlds xs ys zs modules heap printed
+printed_alike printed (worlds xs ys zs modules heap p traces) = worlds xs ys zs modules heap printed traces
 
 pub printed_sound : (printed : List ℕ) (w : CoreWorld) → Sound w → Sound (world_with_printed printed w)
 printed_sound printed w sound = ∥∥₁_map sound (λ h. printed_alike printed h)
@@ -59,13 +59,13 @@ sources_more alike.none path bytes h = alike.more path bytes h alike.none
 sources_more (alike.more p b x xs) path bytes h = alike.more p b x (sources_more xs path bytes h)
 
 abbrev more : {K : Kinds} → Source K.script → World K → World K
-more x w = world_with (w.sources ++ x ∷ []) w.modules w.heap w.codes w.printed w.frozen
+more x w = world_with (w.sources ++ x ∷ []) w.modules w.heap w.codes w.printed w.frozen w.traces
 
 more_alike : (path bytes : List ℕ) {b : Coded Script} {c : Coded Core} → CodedAlike Lowering b c → {w : SourceWorld} {z : CoreWorld} → LoweredWorld w z → LoweredWorld (more (source_with path bytes b) w) (more (source_with path bytes c) z)
-more_alike path bytes h (worlds xs ys zs modules heap printed) = worlds (sources_more xs path bytes h) ys zs modules heap printed
+more_alike path bytes h (worlds xs ys zs modules heap printed traces) = worlds (sources_more xs path bytes h) ys zs modules heap printed traces
 
 pub more_viewed : (path bytes : List ℕ) (c : Coded Core) (z : CoreWorld) → source_view (more (source_with path bytes c) z) ≡ more (source_with path bytes (coded_view c)) (source_view z)
-more_viewed path bytes c z = ap (λ (xs : List (Source Script)). world_with xs z.modules z.heap (map stored_view z.codes) z.printed (map frozen_view z.frozen)) (map_more z.sources (source_with path bytes c))
+more_viewed path bytes c z = ap (λ (xs : List (Source Script)). world_with xs z.modules z.heap (map stored_view z.codes) z.printed (map frozen_view z.frozen) z.traces) (map_more z.sources (source_with path bytes c))
 
 alike_of : (c : Coded Core) → Stands c → CodedAlike Lowering (coded_view c) c
 alike_of (Code core) h = alike.code h
@@ -75,9 +75,9 @@ pub more_sound : (path bytes : List ℕ) (c : Coded Core) (z : CoreWorld) → St
 more_sound path bytes c z h sound = ∥∥₁_map sound (λ g. subst (λ w. LoweredWorld w (more (source_with path bytes c) z)) (sym (more_viewed path bytes c z)) (more_alike path bytes (alike_of c h) g))
 
 -- a source more, as its list tells it
-pub pushed_sound : (items old : List (Source Core)) (x : Source Core) (path bytes : List ℕ) (c : Coded Core) (modules : List (List ℕ × Load)) (heap : List Obj) (codes : List (Stored CoreFn)) (printed : List ℕ) (frozen : List (Option (Frozen (List Layer))))
-    → items ≡ old ++ x ∷ [] → x ≡ source_with path bytes c → Stands c → Sound (world_with old modules heap codes printed frozen) → Sound (world_with items modules heap codes printed frozen)
-pushed_sound items old x path bytes c modules heap codes printed frozen e h stands sound = rw (e, h) (more_sound path bytes c (world_with old modules heap codes printed frozen) stands sound)
+pub pushed_sound : (items old : List (Source Core)) (x : Source Core) (path bytes : List ℕ) (c : Coded Core) (modules : List (List ℕ × Load)) (heap : List Obj) (codes : List (Stored CoreFn)) (printed : List ℕ) (frozen : List (Option (Frozen (List Layer)))) (traces : Traces)
+    → items ≡ old ++ x ∷ [] → x ≡ source_with path bytes c → Stands c → Sound (world_with old modules heap codes printed frozen traces) → Sound (world_with items modules heap codes printed frozen traces)
+pushed_sound items old x path bytes c modules heap codes printed frozen traces e h stands sound = rw (e, h) (more_sound path bytes c (world_with old modules heap codes printed frozen traces) stands sound)
 
 -- sources by their paths
 code_viewed : (c : Coded Core) → fault_in (coded_view c) ≡ fault_in c

@@ -14,7 +14,7 @@ use Rattle.lower_law.specs.Sourced.{module_of}
 use Rattle.lower_law.specs.Lowered.{LoweredModule}
 
 abbrev pub empty : SourceWorld
-empty = record { sources = []; modules = []; heap = first_heap; codes = []; printed = []; frozen = [] }
+empty = record { sources = []; modules = []; heap = first_heap; codes = []; printed = []; frozen = []; traces = [] }
 
 -- the source that a core code carries, or why there is none
 abbrev pub given : Result Core SourceFault → Coded Script
@@ -32,7 +32,7 @@ Stands (Code core) = LoweredModule (module_of core) core
 Stands (Fault fault) = Unit {0}
 
 abbrev pub with_source : Source Script → SourceWorld → SourceWorld
-with_source x w = record { sources = w.sources ++ x ∷ []; modules = w.modules; heap = w.heap; codes = w.codes; printed = w.printed; frozen = w.frozen }
+with_source x w = record { sources = w.sources ++ x ∷ []; modules = w.modules; heap = w.heap; codes = w.codes; printed = w.printed; frozen = w.frozen; traces = w.traces }
 
 module _ {M : Type 0} where
   -- the fault of a source, where it has one

@@ -14,6 +14,7 @@ use machine_state::machine::Machine;
 use machine_state::place::{Here, Place};
 use machine_state::source::{SourceCode, SourceFile};
 use machine_state::stack::ControlStack;
+use machine_state::traces::Traces;
 use py_core::Core;
 use py_source::SourceFault;
 use py_text::{OutOfMemory, PyText};
@@ -70,6 +71,7 @@ impl World {
                 codes: Vec::new(alloc),
                 printed: Vec::new(alloc),
                 frozen: Vec::new(alloc),
+                traces: Traces::new(alloc),
                 stack: ControlStack::new(alloc),
                 locals: Locals::new(alloc),
                 temps: Vec::new(alloc),

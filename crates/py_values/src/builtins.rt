@@ -1,13 +1,16 @@
-// What follows from the table of built-in names.
+// What follows from the tables of built-in names.
 
-ghost use Rattle.std.specs.Prelude.{◌≡◌, IfOk};
+ghost use Rattle.std.specs.Prelude.{◌≡◌, ◌++◌, ◌≤◌, length, map, option_map, IfOk, OnOk};
 ghost use Rattle.py_values.specs.Builtins as builtins;
+ghost use Rattle.py_values.specs.Classes.{exc_base as exc_base_of};
 ghost use Rattle.py_values.specs.Names.{find_name, name_eq};
 
-use crate::builtin::{BUILTINS, Builtin};
-use crate::class::ClassForm;
+use crate::builtin::{BUILTINS, Builtin, EXCEPTIONS};
+use crate::class::{ClassForm, ExcClass};
+use crate::classes::exc_base;
 use crate::end::push_ascii;
 use crate::heap::Heap;
+use crate::kinds::class_name;
 use crate::names::Names;
 use crate::object::{BuiltinObj, ClassObj, Obj};
 use crate::rows::Values;
@@ -56,10 +59,10 @@ fn is_text(name: &[char], text: &str) -> bool
     true
 }
 
-/// The value of a built-in name.
+/// The value of a name of a built-in function or kind.
 #[tactic(auto, unfolding(crate::specs::Builtins::rows))]
-pub fn builtin_value(name: &[char]) -> Option<Value>
-    ensures { result ≡ find_name name.now builtins.builtin_names }
+fn row_value(name: &[char]) -> Option<Value>
+    ensures { result ≡ find_name name.now (builtins.names_from 0 builtins.rows) }
 {
     let mut at = 0usize;
     for row in &BUILTINS {
@@ -71,8 +74,58 @@ pub fn builtin_value(name: &[char]) -> Option<Value>
     None
 }
 
-fn class_object(alloc: Global, which: Builtin, name: &str) -> Result<Obj, OutOfMemory>
-    ensures { IfOk result (λ o. o ≡ builtins.class_object which name.now) }
+/// The index of a class in a table of classes, or the table's length.
+fn index_of(class: ExcClass, table: &[ExcClass]) -> usize
+    ensures index { result ≡ builtins.index_of class table.now }
+    ensures small { result ≤ length table.now }
+{
+    for i in 0..table.len() {
+        if table[i] == class {
+            return i;
+        }
+    }
+    table.len()
+}
+
+/// The place of the object of a class of exceptions.
+#[tactic(auto, unfolding(crate::specs::Builtins::rows, crate::specs::Builtins::classes))]
+fn class_place(class: ExcClass) -> ObjId
+    ensures { result ≡ builtins.class_place class }
+{
+    let at = BUILTINS.len() + index_of(class, &EXCEPTIONS);
+    ObjId { at }
+}
+
+/// The value of a name of a class of exceptions of a table.
+fn class_value(name: &[char], table: &[ExcClass]) -> Option<Value>
+    ensures { result ≡ find_name name.now (map builtins.class_entry table.now) }
+{
+    for class in table {
+        if is_text(name, class_name(*class)) {
+            return Some(Value::Ref(class_place(*class)));
+        }
+    }
+    None
+}
+
+/// The value of a built-in name.
+#[tactic(auto, using(crate::proofs::Finding::find_behind), unfolding(crate::specs::Builtins::classes))]
+pub fn builtin_value(name: &[char]) -> Option<Value>
+    ensures { result ≡ find_name name.now builtins.builtin_names }
+{
+    match row_value(name) {
+        Some(v) => Some(v),
+        None => class_value(name, &EXCEPTIONS),
+    }
+}
+
+fn class_object(
+    alloc: Global,
+    name: &str,
+    form: ClassForm,
+    base: Option<ObjId>,
+) -> Result<Obj, OutOfMemory>
+    ensures { IfOk result (λ o. o ≡ builtins.class_object name.now form base) }
 {
     let mut chars = Vec::new(alloc);
     push_ascii(&mut chars, name)?;
@@ -80,8 +133,8 @@ fn class_object(alloc: Global, which: Builtin, name: &str) -> Result<Obj, OutOfM
         path: PyText::from_chars(alloc, &[])?,
         name: PyText::from_chars(alloc, &chars)?,
         line: 0,
-        form: ClassForm::Kind(which),
-        base: None,
+        form,
+        base,
         marks: Values::new(alloc),
         names: Names::new(alloc),
     }))
@@ -91,12 +144,44 @@ fn row_object(alloc: Global, which: Builtin, name: &str, class: bool) -> Result<
     ensures { IfOk result (λ o. o ≡ builtins.object_by which name.now class) }
 {
     if class {
-        return class_object(alloc, which, name);
+        return class_object(alloc, name, ClassForm::Kind(which), None);
     }
     Ok(Obj::Builtin(BuiltinObj {
         which,
         receiver: None,
     }))
+}
+
+fn base_place(class: ExcClass) -> Option<ObjId>
+    ensures { result ≡ option_map builtins.class_place (exc_base_of class) }
+{
+    match exc_base(class) {
+        Some(base) => Some(class_place(base)),
+        None => None,
+    }
+}
+
+fn exception_class(alloc: Global, class: ExcClass) -> Result<Obj, OutOfMemory>
+    ensures { IfOk result (λ o. o ≡ builtins.exception_class class) }
+{
+    class_object(
+        alloc,
+        class_name(class),
+        ClassForm::Exception(class),
+        base_place(class),
+    )
+}
+
+/// Puts the objects of the classes of exceptions behind others.
+#[tactic(auto, unfolding(crate::specs::Builtins::classes))]
+fn add_classes(alloc: Global, heap: &mut Heap) -> Result<(), OutOfMemory>
+    ensures { OnOk result (heap.new ≡ heap.old ++ map builtins.exception_class builtins.classes) }
+{
+    for class in &EXCEPTIONS {
+        let object = exception_class(alloc, *class)?;
+        heap.add(object)?;
+    }
+    Ok(())
 }
 
 /// The heap from the start: the objects of the built-in names.
@@ -109,5 +194,6 @@ pub fn first_heap(alloc: Global) -> Result<Heap, OutOfMemory>
         let object = row_object(alloc, row.0, row.1, row.2)?;
         heap.add(object)?;
     }
+    add_classes(alloc, &mut heap)?;
     Ok(heap)
 }

@@ -1,9 +1,11 @@
 // Keys as plain data.
 
-ghost use Rattle.std.specs.Prelude.{◌≡◌, ◌-◌, length};
+ghost use Rattle.std.specs.Prelude.{◌≡◌, ◌-◌, IfOk, length};
 
 use crate::names::Name;
 use crate::value::ObjId;
+use py_text::OutOfMemory;
+use std::alloc::Global;
 use std::hash::{Hash, Hasher};
 use std::marker::Model;
 
@@ -17,6 +19,18 @@ pub enum Atom {
     Tuple(usize),
     /// An object that is equal to itself alone.
     Object(ObjId),
+}
+
+fn copied_atom(alloc: Global, atom: &Atom) -> Result<Atom, OutOfMemory>
+    ensures { IfOk result (λ a. a ≡ atom.now) }
+{
+    match atom {
+        Atom::None => Ok(Atom::None),
+        Atom::Number(n) => Ok(Atom::Number(*n)),
+        Atom::Text(t) => Ok(Atom::Text(Name::from_chars(alloc, t.text().chars())?)),
+        Atom::Tuple(n) => Ok(Atom::Tuple(*n)),
+        Atom::Object(id) => Ok(Atom::Object(*id)),
+    }
 }
 
 /// A key as plain data: its parts, a tuple before its elements.
@@ -39,6 +53,18 @@ impl Key {
         ensures { result ≡ atoms.items }
     {
         Key { atoms }
+    }
+
+    /// Another key with the same parts.
+    pub fn copied(&self, alloc: Global) -> Result<Self, OutOfMemory>
+        ensures { IfOk result (λ k. k ≡ self.now) }
+    {
+        let mut atoms = Vec::new(alloc);
+        for atom in &self.atoms {
+            let atom = copied_atom(alloc, atom)?;
+            atoms.push(atom)?;
+        }
+        Ok(Key { atoms })
     }
 
     /// The steps of a use of the key: one for each element of it and of the tuples in it.

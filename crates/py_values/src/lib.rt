@@ -6,7 +6,7 @@
 //! language (texts, lists, tuples, dicts, ranges, functions, methods, built-in functions, classes, instances, exceptions,
 //! modules, and the objects that pytest's names make). Keys of dicts are plain data, so dicts are maps in order of insertion.
 //! How an operator or a call ends (`OpEnd`), what it makes before the heap has it (`Made`), and how an object is changed
-//! (`Change`) stand here too, since all crates above speak of them; so do the one table of built-in names and the limits of
+//! (`Change`) stand here too, since all crates above speak of them; so do the two tables of built-in names and the limits of
 //! values.
 //!
 //! # What is proved
@@ -17,7 +17,7 @@
 //!   `bind_name`), and one that goes leaves the others in order (`without_pair`, `unbind_name`).
 //! - `truth`, `kind_name`, `length_of`, `is_a`, `root_of`, `stands_on`, `key` (with its steps, and why a value is no key), `throw` and
 //!   `throw_with` equal the definitions of the same names.
-//! - `first_heap`, `builtin_value`, `builtin_name` and `takes` follow from the table.
+//! - `first_heap`, `builtin_value`, `builtin_name` and `takes` follow from the tables of built-in functions and of classes of exceptions.
 //! - `finish` puts what was made into the heap (`end`), with its steps (`cost`), and `made_within` lets it through exactly where
 //!   the budget suffices.
 //!

@@ -5,8 +5,13 @@ pub mod Fitting
 pub mod Outcome
 pub mod Names
 pub mod Expressions
+pub mod Displays
+pub mod Attributes
+pub mod Targets
 pub mod Explained
 pub mod Statements
+pub mod Exceptions
+pub mod Loops
 pub mod Calls
 pub mod ModuleNames
 pub mod Runs

@@ -57,6 +57,10 @@ Then K = Outcome K → Rest K
 abbrev pub Part : (K : Kinds) → Type 0
 Part K = Site → State K → Then K → Rest K
 
+-- what is done with the end of a part, with what follows it
+abbrev pub After : (K : Kinds) → Type 0
+After K = Site → Outcome K → Then K → Rest K
+
 -- what a block does, whose statements have lines of their own
 abbrev pub Body : (K : Kinds) → Type 0
 Body K = Scene → State K → Then K → Rest K
@@ -71,6 +75,10 @@ module _ {K : Kinds} where
   -- a new exception is raised
   abbrev pub raised_in : Value × List Obj → List TraceFrame → State K → Outcome K
   raised_in e trace s = Raised e.0 trace (with_heap e.1 s)
+
+  -- a new object is given
+  abbrev pub gave_in : Value × List Obj → State K → Outcome K
+  gave_in v s = Gave v.0 (with_heap v.1 s)
 
   abbrev pub raised : Raise → List TraceFrame → State K → Outcome K
   raised r trace s = raised_in (thrown r (heap_of s)) trace s
@@ -128,6 +136,11 @@ module _ {K : Kinds} where
   -- goes on behind a loop's body; `break` ends the loop
   abbrev pub on_turn : Outcome K → Then K → (State K → Rest K) → Rest K
   on_turn o k go = route (record (onward k) { next = go; broke = λ s. k (Next s); continued = go }) o
+
+  -- hands each end on, with its state changed
+  abbrev pub changing : (State K → State K) → Then K → Ways K
+  changing f k =
+      record { gave = λ v s. k (Gave v (f s)); next = λ s. k (Next (f s)); returned = λ v s. k (Returned v (f s)); broke = λ s. k (Broke (f s)); continued = λ s. k (Continued (f s)); raised = λ e trace s. k (Raised e trace (f s)) }
 
   abbrev pub if_true : Bool → Rest K → Rest K → Rest K
   if_true true a b = a

@@ -1,7 +1,6 @@
 -- What the forms of statements do with the ends of their parts (Language Reference, simple and compound statements).
 use Rattle.std.specs.Prelude.{ℕ, List, [], ◌∷◌, length, Bool, Option, Some, None}
 use Rattle.run_tree.specs.Todo.{Ask, Freeze}
-use Rattle.py_tree.specs.declared.op.BinOp.{BinOp}
 use Rattle.py_values.specs.declared.class.ExcClass.TheVariants.{AssertionError}
 use Rattle.py_values.specs.declared.end.Raise.{Raise}
 use Rattle.py_values.specs.declared.rows.Param.{Param}
@@ -11,17 +10,12 @@ use Rattle.py_values.specs.declared.value.Value.{Value}
 use Rattle.py_values.specs.declared.value.Value.TheVariants as val
 use Rattle.py_values.specs.Ends.{id_at}
 use Rattle.py_values.specs.Truth.{truth}
-use Rattle.py_ops.specs.Binary.{binary_of}
 use Rattle.py_world.specs.World.{Kinds, State, Stored, heap_of, unset, with_object, with_world, world_with_code}
 use Rattle.py_world.specs.Site.{Scene, Site, site}
 use Rattle.py_world.specs.Explained.{explanation}
 use Rattle.py_tree.specs.Trees.{Tree}
-use Rattle.py_world.specs.Names.{name_end, bound}
-use Rattle.py_world.specs.Outcome.{Outcome, paused, Next, Returned, Broke, Continued, Part, Body, DoOf, on_value, on_next, on_turn, if_true, operated, raised_at, spent_at}
-
--- what a target does with a value
-abbrev pub Store : (K : Kinds) → Type 0
-Store K = Value → Part K
+use Rattle.py_world.specs.Names.{bound}
+use Rattle.py_world.specs.Outcome.{Outcome, paused, Next, Returned, Broke, Continued, Part, Body, DoOf, on_value, on_turn, if_true, raised_at, spent_at}
 
 -- a condition on its line, and its block
 abbrev pub Choice : (K : Kinds) → Type 0
@@ -56,27 +50,6 @@ module _ {K : Kinds} where
 
   abbrev pub expression_statement : Part K → Part K
   expression_statement e p s k = e p s (λ o. on_value o k (λ v s. k (Next s)))
-
-  abbrev pub store_name : List ℕ → Store K
-  store_name name v p s k = k (Next (bound name v p.scene s))
-
-  -- the targets from left to right
-  abbrev pub store_all : List (Store K) → Store K
-  store_all [] v p s k = k (Next s)
-  store_all (t ∷ ts) v p s k = t v p s (λ o. on_next o k (λ s. store_all ts v p s k))
-
-  -- the value comes first
-  abbrev pub assign : List (Store K) → Part K → Part K
-  assign targets e p s k = e p s (λ o. on_value o k (λ v s. store_all targets v p s k))
-
-  -- the operator of an augmented assignment, and then the target
-  abbrev pub augmented : Value → BinOp → Value → Store K → Part K
-  augmented x op y target p s k = operated (binary_of op (heap_of s) x y) p s (λ o. on_value o k (λ v s. target v p s k))
-
-  -- the value that a name has comes first
-  abbrev pub augment_name : List ℕ → BinOp → Part K → Part K
-  augment_name name op e p s k =
-      on_value (name_end name p s) k (λ x s. e p s (λ o. on_value o k (λ y s. augmented x op y (store_name name) p s k)))
 
   abbrev pub return_value : Option (Part K) → Part K
   return_value None p s k = k (Returned val.None s)

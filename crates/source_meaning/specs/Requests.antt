@@ -1,18 +1,22 @@
 -- What source code asks for by name, its codes, and what remains of a body that has stopped.
 use Rattle.std.specs.Prelude.{ℕ, List, Bool}
 use Rattle.py_tree.specs.Trees.{Tree}
-use Rattle.py_tree.specs.Statements.{Statement, Block, Parameter}
+use Rattle.py_tree.specs.Statements.{Statement, Block, Handlers, Taker, Parameter}
+use Rattle.py_items.specs.declared.iter.IterAt.{IterAt}
 use Rattle.py_world.specs.World.{Kinds}
 
--- what stands behind a statement in one of the blocks around it: statements, in code whose asserts are explained or not
+-- what stands behind a statement in one of the blocks around it, in code whose asserts are explained or not: statements, or the
+-- handlers of a `try` on a line, with the statements behind `else` and behind `finally`
 pub data Layer : Type 0 where
   Statements : Bool → List Statement → Layer
+  Guard : Bool → ℕ → Handlers → List Statement → List Statement → Layer
 
--- a statement with what stands behind it, the innermost block first, or a turn of a loop, in code whose asserts are explained or
--- not
+-- a statement with what stands behind it, the innermost block first, or a turn of a `while` or of a `for` at a place, in code whose
+-- asserts are explained or not
 pub data Turn : Type 0 where
   StatementOf : Bool → List Layer → Statement → Turn
   TurnOf : Bool → Tree → Block → Turn
+  ForOf : Bool → Taker → Block → IterAt → Turn
 
 -- a source's code: its statements, and whether its asserts are explained
 pub record Script : Type 0 where

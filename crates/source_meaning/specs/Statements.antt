@@ -1,21 +1,24 @@
 -- What statements do (Language Reference, simple and compound statements).
-use Rattle.std.specs.Prelude.{ℕ, List, [], ◌∷◌, ◌++◌, map, Option, Some, None, Bool, true, false}
+use Rattle.std.specs.Prelude.{ℕ, List, [], ◌∷◌, ◌++◌, map, Option, Bool, true, false}
 use Rattle.py_source.specs.declared.pos.Pos.{Pos}
 use Rattle.py_tree.specs.declared.op.BinOp.{BinOp}
-use Rattle.py_tree.specs.Trees.{Maybe, Absent, Present}
 use Rattle.py_tree.specs.Statements as t
-use Rattle.py_tree.specs.Statements.{Statement, Block, Branches, NoStatement, NoBranch, Place, NamePlace, AttributePlace, SubscriptPlace, Taker, One, Unpack, Parameter}
+use Rattle.py_tree.specs.Statements.{Statement, Block, Branches, Handlers, NoStatement, NoBranch, NoHandler, Place, NamePlace, AttributePlace, SubscriptPlace, Taker, One, Unpack, Parameter}
 use Rattle.py_tree.specs.Names.{names_of, locals_of, yields_in}
 use Rattle.py_values.specs.Truth.{truth}
-use Rattle.source_meaning.specs.Expressions.{SourcePart, missing, eval}
-use Rattle.source_meaning.specs.Requests.{source_kinds, Layer, Statements, Turn, StatementOf, TurnOf, Script, Function}
+use Rattle.source_meaning.specs.Expressions.{SourcePart, missing, eval, some_part}
+use Rattle.source_meaning.specs.Requests.{source_kinds, Layer, Statements, Guard, Turn, StatementOf, TurnOf, ForOf, Script, Function}
 use Rattle.source_meaning.specs.Watched.{watch}
 use Rattle.py_tree.specs.Trees.{Tree}
 use Rattle.py_world.specs.Site.{site}
 use Rattle.py_world.specs.Arguments.{required}
 use Rattle.py_world.specs.World.{heap_of, unset}
-use Rattle.py_world.specs.Outcome.{Body, Next, on_next, on_value, if_true}
-use Rattle.py_world.specs.Statements.{Store, Choice, asked, expression_statement, store_name, assign, augment_name, return_value, yield_value, pass, leave_loop, next_turn, fail, fail_explained, choose, loop, turn_of, define}
+use Rattle.py_world.specs.Outcome.{Body, After, Next, on_next, on_value, if_true}
+use Rattle.py_world.specs.Statements.{Choice, asked, expression_statement, return_value, yield_value, pass, leave_loop, next_turn, fail, fail_explained, choose, loop, turn_of, define}
+use Rattle.py_world.specs.Names.{delete_name}
+use Rattle.py_world.specs.Targets.{Store, store_name, store_attribute, store_item, unpack, assign, augment_name, augment_attribute, augment_item, delete_attribute, delete_item}
+use Rattle.py_world.specs.Exceptions.{Handling, raise_value, guarded, try_statement, with_statement}
+use Rattle.py_world.specs.Loops.{for_statement, for_turn}
 use Rattle.py_world.specs.Calls.{Entry}
 
 abbrev pub SourceBody : Type 0
@@ -26,6 +29,9 @@ SourceStore = Store source_kinds
 
 abbrev pub SourceChoice : Type 0
 SourceChoice = Choice source_kinds
+
+abbrev pub SourceHandling : Type 0
+SourceHandling = Handling source_kinds
 
 abbrev pub position : Statement → Pos
 position (t.Do at e) = at
@@ -52,17 +58,18 @@ position (t.With at e name body) = at
 position (t.Def at decorators word name params returns body) = at
 position (t.Class at decorators word name base body) = at
 
-abbrev pub store_missing : SourceStore
-store_missing v = missing
-
 abbrev pub store_place : Place → SourceStore
 store_place (NamePlace at name) = store_name name
-store_place (AttributePlace at e name) = store_missing
-store_place (SubscriptPlace at e i) = store_missing
+store_place (AttributePlace at e name) = store_attribute (eval e) name
+store_place (SubscriptPlace at e i) = store_item (eval e) (eval i)
+
+abbrev pub store_places : List Place → List SourceStore
+store_places [] = []
+store_places (p ∷ ps) = store_place p ∷ store_places ps
 
 abbrev pub store : Taker → SourceStore
 store (One p) = store_place p
-store (Unpack ps) = store_missing
+store (Unpack ps) = unpack (store_places ps)
 
 abbrev pub stores : List Taker → List SourceStore
 stores [] = []
@@ -70,12 +77,13 @@ stores (x ∷ xs) = store x ∷ stores xs
 
 abbrev pub augment : Place → BinOp → SourcePart → SourcePart
 augment (NamePlace at name) op e = augment_name name op e
-augment (AttributePlace at a name) op e = missing
-augment (SubscriptPlace at a i) op e = missing
+augment (AttributePlace at a name) op e = augment_attribute (eval a) name op e
+augment (SubscriptPlace at a i) op e = augment_item (eval a) (eval i) op e
 
-abbrev pub some_part : Maybe → Option SourcePart
-some_part Absent = None
-some_part (Present e) = Some (eval e)
+abbrev pub delete : Place → SourcePart
+delete (NamePlace at name) = delete_name name
+delete (AttributePlace at e name) = delete_attribute (eval e) name
+delete (SubscriptPlace at e i) = delete_item (eval e) (eval i)
 
 -- an assert, whose failure is a part of it
 abbrev pub assert : SourcePart → SourcePart → SourcePart
@@ -103,10 +111,20 @@ sequence x ls (st ∷ rest) scene s k = begun x (Statements x rest ∷ ls) st (s
 abbrev pub block : Bool → List Layer → Block → SourceBody
 block x ls b = sequence x ls (listed b)
 
--- what remains of a body, the innermost block first
-abbrev pub remains : List Layer → SourcePart
-remains [] p s k = k (Next s)
-remains (Statements x ss ∷ ls) p s k = sequence x ls ss p.scene s (λ o. on_next o k (λ s. remains ls p s k))
+-- the handlers of a `try`, the first one first
+abbrev pub handlings : Bool → List Layer → Handlers → List SourceHandling
+handlings x ls NoHandler = []
+handlings x ls (t.Handler before at class name body) = handlings x ls before ++ (some_part class, (name, block x ls body)) ∷ []
+
+-- what guards the block of a `try`
+abbrev pub guard : Bool → List Layer → Handlers → List Statement → List Statement → After source_kinds
+guard x ls handlers other last = guarded (handlings x ls handlers) (sequence x ls other) (sequence x ls last)
+
+-- what remains of a body does with the end of the part before it, the innermost block first
+abbrev pub remains : List Layer → After source_kinds
+remains [] p o k = k o
+remains (Statements x ss ∷ ls) p o k = on_next o (λ o. remains ls p o k) (λ s. sequence x ls ss p.scene s (λ o. remains ls p o k))
+remains (Guard x line handlers other last ∷ ls) p o k = guard x ls handlers other last (site p.scene line) o (λ o. remains ls p o k)
 
 abbrev pub choices : Bool → List Layer → Branches → List SourceChoice
 choices x ls NoBranch = []
@@ -117,6 +135,11 @@ function x name params body = record { explains = x; name = name; params = param
 
 abbrev pub script : Bool → Block → Script
 script x body = record { explains = x; body = body }
+
+-- a `try`, which guards its block on its line
+abbrev pub try_at : Bool → List Layer → Block → Handlers → List Statement → List Statement → SourcePart
+try_at x ls body handlers other last p s k =
+    try_statement (block x (Guard x p.line handlers other last ∷ ls) body) (handlings x ls handlers) (sequence x ls other) (sequence x ls last) p s k
 
 -- WHAT A STATEMENT DOES, its step being taken
 abbrev pub statement : Bool → List Layer → Statement → SourcePart
@@ -135,18 +158,19 @@ statement x ls (t.Def at decorators word name params returns body) = define name
 statement x ls (t.YieldOf at word e) = yield_value (some_part e) ls
 statement x ls (t.AssignYield at ts word e) = missing
 statement x ls (t.ReturnYield at word e) = missing
-statement x ls (t.Raise at e) = missing
-statement x ls (t.Del at p) = missing
+statement x ls (t.Raise at e) = raise_value (some_part e)
+statement x ls (t.Del at p) = delete p
 statement x ls (t.Import at names alias) = missing
 statement x ls (t.ImportFrom at names all) = missing
-statement x ls (t.For at taker e body) = missing
-statement x ls (t.Try at body handlers other final) = missing
-statement x ls (t.With at e name body) = missing
+statement x ls (t.For at taker e body) = for_statement (ForOf x taker body) (eval e)
+statement x ls (t.Try at body handlers other final) = try_at x ls body handlers (listed other) (listed final)
+statement x ls (t.With at e name body) = with_statement (eval e) name (block x ls body)
 statement x ls (t.Class at decorators word name base body) = missing
 
 abbrev pub act : Turn → SourcePart
 act (StatementOf x ls st) = statement x ls st
 act (TurnOf x e body) = turn_of (TurnOf x e body) (eval e) (block x [] body)
+act (ForOf x taker body at) = for_turn (ForOf x taker body) (store taker) (block x [] body) at
 
 abbrev pub entry : Function → Entry source_kinds
 entry f = record { name = f.name; own = locals_of f.params f.body; body = block f.explains [] f.body }

@@ -6,6 +6,7 @@ use Rattle.source_meaning.specs.Expressions.{SourcePart, eval}
 use Rattle.py_world.specs.Arguments.{arguments_of}
 use Rattle.py_world.specs.Explained.{kept_count, kept_count_all}
 use Rattle.py_world.specs.Expressions.{noted, unary_part, binary_part, compare_part, not_part, and_part, or_part, call_part, kept_part}
+use Rattle.py_world.specs.Attributes.{attribute_part}
 
 abbrev mutual
   -- WHAT A CONDITION DOES, whose parts are numbered from n on
@@ -27,7 +28,7 @@ abbrev mutual
   watch n (t.Tuple at es) = kept_part n (eval (t.Tuple at es))
   watch n (t.Listed at es) = kept_part n (eval (t.Listed at es))
   watch n (t.Dict at ks es) = kept_part n (eval (t.Dict at ks es))
-  watch n (t.Attribute at e name) = kept_part n (eval (t.Attribute at e name))
+  watch n (t.Attribute at e name) = kept_part n (noted at (attribute_part (watch (suc n) e) name))
   watch n (t.Subscript at e i) = kept_part n (eval (t.Subscript at e i))
   watch n (t.Slice at e from to by) = kept_part n (eval (t.Slice at e from to by))
   watch n (t.IfElse at e c o) = kept_part n (eval (t.IfElse at e c o))

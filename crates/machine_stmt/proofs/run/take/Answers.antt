@@ -3,14 +3,14 @@ use Rattle.std.proofs.lemmas.Result.{IfOk-weaker}
 use Rattle.machine_state.specs.declared.frame.Frame.{Frame}
 use Rattle.machine_state.specs.declared.frame.Frame.TheVariants as frame
 use Rattle.machine_state.specs.declared.machine.TurnEnd.{TurnEnd}
-use Rattle.machine_state.specs.Frames.{after, ending, ends, here_in, layers_of, outcome, outer_of, resume, site_of, state_of}
+use Rattle.machine_state.specs.Frames.{after, ending, ends, handling_of, here_in, layers_of, outcome, outer_of, resume, site_of, state_of}
 use Rattle.machine_stmt.proofs.run.take.Goals as goal
 
 pub returns-in-Operand-clause-next : goal.returns-in-Operand-clause-next
 returns-in-Operand-clause-next c =
     let m = c.args.m.now in
     let m' = c.end_operand.new.m in
-    let turn = λ (f : Frame). ends m.left (resume f (layers_of m.stack) (site_of (here_in f m.here) (outer_of m.stack)) (outcome c.args.end (state_of m)) (after m.stack (here_in f m.here))) in
+    let turn = λ (f : Frame). ends m.left (resume f (layers_of m.stack) (site_of (here_in f m.here) (outer_of m.stack) (handling_of m.stack)) (outcome c.args.end (state_of m)) (after m.stack (here_in f m.here))) in
     IfOk-weaker c.end_operand.result (λ (t : TurnEnd). turn (frame.Operand c.in-Operand.frame) ≡ ending t m') (λ (t : TurnEnd). turn c.args.frame ≡ ending t m')
     (λ t h. ap turn c.in-Operand.is ∙ h) c.end_operand.ensures.next
 
@@ -18,6 +18,14 @@ pub returns-in-Call-clause-next : goal.returns-in-Call-clause-next
 returns-in-Call-clause-next c =
     let m = c.args.m.now in
     let m' = c.end_call.new.m in
-    let turn = λ (f : Frame). ends m.left (resume f (layers_of m.stack) (site_of (here_in f m.here) (outer_of m.stack)) (outcome c.args.end (state_of m)) (after m.stack (here_in f m.here))) in
+    let turn = λ (f : Frame). ends m.left (resume f (layers_of m.stack) (site_of (here_in f m.here) (outer_of m.stack) (handling_of m.stack)) (outcome c.args.end (state_of m)) (after m.stack (here_in f m.here))) in
     IfOk-weaker c.end_call.result (λ (t : TurnEnd). turn (frame.Call c.in-Call.frame) ≡ ending t m') (λ (t : TurnEnd). turn c.args.frame ≡ ending t m')
     (λ t h. ap turn c.in-Call.is ∙ h) c.end_call.ensures.next
+
+pub returns-in-Item-clause-next : goal.returns-in-Item-clause-next
+returns-in-Item-clause-next c =
+    let m = c.args.m.now in
+    let m' = c.end_item.new.m in
+    let turn = λ (f : Frame). ends m.left (resume f (layers_of m.stack) (site_of (here_in f m.here) (outer_of m.stack) (handling_of m.stack)) (outcome c.args.end (state_of m)) (after m.stack (here_in f m.here))) in
+    IfOk-weaker c.end_item.result (λ (t : TurnEnd). turn (frame.Item c.in-Item.frame) ≡ ending t m') (λ (t : TurnEnd). turn c.args.frame ≡ ending t m')
+    (λ t h. ap turn c.in-Item.is ∙ h) c.end_item.ensures.next

@@ -1,0 +1,5 @@
+use Rattle.std.proofs.lemmas.Result.{IfOk-weaker}
+use Rattle.machine_expr.proofs.containers.begin_subscript.Goals as goal
+
+pub returns-clause-next : goal.returns-clause-next
+returns-clause-next c = IfOk-weaker c.descend.result _ _ (λ d h. rw (← c.in_ok-index.ensures.cases) h) c.descend.ensures.next

@@ -1,0 +1,20 @@
+-- The branches of a choice from a place on.
+use Rattle.std.proofs.Common.{◌≡◌, ℕ, List, [], ◌∷◌, ap, ◌∙◌, ◌+◌, drop, get_or, length, ◌<◌, ◌≤◌}
+use Rattle.std.proofs.Math.ListN.{drop_of_length-le}
+use Rattle.std.specs.List.{sum_by}
+use Rattle.std.proofs.lemmas.List.Sums.{sum_by-cons}
+use Rattle.py_core.specs.declared.stmt.CoreBranch as branch
+use Rattle.core_meaning.specs.Requests.{Layer}
+use Rattle.core_meaning.specs.Statements.{choice, choices}
+use Rattle.machine_state.specs.Work.{branch_work}
+use Rattle.machine_expr.proofs.Parts.{drop_some}
+
+pub choices_some : (ls : List Layer) (bs : List branch.CoreBranch) (i : ℕ) (b : branch.CoreBranch) → i < length bs → b ≡ get_or bs i b → choices ls (drop i bs) ≡ choice ls b ∷ choices ls (drop (i + 1) bs)
+choices_some ls bs i b w h = ap (choices ls) (drop_some bs i b w h)
+
+pub choices_none : (ls : List Layer) (bs : List branch.CoreBranch) (i : ℕ) → length bs ≤ i → choices ls (drop i bs) ≡ []
+choices_none ls bs i h = ap (choices ls) (drop_of_length-le bs h)
+
+pub branches_weigh : (bs : List branch.CoreBranch) (i : ℕ) (b : branch.CoreBranch) → i < length bs → b ≡ get_or bs i b
+    → sum_by branch_work (drop i bs) ≡ branch_work b + sum_by branch_work (drop (i + 1) bs)
+branches_weigh bs i b w h = ap (sum_by branch_work) (drop_some bs i b w h) ∙ sum_by-cons {X = branch.CoreBranch} branch_work b (drop (i + 1) bs)

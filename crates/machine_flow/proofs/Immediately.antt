@@ -1,0 +1,49 @@
+-- Statements whose condition's value is there at once.
+use Rattle.std.proofs.Common.{◌≡◌, ◌≤◌, ◌∙◌, List, ◌∷◌, Option, Some, IfSome, sym, ap}
+use Rattle.std.specs.declared.alloc.Global.{Global}
+use Rattle.std.specs.declared.rc.Rc.{Rc}
+use Rattle.py_core.specs.declared.expr.CoreExpr.{CoreExpr}
+use Rattle.py_core.specs.declared.stmt.CoreBlock.{CoreBlock}
+use Rattle.py_core.specs.declared.stmt.CoreBranch.{CoreBranch, out-CoreBranch}
+use Rattle.py_values.specs.Truth.{truth}
+use Rattle.py_world.specs.Outcome.{Gave, Next, if_true, on_value}
+use Rattle.py_world.specs.World.{heap_of}
+use Rattle.py_world.specs.Statements.{asked, branches_on, loop}
+use Rattle.core_meaning.specs.Requests.{TurnOf}
+use Rattle.core_meaning.specs.Expressions.{eval}
+use Rattle.core_meaning.specs.Statements.{CoreBody, CoreChoice, block, choice}
+use Rattle.machine_state.specs.declared.machine.Machine.{Machine}
+use Rattle.machine_state.specs.Frames.{CoreThen, at_line, ends, layers_of, rest_of, site_now, state_of}
+use Rattle.machine_expr.specs.declared.immediate.Immediate.{Immediate}
+use Rattle.machine_expr.specs.AtOnce.{IsImmediate}
+use Rattle.machine_expr.proofs.AtOnces.{found}
+use Rattle.machine_flow.proofs.Flows.{choice_is}
+
+module _ (m : Machine) (e : Rc CoreExpr Global) (e' : CoreExpr) (rx : Option Immediate) (x : Immediate) (same : e' ≡ e.value) (is : rx ≡ Some x) (h : IfSome rx (λ d. IsImmediate (eval e') m.left d m)) where
+  there : IsImmediate (eval e') m.left x m
+  there = found m (eval e') m.left rx x is h
+
+  goes : (k : CoreThen) → ends x.left (k (Gave x.value (state_of m))) ≡ ends m.left (eval e.value (site_now m) (state_of m) k)
+  goes k = sym (there.goes_on k) ∙ ap (λ (y : CoreExpr). ends m.left (eval y (site_now m) (state_of m) k)) same
+
+  pub fewer : x.left ≤ m.left
+  fewer = there.fewer
+
+  pub loop_there : (body : CoreBlock)
+      → ends x.left (if_true (truth m.heap x.value) (asked (TurnOf e.value body) (site_now m) (state_of m) (rest_of m)) (rest_of m (Next (state_of m)))) ≡ ends m.left (loop (TurnOf e.value body) (eval e.value) (site_now m) (state_of m) (rest_of m))
+  loop_there body = goes (λ o. on_value o (rest_of m) (λ v s. if_true (truth (heap_of s) v) (asked (TurnOf e.value body) (site_now m) s (rest_of m)) (rest_of m (Next s))))
+
+-- a branch whose condition's value is there at once, on the branch's line
+pub branch_there : (m : Machine) (b : CoreBranch) (e' : CoreExpr) (rx : Option Immediate) (x : Immediate) (body : Rc CoreBlock Global) (rest : List CoreChoice) (other : CoreBody)
+    → e' ≡ (out-CoreBranch b).condition.value → body.value ≡ (out-CoreBranch b).body.value → rx ≡ Some x → IfSome rx (λ d. IsImmediate (eval e') m.left d (record m { here = at_line (out-CoreBranch b).at.line m.here }))
+    → ends x.left (if_true (truth m.heap x.value) (block (layers_of m.stack) body.value (site_now m).scene (state_of m) (rest_of m)) (branches_on rest other (site_now m).scene (state_of m) (rest_of m)))
+    ≡ ends m.left (branches_on (choice (layers_of m.stack) b ∷ rest) other (site_now m).scene (state_of m) (rest_of m))
+branch_there m b e' rx x body rest other condition same is h =
+    let ls = layers_of m.stack in
+    let scene = (site_now m).scene in
+    let line = (out-CoreBranch b).at.line in
+    let i : IsImmediate (eval e') m.left x (record m { here = at_line line m.here }) = found (record m { here = at_line line m.here }) (eval e') m.left rx x is h in
+    sym (i.goes_on (λ o. on_value o (rest_of m) (λ v s. if_true (truth (heap_of s) v) (block ls body.value scene s (rest_of m)) (branches_on rest other scene s (rest_of m)))))
+    ∙ ap (λ (y : CoreExpr). ends m.left (branches_on ((line, (eval y, block ls body.value)) ∷ rest) other scene (state_of m) (rest_of m))) condition
+    ∙ ap (λ (y : CoreBlock). ends m.left (branches_on ((line, (eval (out-CoreBranch b).condition.value, block ls y)) ∷ rest) other scene (state_of m) (rest_of m))) same
+    ∙ ap (λ (y : CoreChoice). ends m.left (branches_on (y ∷ rest) other scene (state_of m) (rest_of m))) (sym (choice_is ls b))

@@ -1,0 +1,6 @@
+pub mod Branches
+pub mod Flows
+pub mod Elements
+pub mod Entering
+pub mod Immediately
+pub mod Parameters

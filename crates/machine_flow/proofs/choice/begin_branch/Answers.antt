@@ -1,0 +1,34 @@
+use Rattle.std.proofs.Common.{◌≡◌, ◌∙◌, ◌∷◌, ap, drop}
+use Rattle.std.proofs.lemmas.Result.{IfOk-weaker}
+use Rattle.py_values.specs.Truth.{truth}
+use Rattle.py_world.specs.Outcome.{if_true}
+use Rattle.py_world.specs.Statements.{branches_on}
+use Rattle.core_meaning.specs.Statements.{block, choice, choices}
+use Rattle.machine_state.specs.declared.machine.Doing.{Doing}
+use Rattle.machine_state.specs.Frames.{ends, layers_of, rest_of, site_now, state_of, todo}
+use Rattle.machine_expr.proofs.Noted.{same_run}
+use Rattle.machine_flow.proofs.Flows.{branch_tests}
+use Rattle.machine_flow.proofs.Immediately.{branch_there}
+use Rattle.machine_flow.proofs.choice.begin_branch.Goals as goal
+
+pub returns-in-Some-clause-next : goal.returns-in-Some-clause-next
+returns-in-Some-clause-next c =
+    let m = c.args.m.now in
+    let m' = c.choose.new.m in
+    let x = c.in-Some.there in
+    let ls = layers_of m.stack in
+    let rest = choices ls (drop c.args.next c.args.branches.value.items) in
+    let other = block ls c.args.other.value in
+    let scene = (site_now m).scene in
+    let tree = if_true (truth m.heap x.value) (block ls c.in_ok-body.body.value scene (state_of m) (rest_of m)) (branches_on rest other scene (state_of m) (rest_of m)) in
+    let whole = branches_on (choice ls c.args.branch.now ∷ rest) other scene (state_of m) (rest_of m) in
+    IfOk-weaker c.choose.result (λ (d : Doing). todo d m' ≡ tree) (λ (d : Doing). ends m'.left (todo d m') ≡ ends m.left whole)
+    (λ d h. same_run x.left m'.left (todo d m') tree c.choose.ensures.left h
+    ∙ branch_there m c.args.branch.now c.deref.result.now c.in_ok-there.field-0 x c.in_ok-body.body rest other c.deref.ensures c.in_ok-body.ensures.cases c.in-Some.is c.in_ok-there.ensures)
+    c.choose.ensures.next
+
+pub returns-in_ok-clone-in-None-clause-next : goal.returns-in_ok-clone-in-None-clause-next
+returns-in_ok-clone-in-None-clause-next c =
+    let m = c.args.m.now in
+    ap (ends m.left) (branch_tests m.here m.stack (state_of m) c.args.branch.now c.in_ok-clone-in-None.field-0 c.in_ok-body.body c.args.branches c.args.next c.args.other
+    c.push.new.self c.in_ok-push-in-None.ensures c.in_ok-clone-in-None.ensures.cases c.in_ok-body.ensures.cases)

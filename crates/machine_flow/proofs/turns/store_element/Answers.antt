@@ -1,0 +1,25 @@
+use Rattle.std.proofs.Common.{◌≡◌, ◌∙◌, [], ap}
+use Rattle.std.proofs.lemmas.Result.{IfOk-weaker}
+use Rattle.py_core.specs.declared.stmt.CoreTarget.{CoreTarget}
+use Rattle.py_world.specs.Loops.{behind_target}
+use Rattle.py_world.specs.Outcome.{on_next}
+use Rattle.core_meaning.specs.Requests.{ForOf}
+use Rattle.core_meaning.specs.Statements.{block, store}
+use Rattle.machine_state.specs.declared.machine.Doing.{Doing}
+use Rattle.machine_state.specs.Frames.{after, handling_of, outer_of, rest_of, site_now, site_of, state_of, todo}
+use Rattle.machine_flow.proofs.Elements.{element_stored}
+use Rattle.machine_flow.proofs.turns.store_element.Goals as goal
+
+pub returns-clause-next : goal.returns-clause-next
+returns-clause-next c =
+    let m = c.args.m.now in
+    let m' = c.store_target.new.m in
+    let fs' = c.push.new.self in
+    let t = c.args.target in
+    let b = c.args.body in
+    let v = c.args.v in
+    let stored = λ (x : CoreTarget). store x v (site_of m.here (outer_of fs') (handling_of fs')) (state_of m) (after fs' m.here) in
+    IfOk-weaker c.store_target.result (λ (d : Doing). todo d m' ≡ stored c.deref.result.now)
+    (λ (d : Doing). todo d m' ≡ store t.value v (site_now m) (state_of m) (λ o. on_next o (rest_of m) (λ s. behind_target (ForOf t.value b.value) (block [] b.value) c.args.next (site_now m) s (rest_of m))))
+    (λ d h. h ∙ ap stored c.deref.ensures ∙ element_stored m.here m.stack (state_of m) t c.in_ok-again.again b c.args.next v fs' c.in_ok-again.ensures.cases c.in_ok-push.ensures)
+    c.store_target.ensures.next

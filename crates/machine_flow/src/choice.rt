@@ -1,0 +1,149 @@
+// Choices (Language Reference, the if statement).
+
+ghost use Rattle.std.specs.Prelude.{◌≡◌, ◌+◌, ◌≤◌, ◌∷◌, IfOk, drop};
+ghost use Rattle.std.specs.List.{sum_by};
+ghost use Rattle.py_core.specs.Blocks.{stmts_in};
+ghost use Rattle.py_values.specs.Truth.{truth};
+ghost use Rattle.py_world.specs.Outcome.{if_true};
+ghost use Rattle.py_world.specs.Statements as world;
+ghost use Rattle.core_meaning.specs.Statements as meaning;
+ghost use Rattle.core_meaning.specs.Statements.{block, choice, choices};
+ghost use Rattle.machine_state.specs.Frames.{ends, layers_of, on_flow, outcome, rest_of, site_now, state_of, todo, Follows};
+ghost use Rattle.machine_state.specs.Work.{block_work, branch_work, doing_work, flow_work, stack_work, Falls};
+
+use machine_expr::immediate::at_once;
+use machine_state::frame::{End, FlowFrame, Frame};
+use machine_state::machine::{Doing, Machine, TurnEnd};
+use machine_unwind::block::begin_block;
+use py_core::{CoreBlock, CoreBranch};
+use py_text::OutOfMemory;
+use py_values::truth::truth;
+use py_values::value::Value;
+use std::rc::Rc;
+
+/// Begins a choice, with no temporary.
+pub fn begin_choice(
+    m: &mut Machine,
+    branches: &Rc<Vec<CoreBranch>>,
+    other: &Rc<CoreBlock>,
+) -> Result<Doing, OutOfMemory>
+    ensures next { IfOk result (λ d. ends m.new.left (todo d m.new) ≡ ends m.old.left (world.choose (meaning.choices (layers_of m.old.stack) branches.now.value.items) (meaning.block (layers_of m.old.stack) other.now.value) (site_now m.old) (state_of m.old) (rest_of m.old))) }
+    ensures left { m.new.left ≤ m.old.left }
+{
+    m.temps.clear();
+    next_branch(m, branches.clone()?, 0, other.clone()?)
+}
+
+/// Begins the branch at a place, or the last block where there is none.
+#[tactic(auto, using(crate::proofs::Branches::choices_some, crate::proofs::Branches::choices_none, crate::proofs::Branches::branches_weigh))]
+fn next_branch(
+    m: &mut Machine,
+    branches: Rc<Vec<CoreBranch>>,
+    at: usize,
+    other: Rc<CoreBlock>,
+) -> Result<Doing, OutOfMemory>
+    ensures next { IfOk result (λ d. ends m.new.left (todo d m.new) ≡ ends m.old.left (world.branches_on (choices (layers_of m.old.stack) (drop at branches.value.items)) (block (layers_of m.old.stack) other.value) (site_now m.old).scene (state_of m.old) (rest_of m.old))) }
+    ensures left { m.new.left ≤ m.old.left }
+    ensures work { IfOk result (λ d. doing_work d + stack_work m.new ≤ sum_by branch_work (drop at branches.value.items) + block_work (stmts_in other.value) + stack_work m.old) }
+{
+    if at >= branches.len() {
+        return begin_block(m, other);
+    }
+    let again = branches.clone()?;
+    begin_branch(m, &branches[at], again, at + 1, other)
+}
+
+/// Begins a branch, the others from a place on behind it.
+#[tactic(auto, using(crate::proofs::Flows::branch_weighs))]
+fn begin_branch(
+    m: &mut Machine,
+    branch: &CoreBranch,
+    branches: Rc<Vec<CoreBranch>>,
+    next: usize,
+    other: Rc<CoreBlock>,
+) -> Result<Doing, OutOfMemory>
+    ensures next { IfOk result (λ d. ends m.new.left (todo d m.new) ≡ ends m.old.left (world.branches_on (choice (layers_of m.old.stack) branch.now ∷ choices (layers_of m.old.stack) (drop next branches.value.items)) (block (layers_of m.old.stack) other.value) (site_now m.old).scene (state_of m.old) (rest_of m.old))) }
+    ensures left { m.new.left ≤ m.old.left }
+    ensures work { IfOk result (λ d. doing_work d + stack_work m.new ≤ branch_work branch.now + sum_by branch_work (drop next branches.value.items) + block_work (stmts_in other.value) + stack_work m.old) }
+{
+    let body = branch.body.clone()?;
+    let line = m.here.line;
+    m.here.line = branch.at.line;
+    match at_once(m, &branch.condition)? {
+        Some(there) => {
+            m.left = there.left;
+            m.here.line = line;
+            choose(m, there.value, body, branches, next, other)
+        }
+        None => {
+            let frame = FlowFrame::Branch(body, branches, next, other, line);
+            m.stack.push(Frame::Flow(frame))?;
+            Ok(Doing::Evaluate(branch.condition.clone()?))
+        }
+    }
+}
+
+/// Goes on behind the condition of a branch whose value is there.
+fn choose(
+    m: &mut Machine,
+    v: Value,
+    body: Rc<CoreBlock>,
+    branches: Rc<Vec<CoreBranch>>,
+    next: usize,
+    other: Rc<CoreBlock>,
+) -> Result<Doing, OutOfMemory>
+    ensures next { IfOk result (λ d. todo d m.new ≡ if_true (truth m.old.heap v) (block (layers_of m.old.stack) body.value (site_now m.old).scene (state_of m.old) (rest_of m.old)) (world.branches_on (choices (layers_of m.old.stack) (drop next branches.value.items)) (block (layers_of m.old.stack) other.value) (site_now m.old).scene (state_of m.old) (rest_of m.old))) }
+    ensures left { m.new.left ≡ m.old.left }
+    ensures work { IfOk result (λ d. doing_work d + stack_work m.new ≤ block_work (stmts_in body.value) + sum_by branch_work (drop next branches.value.items) + block_work (stmts_in other.value) + 1 + stack_work m.old) }
+{
+    if truth(&m.heap, v) {
+        return begin_block(m, body);
+    }
+    if next >= branches.len() {
+        return begin_block(m, other);
+    }
+    let frame = FlowFrame::Branch(body, branches, next, other, m.here.line);
+    m.stack.push(Frame::Flow(frame))?;
+    Ok(Doing::Back(End::Value(v)))
+}
+
+/// Goes on behind the value of a branch's condition.
+fn take_condition(
+    m: &mut Machine,
+    body: Rc<CoreBlock>,
+    branches: Rc<Vec<CoreBranch>>,
+    at: usize,
+    other: Rc<CoreBlock>,
+    v: Value,
+) -> Result<Doing, OutOfMemory>
+    ensures next { IfOk result (λ d. ends m.new.left (todo d m.new) ≡ ends m.old.left (if_true (truth m.old.heap v) (block (layers_of m.old.stack) body.value (site_now m.old).scene (state_of m.old) (rest_of m.old)) (world.branches_on (choices (layers_of m.old.stack) (drop at branches.value.items)) (block (layers_of m.old.stack) other.value) (site_now m.old).scene (state_of m.old) (rest_of m.old)))) }
+    ensures left { m.new.left ≤ m.old.left }
+    ensures work { IfOk result (λ d. doing_work d + stack_work m.new ≤ block_work (stmts_in body.value) + sum_by branch_work (drop at branches.value.items) + block_work (stmts_in other.value) + stack_work m.old) }
+{
+    if truth(&m.heap, v) {
+        return begin_block(m, body);
+    }
+    next_branch(m, branches, at, other)
+}
+
+/// Goes on behind the condition of a branch.
+pub fn take_branch(
+    m: &mut Machine,
+    body: Rc<CoreBlock>,
+    branches: Rc<Vec<CoreBranch>>,
+    at: usize,
+    other: Rc<CoreBlock>,
+    end: End,
+) -> Result<TurnEnd, OutOfMemory>
+    ensures next { IfOk result (λ t. Follows t m.new m.old.left (on_flow (FlowFrame.Branch body branches at other 0) (layers_of m.old.stack) (site_now m.old) (outcome end (state_of m.old)) (rest_of m.old))) }
+    ensures work { IfOk result (λ t. Falls t m.new m.old.left (flow_work (FlowFrame.Branch body branches at other 0) + stack_work m.old)) }
+{
+    match end {
+        End::Value(v) => Ok(TurnEnd::Go(take_condition(m, body, branches, at, other, v)?)),
+        End::Next => Ok(TurnEnd::Go(Doing::Back(End::Next))),
+        End::Returned(v) => Ok(TurnEnd::Go(Doing::Back(End::Returned(v)))),
+        End::Broke => Ok(TurnEnd::Go(Doing::Back(End::Broke))),
+        End::Continued => Ok(TurnEnd::Go(Doing::Back(End::Continued))),
+        End::Raised(e, trace) => Ok(TurnEnd::Go(Doing::Back(End::Raised(e, trace)))),
+    }
+}

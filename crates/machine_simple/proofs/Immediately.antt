@@ -1,0 +1,30 @@
+-- Statements whose expression's value is there at once.
+use Rattle.std.proofs.Common.{◌≡◌, ◌∙◌, Option, Some, IfSome, drop, ap}
+use Rattle.std.specs.declared.alloc.Global.{Global}
+use Rattle.std.specs.declared.rc.Rc.{Rc}
+use Rattle.std.specs.declared.vec.Vec.{Vec}
+use Rattle.py_core.specs.declared.expr.CoreExpr.{CoreExpr}
+use Rattle.py_core.specs.declared.stmt.CoreTarget.{CoreTarget}
+use Rattle.py_world.specs.Outcome.{Next, Returned, on_value}
+use Rattle.py_world.specs.Statements.{expression_statement, return_value}
+use Rattle.py_world.specs.Targets.{assign, store_all}
+use Rattle.core_meaning.specs.Expressions.{eval}
+use Rattle.core_meaning.specs.Statements.{stores}
+use Rattle.machine_state.specs.declared.machine.Machine.{Machine}
+use Rattle.machine_state.specs.Frames.{ends, rest_of, site_now, state_of}
+use Rattle.machine_expr.specs.declared.immediate.Immediate.{Immediate}
+use Rattle.machine_expr.specs.AtOnce.{IsImmediate}
+use Rattle.machine_store.proofs.Immediately.{goes}
+
+module _ (m : Machine) (e : Rc CoreExpr Global) (e' : CoreExpr) (rx : Option Immediate) (x : Immediate) (same : e' ≡ e.value) (is : rx ≡ Some x) (h : IfSome rx (λ d. IsImmediate (eval e') m.left d m)) where
+  pub expression_there : ends x.left (rest_of m (Next (state_of m))) ≡ ends m.left (expression_statement (eval e.value) (site_now m) (state_of m) (rest_of m))
+  expression_there = goes m e e' rx x same is h (λ o. on_value o (rest_of m) (λ v s. rest_of m (Next s)))
+
+  pub return_there : ends x.left (rest_of m (Returned x.value (state_of m))) ≡ ends m.left (return_value (Some (eval e.value)) (site_now m) (state_of m) (rest_of m))
+  return_there = goes m e e' rx x same is h (λ o. on_value o (rest_of m) (λ v s. rest_of m (Returned v s)))
+
+  pub assign_there : (ts ts' : Rc (Vec CoreTarget Global) Global) → ts'.value ≡ ts.value
+      → ends x.left (store_all (stores (drop 0 ts'.value.items)) x.value (site_now m) (state_of m) (rest_of m)) ≡ ends m.left (assign (stores ts.value.items) (eval e.value) (site_now m) (state_of m) (rest_of m))
+  assign_there ts ts' copied =
+      ap (λ (v : Vec CoreTarget Global). ends x.left (store_all (stores v.items) x.value (site_now m) (state_of m) (rest_of m))) copied
+      ∙ goes m e e' rx x same is h (λ o. on_value o (rest_of m) (λ v s. store_all (stores ts.value.items) v (site_now m) s (rest_of m)))

@@ -1,0 +1,3 @@
+pub mod Immediately
+pub mod Passing
+pub mod Targets

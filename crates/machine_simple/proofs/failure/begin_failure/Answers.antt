@@ -1,0 +1,24 @@
+use Rattle.std.proofs.Common.{◌≡◌, ◌∙◌, Some, ap, refl}
+use Rattle.std.proofs.lemmas.Result.{IfOk-weaker}
+use Rattle.py_tree.specs.declared.expr.Expr.{Expr}
+use Rattle.py_tree.specs.Trees.{tree}
+use Rattle.py_world.specs.Statements.{fail_explained}
+use Rattle.core_meaning.specs.Expressions.{eval}
+use Rattle.core_meaning.specs.Statements.{failure}
+use Rattle.machine_state.specs.declared.machine.Doing.{Doing}
+use Rattle.machine_state.specs.Frames.{rest_of, site_now, state_of, todo}
+use Rattle.machine_simple.proofs.failure.begin_failure.Goals as goal
+
+pub returns-in_ok-clone-in-Explain-Some-clause-next : goal.returns-in_ok-clone-in-Explain-Some-clause-next
+returns-in_ok-clone-in-Explain-Some-clause-next c =
+    let m = c.args.m.now in
+    let m' = c.descend-in-Explain-Some.new.m in
+    let p = site_now m in
+    let s = state_of m in
+    let k = rest_of m in
+    let e = c.in-Explain-Some.e in
+    let given : fail_explained (tree c.in-Explain-Some.shown.value) (Some (eval e.value)) p s k ≡ failure c.args.template.now c.args.message.now p s k = rw (c.in-Explain-Some.is-0, c.in-Explain-Some.is-1) refl in
+    IfOk-weaker c.descend-in-Explain-Some.result (λ (d : Doing). todo d m' ≡ fail_explained (tree c.in_ok-clone-in-Explain-Some.field-0.value) (Some (eval e.value)) p s k)
+    (λ (d : Doing). todo d m' ≡ failure c.args.template.now c.args.message.now p s k)
+    (λ d h. h ∙ ap (λ (x : Expr). fail_explained (tree x) (Some (eval e.value)) p s k) c.in_ok-clone-in-Explain-Some.ensures.cases ∙ given)
+    c.descend-in-Explain-Some.ensures.next

@@ -1,0 +1,72 @@
+// The failure of an assert.
+
+ghost use Rattle.std.specs.Prelude.{◌≡◌, ◌+◌, ◌<◌, IfOk};
+ghost use Rattle.core_meaning.specs.Statements as meaning;
+ghost use Rattle.machine_state.specs.Frames.{rest_of, site_now, state_of, todo};
+ghost use Rattle.machine_state.specs.Work.{doing_work, stack_work};
+ghost use Rattle.machine_simple.specs.Failing.{failure_work};
+ghost use Rattle.py_tree.specs.Trees.{tree};
+ghost use Rattle.py_world.specs.Explained.{explanation};
+ghost use Rattle.py_world.specs.Outcome.{raised_at};
+ghost use Rattle.py_world.specs.Statements as world;
+
+use assert_explain::explain as explained_text;
+use machine_expr::evaluate::descend;
+use machine_state::frame::{Frame, SimpleFrame};
+use machine_state::machine::{Doing, Machine, Origin};
+use py_core::{CoreExpr, Expr, Template};
+use py_text::{OutOfMemory, PyText};
+use py_values::class::ExcClass;
+use py_values::end::Raise;
+use py_values::object::Obj;
+use py_values::value::Value;
+use std::rc::Rc;
+
+/// Raises the `AssertionError` of a failed assert, with its message where there is one.
+pub fn fail(m: &mut Machine, message: Option<Value>) -> Result<Doing, OutOfMemory>
+    ensures next { IfOk result (λ d. todo d m.new ≡ rest_of m.old (raised_at (world.assertion message) (site_now m.old) (state_of m.old))) }
+    ensures left { m.new.left ≡ m.old.left }
+    ensures work { IfOk result (λ d. doing_work d ≡ 0) }
+    ensures stack { m.new.stack ≡ m.old.stack }
+{
+    let text = PyText::from_chars(m.alloc, &[])?;
+    let raise = Raise {
+        class: ExcClass::AssertionError,
+        text,
+        arg: message,
+    };
+    m.raise(raise, Origin::Code)
+}
+
+/// Begins the failure of an assert.
+pub fn begin_failure(
+    m: &mut Machine,
+    template: &Template,
+    message: &Option<Rc<CoreExpr>>,
+) -> Result<Doing, OutOfMemory>
+    ensures next { IfOk result (λ d. todo d m.new ≡ meaning.failure template.now message.now (site_now m.old) (state_of m.old) (rest_of m.old)) }
+    ensures left { m.new.left ≡ m.old.left }
+    ensures work { IfOk result (λ d. doing_work d + stack_work m.new < failure_work message.now + stack_work m.old) }
+{
+    match (template, message) {
+        (Template::Plain, Some(e)) => descend(m, Frame::Simple(SimpleFrame::Fail), e),
+        (Template::Plain, None) => fail(m, None),
+        (Template::Explain(shown), Some(e)) => {
+            let frame = SimpleFrame::Explain(shown.clone()?);
+            descend(m, Frame::Simple(frame), e)
+        }
+        (Template::Explain(shown), None) => explain(m, shown, None),
+    }
+}
+
+/// Raises the `AssertionError` of a failed assert whose condition is explained.
+pub fn explain(m: &mut Machine, shown: &Expr, message: Option<Value>) -> Result<Doing, OutOfMemory>
+    ensures next { IfOk result (λ d. todo d m.new ≡ rest_of m.old (world.failed_with (explanation (tree shown.now) m.old.temps.items message m.old.heap) (site_now m.old) (state_of m.old))) }
+    ensures left { m.new.left ≡ m.old.left }
+    ensures work { IfOk result (λ d. doing_work d ≡ 0) }
+    ensures stack { m.new.stack ≡ m.old.stack }
+{
+    let text = explained_text(m.alloc, shown, &m.temps, message, &m.heap)?;
+    let id = m.heap.add(Obj::Text(text))?;
+    fail(m, Some(Value::Ref(id)))
+}

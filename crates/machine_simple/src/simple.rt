@@ -1,0 +1,94 @@
+// The turns behind parts of simple statements.
+
+ghost use Rattle.std.specs.Prelude.{◌≡◌, ◌+◌, ◌<◌, IfOk, drop};
+ghost use Rattle.std.specs.List.{sum_by};
+ghost use Rattle.py_world.specs.Outcome.{Gave, Next};
+ghost use Rattle.py_world.specs.Targets.{store_all};
+ghost use Rattle.core_meaning.specs.Statements as meaning;
+ghost use Rattle.machine_state.specs.Frames.{layers_of, on_simple, outcome, rest_of, site_now, state_of, todo, Follows};
+ghost use Rattle.machine_state.specs.Work.{doing_work, simple_work, stack_work, taker_work, Falls};
+
+use crate::failure::{explain, fail};
+use machine_state::frame::{End, Frame, SimpleFrame};
+use machine_state::machine::{Doing, Machine, TurnEnd};
+use machine_store::assign::store_target;
+use machine_store::operate::augment;
+use machine_store::spot::store_spot;
+use machine_unwind::raise::raise_value;
+use py_core::CoreTarget;
+use py_text::OutOfMemory;
+use py_values::value::Value;
+use std::rc::Rc;
+
+/// Stores a value in the targets from a place on, from left to right.
+#[tactic(auto, using(crate::proofs::Targets::stores_last, crate::proofs::Targets::stores_none, crate::proofs::Targets::takers_weigh))]
+pub fn store_next(
+    m: &mut Machine,
+    ts: Rc<Vec<CoreTarget>>,
+    at: usize,
+    v: Value,
+) -> Result<Doing, OutOfMemory>
+    ensures next { IfOk result (λ d. todo d m.new ≡ store_all (meaning.stores (drop at ts.value.items)) v (site_now m.old) (state_of m.old) (rest_of m.old)) }
+    ensures left { m.new.left ≡ m.old.left }
+    ensures work { IfOk result (λ d. doing_work d + stack_work m.new < sum_by taker_work (drop at ts.value.items) + 1 + stack_work m.old) }
+{
+    if at >= ts.len() {
+        return Ok(Doing::Back(End::Next));
+    }
+    if at + 1 >= ts.len() {
+        return store_target(m, &ts[at], v);
+    }
+    let again = ts.clone()?;
+    let frame = SimpleFrame::Targets(again, at + 1, v);
+    m.stack.push(Frame::Simple(frame))?;
+    store_target(m, &ts[at], v)
+}
+
+/// Goes on with a value.
+fn take_value(m: &mut Machine, frame: SimpleFrame, v: Value) -> Result<TurnEnd, OutOfMemory>
+    ensures next { IfOk result (λ t. Follows t m.new m.old.left (on_simple frame (layers_of m.old.stack) (site_now m.old) (Gave v (state_of m.old)) (rest_of m.old))) }
+    ensures work { IfOk result (λ t. Falls t m.new m.old.left (simple_work frame + stack_work m.old)) }
+{
+    match frame {
+        SimpleFrame::Forget => Ok(TurnEnd::Go(Doing::Back(End::Next))),
+        SimpleFrame::Assign(ts) => Ok(TurnEnd::Go(store_next(m, ts, 0, v)?)),
+        SimpleFrame::Targets(_, _, _) => Ok(TurnEnd::Go(Doing::Back(End::Value(v)))),
+        SimpleFrame::Augment(x, op, place) => {
+            m.stack.push(Frame::Simple(SimpleFrame::Store(place)))?;
+            augment(m, op, x, v)
+        }
+        SimpleFrame::Store(place) => store_spot(m, place, v),
+        SimpleFrame::Raise => Ok(TurnEnd::Go(raise_value(m, v)?)),
+        SimpleFrame::Return => Ok(TurnEnd::Go(Doing::Back(End::Returned(v)))),
+        SimpleFrame::Fail => Ok(TurnEnd::Go(fail(m, Some(v))?)),
+        SimpleFrame::Explain(shown) => Ok(TurnEnd::Go(explain(m, &shown, Some(v))?)),
+        SimpleFrame::Yield => Ok(TurnEnd::Go(Doing::Freeze(v))),
+    }
+}
+
+/// Goes on behind a statement that is over.
+fn take_next(m: &mut Machine, frame: SimpleFrame) -> Result<TurnEnd, OutOfMemory>
+    ensures next { IfOk result (λ t. Follows t m.new m.old.left (on_simple frame (layers_of m.old.stack) (site_now m.old) (Next (state_of m.old)) (rest_of m.old))) }
+    ensures work { IfOk result (λ t. Falls t m.new m.old.left (simple_work frame + stack_work m.old)) }
+{
+    match frame {
+        SimpleFrame::Targets(ts, at, v) => Ok(TurnEnd::Go(store_next(m, ts, at, v)?)),
+        _ => Ok(TurnEnd::Go(Doing::Back(End::Next))),
+    }
+}
+
+/// Goes on behind a part of a simple statement.
+#[tactic(auto, using(crate::proofs::Passing::simple_returned, crate::proofs::Passing::simple_broke, crate::proofs::Passing::simple_continued, crate::proofs::Passing::simple_raised))]
+pub fn take_simple(m: &mut Machine, frame: SimpleFrame, end: End) -> Result<TurnEnd, OutOfMemory>
+    ensures next { IfOk result (λ t. Follows t m.new m.old.left (on_simple frame (layers_of m.old.stack) (site_now m.old) (outcome end (state_of m.old)) (rest_of m.old))) }
+    ensures work { IfOk result (λ t. Falls t m.new m.old.left (simple_work frame + stack_work m.old)) }
+{
+    match end {
+        End::Value(v) => take_value(m, frame, v),
+        End::Next => take_next(m, frame),
+        End::Returned(v) => Ok(TurnEnd::Go(Doing::Back(End::Returned(v)))),
+        End::Broke => Ok(TurnEnd::Go(Doing::Back(End::Broke))),
+        End::Continued => Ok(TurnEnd::Go(Doing::Back(End::Continued))),
+        End::Raised(e, trace) => Ok(TurnEnd::Go(Doing::Back(End::Raised(e, trace)))),
+    }
+}

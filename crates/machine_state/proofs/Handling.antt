@@ -1,0 +1,21 @@
+-- The exception that is being handled, from the innermost frame on.
+use Rattle.std.proofs.Common.{ℕ, suc, ◌+◌, ◌<◌, ◌≡◌, ◌∙◌, List, [], ◌∷◌, length, take, get_or, Option, Some, None, refl, sym, ap}
+use Rattle.std.specs.Prelude.{reverse}
+use Rattle.std.proofs.lemmas.List.{take_more, reverse-append}
+use Rattle.py_world.specs.declared.ended.Thrown.{Thrown}
+use Rattle.machine_state.specs.declared.frame.Frame.{Frame}
+use Rattle.machine_state.specs.Frames.{handling_in, handling_of}
+use Rattle.machine_state.specs.Handled.{FrameTells}
+
+reverse_more : (xs : List Frame) (i : ℕ) (x : Frame) → i < length xs → x ≡ get_or xs i x → reverse (take (i + 1) xs) ≡ x ∷ reverse (take i xs)
+reverse_more xs i x w h =
+    ap (λ (ys : List Frame). reverse ys) (take_more xs i x w) ∙ (reverse-append (take i xs) (get_or xs i x ∷ []) ∙ ap (λ (y : Frame). y ∷ reverse (take i xs)) (sym h))
+
+-- the innermost frame of those up to a place tells of an exception
+pub told_here : (xs : List Frame) (i : ℕ) (x : Frame) (t : Thrown) → i < length xs → x ≡ get_or xs i x → FrameTells (Some t) x → handling_of (reverse (take (i + 1) xs)) ≡ Some t
+told_here xs i x t w h tells = ap (λ (fs : List Frame). handling_of fs) (reverse_more xs i x w h) ∙ tells (handling_of (reverse (take i xs)))
+
+-- or of none
+pub told_below : (xs : List Frame) (i : ℕ) (x : Frame) → i < length xs → x ≡ get_or xs i x → FrameTells None x
+    → handling_of (reverse (take (i + 1) xs)) ≡ handling_of (reverse (take i xs))
+told_below xs i x w h tells = ap (λ (fs : List Frame). handling_of fs) (reverse_more xs i x w h) ∙ tells (handling_of (reverse (take i xs)))

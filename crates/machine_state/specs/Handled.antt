@@ -1,0 +1,21 @@
+-- Which frames say what exception is being handled.
+use Rattle.std.specs.Prelude.{◌≡◌, Option, Some, None}
+use Rattle.py_world.specs.declared.ended.Thrown.{Thrown}
+use Rattle.machine_state.specs.declared.frame.End.{End}
+use Rattle.machine_state.specs.declared.frame.UnwindFrame.{UnwindFrame}
+use Rattle.machine_state.specs.declared.frame.Frame.{Frame}
+use Rattle.machine_state.specs.Frames.{handling_again, handling_unwind, handling_in}
+
+-- this one, or that around
+abbrev pub Tells : Option Thrown → (Option Thrown → Option Thrown) → Type 0
+Tells (Some t) handling = (around : Option Thrown) → handling around ≡ Some t
+Tells None handling = (around : Option Thrown) → handling around ≡ around
+
+abbrev pub AgainTells : Option Thrown → End → Type 0
+AgainTells t e = Tells t (handling_again e)
+
+abbrev pub UnwindTells : Option Thrown → UnwindFrame → Type 0
+UnwindTells t f = Tells t (handling_unwind f)
+
+abbrev pub FrameTells : Option Thrown → Frame → Type 0
+FrameTells t f = Tells t (handling_in f)

@@ -1,0 +1,72 @@
+// The traces of exceptions.
+
+ghost use Rattle.std.specs.Prelude.{◌≡◌, [], IfOk, OnOk, option_copied};
+ghost use Rattle.py_world.specs.World.{put_trace, trace_at};
+
+use indexmap::IndexMap;
+use py_text::{OutOfMemory, PyText};
+use py_world::{Trace, TraceFrame};
+use std::alloc::Global;
+use std::marker::Model;
+
+/// The same text.
+pub fn copy_text(alloc: Global, text: &PyText) -> Result<PyText, OutOfMemory>
+    ensures { IfOk result (λ t. t ≡ text.now) }
+{
+    PyText::from_chars(alloc, text.chars())
+}
+
+/// The same trace.
+pub fn copy_trace(alloc: Global, trace: &Trace) -> Result<Trace, OutOfMemory>
+    ensures { IfOk result (λ t. t ≡ trace.now) }
+{
+    let mut frames = Vec::new(alloc);
+    for frame in trace.items() {
+        frames.push(TraceFrame {
+            path: copy_text(alloc, &frame.path)?,
+            line: frame.line,
+            name: copy_text(alloc, &frame.name)?,
+        })?;
+    }
+    Ok(Trace::from_vec(frames))
+}
+
+/// The traces with which exceptions were first raised, by the places of their objects.
+#[derive(Drop)]
+pub struct Traces {
+    map: IndexMap<usize, Trace>,
+}
+
+impl Model for Traces {
+    ghost use Rattle.std.specs.Prelude.{List, ℕ};
+    ghost use Rattle.py_world.specs.declared.trace.TraceFrame.{TraceFrame};
+
+    ghost Value = { List (ℕ × List TraceFrame) };
+
+    ghost view = { λ t. t.map.entries };
+}
+
+impl Traces {
+    pub fn new(alloc: Global) -> Self
+        ensures { result ≡ [] }
+    {
+        Traces {
+            map: IndexMap::new(alloc),
+        }
+    }
+
+    /// The trace of the exception whose object stands at a place.
+    pub fn find(&self, at: usize) -> Option<&Trace>
+        ensures { option_copied result ≡ trace_at at self.now }
+    {
+        self.map.get(&at)
+    }
+
+    /// Keeps the trace of an exception.
+    pub fn put(&mut self, at: usize, trace: Trace) -> Result<(), OutOfMemory>
+        ensures { OnOk result (self.new ≡ put_trace at trace self.old) }
+    {
+        self.map.insert(at, trace)?;
+        Ok(())
+    }
+}

@@ -1,0 +1,34 @@
+use Rattle.std.proofs.Common.{◌≡◌, ◌∙◌, ap, sym}
+use Rattle.std.proofs.lemmas.Result.{IfOk-weaker}
+use Rattle.py_core.specs.declared.stmt.CoreSingleKind.{CoreSingleKind}
+use Rattle.py_world.specs.Targets.{augment_attribute, augment_item}
+use Rattle.core_meaning.specs.Expressions.{eval}
+use Rattle.core_meaning.specs.Statements.{augment_at}
+use Rattle.machine_state.specs.declared.machine.Doing.{Doing}
+use Rattle.machine_state.specs.Frames.{ends, rest_of, site_now, state_of, todo}
+use Rattle.machine_expr.proofs.Noted.{same_run}
+use Rattle.machine_store.proofs.augment.begin_augment.Goals as goal
+
+pub returns-in-Attribute-clause-next : goal.returns-in-Attribute-clause-next
+returns-in-Attribute-clause-next c =
+    let m = c.args.m.now in
+    let m' = c.begin_attribute.new.m in
+    let e = eval c.args.e.now.value in
+    let tree = augment_attribute (eval c.in-Attribute.a.value) c.in-Attribute.name c.args.op e (site_now m) (state_of m) (rest_of m) in
+    IfOk-weaker c.begin_attribute.result (λ (d : Doing). todo d m' ≡ tree)
+    (λ (d : Doing). ends m'.left (todo d m') ≡ ends m.left (augment_at c.args.target.now.kind c.args.op e (site_now m) (state_of m) (rest_of m)))
+    (λ d h. same_run m.left m'.left (todo d m') tree c.begin_attribute.ensures.left h
+    ∙ ap (λ (kind : CoreSingleKind). ends m.left (augment_at kind c.args.op e (site_now m) (state_of m) (rest_of m))) (sym c.in-Attribute.is))
+    c.begin_attribute.ensures.next
+
+pub returns-in-Subscript-clause-next : goal.returns-in-Subscript-clause-next
+returns-in-Subscript-clause-next c =
+    let m = c.args.m.now in
+    let m' = c.begin_item.new.m in
+    let e = eval c.args.e.now.value in
+    let tree = augment_item (eval c.in-Subscript.a.value) (eval c.in-Subscript.i.value) c.args.op e (site_now m) (state_of m) (rest_of m) in
+    IfOk-weaker c.begin_item.result (λ (d : Doing). todo d m' ≡ tree)
+    (λ (d : Doing). ends m'.left (todo d m') ≡ ends m.left (augment_at c.args.target.now.kind c.args.op e (site_now m) (state_of m) (rest_of m)))
+    (λ d h. same_run m.left m'.left (todo d m') tree c.begin_item.ensures.left h
+    ∙ ap (λ (kind : CoreSingleKind). ends m.left (augment_at kind c.args.op e (site_now m) (state_of m) (rest_of m))) (sym c.in-Subscript.is))
+    c.begin_item.ensures.next

@@ -1,0 +1,21 @@
+use Rattle.std.proofs.Common.{◌≡◌, ◌∙◌, ◌∷◌, rules}
+use Rattle.std.proofs.lemmas.Result.{IfOk-weaker}
+use Rattle.py_world.specs.Targets.{delete_attribute}
+use Rattle.core_meaning.specs.Expressions.{eval}
+use Rattle.machine_state.specs.declared.frame.Frame.TheVariants.{Target}
+use Rattle.machine_state.specs.declared.frame.TargetFrame.TheVariants.{DeleteAttribute}
+use Rattle.machine_state.specs.declared.machine.Doing.{Doing}
+use Rattle.machine_state.specs.Frames.{after, handling_of, outer_of, rest_of, site_now, site_of, state_of, todo}
+use Rattle.machine_store.proofs.Begins.{delete_attribute_begins}
+use Rattle.machine_store.proofs.delete.delete_attribute.Goals as goal
+
+pub returns-clause-next : goal.returns-clause-next
+returns-clause-next c =
+    let m = c.args.m.now in
+    let m' = c.descend.new.m in
+    let fs = Target (DeleteAttribute c.in_ok-clone.field-0) ∷ m.stack in
+    let first = eval c.args.e.now.value in
+    IfOk-weaker c.descend.result (λ (d : Doing). todo d m' ≡ first (site_of m.here (outer_of fs) (handling_of fs)) (state_of m) (after fs m.here))
+    (λ (d : Doing). todo d m' ≡ delete_attribute first c.args.name.now (site_now m) (state_of m) (rest_of m))
+    (λ d h. h ∙ delete_attribute_begins m.here m.stack (state_of m) first c.args.name.now c.in_ok-clone.field-0 (search rules))
+    c.descend.ensures.next

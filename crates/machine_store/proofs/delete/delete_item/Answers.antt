@@ -1,0 +1,21 @@
+use Rattle.std.proofs.Common.{◌≡◌, ◌∙◌, ◌∷◌}
+use Rattle.std.proofs.lemmas.Result.{IfOk-weaker}
+use Rattle.py_world.specs.Targets.{delete_item}
+use Rattle.core_meaning.specs.Expressions.{eval}
+use Rattle.machine_state.specs.declared.frame.Frame.TheVariants.{Target}
+use Rattle.machine_state.specs.declared.frame.TargetFrame.TheVariants.{DeleteItem}
+use Rattle.machine_state.specs.declared.machine.Doing.{Doing}
+use Rattle.machine_state.specs.Frames.{after, handling_of, outer_of, rest_of, site_now, site_of, state_of, todo}
+use Rattle.machine_store.proofs.Begins.{delete_item_begins}
+use Rattle.machine_store.proofs.delete.delete_item.Goals as goal
+
+pub returns-clause-next : goal.returns-clause-next
+returns-clause-next c =
+    let m = c.args.m.now in
+    let m' = c.descend.new.m in
+    let fs = Target (DeleteItem c.in_ok-clone.field-0) ∷ m.stack in
+    let first = eval c.args.e.now.value in
+    IfOk-weaker c.descend.result (λ (d : Doing). todo d m' ≡ first (site_of m.here (outer_of fs) (handling_of fs)) (state_of m) (after fs m.here))
+    (λ (d : Doing). todo d m' ≡ delete_item first (eval c.args.i.now.value) (site_now m) (state_of m) (rest_of m))
+    (λ d h. h ∙ delete_item_begins m.here m.stack (state_of m) first c.args.i.now c.in_ok-clone.field-0 c.in_ok-clone.ensures.cases)
+    c.descend.ensures.next

@@ -1,0 +1,45 @@
+// Deletions.
+
+ghost use Rattle.std.specs.Prelude.{◌≡◌, IfOk};
+ghost use Rattle.py_world.specs.Targets as world;
+ghost use Rattle.core_meaning.specs.Expressions.{eval};
+ghost use Rattle.core_meaning.specs.Statements as meaning;
+ghost use Rattle.machine_state.specs.Frames.{rest_of, site_now, state_of, todo};
+
+use crate::names::delete_name;
+use machine_expr::evaluate::descend;
+use machine_state::frame::{Frame, TargetFrame};
+use machine_state::machine::{Doing, Machine};
+use py_core::{CoreExpr, CoreSingle, CoreSingleKind, SrcText};
+use py_text::OutOfMemory;
+use std::rc::Rc;
+
+/// Begins the deletion of an attribute: its object comes first.
+fn delete_attribute(m: &mut Machine, e: &Rc<CoreExpr>, name: &SrcText) -> Result<Doing, OutOfMemory>
+    ensures next { IfOk result (λ d. todo d m.new ≡ world.delete_attribute (eval e.now.value) name.now (site_now m.old) (state_of m.old) (rest_of m.old)) }
+    ensures left { m.new.left ≡ m.old.left }
+{
+    let frame = TargetFrame::DeleteAttribute(name.clone()?);
+    descend(m, Frame::Target(frame), e)
+}
+
+/// Begins the deletion of an item: its object comes first, then its index or key.
+fn delete_item(m: &mut Machine, e: &Rc<CoreExpr>, i: &Rc<CoreExpr>) -> Result<Doing, OutOfMemory>
+    ensures next { IfOk result (λ d. todo d m.new ≡ world.delete_item (eval e.now.value) (eval i.now.value) (site_now m.old) (state_of m.old) (rest_of m.old)) }
+    ensures left { m.new.left ≡ m.old.left }
+{
+    let frame = TargetFrame::DeleteItem(i.clone()?);
+    descend(m, Frame::Target(frame), e)
+}
+
+/// Begins a deletion (Language Reference, the `del` statement).
+pub fn begin_delete(m: &mut Machine, target: &CoreSingle) -> Result<Doing, OutOfMemory>
+    ensures next { IfOk result (λ d. todo d m.new ≡ meaning.delete_at target.now.kind (site_now m.old) (state_of m.old) (rest_of m.old)) }
+    ensures left { m.new.left ≡ m.old.left }
+{
+    match &target.kind {
+        CoreSingleKind::Name(name) => delete_name(m, name),
+        CoreSingleKind::Attribute(e, name) => delete_attribute(m, e, name),
+        CoreSingleKind::Subscript(e, i) => delete_item(m, e, i),
+    }
+}

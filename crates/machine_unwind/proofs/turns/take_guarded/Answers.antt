@@ -1,0 +1,22 @@
+use Rattle.std.proofs.Common.{◌≡◌, ◌∙◌}
+use Rattle.std.proofs.lemmas.Result.{IfOk-weaker}
+use Rattle.py_core.specs.Blocks.{handlers_in, other_in}
+use Rattle.py_world.specs.Exceptions.{guarded_by}
+use Rattle.core_meaning.specs.Statements.{block, guard, handlings}
+use Rattle.machine_state.specs.declared.machine.Doing.{Doing}
+use Rattle.machine_state.specs.Frames.{after, handling_of, layers_of, outcome, outer_of, rest_of, site_now, site_of, state_of, todo}
+use Rattle.machine_unwind.proofs.Ends.{guard_goes}
+use Rattle.machine_unwind.proofs.turns.take_guarded.Goals as goal
+
+pub returns-clause-next : goal.returns-clause-next
+returns-clause-next c =
+    let m = c.args.m.now in
+    let m' = c.guarded.new.m in
+    let fs' = c.push.new.self in
+    let g = c.args.guard in
+    let o = outcome c.args.end (state_of m) in
+    IfOk-weaker c.guarded.result
+    (λ (d : Doing). todo d m' ≡ guarded_by (handlings (layers_of fs') (handlers_in g.value)) (block (layers_of fs') (other_in g.value)) (site_of m.here (outer_of fs') (handling_of fs')) o (after fs' m.here))
+    (λ (d : Doing). todo d m' ≡ guard (layers_of m.stack) g.value (site_now m) o (rest_of m))
+    (λ d h. h ∙ guard_goes m.here m.stack fs' o g c.in_ok-again.again c.in_ok-again.ensures.cases c.in_ok-push.ensures)
+    c.guarded.ensures.next

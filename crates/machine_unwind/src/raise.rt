@@ -1,0 +1,106 @@
+// What a `raise` raises (Language Reference, the raise statement).
+
+ghost use Rattle.std.specs.Prelude.{◌≡◌, IfOk};
+ghost use Rattle.py_world.specs.Exceptions as world;
+ghost use Rattle.py_world.specs.Outcome.{raised_at};
+ghost use Rattle.py_world.specs.Site.{trace_of};
+ghost use Rattle.py_world.specs.World.{trace_at};
+ghost use Rattle.machine_state.specs.Frames.{handling_of, rest_of, site_now, state_of, todo};
+ghost use Rattle.machine_state.specs.Work.{doing_work};
+
+use machine_items::exceptions::{RaiseKind, raisable};
+use machine_state::frame::End;
+use machine_state::machine::{Doing, Machine, Origin};
+use machine_state::traces::copy_trace;
+use py_text::OutOfMemory;
+use py_values::class::{ClassRef, ExcClass};
+use py_values::end::Raise;
+use py_values::rows::Values;
+use py_values::throw::throw_with;
+use py_values::value::{ObjId, Value};
+use py_world::Trace;
+
+/// The trace with which an exception was first raised, or else that of the place where the machine is.
+fn trace_for(m: &Machine, id: ObjId) -> Result<Trace, OutOfMemory>
+    ensures { IfOk result (λ t. t ≡ world.first_trace (trace_at id.at m.now.traces) (trace_of (site_now m.now))) }
+{
+    match m.first_trace(id)? {
+        Some(trace) => Ok(trace),
+        None => m.trace(Origin::Code),
+    }
+}
+
+/// Raises an exception of the heap, whose first trace is kept.
+fn raise_object(m: &mut Machine, id: ObjId) -> Result<Doing, OutOfMemory>
+    ensures next { IfOk result (λ d. todo d m.new ≡ rest_of m.old (world.raised_by (world.Exception_of id) (site_now m.old) (state_of m.old))) }
+    ensures left { m.new.left ≡ m.old.left }
+    ensures work { IfOk result (λ d. doing_work d ≡ 0) }
+    ensures stack { m.new.stack ≡ m.old.stack }
+{
+    let trace = trace_for(m, id)?;
+    let kept = copy_trace(m.alloc, &trace)?;
+    m.keep_trace(Value::Ref(id), kept)?;
+    Ok(Doing::Back(End::Raised(Value::Ref(id), trace)))
+}
+
+/// Raises a new exception of a class, which costs no step.
+fn raise_class(m: &mut Machine, class: ClassRef) -> Result<Doing, OutOfMemory>
+    ensures next { IfOk result (λ d. todo d m.new ≡ rest_of m.old (world.raised_by (world.Class_of class) (site_now m.old) (state_of m.old))) }
+    ensures left { m.new.left ≡ m.old.left }
+    ensures work { IfOk result (λ d. doing_work d ≡ 0) }
+    ensures stack { m.new.stack ≡ m.old.stack }
+{
+    let trace = m.trace(Origin::Code)?;
+    let args = Values::new(m.alloc);
+    let exc = throw_with(m.alloc, &mut m.heap, class, args)?;
+    Ok(Doing::Back(End::Raised(exc, trace)))
+}
+
+/// Says that a value is no exception and no class of them.
+pub fn refuse(m: &mut Machine) -> Result<Doing, OutOfMemory>
+    ensures next { IfOk result (λ d. todo d m.new ≡ rest_of m.old (raised_at world.no_exception (site_now m.old) (state_of m.old))) }
+    ensures left { m.new.left ≡ m.old.left }
+    ensures work { IfOk result (λ d. doing_work d ≡ 0) }
+    ensures stack { m.new.stack ≡ m.old.stack }
+{
+    let raise = Raise::from_ascii(
+        m.alloc,
+        ExcClass::TypeError,
+        "exceptions must derive from BaseException",
+    )?;
+    m.raise(raise, Origin::Code)
+}
+
+/// Raises a value: an exception of the heap keeps the trace of its first raise, and of a class one is made.
+pub fn raise_value(m: &mut Machine, v: Value) -> Result<Doing, OutOfMemory>
+    ensures next { IfOk result (λ d. todo d m.new ≡ rest_of m.old (world.raised_by (world.raisable m.old.heap v) (site_now m.old) (state_of m.old))) }
+    ensures left { m.new.left ≡ m.old.left }
+    ensures work { IfOk result (λ d. doing_work d ≡ 0) }
+    ensures stack { m.new.stack ≡ m.old.stack }
+{
+    match raisable(&m.heap, v) {
+        RaiseKind::Exception(id) => raise_object(m, id),
+        RaiseKind::Class(class) => raise_class(m, class),
+        RaiseKind::Neither => refuse(m),
+    }
+}
+
+/// Raises the exception that is being handled again, with its trace.
+pub fn raise_again(m: &mut Machine) -> Result<Doing, OutOfMemory>
+    ensures next { IfOk result (λ d. todo d m.new ≡ rest_of m.old (world.raised_again (handling_of m.old.stack) (site_now m.old) (state_of m.old))) }
+    ensures left { m.new.left ≡ m.old.left }
+    ensures work { IfOk result (λ d. doing_work d ≡ 0) }
+    ensures stack { m.new.stack ≡ m.old.stack }
+{
+    match m.stack.handled(m.alloc)? {
+        Some(thrown) => Ok(Doing::Back(End::Raised(thrown.exc, thrown.trace))),
+        None => {
+            let raise = Raise::from_ascii(
+                m.alloc,
+                ExcClass::RuntimeError,
+                "no exception to raise",
+            )?;
+            m.raise(raise, Origin::Code)
+        }
+    }
+}
