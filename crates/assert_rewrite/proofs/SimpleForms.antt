@@ -7,6 +7,7 @@ use Rattle.py_source.specs.declared.pos.Pos.{Pos}
 use Rattle.py_tree.specs.declared.expr.Expr.{Expr}
 use Rattle.py_tree.specs.declared.op.BinOp.{BinOp}
 use Rattle.py_tree.specs.declared.stmt.Single.{Single}
+use Rattle.py_tree.specs.declared.stmt.Alias.{Alias}
 use Rattle.py_tree.specs.declared.stmt.Stmt.{Stmt}
 use Rattle.py_tree.specs.declared.stmt.StmtKind.{StmtKind}
 use Rattle.py_tree.specs.declared.stmt.StmtKind.TheVariants as s
@@ -90,4 +91,12 @@ module _ (at : Pos) (kind : StmtKind) where
   pub del_form : (target : Single) (core : CoreSingle) → kind ≡ s.Del target → LowersSingle target core → LowersStatement at kind (c.Del core)
   del_form target core is h = rw is (record { by = λ b. low.delete at (h.by b) })
 
-pub ruleset forms = (do_form, assign_form, augment_form, return_form, raise_form, assert_form, del_form, global_form, pass_form, break_form, continue_form)
+  pub import_form : (names copy : Rc (Vec (List ℕ) Global) Global) (alias other : Option (List ℕ)) → kind ≡ s.Import names alias → copy.value ≡ names.value → other ≡ alias → LowersStatement at kind (c.Import copy other)
+  import_form names copy alias other is same also = rw (is, also) (record { by = λ b. low.import_it at alias (ap (λ (v : Vec (List ℕ) Global). v.items) same) })
+
+  pub from_form : (names copy : Rc (Vec (List ℕ) Global) Global) (all these : Rc (Vec Alias Global) Global) → kind ≡ s.ImportFrom names all → copy.value ≡ names.value → these.value ≡ all.value → LowersStatement at kind (c.ImportFrom copy these)
+  from_form names copy all these is same are = rw is (record { by = λ b. low.import_from at (ap (λ (v : Vec (List ℕ) Global). v.items) same) (ap (λ (v : Vec Alias Global). v.items) are) })
+
+pub ruleset forms = (do_form, assign_form, augment_form, return_form, raise_form, assert_form, del_form, pass_form, break_form, continue_form)
+
+pub ruleset namings = (global_form, import_form, from_form)

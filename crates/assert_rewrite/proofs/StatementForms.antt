@@ -7,7 +7,7 @@ use Rattle.py_source.specs.declared.pos.Pos.{Pos}
 use Rattle.py_tree.specs.declared.expr.Expr.{Expr}
 use Rattle.py_tree.specs.declared.stmt.Branch as branch
 use Rattle.py_tree.specs.declared.stmt.Branch.{Branch, out-Branch, roll-Branch, roll-out-Branch}
-use Rattle.py_tree.specs.declared.stmt.Class as class
+use Rattle.py_tree.specs.declared.stmt.Class.{Class, out-Class, roll-Class, roll-out-Class}
 use Rattle.py_tree.specs.declared.stmt.Function.{Function, out-Function, roll-Function, roll-out-Function}
 use Rattle.py_tree.specs.declared.stmt.Handler.{Handler}
 use Rattle.py_tree.specs.declared.stmt.Module.{Module}
@@ -17,31 +17,34 @@ use Rattle.py_tree.specs.declared.stmt.StmtKind.{StmtKind}
 use Rattle.py_tree.specs.declared.stmt.StmtKind.TheBlock.{hidden-the_row-Stmt-1, hidden-the_row-Branch-0 as hide_branches, hidden-the_row-Handler-2 as hide_handlers}
 use Rattle.py_tree.specs.declared.stmt.StmtKind.TheVariants as s
 use Rattle.py_tree.specs.declared.stmt.Target.{Target}
-use Rattle.py_tree.specs.Names.{names_of, locals_of, yields_in}
-use Rattle.py_tree.specs.Trees.{Tree, Trees, Empty, More, Maybe, Absent, Present, tree, trees, some_tree}
+use Rattle.py_tree.specs.Names.{locals_of, yields_in}
+use Rattle.py_tree.specs.Trees.{Tree, tree, trees, some_tree}
 use Rattle.py_tree.specs.Statements as st
 use Rattle.py_tree.specs.Statements.{Statement, Block, Parameter, NoStatement, Branches, NoBranch, Place, statement, statement_at, block_on, block, block_behind, branches_on, branches_behind, branches, NoHandler, handlers_on, handlers, parameters, module_tree}
 use Rattle.py_tree.proofs.Rows.{block_hidden, branches_hidden, handlers_hidden, block_more}
 use Rattle.py_core.specs.declared.expr.CoreExpr.{CoreExpr}
 use Rattle.py_core.specs.declared.stmt.CoreBranch.{CoreBranch, roll-CoreBranch}
+use Rattle.py_core.specs.declared.stmt.CoreClass.{CoreClass, roll-CoreClass}
 use Rattle.py_core.specs.declared.stmt.CoreFn.{CoreFn, roll-CoreFn}
+use Rattle.py_core.specs.declared.stmt.CoreParam.{CoreParam}
 use Rattle.py_core.specs.declared.stmt.CoreGuard.{CoreGuard}
 use Rattle.py_core.specs.declared.stmt.CoreHandler.{CoreHandler}
 use Rattle.py_core.specs.declared.stmt.CoreStmt.{CoreStmt}
 use Rattle.py_core.specs.declared.stmt.CoreStmtKind.{CoreStmtKind, items-the_row-CoreBranch as row_branches}
-use Rattle.py_core.specs.declared.stmt.CoreStmtKind.TheBlock.{items_hidden-the_row-CoreStmt-1 as core_items_hidden, hidden-the_row-CoreStmt-1, items_hidden-the_row-CoreBranch-0 as core_branches_hidden, hidden-the_row-CoreBranch-0 as core_hide_branches}
+use Rattle.py_core.specs.declared.stmt.CoreStmtKind.TheBlock.{hidden-the_row-CoreStmt-1, items_hidden-the_row-CoreBranch-0 as core_branches_hidden, hidden-the_row-CoreBranch-0 as core_hide_branches}
 use Rattle.py_core.specs.declared.stmt.CoreStmtKind.TheVariants as c
 use Rattle.py_core.specs.declared.stmt.CoreTarget.{CoreTarget}
-use Rattle.source_meaning.specs.Statements.{listed, function as source_function}
-use Rattle.lower_law.specs.Built.{BuiltStatement, BuiltBlock, BuiltBranches, BuiltHandlers, NoTrees, NoMaybe}
+use Rattle.source_meaning.specs.Statements.{listed, function as source_function, written}
+use Rattle.core_meaning.specs.Statements.{written as core_written}
+use Rattle.lower_law.specs.Built.{BuiltStatement, BuiltBlock, BuiltBranches, BuiltHandlers}
 use Rattle.lower_law.specs.Lowered as low
 use Rattle.source_meaning.specs.Statements.{script}
 use Rattle.std.specs.Prelude.{Bool, false as plain}
 use Rattle.py_core.specs.Blocks.{explains_in, source_in, stmts_in}
 use Rattle.py_core.specs.declared.stmt.CoreBlock.{CoreBlock, roll-CoreBlock}
 use Rattle.lower_law.specs.Sourced.{function_in, module_of, sources_in}
-use Rattle.lower_law.specs.Lowered.{LoweredExpr, LoweredStatement, LoweredBlock, LoweredBody, LoweredBranches, LoweredHandlers, LoweredGuard, LoweredFunction, LoweredModule, PlainParameters, Choice, choice_at, branches_listed, handlers_listed, core_at}
-use Rattle.assert_rewrite.specs.Lowers.{Lowers, LowersTarget, LowersStatement, LowersBlock, LowersBody, Carries, LowersBranches, LowersHandlers, Guards, LowersFunction}
+use Rattle.lower_law.specs.Lowered.{LoweredExpr, LoweredStatement, LoweredBlock, LoweredBody, LoweredBranches, LoweredHandlers, LoweredGuard, LoweredFunction, LoweredClass, LoweredModule, Choice, choice_at, branches_listed, handlers_listed, core_at}
+use Rattle.assert_rewrite.specs.Lowers.{Lowers, LowersEach, LowersSome, LowersDefaults, LowersTarget, LowersStatement, LowersBlock, LowersBody, Carries, LowersBranches, LowersHandlers, Guards, LowersFunction, LowersClass}
 use Rattle.assert_rewrite.specs.Groups.{stmt_group}
 use Rattle.assert_rewrite.specs.declared.groups.StmtGroup.{StmtGroup}
 use Rattle.assert_rewrite.specs.declared.groups.StmtGroup.TheVariants.{Missing}
@@ -78,10 +81,13 @@ function_rolled f = ap (source_function plain (out-Function f).name (parameters 
 function_is : (f : Function) → function_in plain f ≡ source_function plain (out-Function f).name (parameters (out-Function f).params.value.items) (block (out-Function f).body.value.items)
 function_is f = subst (λ y. function_in plain y ≡ source_function plain (out-Function f).name (parameters (out-Function f).params.value.items) (block (out-Function f).body.value.items)) (roll-out-Function f) (function_rolled f)
 
-defined : (at word : Pos) (name : List ℕ) (ds : Trees) (params : List Parameter) (returns : Maybe) (body : Block) (r : Rc CoreFn Global) → NoTrees ds → NoMaybe returns → LoweredFunction word (source_function plain name params body) r.value → LoweredStatement plain (st.Def at ds word name params returns body) at (c.Def r)
-defined at word name Empty params Absent body r a b h = low.define at word name h
-defined at word name Empty params (Present e) body r a b h = elim b [ ]
-defined at word name (More ds e) params returns body r a b h = elim a [ ]
+-- a class at its `class`
+class_rolled : (at : Pos) (f : Rc Class Global) → statement_at at (s.Class (record { ptr = f.ptr; value = roll-Class (out-Class f.value) })) ≡ st.Class at (trees (out-Class f.value).decorators.value.items) (out-Class f.value).at (out-Class f.value).name (some_tree (out-Class f.value).base) (block (out-Class f.value).body.value.items)
+unfolding roll-Class denote.Hole.Carrier.roll hidden-the_row-Stmt-1
+class_rolled at f = ap (λ b. st.Class at (trees (out-Class f.value).decorators.value.items) (out-Class f.value).at (out-Class f.value).name (some_tree (out-Class f.value).base) b) (block_hidden (out-Class f.value).body.value)
+
+class_is : (at : Pos) (f : Rc Class Global) → statement_at at (s.Class f) ≡ st.Class at (trees (out-Class f.value).decorators.value.items) (out-Class f.value).at (out-Class f.value).name (some_tree (out-Class f.value).base) (block (out-Class f.value).body.value.items)
+class_is at f = subst (λ y. statement_at at (s.Class (record { ptr = f.ptr; value = y })) ≡ st.Class at (trees (out-Class f.value).decorators.value.items) (out-Class f.value).at (out-Class f.value).name (some_tree (out-Class f.value).base) (block (out-Class f.value).body.value.items)) (roll-out-Class f.value) (class_rolled at f)
 
 module _ (at : Pos) (kind : StmtKind) where
   pub if_form : (all : Rc (Vec Branch Global) Global) (other : Rc (Vec Stmt Global) Global) (xs : Rc (Vec CoreBranch Global) Global) (ys : Rc CoreBlock Global) → kind ≡ s.If all other → LowersBranches all.value.items xs.value.items → LowersBody other.value.items ys.value → LowersStatement at kind (c.If xs ys)
@@ -90,10 +96,15 @@ module _ (at : Pos) (kind : StmtKind) where
   pub while_form : (e : Rc Expr Global) (body : Rc (Vec Stmt Global) Global) (x : Rc CoreExpr Global) (ys : Rc CoreBlock Global) → kind ≡ s.While e body → Lowers e.value x.value → LowersBody body.value.items ys.value → LowersStatement at kind (c.While x ys)
   while_form e body x ys is g h = rw is (record { by = λ b. low.loop at (g.by b.0) (body_row body.value ys.value h b.1) })
 
-  pub def_form : (f : Rc Function Global) (r : Rc CoreFn Global) (core : CoreFn) → kind ≡ s.Def f → LowersFunction f.value core → r.value ≡ core → LowersStatement at kind (c.Def r)
-  def_form f r core is h same =
+  pub def_form : (f : Rc Function Global) (ds es : Rc (Vec (Rc CoreExpr Global) Global) Global) (r : Rc CoreFn Global) (core : CoreFn) → kind ≡ s.Def f → LowersEach (out-Function f.value).decorators.value.items ds.value.items → LowersDefaults (out-Function f.value).params.value.items es.value.items → LowersFunction f.value core → r.value ≡ core → LowersStatement at kind (c.Def ds es r)
+  def_form f ds es r core is d e h same =
       let g : LowersFunction f.value r.value = rw same h in
-      rw is (record { by = subst (λ t. BuiltStatement t → LoweredStatement plain t at (c.Def r)) (sym (def_is at f)) (λ b. defined at _ _ _ _ _ _ r b.0 b.1 (g.by b.2 b.3)) })
+      rw is (record { by = subst (λ t. BuiltStatement t → LoweredStatement plain t at (c.Def ds es r)) (sym (def_is at f)) (λ b. low.define at _ _ _ (d.by b.0) (e.by b.1) (g.by b.2)) })
+
+  pub class_form : (f : Rc Class Global) (ds : Rc (Vec (Rc CoreExpr Global) Global) Global) (base : Option (Rc CoreExpr Global)) (r : Rc CoreClass Global) (core : CoreClass) → kind ≡ s.Class f → LowersEach (out-Class f.value).decorators.value.items ds.value.items → LowersSome (out-Class f.value).base base → LowersClass f.value core → r.value ≡ core → LowersStatement at kind (c.Class ds base r)
+  class_form f ds base r core is d e h same =
+      let g : LowersClass f.value r.value = rw same h in
+      rw is (record { by = subst (λ t. BuiltStatement t → LoweredStatement plain t at (c.Class ds base r)) (sym (class_is at f)) (λ b. low.class_it at _ _ (d.by b.0) (e.by b.1) (g.by b.2)) })
 
   pub for_form : (target : Target) (e : Rc Expr Global) (body : Rc (Vec Stmt Global) Global) (t : CoreTarget) (r : Rc CoreTarget Global) (x : Rc CoreExpr Global) (ys : Rc CoreBlock Global) → kind ≡ s.For target e body → r.value ≡ t → LowersTarget target t → Lowers e.value x.value → LowersBody body.value.items ys.value → LowersStatement at kind (c.For r x ys)
   for_form target e body t r x ys is same f g h =
@@ -110,16 +121,16 @@ module _ (at : Pos) (kind : StmtKind) where
             (guard_row all.value source.value.items (block_on NoStatement (hidden-the_row-Stmt-1 other.value)) (block_on NoStatement (hidden-the_row-Stmt-1 last.value)) cores zs.value ws.value g.value (ap (λ (v : Vec Handler Global). v.items) same) made (handlers_row all.value cores f b.1) (body_row other.value zs.value o b.2) (body_row last.value ws.value l b.3));
       })
 
-pub ruleset forms = (if_form, while_form, for_form, with_form, try_form, def_form)
+pub ruleset forms = (if_form, while_form, for_form, with_form, try_form, def_form, class_form)
 
 -- any core stands for a form that the language doesn't have yet
 missing_kind : (at : Pos) (kind : StmtKind) (core : CoreStmtKind) → stmt_group kind ≡ Missing → LowersStatement at kind core
 missing_kind at (s.AssignYield ts y) core is = record { by = λ b. elim b [ ] }
 missing_kind at (s.ReturnYield y) core is = record { by = λ b. elim b [ ] }
 missing_kind at (s.Yield y) core is = record { by = λ b. elim b [ ] }
-missing_kind at (s.Import names alias) core is = record { by = λ b. elim b [ ] }
-missing_kind at (s.ImportFrom names all) core is = record { by = λ b. elim b [ ] }
-missing_kind at (k.Class' p (class.Class' ds word name base q n body)) core is = record { by = λ b. elim b [ ] }
+missing_kind at (s.Import names alias) core is = absurd (cc)
+missing_kind at (s.ImportFrom names all) core is = absurd (cc)
+missing_kind at (k.Class' p f) core is = absurd (cc)
 missing_kind at (s.Expr x) core is = absurd (cc)
 missing_kind at (s.Assign ts x) core is = absurd (cc)
 missing_kind at (s.AugAssign t op x) core is = absurd (cc)
@@ -229,14 +240,24 @@ branches_all all i done r le h is = rw is (subst (λ all. LowersBranches all don
 pub ruleset branch_lists = (branches_more, branches_none, branches_all)
 
 -- a function
-function_made : (source : Rc Function Global) (word : Pos) (name : List ℕ) (params : List Parameter) (body : Block) (ps ls : List (List ℕ)) (yields : Bool) (ys : Rc CoreBlock Global) → PlainParameters params → function_in plain source.value ≡ source_function plain name params body → ps ≡ names_of params → ls ≡ locals_of params body → yields ≡ yields_in body → LoweredBody plain (listed body) ys.value → LoweredFunction word (source_function plain name params body) (roll-CoreFn (record { source = source; at = word; name = name; params = ps; locals = ls; yields = yields; body = ys }))
+function_made : (source : Rc Function Global) (word : Pos) (name : List ℕ) (params : List Parameter) (body : Block) (ps : Rc (Vec CoreParam Global) Global) (ls : List (List ℕ)) (yields : Bool) (ys : Rc CoreBlock Global) → function_in plain source.value ≡ source_function plain name params body → core_written ps.value.items ≡ written params → ls ≡ locals_of params body → yields ≡ yields_in body → LoweredBody plain (listed body) ys.value → LoweredFunction word (source_function plain name params body) (roll-CoreFn (record { source = source; at = word; name = name; params = ps; locals = ls; yields = yields; body = ys }))
 unfolding roll-CoreFn denote.Hole.Carrier.roll
-function_made source word name params body ps ls yields ys none from p l y h = low.made word name none from p l y h
+function_made source word name params body ps ls yields ys from p l y h = low.made word name from p l y h
 
-pub function_form : (f : Function) (source : Rc Function Global) (name : List ℕ) (ps ls : List (List ℕ)) (yields : Bool) (ys : Rc CoreBlock Global) → source.value ≡ f → name ≡ (out-Function f).name → ps ≡ names_of (parameters (out-Function f).params.value.items) → ls ≡ locals_of (parameters (out-Function f).params.value.items) (block (out-Function f).body.value.items) → yields ≡ yields_in (block (out-Function f).body.value.items) → LowersBody (out-Function f).body.value.items ys.value → LowersFunction f (roll-CoreFn (record { source = source; at = (out-Function f).at; name = name; params = ps; locals = ls; yields = yields; body = ys }))
-function_form f source name ps ls yields ys is same p l y h = rw same (record { by = λ none b. function_made source (out-Function f).at (out-Function f).name (parameters (out-Function f).params.value.items) (block (out-Function f).body.value.items) ps ls yields ys none (ap (function_in plain) is ∙ function_is f) p l y (h.by b) })
+pub function_form : (f : Function) (source : Rc Function Global) (name : List ℕ) (ps : Rc (Vec CoreParam Global) Global) (ls : List (List ℕ)) (yields : Bool) (ys : Rc CoreBlock Global) → source.value ≡ f → name ≡ (out-Function f).name → core_written ps.value.items ≡ written (parameters (out-Function f).params.value.items) → ls ≡ locals_of (parameters (out-Function f).params.value.items) (block (out-Function f).body.value.items) → yields ≡ yields_in (block (out-Function f).body.value.items) → LowersBody (out-Function f).body.value.items ys.value → LowersFunction f (roll-CoreFn (record { source = source; at = (out-Function f).at; name = name; params = ps; locals = ls; yields = yields; body = ys }))
+function_form f source name ps ls yields ys is same p l y h = rw same (record { by = λ b. function_made source (out-Function f).at (out-Function f).name (parameters (out-Function f).params.value.items) (block (out-Function f).body.value.items) ps ls yields ys (ap (function_in plain) is ∙ function_is f) p l y (h.by b) })
 
 pub ruleset functions = (function_form)
+
+-- a class
+class_made : (word : Pos) (name : List ℕ) (body : Block) (ys : Rc CoreBlock Global) → LoweredBody plain (listed body) ys.value → LoweredClass plain word name body (roll-CoreClass (record { at = word; name = name; body = ys }))
+unfolding roll-CoreClass denote.Hole.Carrier.roll
+class_made word name body ys h = low.classed word name h
+
+pub class_alone : (f : Class) (name : List ℕ) (ys : Rc CoreBlock Global) → name ≡ (out-Class f).name → LowersBody (out-Class f).body.value.items ys.value → LowersClass f (roll-CoreClass (record { at = (out-Class f).at; name = name; body = ys }))
+class_alone f name ys same h = rw same (record { by = λ b. class_made (out-Class f).at (out-Class f).name (block (out-Class f).body.value.items) ys (h.by b) })
+
+pub ruleset classes = (class_alone)
 
 -- a source
 own_block : (ss : List Statement) (b : CoreBlock) → LoweredBody plain ss b → LoweredBlock (explains_in b) (sources_in b) (stmts_in b)

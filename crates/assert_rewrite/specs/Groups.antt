@@ -9,7 +9,7 @@ use Rattle.py_tree.specs.declared.stmt.StmtKind.TheVariants as w
 use Rattle.assert_rewrite.specs.declared.groups.ExprGroup.{ExprGroup}
 use Rattle.assert_rewrite.specs.declared.groups.ExprGroup.TheVariants.{Leaf, Operator, Chain, Container}
 use Rattle.assert_rewrite.specs.declared.groups.StmtGroup.{StmtGroup}
-use Rattle.assert_rewrite.specs.declared.groups.StmtGroup.TheVariants.{Simple, Compound, Missing}
+use Rattle.assert_rewrite.specs.declared.groups.StmtGroup.TheVariants.{Simple, Naming, Compound, Missing}
 
 abbrev pub expr_group : ExprKind → ExprGroup
 expr_group (v.Name name) = Leaf
@@ -44,17 +44,17 @@ stmt_group (w.ReturnYield y) = Missing
 stmt_group (w.Raise x) = Simple
 stmt_group (w.Assert x message) = Simple
 stmt_group (w.Del t) = Simple
-stmt_group (w.Global names) = Simple
+stmt_group (w.Global names) = Naming
 stmt_group w.Pass = Simple
 stmt_group w.Break = Simple
 stmt_group w.Continue = Simple
 stmt_group (w.Yield y) = Missing
-stmt_group (w.Import names alias) = Missing
-stmt_group (w.ImportFrom names all) = Missing
+stmt_group (w.Import names alias) = Naming
+stmt_group (w.ImportFrom names all) = Naming
 stmt_group (s.If' p n branches q m other) = Compound
 stmt_group (s.While' x p n body) = Compound
 stmt_group (s.For' t x p n body) = Compound
 stmt_group (s.Try' p n body q m handlers r k other o l last) = Compound
 stmt_group (s.With' x name p n body) = Compound
 stmt_group (s.Def' p function) = Compound
-stmt_group (s.Class' p class) = Missing
+stmt_group (s.Class' p class) = Compound

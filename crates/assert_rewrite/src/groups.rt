@@ -42,10 +42,12 @@ pub fn expr_group(kind: &ExprKind) -> ExprGroup
     }
 }
 
-/// A group of forms of statements: simple ones, compound ones, and those that the language doesn't have yet.
+/// A group of forms of statements: simple ones, of these those that are made of names alone, compound ones, and those that the language
+/// doesn't have yet.
 #[derive(Clone, Copy, Debug, PartialEq, Eq)]
 pub enum StmtGroup {
     Simple,
+    Naming,
     Compound,
     Missing,
 }
@@ -62,21 +64,21 @@ pub fn stmt_group(kind: &StmtKind) -> StmtGroup
         | StmtKind::Raise(_)
         | StmtKind::Assert(_, _)
         | StmtKind::Del(_)
-        | StmtKind::Global(_)
         | StmtKind::Pass
         | StmtKind::Break
         | StmtKind::Continue => StmtGroup::Simple,
+        StmtKind::Global(_) | StmtKind::Import(_, _) | StmtKind::ImportFrom(_, _) => {
+            StmtGroup::Naming
+        }
         StmtKind::If(_, _)
         | StmtKind::While(_, _)
         | StmtKind::For(_, _, _)
         | StmtKind::Try(_, _, _, _)
         | StmtKind::With(_, _, _)
-        | StmtKind::Def(_) => StmtGroup::Compound,
-        StmtKind::AssignYield(_, _)
-        | StmtKind::ReturnYield(_)
-        | StmtKind::Yield(_)
-        | StmtKind::Import(_, _)
-        | StmtKind::ImportFrom(_, _)
-        | StmtKind::Class(_) => StmtGroup::Missing,
+        | StmtKind::Def(_)
+        | StmtKind::Class(_) => StmtGroup::Compound,
+        StmtKind::AssignYield(_, _) | StmtKind::ReturnYield(_) | StmtKind::Yield(_) => {
+            StmtGroup::Missing
+        }
     }
 }

@@ -24,6 +24,7 @@
 mod asserts;
 mod expressions;
 mod groups;
+mod parameters;
 mod simple;
 mod statements;
 mod targets;

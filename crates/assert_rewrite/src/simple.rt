@@ -8,8 +8,18 @@ use crate::groups::StmtGroup;
 use crate::targets::{lower_single, lower_targets};
 use py_core::CoreStmtKind;
 use py_text::OutOfMemory;
-use py_tree::{Stmt, StmtKind};
+use py_tree::{SrcText, Stmt, StmtKind};
 use std::alloc::Global;
+
+/// A name, if there is one.
+pub fn copy_name(name: &Option<SrcText>) -> Result<Option<SrcText>, OutOfMemory>
+    ensures { IfOk result (λ copy. copy ≡ name.now) }
+{
+    match name {
+        None => Ok(None),
+        Some(name) => Ok(Some(name.clone()?)),
+    }
+}
 
 /// The core form of a simple statement.
 #[tactic(auto, using(crate::proofs::SimpleForms::forms))]
@@ -31,10 +41,29 @@ pub fn lower_simple(alloc: Global, stmt: &Stmt) -> Result<CoreStmtKind, OutOfMem
         StmtKind::Raise(value) => Ok(CoreStmtKind::Raise(lower_some(alloc, value)?)),
         StmtKind::Assert(condition, message) => lower_assert(alloc, stmt.at, condition, message),
         StmtKind::Del(single) => Ok(CoreStmtKind::Del(lower_single(alloc, single)?)),
-        StmtKind::Global(names) => Ok(CoreStmtKind::Global(names.clone()?)),
         StmtKind::Pass => Ok(CoreStmtKind::Pass),
         StmtKind::Break => Ok(CoreStmtKind::Break),
         StmtKind::Continue => Ok(CoreStmtKind::Continue),
+        _ => unreachable!(),
+    }
+}
+
+/// The core form of a statement that is made of names alone.
+#[tactic(auto, using(crate::proofs::SimpleForms::namings))]
+pub fn lower_naming(alloc: Global, stmt: &Stmt) -> Result<CoreStmtKind, OutOfMemory>
+    requires { groups.stmt_group stmt.now.kind ≡ StmtGroup.Naming }
+    ensures { IfOk result (λ made. LowersStatement stmt.now.at stmt.now.kind made) }
+{
+    match &stmt.kind {
+        StmtKind::Global(names) => Ok(CoreStmtKind::Global(names.clone()?)),
+        StmtKind::Import(names, alias) => {
+            let alias = copy_name(alias)?;
+            Ok(CoreStmtKind::Import(names.clone()?, alias))
+        }
+        StmtKind::ImportFrom(names, all) => {
+            let all = all.clone()?;
+            Ok(CoreStmtKind::ImportFrom(names.clone()?, all))
+        }
         _ => unreachable!(),
     }
 }

@@ -1,39 +1,19 @@
 ghost use Rattle.std.specs.Prelude.{IfOk, ◌≡◌, ◌∷◌, []};
-ghost use Rattle.py_tree.specs.Names.{names_of};
-ghost use Rattle.py_tree.specs.Statements.{parameters};
 ghost use Rattle.assert_rewrite.specs.Groups as groups;
-ghost use Rattle.assert_rewrite.specs.Lowers.{Carries, LowersStatement, LowersBlock, LowersBody, LowersBranches, LowersHandlers, Guards, LowersFunction};
+ghost use Rattle.assert_rewrite.specs.Lowers.{Carries, LowersStatement, LowersBlock, LowersBody, LowersBranches, LowersHandlers, Guards, LowersFunction, LowersClass};
 
-use crate::expressions::{lower_expr, lower_some};
+use crate::expressions::{lower_each, lower_expr, lower_some};
 use crate::groups::{StmtGroup, stmt_group};
-use crate::simple::lower_simple;
+use crate::parameters::{core_params, lower_defaults};
+use crate::simple::{copy_name, lower_naming, lower_simple};
 use crate::targets::lower_target;
-use py_core::{CoreBlock, CoreBranch, CoreFn, CoreGuard, CoreHandler, CoreStmt, CoreStmtKind};
+use py_core::{
+    CoreBlock, CoreBranch, CoreClass, CoreFn, CoreGuard, CoreHandler, CoreStmt, CoreStmtKind,
+};
 use py_text::OutOfMemory;
-use py_tree::{Branch, Function, Handler, Names, Param, SrcText, Stmt, StmtKind, bindings_of};
+use py_tree::{Branch, Class, Function, Handler, Stmt, StmtKind, bindings_of};
 use std::alloc::Global;
 use std::rc::Rc;
-
-/// The names of parameters, in their order.
-fn param_names(alloc: Global, params: &[Param]) -> Result<Names, OutOfMemory>
-    ensures { IfOk result (λ names. names ≡ names_of (parameters params.now)) }
-{
-    let mut names = Vec::new(alloc);
-    for param in params {
-        names.push(param.name.clone()?)?;
-    }
-    Ok(Names::from_vec(names))
-}
-
-/// A name, if there is one.
-fn copy_name(name: &Option<SrcText>) -> Result<Option<SrcText>, OutOfMemory>
-    ensures { IfOk result (λ copy. copy ≡ name.now) }
-{
-    match name {
-        None => Ok(None),
-        Some(name) => Ok(Some(name.clone()?)),
-    }
-}
 
 /// What guards a block.
 #[tactic(auto, using(crate::proofs::HandlerForms::guards))]
@@ -92,6 +72,7 @@ fn lower_statement(alloc: Global, stmt: &Stmt) -> Result<CoreStmtKind, OutOfMemo
 {
     match stmt_group(&stmt.kind) {
         StmtGroup::Simple => lower_simple(alloc, stmt),
+        StmtGroup::Naming => lower_naming(alloc, stmt),
         StmtGroup::Compound => lower_compound(alloc, stmt),
         StmtGroup::Missing => Ok(CoreStmtKind::Pass),
     }
@@ -132,8 +113,16 @@ fn lower_compound(alloc: Global, stmt: &Stmt) -> Result<CoreStmtKind, OutOfMemor
             Ok(CoreStmtKind::With(context, name, lower_body(alloc, body)?))
         }
         StmtKind::Def(function) => {
+            let decorators = lower_each(alloc, &function.decorators)?;
+            let defaults = lower_defaults(alloc, &function.params)?;
             let function = lower_function(alloc, function)?;
-            Ok(CoreStmtKind::Def(Rc::new(alloc, function)?))
+            Ok(CoreStmtKind::Def(decorators, defaults, Rc::new(alloc, function)?))
+        }
+        StmtKind::Class(class) => {
+            let decorators = lower_each(alloc, &class.decorators)?;
+            let base = lower_some(alloc, &class.base)?;
+            let class = lower_class(alloc, class)?;
+            Ok(CoreStmtKind::Class(decorators, base, Rc::new(alloc, class)?))
         }
         _ => unreachable!(),
     }
@@ -199,7 +188,7 @@ fn lower_function(alloc: Global, function: &Rc<Function>) -> Result<CoreFn, OutO
     ensures { IfOk result (λ made. LowersFunction function.now.value made) }
 {
     let names = bindings_of(alloc, &function.params, &function.body)?;
-    let params = param_names(alloc, &function.params)?;
+    let params = core_params(alloc, &function.params)?;
     let body = lower_body(alloc, &function.body)?;
     let source = function.clone()?;
     Ok(CoreFn {
@@ -209,6 +198,20 @@ fn lower_function(alloc: Global, function: &Rc<Function>) -> Result<CoreFn, OutO
         params,
         locals: names.locals,
         yields: names.yields,
+        body,
+    })
+}
+
+/// The core form of a class, where its `class` stands.
+#[cycle(block)]
+#[tactic(auto, using(crate::proofs::StatementForms::classes))]
+fn lower_class(alloc: Global, class: &Rc<Class>) -> Result<CoreClass, OutOfMemory>
+    ensures { IfOk result (λ made. LowersClass class.now.value made) }
+{
+    let body = lower_body(alloc, &class.body)?;
+    Ok(CoreClass {
+        at: class.at,
+        name: class.name.clone()?,
         body,
     })
 }

@@ -1,11 +1,14 @@
 -- What core statements do (Language Reference, simple and compound statements).
-use Rattle.std.specs.Prelude.{ℕ, ◌+◌, List, [], ◌∷◌, drop, map, Option, Some, None}
+use Rattle.std.specs.Prelude.{ℕ, ◌+◌, List, [], ◌∷◌, drop, Option, Some, None}
 use Rattle.std.specs.declared.alloc.Global.{Global}
 use Rattle.std.specs.declared.rc.Rc.{Rc}
 use Rattle.py_core.specs.declared.expr.CoreExpr.{CoreExpr}
 use Rattle.py_core.specs.Blocks.{stmts_in, handlers_in, other_in, last_in}
 use Rattle.py_core.specs.declared.stmt.CoreBlock.{CoreBlock}
 use Rattle.py_core.specs.declared.stmt.CoreBranch as branch
+use Rattle.py_core.specs.declared.stmt.CoreClass as class
+use Rattle.py_core.specs.declared.stmt.CoreParam.{CoreParam}
+use Rattle.py_core.specs.declared.stmt.Core.{Core}
 use Rattle.py_core.specs.declared.stmt.CoreGuard.{CoreGuard}
 use Rattle.py_core.specs.declared.stmt.CoreHandler as handler
 use Rattle.py_core.specs.declared.stmt.CoreSingle.{CoreSingle}
@@ -23,15 +26,18 @@ use Rattle.py_core.specs.declared.stmt.CoreStmtKind.{CoreStmtKind, items-the_row
 use Rattle.py_core.specs.declared.stmt.CoreStmtKind.TheVariants as v
 use Rattle.py_tree.specs.declared.op.BinOp.{BinOp}
 use Rattle.py_tree.specs.Trees.{tree}
-use Rattle.core_meaning.specs.Expressions.{CorePart, eval}
+use Rattle.core_meaning.specs.Expressions.{CorePart, eval, parts_of}
 use Rattle.core_meaning.specs.Requests.{core_kinds, Layer, Statements, Guard, Turn, StatementOf, TurnOf, ForOf}
 use Rattle.py_world.specs.Site.{site}
-use Rattle.py_world.specs.Arguments.{required}
 use Rattle.py_world.specs.Outcome.{Body, After, Next, on_next}
-use Rattle.py_world.specs.Statements.{Choice, asked, expression_statement, return_value, yield_value, pass, leave_loop, next_turn, fail, fail_explained, choose, loop, turn_of, define}
+use Rattle.py_world.specs.Statements.{Choice, asked, expression_statement, return_value, yield_value, pass, leave_loop, next_turn, fail, fail_explained, choose, loop, turn_of}
+use Rattle.py_world.specs.Definitions.{Written, define, class_statement}
 use Rattle.py_world.specs.Names.{delete_name}
 use Rattle.py_world.specs.Targets.{Store, store_name, store_attribute, store_item, unpack, assign, augment_name, augment_attribute, augment_item, delete_attribute, delete_item}
-use Rattle.py_world.specs.Exceptions.{Handling, raise_value, guarded, try_statement, with_statement}
+use Rattle.py_world.specs.Exceptions.{Handling, guarded, try_statement}
+use Rattle.py_world.specs.Contexts.{with_statement}
+use Rattle.py_world.specs.Raising.{raise_value}
+use Rattle.py_world.specs.Imports.{import_statement, import_from}
 use Rattle.py_world.specs.Loops.{for_statement, for_turn}
 use Rattle.py_world.specs.Calls.{Entry}
 
@@ -97,12 +103,15 @@ begun_at v.Continue ls st = asked (StatementOf ls st)
 begun_at (f.If' p n branches q other) ls st = asked (StatementOf ls st)
 begun_at (v.Yield e) ls st = asked (StatementOf ls st)
 begun_at (f.While' e p body) ls st = asked (StatementOf ls st)
-begun_at (f.Def' p fn) ls st = asked (StatementOf ls st)
+begun_at (f.Def' ds es p fn) ls st = asked (StatementOf ls st)
 begun_at (v.Raise e) ls st = asked (StatementOf ls st)
 begun_at (v.Del t) ls st = asked (StatementOf ls st)
 begun_at (f.For' t e p body) ls st = asked (StatementOf ls st)
 begun_at (f.Try' p body q g) ls st = asked (StatementOf ls st)
 begun_at (f.With' e name p body) ls st = asked (StatementOf ls st)
+begun_at (f.Class' ds base p c) ls st = asked (StatementOf ls st)
+begun_at (v.Import names alias) ls st = asked (StatementOf ls st)
+begun_at (v.ImportFrom names all) ls st = asked (StatementOf ls st)
 
 abbrev pub begun : List Layer → CoreStmt → CorePart
 begun ls st = begun_at st.kind ls st
@@ -141,8 +150,22 @@ abbrev pub choices : List Layer → List branch.CoreBranch → List CoreChoice
 choices ls [] = []
 choices ls (b ∷ rest) = choice ls b ∷ choices ls rest
 
-abbrev pub define_fn : CoreFn → CorePart
-define_fn (fn.CoreFn' source at name params locals yields p body) = define name at.line (map required params) yields (fn.CoreFn' source at name params locals yields p body)
+abbrev pub entry : CoreFn → Entry core_kinds
+entry (fn.CoreFn' source at name params locals yields p body) = record { name = name; own = locals; body = block [] body }
+
+abbrev pub core_body : Core → CoreBody
+core_body code = block [] code.body.value
+
+-- parameters as they are written
+abbrev pub written : List CoreParam → List Written
+written [] = []
+written (p ∷ ps) = (p.name, p.has_default) ∷ written ps
+
+abbrev pub define_fn : List CorePart → List CorePart → CoreFn → CorePart
+define_fn ds es (fn.CoreFn' source at name params locals yields p body) = define ds es (written params.value.items) name at.line yields (fn.CoreFn' source at name params locals yields p body)
+
+abbrev pub define_class : List CorePart → Option CorePart → class.CoreClass → CorePart
+define_class ds base (class.CoreClass' at name p body) = class_statement ds base name at.line (block [] body)
 
 -- a `try`, which guards its block on its line
 abbrev pub try_at : List Layer → CoreBlock → CoreGuard → CorePart
@@ -162,12 +185,15 @@ statement_at ls v.Break = leave_loop
 statement_at ls v.Continue = next_turn
 statement_at ls (f.If' p n branches q other) = choose (choices ls (items-the_row-CoreBranch _ branches)) (block ls other)
 statement_at ls (f.While' e p body) = loop (TurnOf e.value body) (eval e.value)
-statement_at ls (f.Def' p fn) = define_fn fn
-statement_at ls (v.Raise e) = raise_value (some_part e)
+statement_at ls (f.Def' ds es p fn) = define_fn (parts_of ds.value.items) (parts_of es.value.items) fn
+statement_at ls (v.Raise e) = raise_value entry (some_part e)
 statement_at ls (v.Del t) = delete_at t.kind
 statement_at ls (f.For' t e p body) = for_statement (ForOf t.value body) (eval e.value)
 statement_at ls (f.Try' p body q g) = try_at ls body g
-statement_at ls (f.With' e name p body) = with_statement (eval e.value) name (block ls body)
+statement_at ls (f.With' e name p body) = with_statement (eval e.value) name (block [] body)
+statement_at ls (f.Class' ds base p c) = define_class (parts_of ds.value.items) (some_part base) c
+statement_at ls (v.Import names alias) = import_statement core_body names.value.items alias
+statement_at ls (v.ImportFrom names all) = import_from core_body names.value.items all.value.items
 
 abbrev pub statement : List Layer → CoreStmt → CorePart
 statement ls st = statement_at ls st.kind
@@ -176,6 +202,3 @@ abbrev pub act : Turn → CorePart
 act (StatementOf ls st) = statement ls st
 act (TurnOf e body) = turn_of (TurnOf e body) (eval e) (block [] body)
 act (ForOf t body at) = for_turn (ForOf t body) (store t) (block [] body) at
-
-abbrev pub entry : CoreFn → Entry core_kinds
-entry (fn.CoreFn' source at name params locals yields p body) = record { name = name; own = locals; body = block [] body }

@@ -9,9 +9,10 @@ use Rattle.py_values.specs.declared.value.Value.{Value}
 use Rattle.py_values.specs.declared.value.Value.TheVariants as val
 use Rattle.py_core.specs.declared.expr.CoreExpr.{CoreExpr}
 use Rattle.py_core.specs.declared.expr.CoreExprKind as f
-use Rattle.py_core.specs.declared.expr.CoreExprKind.{CoreExprKind, Row_of-CoreExprKind-Call-1-1 as Row, end_of-CoreExprKind-Call-1-1 as end, more_of-CoreExprKind-Call-1-1 as more, Held-CoreExprKind-Slice-1 as Held}
+use Rattle.py_core.specs.declared.expr.CoreExprKind.{CoreExprKind, Row_of-CoreExprKind-Call-1-1 as Row, end_of-CoreExprKind-Call-1-1 as end, more_of-CoreExprKind-Call-1-1 as more_of, Held-CoreExprKind-Slice-1 as Held}
 use Rattle.py_core.specs.declared.expr.CoreExprKind.TheVariants as v
 use Rattle.py_core.specs.declared.stmt.CoreBranch as branch
+use Rattle.py_core.specs.declared.stmt.CoreClass as class
 use Rattle.py_core.specs.declared.stmt.CoreFn as fn
 use Rattle.py_core.specs.declared.stmt.CoreFn.{CoreFn}
 use Rattle.py_core.specs.declared.stmt.CoreSingleKind.{CoreSingleKind}
@@ -32,14 +33,15 @@ use Rattle.py_core.specs.declared.stmt.CoreStmtKind.TheVariants as k
 use Rattle.py_tree.specs.Trees as Rattle_tree
 use Rattle.core_meaning.specs.Requests.{core_kinds, Layer, Statements, Guard, Turn, StatementOf, TurnOf, ForOf}
 use Rattle.core_meaning.specs.Meaning.{core}
-use Rattle.core_meaning.specs.Expressions.{CorePart, eval_at, eval, parts, held}
-use Rattle.core_meaning.specs.Statements.{remains, store_at, store_singles, store, stores, augment_at, delete_at, some_part, failure, begun_at, block_from, block, handlings, guard, choices, define_fn, try_at, statement_at, statement, act, entry}
+use Rattle.core_meaning.specs.Expressions.{CorePart, eval_at, eval, parts, parts_of, held}
+use Rattle.core_meaning.specs.Statements.{remains, store_at, store_singles, store, stores, augment_at, delete_at, some_part, failure, begun_at, block_from, block, handlings, guard, choices, core_body, written, define_fn, define_class, try_at, statement_at, statement, act, entry}
 use Rattle.py_world.specs.World.{State}
 use Rattle.py_world.specs.Site.{Around, Scene, Site, site}
-use Rattle.py_world.specs.Arguments.{Arguments, plain}
+use Rattle.py_world.specs.Arguments.{Arguments, arguments_of}
 use Rattle.py_world.specs.Outcome.{Then}
 use Rattle.py_world.specs.Calls.{invoke, body_of}
 use Rattle.core_rules.proofs.LinearFlow as flow
+use Rattle.core_rules.proofs.LinearClasses as more
 use Rattle.core_rules.proofs.Linear as line
 use Rattle.core_rules.proofs.Linear.{Linear, LinearBody, LinearAfter, LinearAll, LinearMeaning}
 
@@ -52,7 +54,7 @@ mutual
   eval_linear at v.False = line.noted_linear at (line.constant_linear (val.Bool false))
   eval_linear at v.None = line.noted_linear at (line.constant_linear val.None)
   eval_linear at (f.Paren' p a e) = line.noted_linear at (eval_linear a e)
-  eval_linear at (f.Call' p a e q n es) = line.noted_linear at (line.call_linear plain (eval_linear a e) (parts_linear es))
+  eval_linear at (f.Call' p a e q n es names) = line.noted_linear at (line.call_linear (arguments_of names.value.items) (eval_linear a e) (parts_linear es))
   eval_linear at (f.Unary' op p a e) = line.noted_linear at (line.unary_linear op (eval_linear a e))
   eval_linear at (f.Binary' p a l op q b r) = line.noted_linear at (line.binary_linear op (eval_linear a l) (eval_linear b r))
   eval_linear at (f.Compare' p a e ops q n es) = line.noted_linear at (line.compare_linear ops.value.items (eval_linear a e) (parts_linear es))
@@ -71,7 +73,7 @@ mutual
 
   parts_linear : {m : _} (row : Row m) → LinearAll (parts row)
   parts_linear end = line.nil
-  parts_linear (more p a e row) = line.cons (eval_linear a e) (parts_linear row)
+  parts_linear (more_of p a e row) = line.cons (eval_linear a e) (parts_linear row)
 
   held_linear : (m : Held) → line.LinearSome (held m)
   held_linear f.CoreExprKind-Slice-1-None' = line.none
@@ -125,12 +127,15 @@ begun_linear k.Break ls st = line.asked_linear (StatementOf ls st)
 begun_linear k.Continue ls st = line.asked_linear (StatementOf ls st)
 begun_linear (c.If' p n branches q other) ls st = line.asked_linear (StatementOf ls st)
 begun_linear (c.While' e p body) ls st = line.asked_linear (StatementOf ls st)
-begun_linear (c.Def' p x) ls st = line.asked_linear (StatementOf ls st)
+begun_linear (c.Def' ds es p x) ls st = line.asked_linear (StatementOf ls st)
 begun_linear (k.Raise e) ls st = line.asked_linear (StatementOf ls st)
 begun_linear (k.Del t) ls st = line.asked_linear (StatementOf ls st)
 begun_linear (c.For' t e p body) ls st = line.asked_linear (StatementOf ls st)
 begun_linear (c.Try' p body q g) ls st = line.asked_linear (StatementOf ls st)
 begun_linear (c.With' e name p body) ls st = line.asked_linear (StatementOf ls st)
+begun_linear (c.Class' ds base p x) ls st = line.asked_linear (StatementOf ls st)
+begun_linear (k.Import names alias) ls st = line.asked_linear (StatementOf ls st)
+begun_linear (k.ImportFrom names all) ls st = line.asked_linear (StatementOf ls st)
 
 from_linear : (ls : List Layer) (b : CoreBlock) (at : ℕ) (ss : List CoreStmt) → LinearBody (block_from ls b at ss)
 from_linear ls b at [] = record { does = λ scene s k l. refl }
@@ -159,8 +164,18 @@ choices_linear : (ls : List Layer) (bs : List branch.CoreBranch) → line.Linear
 choices_linear ls [] = line.nil
 choices_linear ls (branch.CoreBranch' at e p body ∷ rest) = line.cons at.line (eval_linear e.value.at e.value.kind) (block_linear ls body) (choices_linear ls rest)
 
-define_linear : (x : CoreFn) → Linear (define_fn x)
-define_linear (fn.CoreFn' source at name params locals yields p body) = line.define_linear name at.line _ yields _
+entry_linear : (x : CoreFn) → LinearBody (entry x).body
+entry_linear (fn.CoreFn' source at name params locals yields p body) = block_linear [] body
+
+each_linear : (es : List (Rc CoreExpr Global)) → LinearAll (parts_of es)
+each_linear [] = line.nil
+each_linear (e ∷ es) = line.cons (eval_linear e.value.at e.value.kind) (each_linear es)
+
+define_linear : (ds es : List (Rc CoreExpr Global)) (x : CoreFn) → Linear (define_fn (parts_of ds) (parts_of es) x)
+define_linear ds es (fn.CoreFn' source at name params locals yields p body) = more.define_linear (each_linear ds) (each_linear es) (written params.value.items) name at.line yields _
+
+class_linear : (ds : List (Rc CoreExpr Global)) (base : Option (Rc CoreExpr Global)) (x : class.CoreClass) → Linear (define_class (parts_of ds) (some_part base) x)
+class_linear ds base (class.CoreClass' at name p body) = more.class_linear (each_linear ds) (some_linear base) name at.line (block_linear [] body)
 
 statement_linear : (ls : List Layer) (kind : CoreStmtKind) → Linear (statement_at ls kind)
 statement_linear ls (k.Expr e) = line.expression_linear (eval_linear e.value.at e.value.kind)
@@ -175,20 +190,20 @@ statement_linear ls k.Break = line.leave_linear
 statement_linear ls k.Continue = line.again_linear
 statement_linear ls (c.If' p n branches q other) = line.choose_linear (choices_linear ls (items-the_row-CoreBranch _ branches)) (block_linear ls other)
 statement_linear ls (c.While' e p body) = line.loop_linear _ (eval_linear e.value.at e.value.kind)
-statement_linear ls (c.Def' p x) = define_linear x
-statement_linear ls (k.Raise e) = flow.raise_linear (some_linear e)
+statement_linear ls (c.Def' ds es p x) = define_linear ds.value.items es.value.items x
+statement_linear ls (k.Raise e) = more.raise_linear entry entry_linear (some_linear e)
 statement_linear ls (k.Del t) = delete_linear t.kind
 statement_linear ls (c.For' t e p body) = flow.for_linear (ForOf t.value body) (eval_linear e.value.at e.value.kind)
 statement_linear ls (c.Try' p body q g) = try_linear ls body g
-statement_linear ls (c.With' e name p body) = flow.with_linear name (eval_linear e.value.at e.value.kind) (block_linear ls body)
+statement_linear ls (c.With' e name p body) = flow.with_linear name (eval_linear e.value.at e.value.kind) (block_linear [] body)
+statement_linear ls (c.Class' ds base p x) = class_linear ds.value.items base x
+statement_linear ls (k.Import names alias) = more.import_linear core_body (λ code. block_linear [] code.body.value) names.value.items alias
+statement_linear ls (k.ImportFrom names all) = more.from_linear core_body (λ code. block_linear [] code.body.value) names.value.items all.value.items
 
 act_linear : (what : Turn) → Linear (act what)
 act_linear (StatementOf ls st) = statement_linear ls st.kind
 act_linear (TurnOf e body) = line.turn_linear _ (eval_linear e.at e.kind) (block_linear [] body)
 act_linear (ForOf t body at) = flow.for_turn_linear (ForOf t body) (store_linear t) (block_linear [] body) at
-
-entry_linear : (x : CoreFn) → LinearBody (entry x).body
-entry_linear (fn.CoreFn' source at name params locals yields p body) = block_linear [] body
 
 core_linear : LinearMeaning core
 core_linear = record { entries = entry_linear; acts = act_linear; bodies = λ code. block_linear [] code.body.value; remains = remains_linear }
@@ -202,5 +217,5 @@ statements ls st p s k budget = line.part_runs core core_linear (statement_linea
 pub blocks : (ls : List Layer) (b : CoreBlock) (scene : Scene) (s : State core_kinds) (k : Then core_kinds) (budget : ℕ) → run (body_of core) budget (block ls b scene s k) ≡ follow (body_of core) (run (body_of core) budget (block ls b scene s Done)) k
 blocks ls b scene s k budget = line.body_runs core core_linear (block_linear ls b) scene s k budget
 
-pub calls : (callee : Value) (args : Arguments) (a : Around) (s : State core_kinds) (k : Then core_kinds) (budget : ℕ) → run (body_of core) budget (invoke core callee args a s k) ≡ follow (body_of core) (run (body_of core) budget (invoke core callee args a s Done)) k
+pub calls : (callee : Value) (args : Arguments) (a : Around) (s : State core_kinds) (k : Then core_kinds) (budget : ℕ) → run (body_of core) budget (invoke entry callee args a s k) ≡ follow (body_of core) (run (body_of core) budget (invoke entry callee args a s Done)) k
 calls callee args a s k budget = line.call_runs core core_linear callee args a s k budget

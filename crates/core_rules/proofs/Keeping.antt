@@ -1,6 +1,6 @@
 -- What all forms keep: what holds of a world, and still holds of it with an object more or changed, with a name of a module bound,
 -- with text printed, with a function more, and with the trace of an exception.
-use Rattle.std.proofs.Common.{◌≡◌, refl, ℕ, zero, suc, List, [], ◌∷◌, ◌++◌, Bool, true, false, Option, Some, None}
+use Rattle.std.proofs.Common.{◌≡◌, ℕ, zero, suc, List, [], ◌∷◌, ◌++◌, Bool, true, false, Option, Some, None, refl, sym, ap, subst, append_assoc}
 use Rattle.std.specs.Prelude.{cond, slice_get, length, nat_lt, codes, Result, Ok, Err}
 use Rattle.run_tree.specs.Todo.{spend_all}
 use Rattle.run_tree.specs.Kept as tree
@@ -10,28 +10,31 @@ use Rattle.py_tree.specs.Trees.{Tree}
 use Rattle.py_tree.specs.declared.op.BinOp.{BinOp}
 use Rattle.py_tree.specs.declared.op.UnOp.{UnOp}
 use Rattle.py_tree.specs.declared.op.CmpOp.{CmpOp}
-use Rattle.py_values.specs.Builtins.{with_receiver}
+use Rattle.py_kinds.specs.Builtins.{with_receiver}
 use Rattle.py_values.specs.Changes.{changed, object_after}
 use Rattle.py_values.specs.declared.class.ClassRef.{ClassRef}
 use Rattle.py_values.specs.declared.class.ClassRef.TheVariants as ref
 use Rattle.py_values.specs.declared.class.ClassForm.{ClassForm}
 use Rattle.py_values.specs.declared.class.ClassForm.TheVariants.{Source, Exception, Kind}
-use Rattle.py_values.specs.declared.rows.Param.{Param}
+use Rattle.py_values.specs.declared.object.ClassObj.{ClassObj}
 use Rattle.py_values.specs.declared.object.FunctionObj.{FunctionObj}
-use Rattle.py_values.specs.declared.class.ExcClass.{ExcClass}
 use Rattle.py_values.specs.declared.class.ExcClass.TheVariants.{MemoryError}
 use Rattle.py_values.specs.declared.end.Made.{Made}
 use Rattle.py_values.specs.declared.end.Made.TheVariants.{Give, New, Put, Fail}
 use Rattle.py_values.specs.declared.end.Raise.{Raise}
 use Rattle.py_values.specs.declared.object.Obj.{Obj}
 use Rattle.py_values.specs.declared.object.Obj.TheVariants as obj
+use Rattle.py_values.specs.declared.value.ObjId.{ObjId}
 use Rattle.py_values.specs.declared.value.Value.{Value}
 use Rattle.py_values.specs.declared.value.Value.TheVariants as val
 use Rattle.py_values.specs.Ends.{cost_of, id_at}
-use Rattle.py_values.specs.Kinds.{class_name, kind_name}
+use Rattle.py_kinds.specs.Classes.{is_exc_class}
+use Rattle.py_kinds.specs.Kinds.{kind_name}
+use Rattle.call_products.specs.declared.product.Product.{Product}
+use Rattle.pytest_calls.specs.Marks.{mark_called}
 use Rattle.py_values.specs.Limits.{most_elements}
 use Rattle.py_values.specs.Raises.{raise, exception, thrown_by, thrown_with}
-use Rattle.py_values.specs.Truth.{truth}
+use Rattle.py_kinds.specs.Truth.{truth}
 use Rattle.py_ops.specs.Binary.{binary_of}
 use Rattle.py_ops.specs.Unary.{unary_of}
 use Rattle.py_ops.specs.Compare.{compare_of}
@@ -39,17 +42,18 @@ use Rattle.py_calls.specs.Called.{Called}
 use Rattle.py_calls.specs.Calls.{called_of}
 use Rattle.py_world.specs.declared.trace.TraceFrame.{TraceFrame}
 use Rattle.py_world.specs.declared.load.Load.{Load}
-use Rattle.py_world.specs.declared.load.Load.TheVariants.{Running, Loaded, Failed}
-use Rattle.py_world.specs.Arguments.{Arguments}
-use Rattle.py_world.specs.World.{Kinds, World, State, Locals, Stored, heap_of, unset, with_object, world_with_heap, world_with_printed, world_with_code, world_with_modules, world_with_traces, put_trace}
+use Rattle.py_world.specs.Arguments.{Arguments, with_plain}
+use Rattle.py_world.specs.World.{Kinds, World, State, Locals, Stored, heap_of, unset, with_heap, with_object, with_objects, world_with_heap, world_with_printed, world_with_code, world_with_modules, world_with_traces, put_trace}
 use Rattle.py_world.specs.Site.{Around, around_of, Own, InModule, InFunction, InClass, Scene, Site, site, trace_of}
-use Rattle.py_world.specs.Outcome.{Outcome, Gave, Next, Returned, Broke, Continued, Raised, Spent, Paused, Rest, Then, Part, After, Body, Request, CallOf, DoOf, Ways, route, onward, raised, made, call_end, on_value, on_next, on_turn, if_true, costing, operated}
+use Rattle.py_world.specs.Outcome.{Outcome, Gave, Next, Returned, Broke, Continued, Raised, Spent, Paused, Rest, Then, Part, After, Body, Request, CallOf, DoOf, Ways, route, onward, gave_in, raised, made, product_end, call_end, on_value, on_next, on_turn, if_true, costing, operated}
 use Rattle.py_world.specs.Names.{with_name, name_end, named, bound, bound_by, bound_global}
 use Rattle.py_world.specs.Expressions.{noted, constant, name_part, text_part, unary_part, binary_part, compared, compare_on, compare_part, not_part, and_on, and_part, or_on, or_part, choice_part, called, call_on, call_part, kept_part}
-use Rattle.py_world.specs.Statements.{Choice, asked, expression_statement, return_value, yield_value, pass, leave_loop, next_turn, assertion, fail, failed_with, fail_explained, branches_on, choose, loop, turn_of, with_function, stored, define}
+use Rattle.py_world.specs.Statements.{Choice, asked, expression_statement, return_value, yield_value, pass, leave_loop, next_turn, assertion, fail, failed_with, fail_explained, branches_on, choose, loop, turn_of}
 use Rattle.py_world.specs.ModuleNames.{module_name, module_object}
-use Rattle.py_world.specs.Runs.{load_at, with_load, naming_heap, module_place, with_module, module_end, module_scene, start, executed, first_load, load_by, load_part}
-use Rattle.py_world.specs.Calls.{Meaning, most_open, exception_called, not_callable, wrong_arguments, too_deep, arguments_for, entered, function_called, builtin_called, class_called, object_called, value_called, invoke, body_of}
+use Rattle.py_world.specs.Runs.{load_at, with_load, naming_heap, module_place, with_module, module_end, module_scene, start, executed, first_load}
+use Rattle.py_world.specs.Attributes.{with_attribute}
+use Rattle.py_world.specs.Exceptions.{class_by}
+use Rattle.py_world.specs.Calls.{Entry, Meaning, most_open, wrong_arguments, not_callable, too_deep, arguments_for, function_of_object, class_takes, new_instance, init_of, init_end, entered, function_called, function_with, builtin_called, mark_or, class_or, called_or, init_object, init_called, instance_made, class_called, value_called, invoke, body_of}
 
 -- what the forms do to a world; a module is loaded only where its path is fresh
 pub record Closed {K : Kinds} (Good : World K → Type 0) (Fresh : List ℕ → Type 0) : Type 0 where
@@ -72,6 +76,10 @@ state_in (Raised e trace s) = s
 abbrev pub request_state : {K : Kinds} → Request K → State K
 request_state (CallOf callee args a s) = s
 request_state (DoOf what p s) = s
+
+pub append-empty : {A : Type 0} (xs : List A) → xs ++ [] ≡ xs
+append-empty [] = refl
+append-empty (x ∷ xs) = ap (λ ys. x ∷ ys) (append-empty xs)
 
 module _ {K : Kinds} (Good : World K → Type 0) (Fresh : List ℕ → Type 0) (closed : Closed Good Fresh) where
   abbrev pub GoodState : State K → Type 0
@@ -174,6 +182,15 @@ module _ {K : Kinds} (Good : World K → Type 0) (Fresh : List ℕ → Type 0) (
   made_kept (Put id c v n) trace s g = closed.change s.world (object_after c) id.at g
   made_kept (Fail r n) trace s g = raised_kept r trace s g
 
+  -- objects more
+  objects_kept : (all : List Obj) (w : World K) → Good w → Good (world_with_heap (w.heap ++ all) w)
+  objects_kept [] w g = subst (λ heap. Good (world_with_heap heap w)) (sym (append-empty w.heap)) g
+  objects_kept (o ∷ rest) w g =
+      subst (λ heap. Good (world_with_heap heap w)) (append_assoc w.heap (o ∷ []) rest) (objects_kept rest (world_with_heap (w.heap ++ o ∷ []) w) (closed.object w o g))
+
+  product_kept : (x : Product) (trace : List TraceFrame) (s : State K) → GoodState s → GoodEnd (product_end x trace s)
+  product_kept x trace s g = made_kept x.made trace (with_objects x.objects s) (objects_kept x.objects s.world g)
+
   pub costing_kept : (m : Made) (trace : List TraceFrame) (s : State K) → GoodState s → (k : Then K) → Behind k → Kept (costing m trace s k)
   costing_kept m trace s g k h = spend_kept (cost_of m) _ _ g (h (made m trace s) (made_kept m trace s g))
 
@@ -270,7 +287,7 @@ module _ {K : Kinds} (Good : World K → Type 0) (Fresh : List ℕ → Type 0) (
   bound_by_kept : (own : Own) (name : List ℕ) (v : Value) (scene : Scene) (s : State K) → GoodState s → GoodState (bound_by own name v scene s)
   bound_by_kept InModule name v scene s g = global_kept name v scene s g
   bound_by_kept (InFunction own) name v scene s g = state_cond (is_among own name) _ _ g (global_kept name v scene s g)
-  bound_by_kept InClass name v scene s g = g
+  bound_by_kept (InClass at) name v scene s g = closed.change s.world (with_attribute name v) at g
 
   pub bound_kept : (name : List ℕ) (v : Value) (scene : Scene) (s : State K) → GoodState s → GoodState (bound name v scene s)
   bound_kept name v scene s g = bound_by_kept scene.own name v scene s g
@@ -324,10 +341,6 @@ module _ {K : Kinds} (Good : World K → Type 0) (Fresh : List ℕ → Type 0) (
   pub turn_of_kept : (turn : K.turn) {e : Part K} {b : Body K} → PartKept e → BodyKept b → PartKept (turn_of turn e b)
   turn_of_kept turn e b = record { does = λ p s g k h. b.does p.scene s g _ (turn_kept k h _ (λ s g. (loop_kept turn e).does p s g k h)) }
 
-  pub define_kept : (name : List ℕ) (line : ℕ) (params : List Param) (yields : Bool) (code : K.code) → PartKept (define name line params yields code)
-  define_kept name line params yields code =
-      record { does = λ p s g k h. h _ (bound_kept name _ p.scene (with_function name line params yields code p.scene s) (closed.object _ _ (closed.code s.world (stored code p.scene) g))) }
-
   -- a meaning whose parts keep what is good
   pub record MeaningKept (m : Meaning K) : Type 0 where
     pub entries : (c : K.code) → BodyKept (m.entry c).body
@@ -335,65 +348,103 @@ module _ {K : Kinds} (Good : World K → Type 0) (Fresh : List ℕ → Type 0) (
     pub bodies : (c : K.script) → BodyKept (m.body c)
     pub remains : (rest : K.rest) → AfterKept (m.remains rest)
 
-  module _ (m : Meaning K) (kept : MeaningKept m) where
-    entered_kept : (st : Stored K.code) (names : Result Locals Raise) (a : Around) (s : State K) → GoodState s → (k : Then K) → Behind k → Kept (entered m st names a s k)
-    entered_kept st (Ok names) a s g k h = cond_kept (nat_lt a.depth most_open) _ _ ((kept.entries st.code).does _ _ g k h) (h _ (raised_kept too_deep a.trace s g))
+  -- calls of functions whose bodies keep what is good
+  module _ (entry : K.code → Entry K) (bodies : (c : K.code) → BodyKept (entry c).body) where
+    entered_kept : (st : Stored K.code) (names : Result Locals Raise) (a : Around) (s : State K) → GoodState s → (k : Then K) → Behind k → Kept (entered entry st names a s k)
+    entered_kept st (Ok names) a s g k h = cond_kept (nat_lt a.depth most_open) _ _ ((bodies st.code).does _ _ g k h) (h _ (raised_kept too_deep a.trace s g))
     entered_kept st (Err r) a s g k h = h _ (raised_kept r a.trace s g)
 
-    function_kept : (c : Option (Stored K.code)) (f : FunctionObj) (r : Raise) (args : Arguments) (a : Around) (s : State K) → GoodState s → (k : Then K) → Behind k → Kept (function_called m c f r args a s k)
+    function_kept : (c : Option (Stored K.code)) (f : FunctionObj) (r : Raise) (args : Arguments) (a : Around) (s : State K) → GoodState s → (k : Then K) → Behind k → Kept (function_called entry c f r args a s k)
     function_kept None f r args a s g k h = h _ (raised_kept r a.trace s g)
     function_kept (Some st) f r args a s g k h = entered_kept st (arguments_for f args) a s g k h
 
-    builtin_kept : (c : Called) (a : Around) (s : State K) → GoodState s → (k : Then K) → Behind k → Kept (builtin_called m c a s k)
-    builtin_kept c a s g k h = spend_kept (cost_of c.made) _ _ g (h _ (made_kept c.made a.trace _ (closed.print s.world c.printed g)))
+    with_kept : (f : Option FunctionObj) (v : Value) (r : Raise) (args : Arguments) (a : Around) (s : State K) → GoodState s → (k : Then K) → Behind k → Kept (function_with entry f v r args a s k)
+    with_kept None v r args a s g k h = h _ (raised_kept r a.trace s g)
+    with_kept (Some f) v r args a s g k h = function_kept (slice_get s.world.codes f.code) f r (with_plain v args) a s g k h
 
-    exception_kept : (c : ExcClass) (args : List Value) (named : List (List ℕ × Value)) (a : Around) (s : State K) → GoodState s → GoodEnd (exception_called c args named a s)
-    exception_kept c args [] a s g = thrown_with_kept (ref.Builtin c) args s.world g
-    exception_kept c args (n ∷ ns) a s g = raised_kept (wrong_arguments (class_name c)) a.trace s g
+    builtin_kept : (c : Called) (a : Around) (s : State K) → GoodState s → (k : Then K) → Behind k → Kept (builtin_called entry c a s k)
+    builtin_kept c a s g k h = spend_kept (cost_of c.product.made) _ _ g (h _ (product_kept c.product a.trace _ (closed.print s.world c.printed g)))
 
-    class_kept : (c : ClassForm) (r : Raise) (args : Arguments) (a : Around) (s : State K) → GoodState s → (k : Then K) → Behind k → Kept (class_called m c r args a s k)
-    class_kept (Kind b) r args a s g k h = builtin_kept (called_of b (heap_of s) args.plain args.named) a s g k h
-    class_kept Source r args a s g k h = h _ (raised_kept r a.trace s g)
-    class_kept (Exception c) r args a s g k h = h _ (exception_kept c args.plain args.named a s g)
+    mark_kept : (called : Bool) (x : Product) (r : Raise) (a : Around) (s : State K) → GoodState s → (k : Then K) → Behind k → Kept (mark_or entry called x r a s k)
+    mark_kept true x r a s g k h = h _ (raised_kept r a.trace s g)
+    mark_kept false x r a s g k h = spend_kept (cost_of x.made) _ _ g (h _ (product_kept x a.trace s g))
 
-    object_kept : (o : Option Obj) (r : Raise) (args : Arguments) (a : Around) (s : State K) → GoodState s → (k : Then K) → Behind k → Kept (object_called m o r args a s k)
-    object_kept (Some (obj.Function f)) r args a s g k h = function_kept (slice_get s.world.codes f.code) f r args a s g k h
-    object_kept (Some (obj.Builtin b)) r args a s g k h = builtin_kept (called_of b.which (heap_of s) (with_receiver b.receiver args.plain) args.named) a s g k h
-    object_kept (Some (obj.Class c)) r args a s g k h = class_kept c.form r args a s g k h
-    object_kept (Some (obj.Text x)) r args a s g k h = h _ (raised_kept r a.trace s g)
-    object_kept (Some (obj.List x)) r args a s g k h = h _ (raised_kept r a.trace s g)
-    object_kept (Some (obj.Tuple x)) r args a s g k h = h _ (raised_kept r a.trace s g)
-    object_kept (Some (obj.Dict x)) r args a s g k h = h _ (raised_kept r a.trace s g)
-    object_kept (Some (obj.Range x)) r args a s g k h = h _ (raised_kept r a.trace s g)
-    object_kept (Some (obj.Method x)) r args a s g k h = h _ (raised_kept r a.trace s g)
-    object_kept (Some (obj.Instance x)) r args a s g k h = h _ (raised_kept r a.trace s g)
-    object_kept (Some (obj.Exception x)) r args a s g k h = h _ (raised_kept r a.trace s g)
-    object_kept (Some (obj.Module x)) r args a s g k h = h _ (raised_kept r a.trace s g)
-    object_kept (Some (obj.Fixture x)) r args a s g k h = h _ (raised_kept r a.trace s g)
-    object_kept (Some obj.MarkMaker) r args a s g k h = h _ (raised_kept r a.trace s g)
-    object_kept (Some (obj.Mark x)) r args a s g k h = h _ (raised_kept r a.trace s g)
-    object_kept (Some (obj.Hook x)) r args a s g k h = h _ (raised_kept r a.trace s g)
-    object_kept (Some (obj.Param x)) r args a s g k h = h _ (raised_kept r a.trace s g)
-    object_kept (Some (obj.Request x)) r args a s g k h = h _ (raised_kept r a.trace s g)
-    object_kept (Some (obj.Raises x)) r args a s g k h = h _ (raised_kept r a.trace s g)
-    object_kept (Some (obj.Info x)) r args a s g k h = h _ (raised_kept r a.trace s g)
-    object_kept (Some (obj.Item x)) r args a s g k h = h _ (raised_kept r a.trace s g)
-    object_kept None r args a s g k h = h _ (raised_kept r a.trace s g)
+    class_or_kept : (c : ClassForm) (args : Arguments) (a : Around) (s : State K) → GoodState s → (k : Then K) → Behind k → (other : Rest K) → Kept other → Kept (class_or entry c args a s k other)
+    class_or_kept (Kind b) args a s g k h other x = builtin_kept (called_of b (heap_of s) args.plain args.named) a s g k h
+    class_or_kept Source args a s g k h other x = x
+    class_or_kept (Exception c) args a s g k h other x = x
 
-    value_kept_by : (callee : Value) (r : Raise) (args : Arguments) (a : Around) (s : State K) → GoodState s → (k : Then K) → Behind k → Kept (value_called m callee r args a s k)
-    value_kept_by (val.Ref id) r args a s g k h = object_kept (slice_get (heap_of s) id.at) r args a s g k h
+    called_or_kept : (o : Option Obj) (r : Raise) (args : Arguments) (a : Around) (s : State K) → GoodState s → (k : Then K) → Behind k → (class : ClassObj → Rest K) → ((c : ClassObj) → Kept (class c)) → Kept (called_or entry o r args a s k class)
+    called_or_kept (Some (obj.Function f)) r args a s g k h class x = function_kept (slice_get s.world.codes f.code) f r args a s g k h
+    called_or_kept (Some (obj.Method m)) r args a s g k h class x = with_kept (function_of_object (slice_get (heap_of s) m.function.at)) m.receiver r args a s g k h
+    called_or_kept (Some (obj.Builtin b)) r args a s g k h class x = builtin_kept (called_of b.which (heap_of s) (with_receiver b.receiver args.plain) args.named) a s g k h
+    called_or_kept (Some (obj.Class c)) r args a s g k h class x = class_or_kept c.form args a s g k h (class c) (x c)
+    called_or_kept (Some (obj.Text y)) r args a s g k h class x = h _ (raised_kept r a.trace s g)
+    called_or_kept (Some (obj.List y)) r args a s g k h class x = h _ (raised_kept r a.trace s g)
+    called_or_kept (Some (obj.Tuple y)) r args a s g k h class x = h _ (raised_kept r a.trace s g)
+    called_or_kept (Some (obj.Dict y)) r args a s g k h class x = h _ (raised_kept r a.trace s g)
+    called_or_kept (Some (obj.Range y)) r args a s g k h class x = h _ (raised_kept r a.trace s g)
+    called_or_kept (Some (obj.Instance y)) r args a s g k h class x = h _ (raised_kept r a.trace s g)
+    called_or_kept (Some (obj.Exception y)) r args a s g k h class x = h _ (raised_kept r a.trace s g)
+    called_or_kept (Some (obj.Module y)) r args a s g k h class x = h _ (raised_kept r a.trace s g)
+    called_or_kept (Some (obj.Fixture y)) r args a s g k h class x = h _ (raised_kept r a.trace s g)
+    called_or_kept (Some obj.MarkMaker) r args a s g k h class x = h _ (raised_kept r a.trace s g)
+    called_or_kept (Some (obj.Mark y)) r args a s g k h class x = mark_kept y.called (mark_called y (heap_of s) args.plain args.named) r a s g k h
+    called_or_kept (Some (obj.Hook y)) r args a s g k h class x = h _ (raised_kept r a.trace s g)
+    called_or_kept (Some (obj.Param y)) r args a s g k h class x = h _ (raised_kept r a.trace s g)
+    called_or_kept (Some (obj.Request y)) r args a s g k h class x = h _ (raised_kept r a.trace s g)
+    called_or_kept (Some (obj.Raises y)) r args a s g k h class x = h _ (raised_kept r a.trace s g)
+    called_or_kept (Some (obj.Info y)) r args a s g k h class x = h _ (raised_kept r a.trace s g)
+    called_or_kept (Some (obj.Item y)) r args a s g k h class x = h _ (raised_kept r a.trace s g)
+    called_or_kept None r args a s g k h class x = h _ (raised_kept r a.trace s g)
+
+    init_object_kept : (f : Option FunctionObj) (id : ObjId) (v : Value) (r : Raise) (args : Arguments) (a : Around) (s : State K) → GoodState s → (k : Then K) → Behind k → Kept (init_object entry f id v r args a s k)
+    init_object_kept (Some f) id v r args a s g k h = with_kept (Some f) v r args a s g k h
+    init_object_kept None id v r args a s g k h = called_or_kept (slice_get (heap_of s) id.at) r args a s g k h _ (λ c. (g, g, h))
+
+    init_kept : (init v : Value) (r : Raise) (args : Arguments) (a : Around) (s : State K) → GoodState s → (k : Then K) → Behind k → Kept (init_called entry init v r args a s k)
+    init_kept (val.Ref id) v r args a s g k h = init_object_kept (function_of_object (slice_get (heap_of s) id.at)) id v r args a s g k h
+    init_kept val.None v r args a s g k h = h _ (raised_kept r a.trace s g)
+    init_kept (val.Bool b) v r args a s g k h = h _ (raised_kept r a.trace s g)
+    init_kept (val.Int n) v r args a s g k h = h _ (raised_kept r a.trace s g)
+
+    init_end_kept : (v : Value) (o : Outcome K) → GoodEnd o → GoodEnd (init_end v o)
+    init_end_kept v (Gave w s) g = g
+    init_end_kept v (Next s) g = g
+    init_end_kept v (Returned w s) g = g
+    init_end_kept v (Broke s) g = g
+    init_end_kept v (Continued s) g = g
+    init_end_kept v (Raised e trace s) g = g
+
+    instance_kept : (init : Option Value) (exc : Bool) (name : List ℕ) (x : Value × List Obj) (args : Arguments) (a : Around) (s : State K) → GoodState s → Good (world_with_heap x.1 s.world) → (k : Then K) → Behind k → Kept (instance_made entry init exc name x args a s k)
+    instance_kept None exc name x args a s g n k h = cond_kept (class_takes exc args) _ _ (h (gave_in x s) n) (h _ (raised_kept (wrong_arguments name) a.trace s g))
+    instance_kept (Some init) exc name x args a s g n k h =
+        init_kept init x.0 (not_callable (kind_name x.1 init)) args a (with_heap x.1 s) n (λ o. k (init_end x.0 o)) (λ o d. h (init_end x.0 o) (init_end_kept x.0 o d))
+
+    new_kept : (exc : Bool) (id : ObjId) (form : ClassForm) (vs : List Value) (w : World K) → Good w → Good (world_with_heap (new_instance exc id form vs w.heap).1 w)
+    new_kept true id form vs w g = thrown_with_kept (class_by id form) vs w g
+    new_kept false id form vs w g = closed.object w (obj.Instance (record { class = id; names = [] })) g
+
+    class_kept : (id : ObjId) (c : ClassObj) (args : Arguments) (a : Around) (s : State K) → GoodState s → (k : Then K) → Behind k → Kept (class_called entry id c args a s k)
+    class_kept id c args a s g k h =
+        instance_kept (init_of (heap_of s) id) (is_exc_class (heap_of s) (val.Ref id)) c.name (new_instance (is_exc_class (heap_of s) (val.Ref id)) id c.form args.plain (heap_of s)) args a s g (new_kept (is_exc_class (heap_of s) (val.Ref id)) id c.form args.plain s.world g) k h
+
+    value_kept_by : (callee : Value) (r : Raise) (args : Arguments) (a : Around) (s : State K) → GoodState s → (k : Then K) → Behind k → Kept (value_called entry callee r args a s k)
+    value_kept_by (val.Ref id) r args a s g k h = called_or_kept (slice_get (heap_of s) id.at) r args a s g k h _ (λ c. class_kept id c args a s g k h)
     value_kept_by val.None r args a s g k h = h _ (raised_kept r a.trace s g)
     value_kept_by (val.Bool b) r args a s g k h = h _ (raised_kept r a.trace s g)
     value_kept_by (val.Int n) r args a s g k h = h _ (raised_kept r a.trace s g)
 
-    pub invoke_kept : (callee : Value) (args : Arguments) (a : Around) (s : State K) → GoodState s → (k : Then K) → Behind k → Kept (invoke m callee args a s k)
+    pub invoke_kept : (callee : Value) (args : Arguments) (a : Around) (s : State K) → GoodState s → (k : Then K) → Behind k → Kept (invoke entry callee args a s k)
     invoke_kept callee args a s g k h = value_kept_by callee (not_callable (kind_name (heap_of s) callee)) args a s g k h
 
+  module _ (m : Meaning K) (kept : MeaningKept m) where
     pub requests_kept : tree.Keeping GoodSpent GoodRequest GoodEnd GoodPaused (body_of m)
-    requests_kept (CallOf callee args a s) g k h = invoke_kept callee args a s g k h
+    requests_kept (CallOf callee args a s) g k h = invoke_kept m.entry kept.entries callee args a s g k h
     requests_kept (DoOf what p s) g k h = (kept.acts what).does p s g k h
 
-    -- the load of a module, whose path is fresh
+  -- the load of a module, whose path is fresh
+  module _ (body : K.script → Body K) (bodies : (c : K.script) → BodyKept (body c)) where
     module_end_kept : (path : List ℕ) (id : ℕ) → Fresh path → (o : Outcome K) → GoodEnd o → GoodEnd (module_end path id o)
     module_end_kept path id f (Gave v s) g = closed.load s.world path _ f g
     module_end_kept path id f (Next s) g = closed.load s.world path _ f g
@@ -406,24 +457,15 @@ module _ {K : Kinds} (Good : World K → Type 0) (Fresh : List ℕ → Type 0) (
     begins_kept path w f g = closed.load _ path _ f (closed.object (world_with_heap (naming_heap path w.heap) w) (module_object path (length w.heap)) (closed.object w (obj.Text (module_name path)) g))
 
     -- from the world in which the module begins
-    pub begun_kept : (path : List ℕ) (code : K.script) (a : Around) (w : World K) → Fresh path → Good (with_module path w) → (k : Then K) → Behind k → Kept (executed m path code a w k)
+    pub begun_kept : (path : List ℕ) (code : K.script) (a : Around) (w : World K) → Fresh path → Good (with_module path w) → (k : Then K) → Behind k → Kept (executed body path code a w k)
     begun_kept path code a w f g k h =
-        (kept.bodies code).does (module_scene path (module_place path w) a) (start (with_module path w)) g (λ o. k (module_end path (module_place path w) o)) (λ o d. h (module_end path (module_place path w) o) (module_end_kept path (module_place path w) f o d))
+        (bodies code).does (module_scene path (module_place path w) a) (start (with_module path w)) g (λ o. k (module_end path (module_place path w) o)) (λ o d. h (module_end path (module_place path w) o) (module_end_kept path (module_place path w) f o d))
 
-    pub executed_kept : (path : List ℕ) (code : K.script) (a : Around) (w : World K) → load_at path w.modules ≡ None → Good w → (k : Then K) → Behind k → Kept (executed m path code a w k)
+    pub executed_kept : (path : List ℕ) (code : K.script) (a : Around) (w : World K) → load_at path w.modules ≡ None → Good w → (k : Then K) → Behind k → Kept (executed body path code a w k)
     executed_kept path code a w absent g k h =
         let f : Fresh path = closed.fresh w path absent g in begun_kept path code a w f (begins_kept path w f g) k h
 
-    first_load_kept : (code : Option K.script) (path : List ℕ) {missing : Part K} → PartKept missing → (p : Site) (s : State K) → load_at path s.world.modules ≡ None → GoodState s → (k : Then K) → Behind k → Kept (first_load m code path missing p s k)
-    first_load_kept None path x p s absent g k h = x.does p s g k h
-    first_load_kept (Some code) path x p s absent g k h = executed_kept path code (around_of p) s.world absent g (λ o. k (call_end s o)) (λ o d. h (call_end s o) (call_end_kept s o d))
-
-    load_by_kept : (l : Option Load) (path : List ℕ) {missing : Part K} → PartKept missing → (p : Site) (s : State K) → load_at path s.world.modules ≡ l → GoodState s → (k : Then K) → Behind k → Kept (load_by m l path missing p s k)
-    load_by_kept (Some (Running id)) path x p s is g k h = h _ g
-    load_by_kept (Some (Loaded id)) path x p s is g k h = h _ g
-    load_by_kept (Some (Failed e trace)) path x p s is g k h = h _ g
-    load_by_kept None path x p s is g k h = first_load_kept _ path x p s is g k h
-
-    -- a load in mid-run
-    pub load_kept : (path : List ℕ) {missing : Part K} → PartKept missing → PartKept (load_part m path missing)
-    load_kept path x = record { does = λ p s g k h. load_by_kept (load_at path s.world.modules) path x p s refl g k h }
+    -- a load in mid-run; missing is what a path without code does
+    pub first_load_kept : (code : Option K.script) (path : List ℕ) (missing : Part K) (p : Site) (s : State K) → load_at path s.world.modules ≡ None → GoodState s → (k : Then K) → Behind k → Kept (missing p s k) → Kept (first_load body code path missing p s k)
+    first_load_kept None path missing p s absent g k h x = x
+    first_load_kept (Some code) path missing p s absent g k h x = executed_kept path code (around_of p) s.world absent g (λ o. k (call_end s o)) (λ o d. h (call_end s o) (call_end_kept s o d))

@@ -5,21 +5,27 @@ use Rattle.py_tree.specs.declared.op.BinOp.{BinOp}
 use Rattle.py_tree.specs.Names.{is_among}
 use Rattle.py_values.specs.Changes.{object_after}
 use Rattle.py_values.specs.Ends.{id_at}
-use Rattle.py_values.specs.Kinds.{kind_name}
-use Rattle.py_values.specs.Lengths.{length_of}
+use Rattle.py_kinds.specs.Kinds.{kind_name}
+use Rattle.py_kinds.specs.Lengths.{length_of}
 use Rattle.py_values.specs.declared.end.Made.{Made}
 use Rattle.py_values.specs.declared.end.Made.TheVariants.{Give, New, Put, Fail}
 use Rattle.py_values.specs.declared.end.Raise.{Raise}
 use Rattle.py_values.specs.declared.index.Index.TheVariants.{At, Slice}
 use Rattle.py_values.specs.declared.object.Obj.{Obj}
 use Rattle.py_values.specs.declared.object.Obj.TheVariants as obj
+use Rattle.py_values.specs.declared.object.RaisesObj.{RaisesObj}
+use Rattle.py_values.specs.declared.change.Change.TheVariants.{Whole}
+use Rattle.py_values.specs.declared.value.ObjId.{ObjId}
 use Rattle.py_values.specs.declared.value.Value.{Value}
 use Rattle.py_values.specs.declared.value.Value.TheVariants as val
-use Rattle.py_ops.specs.Faults.{not_iterable}
+use Rattle.py_operands.specs.Faults.{not_iterable}
 use Rattle.py_ops.specs.Binary.{augmented_of}
 use Rattle.py_items.specs.Items.{subscript_of, store_of, delete_of, object_at}
 use Rattle.py_items.specs.Turns.{turn_of as element_of, turn_end, next_by, iterate}
 use Rattle.py_items.specs.declared.iter.IterAt.{IterAt}
+use Rattle.py_attributes.specs.Attributes.{attribute_of, own_value, no_attribute}
+use Rattle.pytest_calls.specs.Swallowing.{did_not_raise, pattern_end}
+use Rattle.py_kinds.specs.Classes.{is_a}
 use Rattle.py_world.specs.declared.ended.Thrown.{Thrown}
 use Rattle.py_world.specs.declared.trace.TraceFrame.{TraceFrame}
 use Rattle.py_world.specs.World.{Kinds, World, State, heap_of, with_heap, with_trace, trace_at, world_with_heap}
@@ -28,9 +34,10 @@ use Rattle.py_world.specs.Names.{without_name, bound_value, not_bound, unbound, 
 use Rattle.py_world.specs.Outcome.{Outcome, Gave, Next, Returned, Broke, Continued, Raised, Rest, Then, Part, After, Body, route, onward, changing, made, costing, operated, on_value, on_next, raised_at}
 use Rattle.py_world.specs.Expressions.{arguments}
 use Rattle.py_world.specs.Displays.{displayed, dict_displayed, in_pairs, bound_given, collected, list_part, tuple_part, dict_part, subscript_part, slice_bound, sliced_at, slice_by, slice_to, slice_on, slice_part}
-use Rattle.py_world.specs.Attributes.{attribute_of, takes_names, with_attribute, without_attribute, own_value, no_attribute, changed_or, attribute_end, attribute_part, set_attribute, unset_attribute}
+use Rattle.py_world.specs.Attributes.{takes_names, with_attribute, without_attribute, changed_or, attribute_end, attribute_part, set_attribute, unset_attribute}
 use Rattle.py_world.specs.Targets.{Store, wrong_count, element_and, elements_from, store_name, store_attribute, set_item, store_item, store_all, store_each, unpack_by, unpack, assign, augmented, augment_on, augment_name, augment_attribute_of, augment_attribute, augment_item_of, augment_item, delete_attribute, unset_item, delete_item}
-use Rattle.py_world.specs.Exceptions.{Handling, Raisable, Exception_of, Class_of, Neither, no_exception, nothing_raised, bad_context, raisable, first_trace, raised_by, raised_again, takes_exception, raise_value, handler_block, if_taken, handlers_on, guarded_by, then_again, finally_on, guarded, try_statement, is_context, info_named, with_info, context_entered, with_statement}
+use Rattle.py_world.specs.Exceptions.{Handling, Raisable, Exception_of, Class_of, Neither, no_exception, nothing_raised, first_trace, raised_by, raised_again, takes_exception, handler_block, if_taken, handlers_on, guarded_by, then_again, finally_on, guarded, try_statement}
+use Rattle.py_world.specs.Contexts.{bad_context, context_of, info_named, with_info, info_taken, searched, swallowed, taken_or, not_raised, context_left, context_entered, with_statement}
 use Rattle.py_world.specs.Loops.{turn_begun, for_from, iterated, for_statement, behind_target, turn_with, for_turn}
 use Rattle.core_rules.proofs.Keeping as keep
 use Rattle.core_rules.proofs.Keeping.{Closed}
@@ -78,7 +85,7 @@ module _ {K : Kinds} (Good : World K → Type 0) (Fresh : List ℕ → Type 0) (
   operated_kept : (m : Made) (p : Site) (s : State K) → GoodState s → (k : Then K) → Behind k → Kept (operated m p s k)
   operated_kept = keep.operated_kept Good Fresh closed
 
-  arguments_kept : {es : List (Part K)} → PartsKept es → (vs : List Value) (p : Site) (s : State K) → GoodState s → (k : Then K) → Behind k → (go : List Value → State K → Rest K) → ((vs : List Value) (s : State K) → GoodState s → Kept (go vs s)) → Kept (arguments es vs p s k go)
+  pub arguments_kept : {es : List (Part K)} → PartsKept es → (vs : List Value) (p : Site) (s : State K) → GoodState s → (k : Then K) → Behind k → (go : List Value → State K → Rest K) → ((vs : List Value) (s : State K) → GoodState s → Kept (go vs s)) → Kept (arguments es vs p s k go)
   arguments_kept keep.nil vs p s g k h go go_kept = go_kept vs s g
   arguments_kept (keep.cons {es = rest} e es) vs p s g k h go go_kept = e.does p s g _ (value_kept k h (λ v s. arguments rest (vs ++ v ∷ []) p s k go) (λ v s g. arguments_kept es (vs ++ v ∷ []) p s g k h go go_kept))
 
@@ -229,7 +236,7 @@ module _ {K : Kinds} (Good : World K → Type 0) (Fresh : List ℕ → Type 0) (
   unbound_by_kept : (own : Own) (name : List ℕ) (scene : Scene) (s : State K) → GoodState s → GoodState (unbound_by own name scene s)
   unbound_by_kept InModule name scene s g = unbound_global_kept name scene s g
   unbound_by_kept (InFunction own) name scene s g = keep.state_cond Good Fresh closed (is_among own name) _ _ g (unbound_global_kept name scene s g)
-  unbound_by_kept InClass name scene s g = g
+  unbound_by_kept (InClass at) name scene s g = closed.change s.world (without_attribute name) at g
 
   unbound_kept : (name : List ℕ) (scene : Scene) (s : State K) → GoodState s → GoodState (unbound name scene s)
   unbound_kept name scene s g = unbound_by_kept scene.own name scene s g
@@ -257,18 +264,14 @@ module _ {K : Kinds} (Good : World K → Type 0) (Fresh : List ℕ → Type 0) (
   trace_kept (val.Bool b) trace s g = g
   trace_kept (val.Int n) trace s g = g
 
-  raised_by_kept : (x : Raisable) (p : Site) (s : State K) → GoodState s → GoodEnd (raised_by x p s)
+  pub raised_by_kept : (x : Raisable) (p : Site) (s : State K) → GoodState s → GoodEnd (raised_by x p s)
   raised_by_kept (Exception_of id) p s g = trace_kept (val.Ref id) (first_trace (trace_at id.at s.world.traces) (trace_of p)) s g
   raised_by_kept (Class_of class) p s g = keep.thrown_with_kept Good Fresh closed class [] s.world g
   raised_by_kept Neither p s g = raised_kept no_exception p s g
 
-  raised_again_kept : (t : Option Thrown) (p : Site) (s : State K) → GoodState s → GoodEnd (raised_again t p s)
+  pub raised_again_kept : (t : Option Thrown) (p : Site) (s : State K) → GoodState s → GoodEnd (raised_again t p s)
   raised_again_kept (Some t) p s g = g
   raised_again_kept None p s g = raised_kept nothing_raised p s g
-
-  pub raise_kept : {e : Option (Part K)} → SomeKept e → PartKept (raise_value e)
-  raise_kept keep.none = record { does = λ p s g k h. h _ (raised_again_kept p.scene.around.handling p s g) }
-  raise_kept (keep.some e) = record { does = λ p s g k h. e.does p s g _ (value_kept k h _ (λ v s g. h _ (raised_by_kept (raisable (heap_of s) v) p s g))) }
 
   changing_kept : (f : State K → State K) → ((s : State K) → GoodState s → GoodState (f s)) → (k : Then K) → Behind k → (o : Outcome K) → GoodEnd o → Kept (route (changing f k) o)
   changing_kept f fs k h o g =
@@ -326,12 +329,38 @@ module _ {K : Kinds} (Good : World K → Type 0) (Fresh : List ℕ → Type 0) (
   with_info_kept : (name : Option (List ℕ)) (scene : Scene) (s : State K) → GoodState s → GoodState (with_info name scene s)
   with_info_kept name scene s g = info_named_kept name (val.Ref (id_at (length (heap_of s)))) scene _ (closed.object s.world (obj.Info (record { value = None })) g)
 
-  context_kept : (is : Bool) (name : Option (List ℕ)) {body : Body K} → BodyKept body → PartKept (context_entered is name body)
-  context_kept true name body = record { does = λ p s g k h. body.does p.scene (with_info name p.scene s) (with_info_kept name p.scene s g) k h }
-  context_kept false name body = record { does = λ p s g k h. h _ (raised_kept bad_context p s g) }
+  info_taken_kept : (info : ObjId) (e : Value) (s : State K) → GoodState s → GoodState (info_taken info e s)
+  info_taken_kept info e s g = closed.change s.world (object_after (Whole (obj.Info (record { value = Some e })))) info.at g
+
+  searched_kept : (pattern : Option (List ℕ)) (e : Value) → PartKept (searched pattern e)
+  searched_kept pattern e =
+      record { does = λ p s g k h. keep.costing_kept Good Fresh closed (pattern_end (heap_of s) pattern e) (trace_of p) s g (λ o. on_value o k (λ v s. k (Next s))) (value_kept k h (λ v s. k (Next s)) (λ v s g. h _ g)) }
+
+  swallowed_kept : (r : RaisesObj) (info : ObjId) (e : Value) (trace : List TraceFrame) → PartKept (swallowed r info e trace)
+  swallowed_kept r info e trace = record { does = λ p s g k h. (searched_kept r.pattern e).does p _ (info_taken_kept info e (with_trace e trace s) (trace_kept e trace s g)) k h }
+
+  taken_or_kept : (taken : Bool) (r : RaisesObj) (info : ObjId) (e : Value) (trace : List TraceFrame) → PartKept (taken_or taken r info e trace)
+  taken_or_kept true r info e trace = swallowed_kept r info e trace
+  taken_or_kept false r info e trace = record { does = λ p s g k h. h _ g }
+
+  not_raised_kept : (r : RaisesObj) → PartKept (not_raised r)
+  not_raised_kept r = record { does = λ p s g k h. h _ (raised_kept (did_not_raise (heap_of s) r.classes) p s g) }
+
+  left_kept : (r : RaisesObj) (info : ObjId) → AfterKept (context_left r info)
+  left_kept r info =
+      record {
+        does = λ p o g k h. keep.route_kept Good Fresh closed
+            (record { gave = λ v s g. (not_raised_kept r).does p s g k h; next = λ s g. (not_raised_kept r).does p s g k h; returned = λ v s g. (not_raised_kept r).does p s g k h; broke = λ s g. (not_raised_kept r).does p s g k h; continued = λ s g. (not_raised_kept r).does p s g k h; raised = λ e trace s g. (taken_or_kept (is_a (heap_of s) e r.classes) r info e trace).does p s g k h })
+            o g;
+      }
+
+  context_kept : (context : Option RaisesObj) (name : Option (List ℕ)) {body : Body K} → BodyKept body → PartKept (context_entered context name body)
+  context_kept (Some r) name body =
+      record { does = λ p s g k h. body.does p.scene (with_info name p.scene s) (with_info_kept name p.scene s g) (λ o. context_left r (id_at (length (heap_of s))) p o k) (λ o g. (left_kept r (id_at (length (heap_of s)))).does p o g k h) }
+  context_kept None name body = record { does = λ p s g k h. h _ (raised_kept bad_context p s g) }
 
   pub with_kept : {e : Part K} (name : Option (List ℕ)) {body : Body K} → PartKept e → BodyKept body → PartKept (with_statement e name body)
-  with_kept name e body = record { does = λ p s g k h. e.does p s g _ (value_kept k h _ (λ v s g. (context_kept (is_context (object_at (heap_of s) v)) name body).does p s g k h)) }
+  with_kept name e body = record { does = λ p s g k h. e.does p s g _ (value_kept k h _ (λ v s g. (context_kept (context_of (object_at (heap_of s) v)) name body).does p s g k h)) }
 
   -- `for`
   begun_kept : (m : Option Made) (turn : K.turn) → PartKept (turn_begun {K = K} m turn)

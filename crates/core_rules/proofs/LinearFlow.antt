@@ -9,12 +9,16 @@ use Rattle.py_values.specs.declared.end.Made.TheVariants.{Give, New, Put, Fail}
 use Rattle.py_values.specs.declared.index.Index.TheVariants.{At, Slice}
 use Rattle.py_values.specs.declared.object.Obj.{Obj}
 use Rattle.py_values.specs.declared.object.Obj.TheVariants as obj
+use Rattle.py_values.specs.declared.object.RaisesObj.{RaisesObj}
+use Rattle.py_values.specs.declared.value.ObjId.{ObjId}
 use Rattle.py_values.specs.declared.value.Value.{Value}
-use Rattle.py_values.specs.Ends.{cost_of}
+use Rattle.py_values.specs.Ends.{cost_of, id_at}
 use Rattle.py_ops.specs.Binary.{augmented_of}
 use Rattle.py_items.specs.Items.{subscript_of, store_of, delete_of, object_at}
 use Rattle.py_items.specs.Turns.{turn_of as element_of, next_by, iterate}
 use Rattle.py_items.specs.declared.iter.IterAt.{IterAt}
+use Rattle.pytest_calls.specs.Swallowing.{pattern_end}
+use Rattle.py_kinds.specs.Classes.{is_a}
 use Rattle.py_world.specs.declared.trace.TraceFrame.{TraceFrame}
 use Rattle.py_world.specs.World.{Kinds, State, heap_of, with_heap}
 use Rattle.py_world.specs.Site.{Scene, Site, trace_of, site_handling, scene_handling}
@@ -24,13 +28,14 @@ use Rattle.py_world.specs.Expressions.{arguments}
 use Rattle.py_world.specs.Displays.{displayed, dict_displayed, in_pairs, bound_given, collected, list_part, tuple_part, dict_part, subscript_part, slice_bound, sliced_at, slice_by, slice_to, slice_on, slice_part}
 use Rattle.py_world.specs.Attributes.{attribute_end, attribute_part, set_attribute}
 use Rattle.py_world.specs.Targets.{Store, elements_from, store_name, store_attribute, set_item, store_item, store_all, store_each, unpack_by, unpack, assign, augment_on, augment_name, augment_attribute_of, augment_attribute, augment_item_of, augment_item, delete_attribute, delete_item}
-use Rattle.py_world.specs.Exceptions.{Handling, takes_exception, raise_value, handler_block, if_taken, handlers_on, guarded_by, then_again, finally_on, guarded, try_statement, is_context, with_info, context_entered, with_statement}
+use Rattle.py_world.specs.Exceptions.{Handling, takes_exception, handler_block, if_taken, handlers_on, guarded_by, then_again, finally_on, guarded, try_statement}
+use Rattle.py_world.specs.Contexts.{context_of, with_info, searched, swallowed, taken_or, context_left, context_entered, with_statement}
 use Rattle.py_world.specs.Loops.{turn_begun, for_from, iterated, for_statement, behind_target, turn_with, for_turn}
 use Rattle.core_rules.proofs.Linear as line
 use Rattle.core_rules.proofs.Linear.{Behind, Linear, LinearBody, LinearAfter, LinearAll, LinearSome}
 
 module _ {K : Kinds} where
-  arguments_bind : {es : List (Part K)} → LinearAll es → (vs : List Value) (p : Site) (s : State K) (k l : Then K) (go go' : List Value → State K → Rest K) → ((vs : List Value) (s : State K) → bind (go vs s) l ≡ go' vs s) → bind (arguments es vs p s k go) l ≡ arguments es vs p s (Behind l k) go'
+  pub arguments_bind : {es : List (Part K)} → LinearAll es → (vs : List Value) (p : Site) (s : State K) (k l : Then K) (go go' : List Value → State K → Rest K) → ((vs : List Value) (s : State K) → bind (go vs s) l ≡ go' vs s) → bind (arguments es vs p s k go) l ≡ arguments es vs p s (Behind l k) go'
   arguments_bind line.nil vs p s k l go go' g = g vs s
   arguments_bind (line.cons e es) vs p s k l go go' g = line.then_linear e p s _ _ l (line.value_bind k l _ _ (λ v s. arguments_bind es (vs ++ v ∷ []) p s k l go go' g))
 
@@ -149,10 +154,6 @@ module _ {K : Kinds} where
   pub delete_item_linear : {a i : Part K} → Linear a → Linear i → Linear (delete_item a i)
   delete_item_linear a i = record { does = λ p s k l. line.then_linear a p s _ _ l (line.value_bind k l _ _ (λ x s. line.then_linear i p s _ _ l (line.value_bind k l _ _ (λ j s. line.operated_bind (delete_of (heap_of s) x j) p s _ _ l (line.value_bind k l _ _ (λ w s. refl)))))) }
 
-  pub raise_linear : {e : Option (Part K)} → LinearSome e → Linear (raise_value e)
-  raise_linear line.none = record { does = λ p s k l. refl }
-  raise_linear (line.some e) = record { does = λ p s k l. line.then_linear e p s _ _ l (line.value_bind k l _ _ (λ v s. refl)) }
-
   changing_bind : (f : State K → State K) (k l : Then K) (o : Outcome K) → bind (route (changing f k) o) l ≡ route (changing f (Behind l k)) o
   changing_bind f k l o =
       line.route_bind (record { gave = λ v s. refl; next = λ s. refl; returned = λ v s. refl; broke = λ s. refl; continued = λ s. refl; raised = λ e trace s. refl }) o
@@ -206,12 +207,30 @@ module _ {K : Kinds} where
   pub try_linear : {body : Body K} {hs : List (Handling K)} {other last : Body K} → LinearBody body → LinearHandlers hs → LinearBody other → LinearBody last → Linear (try_statement body hs other last)
   try_linear body hs other last = record { does = λ p s k l. line.body_then body p.scene s _ _ l (λ o. (guarded_linear hs other last).does p o k l) }
 
-  context_linear : (is : Bool) (name : Option (List ℕ)) {body : Body K} → LinearBody body → Linear (context_entered is name body)
-  context_linear true name body = record { does = λ p s k l. body.does p.scene (with_info name p.scene s) k l }
-  context_linear false name body = record { does = λ p s k l. refl }
+  -- what is made behind its cost, and what follows its end
+  costing_then : (m : Made) (trace : List TraceFrame) (s : State K) (k k' l : Then K) → ((o : Outcome K) → bind (k o) l ≡ k' o) → bind (costing m trace s k) l ≡ costing m trace s k'
+  costing_then m trace s k k' l g = costing_bind m trace s k l ∙ ap (costing m trace s) (fun_ext g)
+
+  searched_linear : (pattern : Option (List ℕ)) (e : Value) → Linear {K = K} (searched pattern e)
+  searched_linear pattern e = record { does = λ p s k l. costing_then (pattern_end (heap_of s) pattern e) (trace_of p) s _ _ l (line.value_bind k l _ _ (λ v s. refl)) }
+
+  swallowed_linear : (r : RaisesObj) (info : ObjId) (e : Value) (trace : List TraceFrame) → Linear {K = K} (swallowed r info e trace)
+  swallowed_linear r info e trace = record { does = λ p s k l. (searched_linear r.pattern e).does p _ k l }
+
+  taken_or_linear : (taken : Bool) (r : RaisesObj) (info : ObjId) (e : Value) (trace : List TraceFrame) → Linear {K = K} (taken_or taken r info e trace)
+  taken_or_linear true r info e trace = swallowed_linear r info e trace
+  taken_or_linear false r info e trace = record { does = λ p s k l. refl }
+
+  left_linear : (r : RaisesObj) (info : ObjId) → LinearAfter {K = K} (context_left r info)
+  left_linear r info =
+      record { does = λ p o k l. line.route_bind (record { gave = λ v s. refl; next = λ s. refl; returned = λ v s. refl; broke = λ s. refl; continued = λ s. refl; raised = λ e trace s. (taken_or_linear (is_a (heap_of s) e r.classes) r info e trace).does p s k l }) o }
+
+  context_linear : (context : Option RaisesObj) (name : Option (List ℕ)) {body : Body K} → LinearBody body → Linear (context_entered context name body)
+  context_linear (Some r) name body = record { does = λ p s k l. line.body_then body p.scene (with_info name p.scene s) _ _ l (λ o. (left_linear r (id_at (length (heap_of s)))).does p o k l) }
+  context_linear None name body = record { does = λ p s k l. refl }
 
   pub with_linear : {e : Part K} (name : Option (List ℕ)) {body : Body K} → Linear e → LinearBody body → Linear (with_statement e name body)
-  with_linear name e body = record { does = λ p s k l. line.then_linear e p s _ _ l (line.value_bind k l _ _ (λ v s. (context_linear (is_context (object_at (heap_of s) v)) name body).does p s k l)) }
+  with_linear name e body = record { does = λ p s k l. line.then_linear e p s _ _ l (line.value_bind k l _ _ (λ v s. (context_linear (context_of (object_at (heap_of s) v)) name body).does p s k l)) }
 
   begun_linear : (m : Option Made) (turn : K.turn) → Linear (turn_begun {K = K} m turn)
   begun_linear None turn = record { does = λ p s k l. refl }

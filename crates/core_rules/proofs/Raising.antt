@@ -9,6 +9,7 @@ use Rattle.py_world.specs.World.{Kinds, State, Traces, trace_at, put_trace, with
 use Rattle.py_world.specs.Site.{Site, trace_of}
 use Rattle.py_world.specs.Outcome.{Outcome, Gave, Next, Returned, Broke, Continued, Raised, Then, Body, on_next}
 use Rattle.py_world.specs.Exceptions.{Exception_of, raised_by, first_trace, finally_on}
+use Rattle.py_world.specs.Contexts.{info_taken}
 use Rattle.core_rules.specs.Exceptions.{state_behind, end_in, scene_behind, trace_told}
 
 -- a trace that is put is found
@@ -32,6 +33,10 @@ module _ {K : Kinds} where
   -- and the one with which it was bound
   pub raised_bound : (id : ObjId) (t : List TraceFrame) (p : Site) (s : State K) → trace_told (raised_by (Exception_of id) p (with_trace (val.Ref id) t s)) ≡ Some t
   raised_bound id t p s = ap (λ o. Some (first_trace o (trace_of p))) (trace_found id.at t s.world.traces)
+
+  -- and the one with which a `with` took it
+  pub raised_taken : (id info : ObjId) (t : List TraceFrame) (p : Site) (s : State K) → trace_told (raised_by (Exception_of id) p (info_taken info (val.Ref id) (with_trace (val.Ref id) t s))) ≡ Some t
+  raised_taken id info t p s = ap (λ o. Some (first_trace o (trace_of p))) (trace_found id.at t s.world.traces)
 
   -- the block behind `finally` runs on every way out, and the end before it comes again, unless the block has one of its own
   pub finally_runs : (last : Body K) (p : Site) (o : Outcome K) (k : Then K) → finally_on last p o k ≡ last (scene_behind o p.scene) (state_behind o) (λ f. on_next f k (λ s. k (end_in o s)))

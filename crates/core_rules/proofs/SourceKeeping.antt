@@ -4,19 +4,20 @@ use Rattle.py_tree.specs.declared.op.BinOp.{BinOp}
 use Rattle.py_tree.specs.Trees as t
 use Rattle.py_tree.specs.Trees.{Tree, Trees, Empty, More, Maybe, Absent, Present}
 use Rattle.py_tree.specs.Statements as st
-use Rattle.py_tree.specs.Statements.{Statement, Block, Branches, Handlers, Place, NamePlace, AttributePlace, SubscriptPlace, Taker, One, Unpack}
+use Rattle.py_tree.specs.Statements.{Statement, Block, Branches, Handlers, Place, NamePlace, AttributePlace, SubscriptPlace, Taker, One, Unpack, Parameter, Parameter_at}
 use Rattle.py_values.specs.declared.value.Value.TheVariants as val
-use Rattle.py_values.specs.Truth.{truth}
-use Rattle.source_meaning.specs.Requests.{source_kinds, Layer, Statements, Guard, Turn, StatementOf, TurnOf, ForOf, Function}
+use Rattle.py_kinds.specs.Truth.{truth}
+use Rattle.source_meaning.specs.Requests.{source_kinds, Layer, Statements, Guard, Turn, StatementOf, TurnOf, ForOf, Function, Script}
 use Rattle.source_meaning.specs.Meaning.{source}
 use Rattle.source_meaning.specs.Watched.{watch, watch_all}
 use Rattle.source_meaning.specs.Expressions.{SourcePart, missing, eval, parts, some_part}
-use Rattle.source_meaning.specs.Statements.{SourceBody, SourceChoice, SourceHandling, position, store_place, store_places, store, stores, augment, delete, assert, assert_as, handlings, guard, remains, listed, sequence, choices, try_at, statement, act, entry}
+use Rattle.source_meaning.specs.Statements.{SourceBody, SourceChoice, SourceHandling, position, store_place, store_places, store, stores, augment, delete, assert, assert_as, handlings, guard, remains, listed, sequence, choices, script_body, written, with_part, default_parts, try_at, statement, act, entry}
 use Rattle.py_world.specs.World.{World, heap_of, unset}
 use Rattle.py_world.specs.Site.{site}
 use Rattle.py_world.specs.Arguments.{arguments_of}
 use Rattle.py_world.specs.Outcome.{After, on_next}
 use Rattle.core_rules.proofs.KeepingFlow as flow
+use Rattle.core_rules.proofs.KeepingClasses as more
 use Rattle.core_rules.proofs.Keeping as keep
 use Rattle.core_rules.proofs.Keeping.{Closed}
 
@@ -167,6 +168,20 @@ module _ (Good : World source_kinds → Type 0) (Fresh : List ℕ → Type 0) (c
   choices_kept x ls st.NoBranch = keep.nil
   choices_kept x ls (st.Branch before at e b) = choices_more (choices_kept x ls before) at.line (eval_kept e) (sequence_kept x ls (listed b))
 
+  pub entry_kept : (x : Function) → BodyKept (entry x).body
+  entry_kept x = sequence_kept x.explains [] (listed x.body)
+
+  pub script_kept : (m : Script) → BodyKept (script_body m)
+  script_kept m = sequence_kept m.explains [] (listed m.body)
+
+  with_kept : (default : Maybe) {es : List SourcePart} → PartsKept es → PartsKept (with_part default es)
+  with_kept Absent es = es
+  with_kept (Present e) es = keep.cons (eval_kept e) es
+
+  defaults_kept : (ps : List Parameter) → PartsKept (default_parts ps)
+  defaults_kept [] = keep.nil
+  defaults_kept (Parameter_at at name annotation default ∷ ps) = with_kept default (defaults_kept ps)
+
   statement_kept : (z : Bool) (ls : List Layer) (x : Statement) → PartKept (statement z ls x)
   statement_kept z ls (st.Do at e) = keep.expression_kept Good Fresh closed (eval_kept e)
   statement_kept z ls (st.Assign at ts e) = flow.assign_kept Good Fresh closed (stores_kept ts) (eval_kept e)
@@ -179,27 +194,24 @@ module _ (Good : World source_kinds → Type 0) (Fresh : List ℕ → Type 0) (c
   statement_kept z ls (st.Continue at) = keep.again_kept Good Fresh closed
   statement_kept z ls (st.If at bs other) = keep.choose_kept Good Fresh closed (choices_kept z ls bs) (sequence_kept z ls (listed other))
   statement_kept z ls (st.While at e body) = keep.loop_kept Good Fresh closed _ (eval_kept e)
-  statement_kept z ls (st.Def at ds word name params returns body) = keep.define_kept Good Fresh closed name word.line _ _ _
+  statement_kept z ls (st.Def at ds word name params returns body) = more.define_kept Good Fresh closed (parts_kept ds) (defaults_kept params) (written params) name word.line _ _
   statement_kept z ls (st.AssignYield at ts word e) = missing_kept
   statement_kept z ls (st.ReturnYield at word e) = missing_kept
-  statement_kept z ls (st.Raise at e) = flow.raise_kept Good Fresh closed (some_kept e)
+  statement_kept z ls (st.Raise at e) = more.raise_kept Good Fresh closed entry entry_kept (some_kept e)
   statement_kept z ls (st.Del at p) = delete_kept p
   statement_kept z ls (st.YieldOf at word e) = keep.yield_kept Good Fresh closed (some_kept e) ls
-  statement_kept z ls (st.Import at names alias) = missing_kept
-  statement_kept z ls (st.ImportFrom at names all) = missing_kept
+  statement_kept z ls (st.Import at names alias) = more.import_kept Good Fresh closed script_body script_kept names alias
+  statement_kept z ls (st.ImportFrom at names all) = more.from_kept Good Fresh closed script_body script_kept names all
   statement_kept z ls (st.For at x e body) = flow.for_kept Good Fresh closed (ForOf z x body) (eval_kept e)
   statement_kept z ls (st.Try at body hs other final) = try_at_kept z ls body hs (listed other) (listed final)
-  statement_kept z ls (st.With at e name body) = flow.with_kept Good Fresh closed name (eval_kept e) (sequence_kept z ls (listed body))
-  statement_kept z ls (st.Class at ds word name base body) = missing_kept
+  statement_kept z ls (st.With at e name body) = flow.with_kept Good Fresh closed name (eval_kept e) (sequence_kept z [] (listed body))
+  statement_kept z ls (st.Class at ds word name base body) = more.class_kept Good Fresh closed (parts_kept ds) (some_kept base) name word.line (sequence_kept z [] (listed body))
 
   act_kept : (what : Turn) → PartKept (act what)
   act_kept (StatementOf z ls x) = statement_kept z ls x
   act_kept (TurnOf z e body) = keep.turn_of_kept Good Fresh closed _ (eval_kept e) (sequence_kept z [] (listed body))
   act_kept (ForOf z x body at) = flow.for_turn_kept Good Fresh closed (ForOf z x body) (store_kept x) (sequence_kept z [] (listed body)) at
 
-  entry_kept : (x : Function) → BodyKept (entry x).body
-  entry_kept x = sequence_kept x.explains [] (listed x.body)
-
   -- THE MEANING OF SOURCES keeps what is closed under what the forms do
   pub source_kept : keep.MeaningKept Good Fresh closed source
-  source_kept = record { entries = entry_kept; acts = act_kept; bodies = λ m. sequence_kept m.explains [] (listed m.body); remains = remains_kept }
+  source_kept = record { entries = entry_kept; acts = act_kept; bodies = script_kept; remains = remains_kept }

@@ -19,13 +19,14 @@ use Rattle.py_world.specs.Site.{no_call, frame}
 use Rattle.py_world.specs.Arguments.{plain}
 use Rattle.py_world.specs.Outcome.{Outcome, Gave, Next, Returned, Broke, Continued, Raised, Spent, Paused, Request, Rest, call_end}
 use Rattle.py_world.specs.Calls.{arguments_for, invoke, body_of}
-use Rattle.py_world.specs.Runs.{load_at, coded, source_at, told_by, ended_by, start, with_module, module_place, run_of, function_of_object, fitting_begun, function_begun, object_begun, begun_by_runner, loading, loaded_first, loaded_by}
+use Rattle.py_world.specs.Runs.{load_at, coded, source_at, told_by, ended_by, start, with_module, module_place, run_of, function_and, fitting_begun, function_begun, object_begun, begun_by_runner, loading, loaded_first, loaded_by}
 use Rattle.source_meaning.specs.Requests.{source_kinds, Script, Function}
+use Rattle.source_meaning.specs.Statements.{entry, script_body}
 use Rattle.source_meaning.specs.Meaning.{SourceWorld, source, source_call, source_module}
 use Rattle.core_rules.specs.Keeps.{IsKeptIn}
 use Rattle.core_rules.proofs.Keeping as keep
 use Rattle.core_rules.proofs.Keeping.{Closed}
-use Rattle.core_rules.proofs.SourceKeeping.{source_kept}
+use Rattle.core_rules.proofs.SourceKeeping.{entry_kept as source_entries, script_kept as source_scripts, source_kept}
 use Rattle.core_rules.proofs.Worlds.{IsRunFrom, Fresh, run_from, run_from-refl, run_kept_in, spent_kept_in, known_closed, known_spent, put_here}
 
 abbrev SourceEnding : Type 0
@@ -50,23 +51,23 @@ module _ (Good Told : SourceWorld → Type 0) (Free : List ℕ → Type 0) (clos
   run_told : (budget : ℕ) (t : Rest source_kinds) → keep.Kept Good Free closed t → Told (run_of source budget t).1
   run_told budget t h = told_kept budget _ (run_kept _ _ _ _ (body_of source) (keep.requests_kept Good Free closed source (source_kept Good Free closed)) budget t h)
 
-  call_begun : (f : Value) (args : List Value) (w : SourceWorld) → Good w → keep.Kept Good Free closed (invoke source f (plain args) no_call (start w) (λ o. Done (call_end (start w) o)))
-  call_begun f args w g = keep.invoke_kept Good Free closed source (source_kept Good Free closed) f (plain args) no_call (start w) g (λ o. Done (call_end (start w) o)) (λ o d. keep.call_end_kept Good Free closed (start w) o d)
+  call_begun : (f : Value) (args : List Value) (w : SourceWorld) → Good w → keep.Kept Good Free closed (invoke entry f (plain args) no_call (start w) (λ o. Done (call_end (start w) o)))
+  call_begun f args w g = keep.invoke_kept Good Free closed entry (source_entries Good Free closed) f (plain args) no_call (start w) g (λ o. Done (call_end (start w) o)) (λ o d. keep.call_end_kept Good Free closed (start w) o d)
 
   fitting_kept : (r : Result Locals Raise) (at : List TraceFrame) (f : Value) (args : List Value) (w : SourceWorld) → Good w → keep.Kept Good Free closed (fitting_begun source r at f args (start w))
   fitting_kept (Ok names) at f args w g = call_begun f args w g
   fitting_kept (Err r) at f args w g = keep.raised_kept Good Free closed r at (start w) g
 
-  function_kept : (c : Option (Stored Function)) (x : FunctionObj) (f : Value) (args : List Value) (w : SourceWorld) → Good w → keep.Kept Good Free closed (function_begun source c x f args (start w))
-  function_kept None x f args w g = call_begun f args w g
-  function_kept (Some st) x f args w g = fitting_kept (arguments_for x (plain args)) (frame x.path x.line x.name ∷ []) f args w g
+  function_kept : (c : Option (Stored Function)) (x : FunctionObj) (all : List Value) (f : Value) (args : List Value) (w : SourceWorld) → Good w → keep.Kept Good Free closed (function_begun source c x all f args (start w))
+  function_kept None x all f args w g = call_begun f args w g
+  function_kept (Some st) x all f args w g = fitting_kept (arguments_for x (plain all)) (frame x.path x.line x.name ∷ []) f args w g
 
-  object_kept : (o : Option FunctionObj) (f : Value) (args : List Value) (w : SourceWorld) → Good w → keep.Kept Good Free closed (object_begun source o f args (start w))
-  object_kept (Some x) f args w g = function_kept (slice_get w.codes x.code) x f args w g
+  object_kept : (o : Option (FunctionObj × List Value)) (f : Value) (args : List Value) (w : SourceWorld) → Good w → keep.Kept Good Free closed (object_begun source o f args (start w))
+  object_kept (Some x) f args w g = function_kept (slice_get w.codes x.0.code) x.0 x.1 f args w g
   object_kept None f args w g = call_begun f args w g
 
   begun_kept : (f : Value) (args : List Value) (w : SourceWorld) → Good w → keep.Kept Good Free closed (begun_by_runner source f args (start w))
-  begun_kept (val.Ref id) args w g = object_kept (function_of_object (slice_get w.heap id.at)) (val.Ref id) args w g
+  begun_kept (val.Ref id) args w g = object_kept (function_and w.heap args (slice_get w.heap id.at)) (val.Ref id) args w g
   begun_kept val.None args w g = call_begun val.None args w g
   begun_kept (val.Bool b) args w g = call_begun (val.Bool b) args w g
   begun_kept (val.Int n) args w g = call_begun (val.Int n) args w g
@@ -75,7 +76,7 @@ module _ (Good Told : SourceWorld → Type 0) (Free : List ℕ → Type 0) (clos
   call_kept f args budget w g = run_told budget _ (begun_kept f args w g)
 
   load_kept : (path : List ℕ) (code : Script) (budget : ℕ) (w : SourceWorld) → Free path → Good (with_module path w) → Told (run_of source budget (loading source path code w)).1
-  load_kept path code budget w f g = run_told budget _ (keep.begun_kept Good Free closed source (source_kept Good Free closed) path code no_call w f g (λ o. Done o) (λ o d. d))
+  load_kept path code budget w f g = run_told budget _ (keep.begun_kept Good Free closed script_body (source_scripts Good Free closed) path code no_call w f g (λ o. Done o) (λ o d. d))
 
 -- CALLS
 pub calls_keep : (w : SourceWorld) (f : Value) (args : List Value) (budget : ℕ) → IsKeptIn w (source_call f args budget w).1
@@ -84,7 +85,7 @@ calls_keep w f args budget =
 
 -- LOADS
 begins_from : (w : SourceWorld) (path : List ℕ) → load_at path w.modules ≡ None → IsRunFrom w (with_module path w)
-begins_from w path absent = keep.begins_kept (IsRunFrom w) (Fresh w) (run_from w) source (source_kept (IsRunFrom w) (Fresh w) (run_from w)) path w absent (run_from-refl w)
+begins_from w path absent = keep.begins_kept (IsRunFrom w) (Fresh w) (run_from w) script_body (source_scripts (IsRunFrom w) (Fresh w) (run_from w)) path w absent (run_from-refl w)
 
 first_keeps : (w : SourceWorld) (code : Option Script) (path : List ℕ) (budget : ℕ) → load_at path w.modules ≡ None → IsKeptIn w (loaded_first source code path budget w).1
 first_keeps w None path budget absent = run_kept_in w w (run_from-refl w)

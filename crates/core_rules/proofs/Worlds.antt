@@ -21,7 +21,7 @@ use Rattle.py_world.specs.declared.trace.TraceFrame.{TraceFrame}
 use Rattle.py_world.specs.World.{Kinds, World, Stored}
 use Rattle.py_world.specs.Runs.{load_at, with_load, failed, is_running, fail_running, out_of_steps, step_limit}
 use Rattle.core_rules.specs.Keeps.{IsKeptIn}
-use Rattle.core_rules.proofs.Keeping.{Closed}
+use Rattle.core_rules.proofs.Keeping.{Closed, append-empty}
 
 both : (a b : Bool) → (a && b) ≡ true → (a ≡ true) × (b ≡ true)
 both true true h = (refl, refl)
@@ -38,10 +38,6 @@ same_name (x ∷ xs) (y ∷ ys) h =
     let e : x ≡ y = eqb-true x y b.0 in
     let r : xs ≡ ys = same_name xs ys b.1 in
     rw (e, r) refl
-
-append-empty : {A : Type 0} (xs : List A) → xs ++ [] ≡ xs
-append-empty [] = refl
-append-empty (x ∷ xs) = ap (λ ys. x ∷ ys) (append-empty xs)
 
 some-none : {A : Type 0} {x : A} → Some x ≡ None → ⊥
 some-none h = absurd cc

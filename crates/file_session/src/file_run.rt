@@ -7,7 +7,7 @@ pub type Reports = Seq<ItemReport>;
 /// What is said of a file.
 #[derive(Debug, Drop)]
 pub enum FileRun {
-    /// Its load doesn't end with a module, or its tests want parameters or marks.
+    /// Its load doesn't end with a module, or its tests want parameters, marks, classes or fixtures.
     NotBuilt,
     /// It has more than 65,536 tests.
     TooMany,

@@ -283,6 +283,12 @@ fn what_goes_down_is_that_of_the_plain_list(rt: HostRuntime) -> Result<(), Fail>
             &[6, 0]
         )?
     );
+    Ok(())
+}
+
+#[test]
+fn what_goes_down_in_one_scope_is_that_of_the_plain_list(rt: HostRuntime) -> Result<(), Fail> {
+    let alloc = rt.alloc();
     let modules = [
         in_scope(Scope::Module, 2, &[]),
         in_scope(Scope::Module, 5, &[0]),

@@ -466,6 +466,22 @@ fn items_with_one_parameter_stand_side_by_side(rt: HostRuntime) -> Result<(), Fa
         item(1, None, &[M0]),
         item(1, None, &[M1]),
     ];
+    let cases: [(&[ItemCase], &[usize]); 4] = [
+        (&three_files, &[0, 3, 5, 1, 4, 6, 2]),
+        (&two_fixtures, &[0, 5, 1, 4, 2, 6, 3, 7]),
+        (&modules, &[0, 1, 2, 3, 5, 4]),
+        (&[], &[]),
+    ];
+    for (items, expected) in cases {
+        let places = order(alloc, items)?;
+        assert!(rt; places.as_slice() == expected, "{expected:?}");
+    }
+    Ok(())
+}
+
+#[test]
+fn items_with_parameters_of_several_scopes_stand_side_by_side(rt: HostRuntime) -> Result<(), Fail> {
+    let alloc = rt.alloc();
     let broad_first = [
         item(1, None, &[S0, M0]),
         item(1, None, &[S1, M1]),
@@ -489,14 +505,10 @@ fn items_with_one_parameter_stand_side_by_side(rt: HostRuntime) -> Result<(), Fa
         item(1, None, &[F1]),
         item(1, None, &[F0]),
     ];
-    let cases: [(&[ItemCase], &[usize]); 7] = [
-        (&three_files, &[0, 3, 5, 1, 4, 6, 2]),
-        (&two_fixtures, &[0, 5, 1, 4, 2, 6, 3, 7]),
-        (&modules, &[0, 1, 2, 3, 5, 4]),
+    let cases: [(&[ItemCase], &[usize]); 3] = [
         (&broad_first, &[0, 4, 3, 2, 1]),
         (&classes, &[0, 2, 1, 3, 5, 4, 6, 7, 8]),
         (&functions, &[0, 1, 2]),
-        (&[], &[]),
     ];
     for (items, expected) in cases {
         let places = order(alloc, items)?;

@@ -4,8 +4,8 @@ use Rattle.std.specs.Prelude.{length, eqb, is_some, if◌then◌else◌}
 use Rattle.py_tree.specs.declared.op.BinOp.{BinOp}
 use Rattle.py_tree.specs.Names.{is_among}
 use Rattle.py_values.specs.Ends.{id_at}
-use Rattle.py_values.specs.Kinds.{kind_name}
-use Rattle.py_values.specs.Lengths.{length_of}
+use Rattle.py_kinds.specs.Kinds.{kind_name}
+use Rattle.py_kinds.specs.Lengths.{length_of}
 use Rattle.py_values.specs.Names.{unbind_name}
 use Rattle.py_values.specs.declared.end.Made.{Made}
 use Rattle.py_values.specs.declared.end.Made.TheVariants.{Give, New, Put, Fail}
@@ -13,27 +13,33 @@ use Rattle.py_values.specs.declared.end.Raise.{Raise}
 use Rattle.py_values.specs.declared.index.Index.TheVariants.{At, Slice}
 use Rattle.py_values.specs.declared.object.Obj.{Obj}
 use Rattle.py_values.specs.declared.object.Obj.TheVariants as obj
+use Rattle.py_values.specs.declared.object.RaisesObj.{RaisesObj}
+use Rattle.py_values.specs.declared.value.ObjId.{ObjId}
 use Rattle.py_values.specs.declared.value.Value.{Value}
 use Rattle.py_values.specs.declared.value.Value.TheVariants as val
-use Rattle.py_ops.specs.Faults.{not_iterable}
+use Rattle.py_operands.specs.Faults.{not_iterable}
 use Rattle.py_ops.specs.Binary.{augmented_of}
 use Rattle.py_items.specs.Items.{subscript_of, store_of, delete_of, object_at}
 use Rattle.py_items.specs.Turns.{turn_of as element_of, next_by, iterate}
 use Rattle.py_items.specs.declared.iter.IterAt.{IterAt}
+use Rattle.py_attributes.specs.Attributes.{attribute_of, own_value, no_attribute}
+use Rattle.pytest_calls.specs.Swallowing.{did_not_raise, pattern_end}
+use Rattle.py_kinds.specs.Classes.{is_a}
 use Rattle.py_world.specs.declared.ended.Thrown.{Thrown}
 use Rattle.py_world.specs.declared.trace.TraceFrame.{TraceFrame}
 use Rattle.py_world.specs.World.{Kinds, State, heap_of, with_trace}
 use Rattle.py_world.specs.Site.{Scene, Site, Own, InModule, InFunction, InClass, trace_of, site_handling, scene_handling}
-use Rattle.py_world.specs.Names.{bound_value, not_bound, unbound, unbound_by, unbound_global, unbound_here, deleted, delete_name}
+use Rattle.py_world.specs.Names.{bound_value, not_bound, unbound, unbound_by, unbound_global, unbound_here, unbound_class, deleted, delete_name}
 use Rattle.py_world.specs.Outcome.{Outcome, Gave, Next, Returned, Broke, Continued, Raised, Rest, Then, Part, After, Body, route, onward, changing, costing, operated, on_value, on_next, raised_at}
 use Rattle.py_world.specs.Expressions.{arguments}
 use Rattle.py_world.specs.Displays.{displayed, dict_displayed, in_pairs, bound_given, collected, list_part, tuple_part, dict_part, subscript_part, slice_bound, sliced_at, slice_by, slice_to, slice_on, slice_part}
-use Rattle.py_world.specs.Attributes.{attribute_of, takes_names, with_attribute, without_attribute, own_value, no_attribute, changed_or, attribute_end, attribute_part, set_attribute, unset_attribute}
+use Rattle.py_world.specs.Attributes.{takes_names, with_attribute, without_attribute, changed_or, attribute_end, attribute_part, set_attribute, unset_attribute}
 use Rattle.py_world.specs.Targets.{Store, wrong_count, elements_from, store_name, store_attribute, set_item, store_item, store_all, store_each, store_elements, unpack_by, unpack, assign, augmented, augment_on, augment_name, augment_attribute_of, augment_attribute, augment_item_of, augment_item, delete_attribute, unset_item, delete_item}
-use Rattle.py_world.specs.Exceptions.{Handling, Raisable, Exception_of, Class_of, Neither, no_exception, nothing_raised, bad_context, raisable, raised_by, raised_again, takes_exception, raise_value, handler_block, if_taken, handlers_on, guarded_by, then_again, finally_on, guarded, try_statement, is_context, info_named, with_info, context_entered, with_statement}
+use Rattle.py_world.specs.Exceptions.{Handling, Raisable, Exception_of, Class_of, Neither, no_exception, nothing_raised, raisable, raised_by, raised_again, takes_exception, handler_block, if_taken, handlers_on, guarded_by, then_again, finally_on, guarded, try_statement}
+use Rattle.py_world.specs.Contexts.{bad_context, context_of, info_named, with_info, info_taken, searched, taken_or, not_raised, context_left, context_entered, with_statement}
 use Rattle.py_world.specs.Loops.{turn_begun, for_from, iterated, for_statement, behind_target, turn_with, for_turn}
 use Rattle.lower_law.specs.Alike as alike
-use Rattle.lower_law.specs.Alike.{Likeness, WorldsAlike, worlds, StatesAlike, states, EndsAlike, gave, next, returned, broke, continued, SpentAlike, out}
+use Rattle.lower_law.specs.Alike.{Likeness, worlds, StatesAlike, states, EndsAlike, gave, next, returned, broke, continued}
 use Rattle.lower_law.proofs.Parts as part
 use Rattle.lower_law.proofs.Blocks as block
 
@@ -84,7 +90,7 @@ module _ {K J : Kinds} (R : Likeness K J) where
   costing_same : (m : List Obj → Made) (trace : List TraceFrame) {s : State K} {r : State J} → States s r → (k : Then K) (l : Then J) → Behind k l → Follow (costing (m (heap_of s)) trace s k) (costing (m (heap_of r)) trace r l)
   costing_same m trace (states a t (worlds ss cs fs modules heap printed traces)) k l h = part.costing_same R (m heap) trace (states a t (worlds ss cs fs modules heap printed traces)) k l h
 
-  arguments_same : {es : List (Part K)} {fs : List (Part J)} → PartsSame es fs → (vs : List Value) (p : Site) {s : State K} {r : State J} → States s r → (k : Then K) (l : Then J) → Behind k l → (go : List Value → State K → Rest K) (go' : List Value → State J → Rest J) → ((vs : List Value) (s : State K) (r : State J) → States s r → Follow (go vs s) (go' vs r)) → Follow (arguments es vs p s k go) (arguments fs vs p r l go')
+  pub arguments_same : {es : List (Part K)} {fs : List (Part J)} → PartsSame es fs → (vs : List Value) (p : Site) {s : State K} {r : State J} → States s r → (k : Then K) (l : Then J) → Behind k l → (go : List Value → State K → Rest K) (go' : List Value → State J → Rest J) → ((vs : List Value) (s : State K) (r : State J) → States s r → Follow (go vs s) (go' vs r)) → Follow (arguments es vs p s k go) (arguments fs vs p r l go')
   arguments_same part.none vs p ss k l h go go' g = g vs _ _ ss
   arguments_same (part.more {es = es} {fs = fs} x xs) vs p ss k l h go go' g =
       x.does p ss _ _ (λ o q n. value_same n k l h (λ v s. arguments es (vs ++ v ∷ []) p s k go) (λ v s. arguments fs (vs ++ v ∷ []) p s l go') (λ v s r ss. arguments_same xs (vs ++ v ∷ []) p ss k l h go go' g))
@@ -258,10 +264,13 @@ module _ {K J : Kinds} (R : Likeness K J) where
   unbound_here_same : (name : List ℕ) {s : State K} {r : State J} → States s r → States (unbound_here name s) (unbound_here name r)
   unbound_here_same name (states a t ws) = states (unbind_name name a) t ws
 
+  unbound_class_same : (name : List ℕ) (at : ℕ) {s : State K} {r : State J} → States s r → States (unbound_class name at s) (unbound_class name at r)
+  unbound_class_same name at (states a t (worlds ss cs fs modules heap printed traces)) = states a t (worlds ss cs fs modules _ printed traces)
+
   unbound_by_same : (own : Own) (name : List ℕ) (scene : Scene) {s : State K} {r : State J} → States s r → States (unbound_by own name scene s) (unbound_by own name scene r)
   unbound_by_same InModule name scene ss = unbound_global_same name scene ss
   unbound_by_same (InFunction own) name scene ss = block.state_cond R (is_among own name) _ _ _ _ (unbound_here_same name ss) (unbound_global_same name scene ss)
-  unbound_by_same InClass name scene ss = unbound_here_same name ss
+  unbound_by_same (InClass at) name scene ss = unbound_class_same name at ss
 
   unbound_same : (name : List ℕ) (scene : Scene) {s : State K} {r : State J} → States s r → States (unbound name scene s) (unbound name scene r)
   unbound_same name scene ss = unbound_by_same scene.own name scene ss
@@ -301,16 +310,12 @@ module _ {K J : Kinds} (R : Likeness K J) where
   raised_by_same (Class_of class) p (states a t (worlds ss cs fs modules heap printed traces)) = alike.raised _ (trace_of p) (states a t (worlds ss cs fs modules _ printed traces))
   raised_by_same Neither p ss = raised_same no_exception p ss
 
-  raised_value_same : (v : Value) (p : Site) {s : State K} {r : State J} → States s r → Ends (raised_by (raisable (heap_of s) v) p s) (raised_by (raisable (heap_of r) v) p r)
+  pub raised_value_same : (v : Value) (p : Site) {s : State K} {r : State J} → States s r → Ends (raised_by (raisable (heap_of s) v) p s) (raised_by (raisable (heap_of r) v) p r)
   raised_value_same v p (states a t (worlds ss cs fs modules heap printed traces)) = raised_by_same (raisable heap v) p (states a t (worlds ss cs fs modules heap printed traces))
 
-  raised_again_same : (e : Option Thrown) (p : Site) {s : State K} {r : State J} → States s r → Ends (raised_again e p s) (raised_again e p r)
+  pub raised_again_same : (e : Option Thrown) (p : Site) {s : State K} {r : State J} → States s r → Ends (raised_again e p s) (raised_again e p r)
   raised_again_same (Some e) p ss = alike.raised e.exc e.trace ss
   raised_again_same None p ss = raised_same nothing_raised p ss
-
-  pub raise_same : {e : Option (Part K)} {f : Option (Part J)} → SomeSame e f → PartSame (raise_value e) (raise_value f)
-  raise_same block.none = record { does = λ p ss k l h. h _ _ (raised_again_same p.scene.around.handling p ss) }
-  raise_same (block.some x) = record { does = λ p ss k l h. x.does p ss _ _ (λ o q n. value_same n k l h _ _ (λ v s r ss. h _ _ (raised_value_same v p ss))) }
 
   unbound_behind : (name : List ℕ) (scene : Scene) (k : Then K) (l : Then J) → Behind k l → {o : Outcome K} {q : Outcome J} → Ends o q → Follow (route (changing (unbound name scene) k) o) (route (changing (unbound name scene) l) q)
   unbound_behind name scene k l h n =
@@ -371,12 +376,38 @@ module _ {K J : Kinds} (R : Likeness K J) where
   with_info_same : (name : Option (List ℕ)) (scene : Scene) {s : State K} {r : State J} → States s r → States (with_info name scene s) (with_info name scene r)
   with_info_same name scene (states a t (worlds ss cs fs modules heap printed traces)) = info_named_same name (val.Ref (id_at (length heap))) scene (states a t (worlds ss cs fs modules _ printed traces))
 
-  context_same : (is : Bool) (name : Option (List ℕ)) {b : Body K} {c : Body J} → BodySame b c → PartSame (context_entered is name b) (context_entered is name c)
-  context_same true name b = record { does = λ p ss k l h. b.does p.scene (with_info_same name p.scene ss) k l h }
-  context_same false name b = record { does = λ p ss k l h. h _ _ (raised_same bad_context p ss) }
+  info_taken_same : (info : ObjId) (e : Value) {s : State K} {r : State J} → States s r → States (info_taken info e s) (info_taken info e r)
+  info_taken_same info e (states a t (worlds ss cs fs modules heap printed traces)) = states a t (worlds ss cs fs modules _ printed traces)
 
-  context_here : (v : Value) (name : Option (List ℕ)) {b : Body K} {c : Body J} → BodySame b c → (p : Site) {s : State K} {r : State J} → States s r → (k : Then K) (l : Then J) → Behind k l → Follow (context_entered (is_context (object_at (heap_of s) v)) name b p s k) (context_entered (is_context (object_at (heap_of r) v)) name c p r l)
-  context_here v name b p (states a t (worlds ss cs fs modules heap printed traces)) k l h = (context_same (is_context (object_at heap v)) name b).does p (states a t (worlds ss cs fs modules heap printed traces)) k l h
+  searched_here : (pattern : Option (List ℕ)) (e : Value) (p : Site) {s : State K} {r : State J} → States s r → (k : Then K) (l : Then J) → Behind k l → Follow (searched pattern e p s k) (searched pattern e p r l)
+  searched_here pattern e p (states a t (worlds ss cs fs modules heap printed traces)) k l h =
+      part.costing_same R (pattern_end heap pattern e) (trace_of p) (states a t (worlds ss cs fs modules heap printed traces)) (λ o. on_value o k (λ v s. k (Next s))) (λ o. on_value o l (λ v s. l (Next s))) (λ o q n. value_same n k l h (λ v s. k (Next s)) (λ v s. l (Next s)) (λ v s r ss. h _ _ (next ss)))
+
+  taken_or_same : (taken : Bool) (x : RaisesObj) (info : ObjId) (e : Value) (trace : List TraceFrame) → PartSame (taken_or taken x info e trace) (taken_or taken x info e trace)
+  taken_or_same true x info e trace = record { does = λ p ss k l h. searched_here x.pattern e p (info_taken_same info e (trace_same e trace ss)) k l h }
+  taken_or_same false x info e trace = record { does = λ p ss k l h. h _ _ (alike.raised e trace ss) }
+
+  taken_or_here : (x : RaisesObj) (info : ObjId) (e : Value) (trace : List TraceFrame) (p : Site) {s : State K} {r : State J} → States s r → (k : Then K) (l : Then J) → Behind k l → Follow (taken_or (is_a (heap_of s) e x.classes) x info e trace p s k) (taken_or (is_a (heap_of r) e x.classes) x info e trace p r l)
+  taken_or_here x info e trace p (states a t (worlds ss cs fs modules heap printed traces)) k l h = (taken_or_same (is_a heap e x.classes) x info e trace).does p (states a t (worlds ss cs fs modules heap printed traces)) k l h
+
+  not_raised_here : (x : RaisesObj) (p : Site) {s : State K} {r : State J} → States s r → (k : Then K) (l : Then J) → Behind k l → Follow (not_raised x p s k) (not_raised x p r l)
+  not_raised_here x p (states a t (worlds ss cs fs modules heap printed traces)) k l h = h _ _ (raised_same (did_not_raise heap x.classes) p (states a t (worlds ss cs fs modules heap printed traces)))
+
+  left_same : (x : RaisesObj) (info : ObjId) → AfterSame (context_left x info) (context_left x info)
+  left_same x info =
+      record {
+        does = λ p n k l h. part.route_same R
+            (record { gave = λ v s r ss. not_raised_here x p ss k l h; next = λ s r ss. not_raised_here x p ss k l h; returned = λ v s r ss. not_raised_here x p ss k l h; broke = λ s r ss. not_raised_here x p ss k l h; continued = λ s r ss. not_raised_here x p ss k l h; raised = λ e trace s r ss. taken_or_here x info e trace p ss k l h })
+            n;
+      }
+
+  context_same : (context : Option RaisesObj) (name : Option (List ℕ)) {b : Body K} {c : Body J} → BodySame b c → (p : Site) {s : State K} {r : State J} → States s r → (k : Then K) (l : Then J) → Behind k l → Follow (context_entered context name b p s k) (context_entered context name c p r l)
+  context_same (Some x) name b p (states a t (worlds ss cs fs modules heap printed traces)) k l h =
+      b.does p.scene (with_info_same name p.scene (states a t (worlds ss cs fs modules heap printed traces))) (λ o. context_left x (id_at (length heap)) p o k) (λ o. context_left x (id_at (length heap)) p o l) (λ o q n. (left_same x (id_at (length heap))).does p n k l h)
+  context_same None name b p ss k l h = h _ _ (raised_same bad_context p ss)
+
+  context_here : (v : Value) (name : Option (List ℕ)) {b : Body K} {c : Body J} → BodySame b c → (p : Site) {s : State K} {r : State J} → States s r → (k : Then K) (l : Then J) → Behind k l → Follow (context_entered (context_of (object_at (heap_of s) v)) name b p s k) (context_entered (context_of (object_at (heap_of r) v)) name c p r l)
+  context_here v name b p (states a t (worlds ss cs fs modules heap printed traces)) k l h = context_same (context_of (object_at heap v)) name b p (states a t (worlds ss cs fs modules heap printed traces)) k l h
 
   pub with_same : {e : Part K} {f : Part J} (name : Option (List ℕ)) {b : Body K} {c : Body J} → PartSame e f → BodySame b c → PartSame (with_statement e name b) (with_statement f name c)
   with_same name x b = record { does = λ p ss k l h. x.does p ss _ _ (λ o q n. value_same n k l h _ _ (λ v s r ss. context_here v name b p ss k l h)) }

@@ -1,6 +1,6 @@
 -- Core code does what the source does that it stands for.
 use Rattle.std.proofs.lemmas.List.{drop-drop}
-use Rattle.std.proofs.Common.{drop, Some, None, ◌≡◌, ℕ, suc, ◌+◌, arith, List, [], ◌∷◌, ◌++◌, map, Option, Bool, true, false, refl, sym, ap, ap₂, ◌∙◌, subst}
+use Rattle.std.proofs.Common.{drop, ◌≡◌, ℕ, suc, ◌+◌, arith, List, [], ◌∷◌, ◌++◌, map, Option, Bool, true, false, refl, sym, ap, ap₂, ◌∙◌, subst}
 use Rattle.std.specs.declared.alloc.Global.{Global}
 use Rattle.std.specs.declared.rc.Rc.{Rc}
 use Rattle.py_source.specs.declared.pos.Pos.{Pos}
@@ -11,7 +11,7 @@ use Rattle.py_world.specs.Explained.{kept_count, kept_count_all}
 use Rattle.source_meaning.specs.Watched.{watch, watch_all}
 use Rattle.py_core.specs.declared.stmt.Template.{Template}
 use Rattle.py_tree.specs.Statements as st
-use Rattle.py_tree.specs.Statements.{Statement, Block, Branches, Handlers, Place, Taker}
+use Rattle.py_tree.specs.Statements.{Statement, Block, Branches, Handlers, Place, Taker, Parameter}
 use Rattle.py_values.specs.declared.value.Value.TheVariants as val
 use Rattle.py_core.specs.declared.expr.CoreExpr.{CoreExpr}
 use Rattle.py_core.specs.declared.expr.CoreExprKind.{CoreExprKind, Row_of-CoreExprKind-Call-1-1 as Row, end_of-CoreExprKind-Call-1-1 as end, more_of-CoreExprKind-Call-1-1 as more_of, items-the_row-CoreExprKind-Call-1-1 as row_items, Held-CoreExprKind-Slice-1 as Held}
@@ -38,29 +38,34 @@ use Rattle.core_meaning.specs.Expressions as core
 use Rattle.core_meaning.specs.Statements as cor
 use Rattle.py_world.specs.Site.{Scene, Site, site}
 use Rattle.py_world.specs.World.{State}
-use Rattle.py_world.specs.Arguments.{plain, with_plain, arguments_of, required}
-use Rattle.py_tree.specs.Names.{names_of, yields_in}
+use Rattle.py_world.specs.Arguments.{arguments_of}
+use Rattle.py_tree.specs.Names.{yields_in}
+use Rattle.py_tree.specs.declared.stmt.Alias.{Alias}
 use Rattle.py_world.specs.Outcome.{Outcome, Next, Rest, Then, After, on_next}
-use Rattle.py_world.specs.Statements.{asked, choose, define, fail_explained}
+use Rattle.py_world.specs.Statements.{asked, choose, fail_explained}
+use Rattle.py_world.specs.Definitions.{define}
+use Rattle.py_world.specs.Imports.{import_statement, import_from}
 use Rattle.py_world.specs.Expressions.{call_part, compare_part, kept_part}
 use Rattle.py_tree.specs.declared.op.CmpOp.{CmpOp}
 use Rattle.py_tree.specs.declared.op.BinOp.{BinOp}
 use Rattle.py_tree.specs.declared.expr.ArgName.{ArgName}
-use Rattle.py_values.specs.declared.value.Value.{Value}
 use Rattle.source_meaning.specs.Statements.{listed}
 use Rattle.source_meaning.specs.Meaning.{source as source_meaning}
-use Rattle.core_meaning.specs.Meaning.{core as core_meaning, core_body}
+use Rattle.core_meaning.specs.Statements.{core_body}
+use Rattle.core_meaning.specs.Meaning.{core as core_meaning}
 use Rattle.py_core.specs.declared.stmt.Core.{Core}
 use Rattle.lower_law.specs.Alike as alike
 use Rattle.lower_law.specs.Alike.{StatesAlike, EndsAlike, gave, next, returned, broke, continued}
 use Rattle.lower_law.specs.Lowered as low
-use Rattle.lower_law.specs.Lowered.{Watched, WatchedEach, IsLeaf, Lowered, LoweredEach, LoweredExpr, LoweredHeld, LoweredSome, LoweredPlace, LoweredPlaces, LoweredTarget, LoweredTargets, LoweredHandlers, LoweredGuard, LoweredStatement, LoweredBlock, LoweredBody, LoweredLayers, LoweredRest, LoweredBranches, LoweredFunction, LoweredModule, Unnamed, trees_listed, branches_listed, choice_at, handlers_listed, catch_at, core_at}
+use Rattle.lower_law.specs.Lowered.{Watched, WatchedEach, IsLeaf, Lowered, LoweredEach, LoweredExpr, LoweredHeld, LoweredSome, LoweredPlace, LoweredPlaces, LoweredTarget, LoweredTargets, LoweredHandlers, LoweredGuard, LoweredStatement, LoweredBlock, LoweredBody, LoweredLayers, LoweredRest, LoweredBranches, LoweredFunction, LoweredModule, trees_listed, defaults_listed, branches_listed, choice_at, handlers_listed, catch_at, core_at}
 use Rattle.lower_law.specs.Law.{LoweredCode, LoweredTurn, statement, turn, for_turn, Lowering}
 use Rattle.lower_law.specs.Sourced.{sources_in, module_of}
 use Rattle.lower_law.proofs.Parts as part
 use Rattle.lower_law.proofs.Parts.{none, more}
 use Rattle.lower_law.proofs.Blocks as block
 use Rattle.lower_law.proofs.Flow as flow
+use Rattle.lower_law.proofs.Classes as classes
+use Rattle.lower_law.proofs.Loads as loads
 
 abbrev PartSame : source.SourcePart → core.CorePart → Type 0
 PartSame = part.PartSame Lowering
@@ -98,20 +103,8 @@ listed_same es row h = rw (parts_listed es, parts_row row) h
 compare_as : (ops cops : List CmpOp) → cops ≡ ops → {e : source.SourcePart} {f : core.CorePart} {es : List source.SourcePart} {fs : List core.CorePart} → PartSame e f → PartsSame es fs → PartSame (compare_part e ops es) (compare_part f cops fs)
 compare_as ops cops is {e = e} {f = f} {es = es} {fs = fs} x xs = subst (λ o. PartSame (compare_part e o es) (compare_part f cops fs)) is (part.compare_same _ cops x xs)
 
--- arguments without names
-unnamed_plain : (names : List (Option ArgName)) → Unnamed names → (vs : List Value) → arguments_of names vs ≡ plain vs
-unnamed_plain [] u [] = refl
-unnamed_plain (None ∷ names) u [] = refl
-unnamed_plain (Some n ∷ names) u [] = refl
-unnamed_plain [] u (v ∷ vs) = ap (with_plain v) (unnamed_plain [] u vs)
-unnamed_plain (None ∷ names) u (v ∷ vs) = ap (with_plain v) (unnamed_plain names u vs)
-unnamed_plain (Some n ∷ names) u (v ∷ vs) = absurd u
-
-unnamed_shape : (names : List (Option ArgName)) → Unnamed names → plain ≡ arguments_of names
-unnamed_shape names u = λ i vs. sym (unnamed_plain names u vs) i
-
-call_as : (names : List (Option ArgName)) → Unnamed names → {e : source.SourcePart} {f : core.CorePart} {es : List source.SourcePart} {fs : List core.CorePart} → PartSame e f → PartsSame es fs → PartSame (call_part e (arguments_of names) es) (call_part f plain fs)
-call_as names u {e = e} {f = f} {es = es} {fs = fs} x xs = subst (λ shape. PartSame (call_part e shape es) (call_part f plain fs)) (unnamed_shape names u) (part.call_same _ plain x xs)
+call_as : (names cnames : List (Option ArgName)) → cnames ≡ names → {e : source.SourcePart} {f : core.CorePart} {es : List source.SourcePart} {fs : List core.CorePart} → PartSame e f → PartsSame es fs → PartSame (call_part e (arguments_of names) es) (call_part f (arguments_of cnames) fs)
+call_as names cnames is {e = e} {f = f} {es = es} {fs = fs} x xs = subst (λ ns. PartSame (call_part e (arguments_of ns) es) (call_part f (arguments_of cnames) fs)) is (part.call_same _ (arguments_of cnames) x xs)
 
 mutual
   eval_same : {e : Tree} {at : Pos} {x : CoreExprKind} → Lowered e at x → PartSame (source.eval e) (core.eval_at at x)
@@ -122,7 +115,7 @@ mutual
   eval_same (low.false at) = part.noted_same _ at (part.constant_same _ (val.Bool false))
   eval_same (low.none at) = part.noted_same _ at (part.constant_same _ val.None)
   eval_same (low.paren at x) = part.noted_same _ at (eval_same x)
-  eval_same (low.call at {es = es} {row = row} u x xs) = part.noted_same _ at (call_as _ u (eval_same x) (listed_same es row (each_same xs)))
+  eval_same (low.call at {es = es} {row = row} u x xs) = part.noted_same _ at (call_as _ _ u (eval_same x) (listed_same es row (each_same xs)))
   eval_same (low.unary at op x) = part.noted_same _ at (part.unary_same _ op (eval_same x))
   eval_same (low.binary at op x y) = part.noted_same _ at (part.binary_same _ op (eval_same x) (eval_same y))
   eval_same (low.compare at {es = es} {row = row} is x xs) = part.noted_same _ at (compare_as _ _ is (eval_same x) (listed_same es row (each_same xs)))
@@ -189,7 +182,7 @@ mutual
   watch_same : {n : ℕ} {e : Tree} {at : Pos} {x : CoreExprKind} → Watched n e at x → PartSame (watch n e) (core.eval_at at x)
   watch_same (low.leaf n b {e = e} {a = a} {x = x} is h) = rw (watch_leaf n e is) (part.kept_same _ n (eval_same h))
   watch_same (low.paren n at x) = part.noted_same _ at (watch_same x)
-  watch_same (low.call n at b {e = e} {es = es} {row = row} u x xs) = part.kept_same _ n (part.noted_same _ at (call_as _ u (watch_same x) (watched_rows (suc n + kept_count e) es row (watch_each xs))))
+  watch_same (low.call n at b {e = e} {es = es} {row = row} u x xs) = part.kept_same _ n (part.noted_same _ at (call_as _ _ u (watch_same x) (watched_rows (suc n + kept_count e) es row (watch_each xs))))
   watch_same (low.unary n at op x) = part.noted_same _ at (part.unary_same _ op (watch_same x))
   watch_same (low.binary n at op x y) = part.noted_same _ at (part.binary_same _ op (watch_same x) (watch_same y))
   watch_same (low.compare n at {e = e} {es = es} {row = row} is x xs) = part.noted_same _ at (compare_as _ _ is (watch_same x) (watched_rows (n + kept_count e) es row (watch_each xs)))
@@ -251,12 +244,15 @@ position_of (low.leave at) = refl
 position_of (low.again at) = refl
 position_of (low.choose at bs b) = refl
 position_of (low.loop at x b) = refl
-position_of (low.define at word name h) = refl
+position_of (low.define at word name returns hs es h) = refl
 position_of (low.raise_it at x) = refl
 position_of (low.delete at p) = refl
 position_of (low.for_each at t x b) = refl
 position_of (low.try_it at b g) = refl
 position_of (low.with_it at x b) = refl
+position_of (low.class_it at word name hs x b) = refl
+position_of (low.import_it at alias is) = refl
+position_of (low.import_from at is all) = refl
 
 -- it begins with a step: none is a failure
 begun_of : {z : Bool} {s : Statement} {at : Pos} {x : CoreStmtKind} → LoweredStatement z s at x → (ls : List c.Layer) (st : CoreStmt) → cor.begun_at x ls st ≡ asked (c.StatementOf ls st)
@@ -273,12 +269,15 @@ begun_of (low.leave at) ls st = refl
 begun_of (low.again at) ls st = refl
 begun_of (low.choose at bs b) ls st = refl
 begun_of (low.loop at x b) ls st = refl
-begun_of (low.define at word name h) ls st = refl
+begun_of (low.define at word name returns hs es h) ls st = refl
 begun_of (low.raise_it at x) ls st = refl
 begun_of (low.delete at p) ls st = refl
 begun_of (low.for_each at t x b) ls st = refl
 begun_of (low.try_it at b g) ls st = refl
 begun_of (low.with_it at x b) ls st = refl
+begun_of (low.class_it at word name hs x b) ls st = refl
+begun_of (low.import_it at alias is) ls st = refl
+begun_of (low.import_from at is all) ls st = refl
 
 begun_same : {z : Bool} {ls : List s.Layer} {ks : List c.Layer} → LoweredLayers z ls ks → {sm : Statement} {at : Pos} {x : CoreStmtKind} → LoweredStatement z sm at x → (scene : Scene) {u : State source_kinds} {r : State core_kinds} → States u r → (k : Then source_kinds) (l : Then core_kinds) → Behind k l → Follow (src.begun z ls sm (site scene (src.position sm).line) u k) (cor.begun ks (core_at at x) (site scene at.line) r l)
 begun_same {z = z} {ls = ls} {ks = ks} hl {sm = sm} {at = at} {x = x} h scene {u = u} {r = r} ss k l g =
@@ -373,9 +372,46 @@ assert_at at ks c template m p n q r branches other body x y bs bb ob scene ss k
 explained_as : (c : Rc Expr Global) (e : Tree) (y : Option (Rc CoreExpr Global)) → tree.tree c.value ≡ e → {m : Option source.SourcePart} → block.SomeSame Lowering m (cor.some_part y) → PartSame (fail_explained e m) (cor.failure (Explain c) y)
 explained_as c e y is {m = m} h = subst (λ t. PartSame (fail_explained t m) (cor.failure (Explain c) y)) is (block.explained_same _ (tree.tree c.value) h)
 
-define_same : (word : Pos) {f : Function} {x : CoreFn} → LoweredFunction word f x → PartSame (define f.name word.line (map required (names_of f.params)) (yields_in f.body) f) (cor.define_fn x)
-define_same word (low.made {z = z} _ name {params = params} {body = body} {ps = ps} {ls = ls} {ys = ys} {source = source} {p = p} {block = b} plainly from is own yielding h) =
-    rw (sym is, sym yielding) (block.define_same _ name word.line (map required ps) ys (word, low.made word name plainly from is own yielding h))
+pub entries_same : (f : Function) (x : CoreFn) → LoweredCode f x → block.EntrySame Lowering (src.entry f) (cor.entry x)
+entries_same _ _ (word, low.made _ name from is own yielding h) = record { name = refl; own = own; body = sequence_same low.LoweredLayers.none h }
+
+-- a module's code
+module_same : (m : Script) (code : Core) → module_of code ≡ m → LoweredBlock m.explains (listed m.body) (stmts_in code.body.value) → LoweredBody m.explains (listed m.body) code.body.value
+module_same m code is h = low.body (ap (λ (m : Script). m.explains) is) (ap (λ (m : Script). listed m.body) is) h
+
+bodies_same : (m : Script) (code : Core) → LoweredModule m code → BodySame (src.script_body m) (core_body code)
+bodies_same m code h = sequence_same low.LoweredLayers.none (module_same m code h.0 h.1)
+
+-- expressions one after another
+each_of : {es : List Tree} {xs : List (Rc CoreExpr Global)} → LoweredEach es xs → PartsSame (map source.eval es) (core.parts_of xs)
+each_of low.nil = none
+each_of (low.cons x xs) = more (eval_same x) (each_of xs)
+
+decorators_same : (ds : Trees) {xs : List (Rc CoreExpr Global)} → LoweredEach (trees_listed ds) xs → PartsSame (source.parts ds) (core.parts_of xs)
+decorators_same ds h = rw (parts_listed ds) (each_of h)
+
+-- the defaults of parameters
+with_listed : (default : Maybe) (es : List source.SourcePart) (ts : List Tree) → es ≡ map source.eval ts → src.with_part default es ≡ map source.eval (low.with_default default ts)
+with_listed tree.Absent es ts h = h
+with_listed (tree.Present e) es ts h = ap (λ xs. source.eval e ∷ xs) h
+
+defaults_as : (ps : List Parameter) → src.default_parts ps ≡ map source.eval (defaults_listed ps)
+defaults_as [] = refl
+defaults_as (st.Parameter_at at name annotation default ∷ ps) = with_listed default (src.default_parts ps) (defaults_listed ps) (defaults_as ps)
+
+defaults_same : (ps : List Parameter) {xs : List (Rc CoreExpr Global)} → LoweredEach (defaults_listed ps) xs → PartsSame (src.default_parts ps) (core.parts_of xs)
+defaults_same ps h = rw (defaults_as ps) (each_of h)
+
+define_same : (word : Pos) {f : Function} {x : CoreFn} → LoweredFunction word f x → (ds : Trees) {xs ys : List (Rc CoreExpr Global)} → LoweredEach (trees_listed ds) xs → LoweredEach (defaults_listed f.params) ys → PartSame (define (source.parts ds) (src.default_parts f.params) (src.written f.params) f.name word.line (yields_in f.body) f) (cor.define_fn (core.parts_of xs) (core.parts_of ys) x)
+define_same word (low.made {z = z} _ name {params = params} {body = body} {ps = ps} {ls = ls} {ys = ys} {source = source} {p = p} {block = b} from is own yielding h) ds hs es =
+    rw (sym is, sym yielding) (classes.define_same _ (decorators_same ds hs) (defaults_same params es) (cor.written ps.value.items) name word.line ys (word, low.made word name from is own yielding h))
+
+import_as : (names xs : List (List ℕ)) → xs ≡ names → (alias : Option (List ℕ)) → PartSame (import_statement src.script_body names alias) (import_statement core_body xs alias)
+import_as names xs is alias = subst (λ ns. PartSame (import_statement src.script_body ns alias) (import_statement core_body xs alias)) is (loads.import_same _ src.script_body core_body bodies_same xs alias)
+
+import_from_as : (names xs : List (List ℕ)) → xs ≡ names → (all ys : List Alias) → ys ≡ all → PartSame (import_from src.script_body names all) (import_from core_body xs ys)
+import_from_as names xs is all ys are =
+    subst (λ ns. PartSame (import_from src.script_body ns all) (import_from core_body xs ys)) is (subst (λ zs. PartSame (import_from src.script_body xs zs) (import_from core_body xs ys)) are (loads.from_same _ src.script_body core_body bodies_same xs ys))
 
 -- WHAT A STATEMENT DOES
 statement_same : {z : Bool} {ls : List s.Layer} {ks : List c.Layer} → LoweredLayers z ls ks → {sm : Statement} {at : Pos} {x : CoreStmtKind} → LoweredStatement z sm at x → (scene : Scene) {u : State source_kinds} {r : State core_kinds} → States u r → (k : Then source_kinds) (l : Then core_kinds) → Behind k l → Follow (src.statement z ls sm (site scene at.line) u k) (cor.statement_at ks x (site scene at.line) r l)
@@ -392,28 +428,21 @@ statement_same hl (low.leave at) scene = (block.leave_same _).does (site scene a
 statement_same hl (low.again at) scene = (block.again_same _).does (site scene at.line)
 statement_same {z = z} {ls = ls} hl (low.choose at {bs = bs} hs h) scene = λ ss k l g. rw (choices_listed z ls bs) ((block.choose_same _ (choices_same hl hs) (sequence_same hl h)).does (site scene at.line) ss k l g)
 statement_same hl (low.loop at x b) scene = (block.loop_same _ (λ n. turn x b) (eval_same x)).does (site scene at.line)
-statement_same hl (low.define at word name h) scene = (define_same word h).does (site scene at.line)
-statement_same hl (low.raise_it at x) scene = (flow.raise_same _ (some_same x)).does (site scene at.line)
+statement_same hl (low.define at word {ds = ds} name returns hs es h) scene = (define_same word h ds hs es).does (site scene at.line)
+statement_same hl (low.raise_it at x) scene = (classes.raise_same _ src.entry cor.entry entries_same (some_same x)).does (site scene at.line)
 statement_same hl (low.delete at p) scene = (delete_same p).does (site scene at.line)
 statement_same hl (low.for_each at t x b) scene = (flow.for_same _ (λ n i. for_turn t b i) (eval_same x)).does (site scene at.line)
 statement_same hl (low.try_it at {body = source_block} b g) scene = try_here hl source_block b g (site scene at.line)
-statement_same hl (low.with_it at {name = name} x b) scene = (flow.with_same _ name (eval_same x) (sequence_same hl b)).does (site scene at.line)
+statement_same hl (low.with_it at {name = name} x b) scene = (flow.with_same _ name (eval_same x) (sequence_same low.LoweredLayers.none b)).does (site scene at.line)
+statement_same hl (low.class_it at word {ds = ds} name hs x (low.classed _ _ b)) scene = (classes.class_same _ (decorators_same ds hs) (some_same x) name word.line (sequence_same low.LoweredLayers.none b)).does (site scene at.line)
+statement_same hl (low.import_it at alias is) scene = (import_as _ _ is alias).does (site scene at.line)
+statement_same hl (low.import_from at is all) scene = (import_from_as _ _ is _ _ all).does (site scene at.line)
 
 pub acts_same : (what : s.Turn) (other : c.Turn) (p : Site) → LoweredTurn p.line what other → (u : State source_kinds) (r : State core_kinds) → States u r → (k : Then source_kinds) (l : Then core_kinds) → Behind k l → Follow (src.act what p u k) (cor.act other p r l)
 acts_same _ _ p (statement {z = z} {ls = ls} {ks = ks} {st = sm} {at = at} {x = x} is hl h) u r ss k l g =
     subst (λ n. Follow (src.statement z ls sm (site p.scene n) u k) (cor.statement_at ks x (site p.scene n) r l)) (sym is) (statement_same hl h p.scene ss k l g)
 acts_same _ _ p (for_turn {b = loop_block} t b at) u r ss k l g = (flow.for_turn_same _ (λ n i. for_turn {b = loop_block} t b i) (target_same t) (sequence_same low.LoweredLayers.none b) at).does p ss k l g
 acts_same _ _ p (turn x b) u r ss k l g = (block.turn_of_same _ (λ n. turn x b) (eval_same x) (sequence_same low.LoweredLayers.none b)).does p ss k l g
-
-pub entries_same : (f : Function) (x : CoreFn) → LoweredCode f x → block.EntrySame Lowering (src.entry f) (cor.entry x)
-entries_same _ _ (word, low.made _ name plainly from is own yielding h) = record { name = refl; own = own; body = sequence_same low.LoweredLayers.none h }
-
--- a module's code
-module_same : (m : Script) (code : Core) → module_of code ≡ m → LoweredBlock m.explains (listed m.body) (stmts_in code.body.value) → LoweredBody m.explains (listed m.body) code.body.value
-module_same m code is h = low.body (ap (λ (m : Script). m.explains) is) (ap (λ (m : Script). listed m.body) is) h
-
-bodies_same : (m : Script) (code : Core) → LoweredModule m code → BodySame (src.script_body m) (core_body code)
-bodies_same m code h = sequence_same low.LoweredLayers.none (module_same m code h.0 h.1)
 
 -- THE TWO MEANINGS
 pub meanings_same : block.MeaningsSame Lowering source_meaning core_meaning

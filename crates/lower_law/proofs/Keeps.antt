@@ -1,6 +1,6 @@
 -- Whole calls and loads of modules.
 use Rattle.std.proofs.Common.{◌≡◌, ℕ, ◌-◌, List, [], ◌∷◌, Option, Some, None, Bool, true, false, refl, subst}
-use Rattle.std.specs.Prelude.{slice_get, cond, length, Result, Ok, Err}
+use Rattle.std.specs.Prelude.{slice_get, cond, Result, Ok, Err}
 use Rattle.std.specs.List.{list_any}
 use Rattle.run_tree.specs.Todo as tree
 use Rattle.run_tree.specs.Todo.{Done}
@@ -13,26 +13,26 @@ use Rattle.py_values.specs.declared.end.Raise.{Raise}
 use Rattle.py_values.specs.declared.object.FunctionObj.{FunctionObj}
 use Rattle.py_values.specs.declared.value.Value.{Value}
 use Rattle.py_values.specs.declared.value.Value.TheVariants as val
-use Rattle.py_values.specs.Names.{name_eq}
 use Rattle.py_world.specs.declared.load.Load.{Load}
 use Rattle.py_world.specs.declared.load.Load.TheVariants.{Running, Loaded, Failed}
 use Rattle.py_world.specs.declared.trace.TraceFrame.{TraceFrame}
-use Rattle.py_world.specs.World.{Kinds, World, State, Locals, Stored, Source}
-use Rattle.py_world.specs.Site.{no_call, frame, Around, around_of, Site}
+use Rattle.py_world.specs.World.{Kinds, World, Locals, Stored}
+use Rattle.py_world.specs.Site.{no_call, frame}
 use Rattle.py_world.specs.Arguments.{plain}
-use Rattle.py_world.specs.Outcome.{Outcome, Rest, Spent, Paused, Request, call_end, Then, Part}
+use Rattle.py_world.specs.Outcome.{Outcome, Rest, Spent, Paused, Request, call_end}
 use Rattle.py_world.specs.Calls.{Meaning, arguments_for, invoke, body_of}
-use Rattle.py_world.specs.Runs.{ended_value, ended_spent, is_running, out_of_steps, ended_by, told_by, with_module_load, module_end, module_scene, naming_heap, start, source_at, coded, run_of, function_of_object, fitting_begun, function_begun, object_begun, begun_by_runner, executed, first_load, load_by, load_part, loading, loaded_first, loaded_by, load_at}
+use Rattle.py_world.specs.Runs.{ended_value, ended_spent, is_running, out_of_steps, ended_by, told_by, start, run_of, function_and, fitting_begun, function_begun, object_begun, begun_by_runner, loading, loaded_first, loaded_by, load_at}
 use Rattle.source_meaning.specs.Requests.{source_kinds, Script, Function}
 use Rattle.source_meaning.specs.Meaning.{SourceWorld, source, source_call, source_module}
 use Rattle.core_meaning.specs.Requests.{core_kinds}
 use Rattle.core_meaning.specs.Meaning.{CoreWorld, core, core_call, core_module}
 use Rattle.lower_law.specs.Alike as alike
-use Rattle.lower_law.specs.Alike.{StatesAlike, states, EndsAlike, gave, next, returned, broke, continued, SpentAlike, out, PausedAlike, stops, RequestsAlike, SourcesAlike, worlds}
+use Rattle.lower_law.specs.Alike.{states, EndsAlike, gave, next, returned, broke, continued, SpentAlike, out, PausedAlike, stops, RequestsAlike, worlds}
 use Rattle.lower_law.specs.Law.{call_tape, Lowering, LoweredWorld, SameTold}
 use Rattle.lower_law.specs.Lowered.{LoweredModule}
 use Rattle.lower_law.proofs.Parts as part
 use Rattle.lower_law.proofs.Blocks as block
+use Rattle.lower_law.proofs.Loads as loads
 use Rattle.lower_law.proofs.Forms.{Follow, meanings_same}
 
 abbrev Ends : Outcome source_kinds → Outcome core_kinds → Type 0
@@ -97,25 +97,25 @@ follow_cond true x y x' y' h g = h
 follow_cond false x y x' y' h g = g
 
 abbrev begun_plain : {K : Kinds} → Meaning K → Value → List Value → World K → Rest K
-begun_plain meaning f args w = invoke meaning f (plain args) no_call (start w) (λ o. Done (call_end (start w) o))
+begun_plain meaning f args w = invoke meaning.entry f (plain args) no_call (start w) (λ o. Done (call_end (start w) o))
 
 invoked : (f : Value) (args : List Value) (w : SourceWorld) (z : CoreWorld) → LoweredWorld w z → Follow (begun_plain source f args w) (begun_plain core f args z)
-invoked f args w z ws = (block.invoke_same _ source core meanings_same f (plain args) no_call).does (states [] [] ws) _ _ (λ o q n. part.call_end_same Lowering (states [] [] ws) n)
+invoked f args w z ws = (block.invoke_same _ source.entry core.entry meanings_same.entries f (plain args) no_call).does (states [] [] ws) _ _ (λ o q n. part.call_end_same Lowering (states [] [] ws) n)
 
 fitting_begun_same : (r : Result Locals Raise) (at : List TraceFrame) (f : Value) (args : List Value) (w : SourceWorld) (z : CoreWorld) → LoweredWorld w z → Follow (fitting_begun source r at f args (start w)) (fitting_begun core r at f args (start z))
 fitting_begun_same (Ok names) at f args w z ws = invoked f args w z ws
 fitting_begun_same (Err r) at f args w z ws = part.raised_same Lowering r at (states [] [] ws)
 
-function_begun_same : {x : Option (Stored Function)} {y : Option (Stored CoreFn)} → block.FoundAlike Lowering x y → (g : FunctionObj) (f : Value) (args : List Value) (w : SourceWorld) (z : CoreWorld) → LoweredWorld w z → Follow (function_begun source x g f args (start w)) (function_begun core y g f args (start z))
-function_begun_same block.absent g f args w z ws = invoked f args w z ws
-function_begun_same (block.present path home h) g f args w z ws = fitting_begun_same (arguments_for g (plain args)) (frame g.path g.line g.name ∷ []) f args w z ws
+function_begun_same : {x : Option (Stored Function)} {y : Option (Stored CoreFn)} → block.FoundAlike Lowering x y → (g : FunctionObj) (all : List Value) (f : Value) (args : List Value) (w : SourceWorld) (z : CoreWorld) → LoweredWorld w z → Follow (function_begun source x g all f args (start w)) (function_begun core y g all f args (start z))
+function_begun_same block.absent g all f args w z ws = invoked f args w z ws
+function_begun_same (block.present path home h) g all f args w z ws = fitting_begun_same (arguments_for g (plain all)) (frame g.path g.line g.name ∷ []) f args w z ws
 
-object_begun_same : (o : Option FunctionObj) (f : Value) (args : List Value) {w : SourceWorld} {z : CoreWorld} → LoweredWorld w z → Follow (object_begun source o f args (start w)) (object_begun core o f args (start z))
-object_begun_same (Some x) f args (worlds xs ys zs modules heap printed traces) = function_begun_same (block.found _ ys x.code) x f args _ _ (worlds xs ys zs modules heap printed traces)
+object_begun_same : (o : Option (FunctionObj × List Value)) (f : Value) (args : List Value) {w : SourceWorld} {z : CoreWorld} → LoweredWorld w z → Follow (object_begun source o f args (start w)) (object_begun core o f args (start z))
+object_begun_same (Some x) f args (worlds xs ys zs modules heap printed traces) = function_begun_same (block.found _ ys x.0.code) x.0 x.1 f args _ _ (worlds xs ys zs modules heap printed traces)
 object_begun_same None f args ws = invoked f args _ _ ws
 
 begun_by_runner_same : (f : Value) (args : List Value) {w : SourceWorld} {z : CoreWorld} → LoweredWorld w z → Follow (begun_by_runner source f args (start w)) (begun_by_runner core f args (start z))
-begun_by_runner_same (val.Ref id) args (worlds xs ys zs modules heap printed traces) = object_begun_same (function_of_object (slice_get heap id.at)) (val.Ref id) args (worlds xs ys zs modules heap printed traces)
+begun_by_runner_same (val.Ref id) args (worlds xs ys zs modules heap printed traces) = object_begun_same (function_and heap args (slice_get heap id.at)) (val.Ref id) args (worlds xs ys zs modules heap printed traces)
 begun_by_runner_same val.None args ws = invoked val.None args _ _ ws
 begun_by_runner_same (val.Bool b) args ws = invoked (val.Bool b) args _ _ ws
 begun_by_runner_same (val.Int n) args ws = invoked (val.Int n) args _ _ ws
@@ -124,67 +124,21 @@ begun_by_runner_same (val.Int n) args ws = invoked (val.Int n) args _ _ ws
 pub calls_same : (w : SourceWorld) (z : CoreWorld) → LoweredWorld w z → (f : Value) (args : List Value) (budget : ℕ) → SameTold (source_call f args budget w) (core_call f args budget z)
 calls_same w z ws f args budget = run_told budget _ _ (begun_by_runner_same f args ws)
 
-loaded_same : (path : List ℕ) (load : Load) {s : State source_kinds} {r : State core_kinds} → StatesAlike Lowering s r → StatesAlike Lowering (with_module_load path load s) (with_module_load path load r)
-loaded_same path load (states a t (worlds xs ys zs modules heap printed traces)) = states a t (worlds xs ys zs _ heap printed traces)
-
-module_end_same : (path : List ℕ) (id : ℕ) {o : Outcome source_kinds} {q : Outcome core_kinds} → Ends o q → Ends (module_end path id o) (module_end path id q)
-module_end_same path id (gave v ss) = gave _ (loaded_same path _ ss)
-module_end_same path id (next ss) = gave _ (loaded_same path _ ss)
-module_end_same path id (returned v ss) = gave _ (loaded_same path _ ss)
-module_end_same path id (broke ss) = gave _ (loaded_same path _ ss)
-module_end_same path id (continued ss) = gave _ (loaded_same path _ ss)
-module_end_same path id (alike.raised e trace ss) = alike.raised e trace (loaded_same path _ ss)
-
-executed_same : (path : List ℕ) (b : Script) (code : Core) → LoweredModule b code → (a : Around) {w : SourceWorld} {z : CoreWorld} → LoweredWorld w z → (k : Then source_kinds) (l : Then core_kinds) → part.Behind Lowering k l → Follow (executed source path b a w k) (executed core path code a z l)
-executed_same path b code h a (worlds xs ys zs modules heap printed traces) k l g =
-    (meanings_same.bodies b code h).does (module_scene path (length (naming_heap path heap)) a) (states [] [] (worlds xs ys zs _ _ printed traces)) _ _ (λ o q n. g _ _ (module_end_same path (length (naming_heap path heap)) n))
-
 loading_same : (path : List ℕ) (b : Script) (code : Core) → LoweredModule b code → {w : SourceWorld} {z : CoreWorld} → LoweredWorld w z → Follow (loading source path b w) (loading core path code z)
-loading_same path b code h ws = executed_same path b code h no_call ws (λ o. Done o) (λ o. Done o) (λ o q n. n)
+loading_same path b code h ws = loads.executed_same Lowering source.body core.body meanings_same.bodies path b code h no_call ws (λ o. Done o) (λ o. Done o) (λ o q n. n)
 
--- the same code of a source, or none
-data CodeFound : Option Script → Option Core → Type 0 where
-  none : CodeFound None None
-  some : {b : Script} {code : Core} → LoweredModule b code → CodeFound (Some b) (Some code)
-
-code_cond : (c : Bool) (x x' : Option (Source Script)) (y y' : Option (Source Core)) → CodeFound (coded x) (coded y) → CodeFound (coded x') (coded y') → CodeFound (coded (cond c x x')) (coded (cond c y y'))
-code_cond true x x' y y' h g = h
-code_cond false x x' y y' h g = g
-
-coded_same : {x : _} {y : _} → alike.CodedAlike Lowering x y → (path bytes : List ℕ) → CodeFound (coded (Some (alike.source_with path bytes x))) (coded (Some (alike.source_with path bytes y)))
-coded_same (alike.code h) path bytes = some h
-coded_same (alike.fault f) path bytes = none
-
-code_found : (path : List ℕ) {xs : List (Source Script)} {ys : List (Source Core)} → SourcesAlike Lowering xs ys → CodeFound (coded (source_at path xs)) (coded (source_at path ys))
-code_found path alike.none = none
-code_found path (alike.more at bytes h hs) = code_cond (name_eq path at) _ _ _ _ (coded_same h at bytes) (code_found path hs)
-
--- a load in mid-run
-first_load_same : {b : Option Script} {code : Option Core} → CodeFound b code → (path : List ℕ) {x : Part source_kinds} {y : Part core_kinds} → part.PartSame Lowering x y → (p : Site) {s : State source_kinds} {r : State core_kinds} → StatesAlike Lowering s r → (k : Then source_kinds) (l : Then core_kinds) → part.Behind Lowering k l → Follow (first_load source b path x p s k) (first_load core code path y p r l)
-first_load_same none path x p ss k l g = x.does p ss k l g
-first_load_same (some {b = b} {code = code} h) path x p (states a t ws) k l g = executed_same path b code h (around_of p) ws _ _ (λ o q n. g _ _ (part.call_end_same Lowering (states a t ws) n))
-
-load_by_same : (load : Option Load) (path : List ℕ) {x : Part source_kinds} {y : Part core_kinds} → part.PartSame Lowering x y → (p : Site) {s : State source_kinds} {r : State core_kinds} → StatesAlike Lowering s r → (k : Then source_kinds) (l : Then core_kinds) → part.Behind Lowering k l → Follow (load_by source load path x p s k) (load_by core load path y p r l)
-load_by_same (Some (Running id)) path x p ss k l g = g _ _ (gave _ ss)
-load_by_same (Some (Loaded id)) path x p ss k l g = g _ _ (gave _ ss)
-load_by_same (Some (Failed e trace)) path x p ss k l g = g _ _ (alike.raised e trace ss)
-load_by_same None path x p (states a t (worlds xs ys zs modules heap printed traces)) k l g = first_load_same (code_found path xs) path x p (states a t (worlds xs ys zs modules heap printed traces)) k l g
-
-load_part_same : (path : List ℕ) {x : Part source_kinds} {y : Part core_kinds} → part.PartSame Lowering x y → (p : Site) {s : State source_kinds} {r : State core_kinds} → StatesAlike Lowering s r → (k : Then source_kinds) (l : Then core_kinds) → part.Behind Lowering k l → Follow (load_part source path x p s k) (load_part core path y p r l)
-load_part_same path x p (states a t (worlds xs ys zs modules heap printed traces)) k l g = load_by_same (load_at path modules) path x p (states a t (worlds xs ys zs modules heap printed traces)) k l g
-
-pub load_same : (path : List ℕ) {x : Part source_kinds} {y : Part core_kinds} → part.PartSame Lowering x y → part.PartSame Lowering (load_part source path x) (load_part core path y)
-load_same path x = record { does = λ p ss k l g. load_part_same path x p ss k l g }
+abbrev CodeFound : Option Script → Option Core → Type 0
+CodeFound = loads.CodeFound Lowering
 
 loaded_first_same : {b : Option Script} {code : Option Core} → CodeFound b code → (path : List ℕ) (budget : ℕ) {w : SourceWorld} {z : CoreWorld} → LoweredWorld w z → SameTold (loaded_first source b path budget w) (loaded_first core code path budget z)
-loaded_first_same none path budget ws = (refl, ws)
-loaded_first_same (some {b = b} {code = code} h) path budget ws = run_told budget _ _ (loading_same path b code h ws)
+loaded_first_same loads.none path budget ws = (refl, ws)
+loaded_first_same (loads.some {b = b} {code = code} h) path budget ws = run_told budget _ _ (loading_same path b code h ws)
 
 loaded_by_same : (load : Option Load) (path : List ℕ) (budget : ℕ) {w : SourceWorld} {z : CoreWorld} → LoweredWorld w z → SameTold (loaded_by source load path budget w) (loaded_by core load path budget z)
 loaded_by_same (Some (Running id)) path budget ws = (refl, ws)
 loaded_by_same (Some (Loaded id)) path budget ws = (refl, ws)
 loaded_by_same (Some (Failed e trace)) path budget ws = (refl, ws)
-loaded_by_same None path budget (worlds xs ys zs modules heap printed traces) = loaded_first_same (code_found path xs) path budget (worlds xs ys zs modules heap printed traces)
+loaded_by_same None path budget (worlds xs ys zs modules heap printed traces) = loaded_first_same (loads.code_found Lowering path xs) path budget (worlds xs ys zs modules heap printed traces)
 
 modules_from : (path : List ℕ) (budget : ℕ) {w : SourceWorld} {z : CoreWorld} → LoweredWorld w z → SameTold (source_module path budget w) (core_module path budget z)
 modules_from path budget (worlds xs ys zs modules heap printed traces) = loaded_by_same (load_at path modules) path budget (worlds xs ys zs modules heap printed traces)

@@ -23,7 +23,7 @@ use Rattle.lower_law.specs.View.{stored_view, coded_view, file_view, layer_view,
 use Rattle.lower_law.proofs.Keeps.{calls_same, modules_same, tapes_same}
 
 code_carries : (f : Function) (c : CoreFn) → LoweredCode f c → source_of c ≡ f
-code_carries _ _ (word, low.made _ name {source = source} plainly from is own yielding (low.body flag _ h)) = ap (λ x. function_in x source.value) flag ∙ from
+code_carries _ _ (word, low.made _ name {source = source} from is own yielding (low.body flag _ h)) = ap (λ x. function_in x source.value) flag ∙ from
 
 codes_viewed : {fs : List (Stored Function)} {cs : List (Stored CoreFn)} → CodesAlike Lowering fs cs → map stored_view cs ≡ fs
 codes_viewed alike.none = refl

@@ -12,7 +12,8 @@ use Rattle.py_tree.specs.Trees as t
 use Rattle.py_tree.specs.Trees.{Tree, Trees, Empty, More, Maybe, Absent, Present}
 use Rattle.py_tree.specs.Statements as st
 use Rattle.py_tree.specs.Statements.{Statement, Block, Branches, NoBranch, Branch, Handlers, NoHandler, Place, NamePlace, AttributePlace, SubscriptPlace, Taker, One, Unpack, Parameter, handlers}
-use Rattle.py_tree.specs.Names.{names_of, locals_of, yields_in}
+use Rattle.py_tree.specs.Names.{locals_of, yields_in}
+use Rattle.py_tree.specs.declared.stmt.Alias.{Alias}
 use Rattle.py_tree.specs.declared.expr.Expr.{Expr}
 use Rattle.py_tree.specs.Trees.{tree}
 use Rattle.py_world.specs.Explained.{kept_count}
@@ -21,6 +22,8 @@ use Rattle.py_core.specs.declared.expr.CoreExprKind as f
 use Rattle.py_core.specs.declared.expr.CoreExprKind.{CoreExprKind, Row_of-CoreExprKind-Call-1-1 as Row, items-the_row-CoreExprKind-Call-1-1 as row_items, Held-CoreExprKind-Slice-1 as Held}
 use Rattle.py_core.specs.declared.expr.CoreExprKind.TheVariants as v
 use Rattle.py_core.specs.declared.stmt.CoreBranch as branch
+use Rattle.py_core.specs.declared.stmt.CoreClass as class
+use Rattle.py_core.specs.declared.stmt.CoreParam.{CoreParam}
 use Rattle.py_core.specs.declared.stmt.CoreFn as fn
 use Rattle.py_core.specs.declared.stmt.CoreFn.{CoreFn}
 use Rattle.py_core.specs.declared.stmt.Core.{Core}
@@ -42,24 +45,22 @@ use Rattle.lower_law.specs.Sourced.{function_in, module_of, sources_in}
 use Rattle.source_meaning.specs.Requests as s
 use Rattle.source_meaning.specs.Requests.{Script, Function}
 use Rattle.core_meaning.specs.Requests as r
-use Rattle.source_meaning.specs.Statements.{listed, function}
+use Rattle.source_meaning.specs.Statements.{listed, function, written}
+use Rattle.core_meaning.specs.Statements.{written as core_written}
 
 -- expressions, the first one first
 abbrev pub trees_listed : Trees → List Tree
 trees_listed Empty = []
 trees_listed (More before e) = trees_listed before ++ e ∷ []
 
--- arguments without names
-abbrev pub Unnamed : List (Option ArgName) → Type 0
-Unnamed [] = Unit {0}
-Unnamed (None ∷ rest) = Unnamed rest
-Unnamed (Some n ∷ rest) = ⊥
+-- the defaults of the parameters that have one, the first one first
+abbrev pub with_default : Maybe → List Tree → List Tree
+with_default Absent es = es
+with_default (Present e) es = e ∷ es
 
--- parameters without annotation and without default
-abbrev pub PlainParameters : List Parameter → Type 0
-PlainParameters [] = Unit {0}
-PlainParameters (st.Parameter_at at name Absent Absent ∷ rest) = PlainParameters rest
-PlainParameters (_ ∷ rest) = ⊥
+abbrev pub defaults_listed : List Parameter → List Tree
+defaults_listed [] = []
+defaults_listed (st.Parameter_at at name annotation default ∷ ps) = with_default default (defaults_listed ps)
 
 mutual
   pub data Lowered : Tree → Pos → CoreExprKind → Type 0 where
@@ -70,7 +71,7 @@ mutual
     false : (at : Pos) → Lowered (t.False at) at v.False
     none : (at : Pos) → Lowered (t.NoneTree at) at v.None
     paren : (at : Pos) {e : Tree} {p : _} {a : Pos} {x : CoreExprKind} → Lowered e a x → Lowered (t.Paren at e) at (f.Paren' p a x)
-    call : (at : Pos) {e : Tree} {es : Trees} {names : List (Option ArgName)} {p q n : _} {a : Pos} {x : CoreExprKind} {row : Row _} → Unnamed names → Lowered e a x → LoweredEach (trees_listed es) (row_items _ row) → Lowered (t.Call at e es names) at (f.Call' p a x q n row)
+    call : (at : Pos) {e : Tree} {es : Trees} {names : List (Option ArgName)} {p q n : _} {a : Pos} {x : CoreExprKind} {row : Row _} {cnames : Rc (Vec (Option ArgName) Global) Global} → cnames.value.items ≡ names → Lowered e a x → LoweredEach (trees_listed es) (row_items _ row) → Lowered (t.Call at e es names) at (f.Call' p a x q n row cnames)
     unary : (at : Pos) (op : UnOp) {e : Tree} {p : _} {a : Pos} {x : CoreExprKind} → Lowered e a x → Lowered (t.Unary at op e) at (f.Unary' op p a x)
     binary : (at : Pos) (op : BinOp) {l r : Tree} {p q : _} {a b : Pos} {x y : CoreExprKind} → Lowered l a x → Lowered r b y → Lowered (t.Binary at l op r) at (f.Binary' p a x op q b y)
     compare : (at : Pos) {e : Tree} {ops : List CmpOp} {es : Trees} {p q n : _} {a : Pos} {x : CoreExprKind} {cops : Rc (Vec CmpOp Global) Global} {row : Row _} → cops.value.items ≡ ops → Lowered e a x → LoweredEach (trees_listed es) (row_items _ row) → Lowered (t.Compare at e ops es) at (f.Compare' p a x cops q n row)
@@ -111,7 +112,7 @@ mutual
   pub data Watched : ℕ → Tree → Pos → CoreExprKind → Type 0 where
     leaf : (n : ℕ) (b : Pos) {e : Tree} {p : _} {a : Pos} {x : CoreExprKind} → IsLeaf e → Lowered e a x → Watched n e b (f.SetTemp' n p a x)
     paren : (n : ℕ) (at : Pos) {e : Tree} {p : _} {a : Pos} {x : CoreExprKind} → Watched n e a x → Watched n (t.Paren at e) at (f.Paren' p a x)
-    call : (n : ℕ) (at b : Pos) {e : Tree} {es : Trees} {names : List (Option ArgName)} {p q r m : _} {a : Pos} {x : CoreExprKind} {row : Row _} → Unnamed names → Watched (suc n) e a x → WatchedEach (suc n + kept_count e) (trees_listed es) (row_items _ row) → Watched n (t.Call at e es names) b (f.SetTemp' n r at (f.Call' p a x q m row))
+    call : (n : ℕ) (at b : Pos) {e : Tree} {es : Trees} {names : List (Option ArgName)} {p q r m : _} {a : Pos} {x : CoreExprKind} {row : Row _} {cnames : Rc (Vec (Option ArgName) Global) Global} → cnames.value.items ≡ names → Watched (suc n) e a x → WatchedEach (suc n + kept_count e) (trees_listed es) (row_items _ row) → Watched n (t.Call at e es names) b (f.SetTemp' n r at (f.Call' p a x q m row cnames))
     unary : (n : ℕ) (at : Pos) (op : UnOp) {e : Tree} {p : _} {a : Pos} {x : CoreExprKind} → Watched n e a x → Watched n (t.Unary at op e) at (f.Unary' op p a x)
     binary : (n : ℕ) (at : Pos) (op : BinOp) {l r : Tree} {p q : _} {a b : Pos} {x y : CoreExprKind} → Watched n l a x → Watched (n + kept_count l) r b y → Watched n (t.Binary at l op r) at (f.Binary' p a x op q b y)
     compare : (n : ℕ) (at : Pos) {e : Tree} {ops : List CmpOp} {es : Trees} {p q m : _} {a : Pos} {x : CoreExprKind} {cops : Rc (Vec CmpOp Global) Global} {row : Row _} → cops.value.items ≡ ops → Watched n e a x → WatchedEach (n + kept_count e) (trees_listed es) (row_items _ row) → Watched n (t.Compare at e ops es) at (f.Compare' p a x cops q m row)
@@ -184,12 +185,15 @@ mutual
     again : {z : Bool} (at : Pos) → LoweredStatement z (st.Continue at) at k.Continue
     choose : {z : Bool} (at : Pos) {bs : Branches} {other : Block} {p n q : _} {branches : Row_of-CoreBranch _} {block : CoreBlock} → LoweredBranches z (branches_listed bs) (items-the_row-CoreBranch _ branches) → LoweredBody z (listed other) block → LoweredStatement z (st.If at bs other) at (c.If' p n branches q block)
     loop : {z : Bool} (at : Pos) {e : Tree} {body : Block} {x : Rc CoreExpr Global} {p : _} {block : CoreBlock} → LoweredExpr e x.value → LoweredBody z (listed body) block → LoweredStatement z (st.While at e body) at (c.While' x p block)
-    define : {z : Bool} (at word : Pos) (name : List ℕ) {params : List Parameter} {body : Block} {p : _} {x : CoreFn} → LoweredFunction word (function z name params body) x → LoweredStatement z (st.Def at Empty word name params Absent body) at (c.Def' p x)
+    define : {z : Bool} (at word : Pos) {ds : Trees} (name : List ℕ) {params : List Parameter} (returns : Maybe) {body : Block} {xs ys : Rc (Vec (Rc CoreExpr Global) Global) Global} {p : _} {x : CoreFn} → LoweredEach (trees_listed ds) xs.value.items → LoweredEach (defaults_listed params) ys.value.items → LoweredFunction word (function z name params body) x → LoweredStatement z (st.Def at ds word name params returns body) at (c.Def' xs ys p x)
     raise_it : {z : Bool} (at : Pos) {e : Maybe} {x : Option (Rc CoreExpr Global)} → LoweredSome e x → LoweredStatement z (st.Raise at e) at (k.Raise x)
     delete : {z : Bool} (at : Pos) {p : Place} {x : CoreSingle} → LoweredPlace p x → LoweredStatement z (st.Del at p) at (k.Del x)
     for_each : {z : Bool} (at : Pos) {t : Taker} {e : Tree} {body : Block} {x : Rc CoreTarget Global} {y : Rc CoreExpr Global} {p : _} {block : CoreBlock} → LoweredTarget t x.value → LoweredExpr e y.value → LoweredBody z (listed body) block → LoweredStatement z (st.For at t e body) at (c.For' x y p block)
     try_it : {z : Bool} (at : Pos) {body : Block} {hs : Handlers} {other last : Block} {p q : _} {block : CoreBlock} {g : CoreGuard} → LoweredBody z (listed body) block → LoweredGuard z hs (listed other) (listed last) g → LoweredStatement z (st.Try at body hs other last) at (c.Try' p block q g)
     with_it : {z : Bool} (at : Pos) {e : Tree} {name : Option (List ℕ)} {body : Block} {x : Rc CoreExpr Global} {p : _} {block : CoreBlock} → LoweredExpr e x.value → LoweredBody z (listed body) block → LoweredStatement z (st.With at e name body) at (c.With' x name p block)
+    class_it : {z : Bool} (at word : Pos) {ds : Trees} (name : List ℕ) {base : Maybe} {body : Block} {xs : Rc (Vec (Rc CoreExpr Global) Global) Global} {y : Option (Rc CoreExpr Global)} {p : _} {x : class.CoreClass} → LoweredEach (trees_listed ds) xs.value.items → LoweredSome base y → LoweredClass z word name body x → LoweredStatement z (st.Class at ds word name base body) at (c.Class' xs y p x)
+    import_it : {z : Bool} (at : Pos) {names : List (List ℕ)} (alias : Option (List ℕ)) {xs : Rc (Vec (List ℕ) Global) Global} → xs.value.items ≡ names → LoweredStatement z (st.Import at names alias) at (k.Import xs alias)
+    import_from : {z : Bool} (at : Pos) {names : List (List ℕ)} {all : List Alias} {xs : Rc (Vec (List ℕ) Global) Global} {ys : Rc (Vec Alias Global) Global} → xs.value.items ≡ names → ys.value.items ≡ all → LoweredStatement z (st.ImportFrom at names all) at (k.ImportFrom xs ys)
 
   pub data LoweredBlock : Bool → List Statement → List CoreStmt → Type 0 where
     ends : {z : Bool} → LoweredBlock z [] []
@@ -211,9 +215,13 @@ mutual
   pub data LoweredGuard : Bool → Handlers → List Statement → List Statement → CoreGuard → Type 0 where
     guard : {z : Bool} {hs : Handlers} {other last : List Statement} {g : CoreGuard} → handlers (handlers_source g) ≡ hs → LoweredHandlers z (handlers_listed hs) (handlers_in g) → LoweredBody z other (other_in g) → LoweredBody z last (last_in g) → LoweredGuard z hs other last g
 
+  -- a class
+  pub data LoweredClass : Bool → Pos → List ℕ → Block → class.CoreClass → Type 0 where
+    classed : {z : Bool} (word : Pos) (name : List ℕ) {body : Block} {p : _} {block : CoreBlock} → LoweredBody z (listed body) block → LoweredClass z word name body (class.CoreClass' word name p block)
+
   -- a function has the parameters and the local names of its source
   pub data LoweredFunction : Pos → Function → CoreFn → Type 0 where
-    made : {z : Bool} (word : Pos) (name : List ℕ) {params : List Parameter} {body : Block} {ps ls : List (List ℕ)} {ys : Bool} {source : Rc f_tree.Function Global} {p : _} {block : CoreBlock} → PlainParameters params → function_in z source.value ≡ function z name params body → ps ≡ names_of params → ls ≡ locals_of params body → ys ≡ yields_in body → LoweredBody z (listed body) block → LoweredFunction word (function z name params body) (fn.CoreFn' source word name ps ls ys p block)
+    made : {z : Bool} (word : Pos) (name : List ℕ) {params : List Parameter} {body : Block} {ps : Rc (Vec CoreParam Global) Global} {ls : List (List ℕ)} {ys : Bool} {source : Rc f_tree.Function Global} {p : _} {block : CoreBlock} → function_in z source.value ≡ function z name params body → core_written ps.value.items ≡ written params → ls ≡ locals_of params body → ys ≡ yields_in body → LoweredBody z (listed body) block → LoweredFunction word (function z name params body) (fn.CoreFn' source word name ps ls ys p block)
 
 -- what stands behind a statement, the innermost block first
 pub data LoweredLayers (z : Bool) : List s.Layer → List r.Layer → Type 0 where

@@ -6,20 +6,22 @@ use Rattle.py_core.specs.declared.stmt.CoreFn.{CoreFn}
 use Rattle.py_core.specs.declared.stmt.CoreBlock.{CoreBlock}
 use Rattle.py_values.specs.declared.value.Value.{Value}
 use Rattle.py_world.specs.World.{Stored, state}
-use Rattle.py_world.specs.Site.{Scene, no_call, trace_of}
+use Rattle.py_world.specs.Site.{Scene, trace_of}
 use Rattle.py_world.specs.Outcome.{Gave, Next, Returned, Broke, Continued, Raised, call_end}
 use Rattle.py_world.specs.Calls.{scene_of}
-use Rattle.core_meaning.specs.Meaning.{CoreWorld, core}
+use Rattle.core_meaning.specs.Meaning.{CoreWorld}
 use Rattle.core_meaning.specs.Statements.{CoreBody, block, entry}
 use Rattle.machine_state.specs.declared.machine.Machine.{Machine}
+use Rattle.machine_state.specs.declared.machine.Origin.TheVariants.{Runner}
 use Rattle.machine_state.specs.declared.place.Here.{Here}
 use Rattle.machine_state.specs.declared.place.Place.TheVariants.{Function}
 use Rattle.machine_state.specs.declared.frame.CallerFrame.{CallerFrame}
 use Rattle.machine_state.specs.declared.frame.Frame.{Frame}
 use Rattle.machine_state.specs.declared.frame.Frame.TheVariants.{Flow, Caller}
 use Rattle.machine_state.specs.declared.frame.FlowFrame.TheVariants.{Block}
-use Rattle.run_tree.specs.Todo.{Done}
-use Rattle.machine_state.specs.Frames.{CoreState, CoreOutcome, CoreThen, after, handling_of, no_world, rest_of, site_now, state_of, world_of}
+use Rattle.machine_state.specs.Places.{CoreState, CoreOutcome, CoreThen, no_world}
+use Rattle.machine_state.specs.Frames.{after, around_by, handling_of, rest_of, site_now, state_of, world_of}
+use Rattle.machine_call.specs.Depth.{Ready}
 
 -- a call's end looks at the caller's names and temporaries alone
 call_end_same : (s : CoreState) (w : CoreWorld) (o : CoreOutcome) → call_end (state s.locals s.temps w) o ≡ call_end s o
@@ -45,19 +47,21 @@ pub code_enters : (m : Machine) (code : Stored CoreFn) (names : List (List ℕ �
     → fs ≡ Flow (Block b 0 0) ∷ fs1 → fs1 ≡ Caller c ∷ fs2 → fs2 ≡ m.stack
     → h ≡ record { place = Function code; around = around; line = 0 } → s ≡ state names [] (world_of m)
     → after fs h (Next s)
-    ≡ (entry code.code).body (scene_of core code (record { trace = trace_of (site_now m); depth = around; handling = handling_of m.stack })) (state names [] (world_of m)) (λ o. rest_of m (call_end (state_of m) o))
+    ≡ (entry code.code).body (scene_of entry code (record { trace = trace_of (site_now m); depth = around; handling = handling_of m.stack })) (state names [] (world_of m)) (λ o. rest_of m (call_end (state_of m) o))
 code_enters m code names around b c fs fs1 fs2 h s is caller pushed below stack place begun =
     rw (pushed, below, stack, caller, place, begun)
-    (body_begins b code (scene_of core code (record { trace = trace_of (site_now m); depth = around; handling = handling_of m.stack })) (state names [] (world_of m)) _ _ is (caller_rest (state_of m) no_world (rest_of m)))
+    (body_begins b code (scene_of entry code (record { trace = trace_of (site_now m); depth = around; handling = handling_of m.stack })) (state names [] (world_of m)) _ _ is (caller_rest (state_of m) no_world (rest_of m)))
 
 -- a function that the runner calls
 pub runner_enters : (m : Machine) (code : Stored CoreFn) (names : List (List ℕ × Value)) (b : Rc CoreBlock Global) (c : CallerFrame)
     (fs fs1 fs2 : List Frame) (h : Here) (s : CoreState)
-    → m.stack ≡ [] → block [] b.value ≡ (entry code.code).body → c ≡ record { from = Some m.here; locals = m.locals; temps = m.temps }
+    → Ready Runner m → block [] b.value ≡ (entry code.code).body → c ≡ record { from = Some m.here; locals = m.locals; temps = m.temps }
     → fs ≡ Flow (Block b 0 0) ∷ fs1 → fs1 ≡ Caller (record { from = None; locals = c.locals; temps = c.temps }) ∷ fs2 → fs2 ≡ m.stack
     → h ≡ record { place = Function code; around = 0; line = 0 } → s ≡ state names [] (world_of m)
     → after fs h (Next s)
-    ≡ (entry code.code).body (scene_of core code no_call) (state names [] (world_of m)) (λ o. rest_of m (call_end (state_of m) o))
-runner_enters m code names b c fs fs1 fs2 h s empty is caller pushed below stack place begun =
-    rw (pushed, below, stack, caller, place, begun, empty)
-    (body_begins b code (scene_of core code no_call) (state names [] (world_of m)) _ _ is (caller_rest (state_of m) no_world (λ (o : CoreOutcome). Done o)))
+    ≡ (entry code.code).body (scene_of entry code (around_by Runner m)) (state names [] (world_of m)) (λ o. rest_of m (call_end (state_of m) o))
+runner_enters m code names b c fs fs1 fs2 h s ready is caller pushed below stack place begun =
+    let h1 : Here = record { place = Function code; around = 0; line = 0 } in
+    rw (pushed, below, stack, caller, place, begun, ready.0)
+    (body_begins b code (scene_of entry code (around_by Runner m)) (state names [] (world_of m)) _ _ is
+    (ap (λ (k : CoreThen). λ (o : CoreOutcome). k (call_end (state m.locals m.temps.items no_world) o)) (ready.1 h1) ∙ caller_rest (state_of m) no_world (rest_of m)))

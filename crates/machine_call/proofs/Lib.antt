@@ -1,3 +1,4 @@
+pub mod NamedParameters
 pub mod Calling
 pub mod Entering
-pub mod Loading
+pub mod Classes

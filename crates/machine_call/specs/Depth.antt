@@ -1,27 +1,29 @@
 -- How many functions are open around a call, and calls of functions of the sources.
-use Rattle.std.specs.Prelude.{◌≡◌, ℕ, [], Option, Some, None, Result}
+use Rattle.std.specs.Prelude.{◌≡◌, ℕ, Option, Some, None, Result}
 use Rattle.py_core.specs.declared.stmt.CoreFn.{CoreFn}
 use Rattle.py_values.specs.declared.end.Raise.{Raise}
 use Rattle.py_world.specs.World.{Stored, Locals}
 use Rattle.py_world.specs.Site.{Around}
 use Rattle.py_world.specs.Outcome.{raised}
 use Rattle.py_world.specs.Calls.{entered}
-use Rattle.core_meaning.specs.Meaning.{core}
+use Rattle.core_meaning.specs.Statements.{entry}
 use Rattle.machine_state.specs.declared.machine.Machine.{Machine}
 use Rattle.machine_state.specs.declared.machine.Origin.{Origin}
 use Rattle.machine_state.specs.declared.machine.Origin.TheVariants as origin
-use Rattle.machine_state.specs.Frames.{CoreRest, CoreState, CoreThen, depth_of}
+use Rattle.machine_state.specs.declared.place.Here.{Here}
+use Rattle.machine_state.specs.Places.{CoreRest, CoreState, CoreThen, depth_of}
+use Rattle.machine_state.specs.Frames.{after, handling_of, rest_of}
 
 abbrev pub depth_by : Origin → Machine → ℕ
 depth_by origin.Code m = depth_of m.here
 depth_by origin.Runner m = 0
 
--- the runner calls where nothing is open
+-- the runner calls where nothing is handled, and where what follows is the same wherever the machine is
 abbrev pub Ready : Origin → Machine → Type 0
 Ready origin.Code m = Unit {0}
-Ready origin.Runner m = m.stack ≡ []
+Ready origin.Runner m = (handling_of m.stack ≡ None) × ((h : Here) → after m.stack h ≡ rest_of m)
 
 -- a call of a function of the sources by its code, where that is there, with its local names or what is raised in their place
 abbrev pub code_called : Option (Stored CoreFn) → Result Locals Raise → Raise → Around → CoreState → CoreThen → CoreRest
 code_called None names none a s k = k (raised none a.trace s)
-code_called (Some st) names none a s k = entered core st names a s k
+code_called (Some st) names none a s k = entered entry st names a s k

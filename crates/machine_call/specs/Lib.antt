@@ -1,2 +1,4 @@
+pub mod Given
 pub mod Depth
-pub mod Loads
+pub mod Called
+pub mod Products

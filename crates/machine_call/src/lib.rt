@@ -1,18 +1,19 @@
-//! The machine's turns for calls and for the loads of modules.
+//! The machine's turns for calls.
 //!
 //! # What it is for
 //!
-//! `apply` calls a value for the code that runs, `invoke` for the runner too; `take_caller` goes back to the caller behind a call's
-//! end; `take_load` puts how a module's load ended in place.
+//! `apply` calls a value for the code that runs, with its step; `enter_call` without one; `invoke` for the runner too. `take_caller` goes
+//! back to the caller behind a call's end, `take_new` behind the end of an `__init__`.
 //!
 //! # What is proved
 //!
 //! - Each goes on as the meaning of a call says (`next`): a function must not yield, the arguments must fit its parameters, then no more
-//!   than 200 functions may be open, and the caller's names and temporaries are there again behind the call; a call takes a step, a
-//!   built-in function, and a class of a built-in kind, pays for what it makes, and a class of exceptions makes one. No step is gained (`left`), and what is left to do falls
-//!   (`work`).
-//! - `arguments_for` gives the local names with which a function begins, or what is raised in their place.
-//! - `set_load` is `with_load` of the meaning, one entry a path.
+//!   than 200 functions may be open, and the caller's names and temporaries are there again behind the call; a method has its receiver
+//!   before the arguments; a call takes a step; a built-in function or method, a class of a built-in kind and a mark that was not called
+//!   pay for what they make; another class makes an instance, whose `__init__` is called where there is one, and which is given whatever
+//!   that gives. No step is gained (`left`), and what is left to do falls (`work`).
+//! - `arguments_for` gives the local names with which a function begins, or what is raised in their place: each parameter has its argument
+//!   by position, its argument by name or its default.
 //!
 //! # What tests alone show
 //!
@@ -24,5 +25,8 @@
 #![tactic(auto)]
 
 pub mod arguments;
+mod builtins;
 pub mod call;
-pub mod load;
+mod class;
+mod enter;
+mod objects;

@@ -16,7 +16,7 @@ use Rattle.py_values.specs.declared.end.Made.TheVariants.{Give}
 use Rattle.py_values.specs.declared.value.Value.{Value}
 use Rattle.py_values.specs.declared.value.Value.TheVariants as val
 use Rattle.py_values.specs.Ends.{within}
-use Rattle.py_values.specs.Truth.{truth}
+use Rattle.py_kinds.specs.Truth.{truth}
 use Rattle.py_ops.specs.Binary.{binary_of}
 use Rattle.py_ops.specs.Compare.{compare_of}
 use Rattle.py_ops.specs.Unary.{unary_of}
@@ -24,11 +24,12 @@ use Rattle.py_world.specs.Site.{trace_of}
 use Rattle.py_world.specs.Names.{named}
 use Rattle.py_world.specs.Outcome.{Gave, made, on_value, operated}
 use Rattle.py_world.specs.World.{temp}
-use Rattle.py_world.specs.Arguments.{plain}
+use Rattle.py_world.specs.Arguments.{Arguments}
 use Rattle.py_world.specs.Expressions.{call_on, call_part, noted, name_part, constant, unary_part, binary_part, compare_part, compare_on, not_part, temp_part, temp_found, right_operand}
 use Rattle.core_meaning.specs.Expressions.{CorePart, eval, eval_at}
 use Rattle.machine_state.specs.declared.machine.Machine.{Machine}
-use Rattle.machine_state.specs.Frames.{CoreThen, ends, parts_from, rest_of, site_now, state_of}
+use Rattle.machine_state.specs.Places.{CoreThen, ends, parts_from}
+use Rattle.machine_state.specs.Frames.{rest_of, site_now, state_of}
 use Rattle.machine_state.proofs.Costs.{ends_note, paid}
 use Rattle.machine_expr.specs.declared.immediate.Immediate.{Immediate}
 use Rattle.machine_expr.specs.AtOnce.{IsGiven, IsImmediate, ended_at}
@@ -190,13 +191,13 @@ module _ (m : Machine) where
       subst (λ (y : CoreExpr). IsImmediate (not_part (eval y)) left (record { value = val.Bool (not b); left = x.left }) m) ea (negated_now m (eval a') left x (found (eval a') left rx x is h) b e)
 
   -- a call goes on with the value of what is called
-  pub called_now : (f : Rc CoreExpr Global) (f' : CoreExpr) (es es' : Rc (Vec (Rc CoreExpr Global) Global) Global) (rx : Option Immediate) (x : Immediate) → f' ≡ f.value → es'.value ≡ es.value → rx ≡ Some x → IfSome rx (λ d. IsImmediate (eval f') m.left d m)
-      → ends x.left (call_on x.value plain (parts_from 0 es') [] (site_now m) (state_of m) (rest_of m)) ≡ ends m.left (call_part (eval f.value) plain (parts_from 0 es) (site_now m) (state_of m) (rest_of m))
-  called_now f f' es es' rx x ef same is h =
+  pub called_now : (shape : List Value → Arguments) (f : Rc CoreExpr Global) (f' : CoreExpr) (es es' : Rc (Vec (Rc CoreExpr Global) Global) Global) (rx : Option Immediate) (x : Immediate) → f' ≡ f.value → es'.value ≡ es.value → rx ≡ Some x → IfSome rx (λ d. IsImmediate (eval f') m.left d m)
+      → ends x.left (call_on x.value shape (parts_from 0 es') [] (site_now m) (state_of m) (rest_of m)) ≡ ends m.left (call_part (eval f.value) shape (parts_from 0 es) (site_now m) (state_of m) (rest_of m))
+  called_now shape f f' es es' rx x ef same is h =
       let i : IsImmediate (eval f') m.left x m = found (eval f') m.left rx x is h in
-      sym (i.goes_on (λ o. on_value o (rest_of m) (λ c s. call_on c plain (parts_from 0 es') [] (site_now m) s (rest_of m))))
-      ∙ ap (λ (v : Vec (Rc CoreExpr Global) Global). ends m.left (call_part (eval f') plain (map (λ (e : Rc CoreExpr Global). eval e.value) (drop 0 v.items)) (site_now m) (state_of m) (rest_of m))) same
-      ∙ ap (λ (e : CoreExpr). ends m.left (call_part (eval e) plain (parts_from 0 es) (site_now m) (state_of m) (rest_of m))) ef
+      sym (i.goes_on (λ o. on_value o (rest_of m) (λ c s. call_on c shape (parts_from 0 es') [] (site_now m) s (rest_of m))))
+      ∙ ap (λ (v : Vec (Rc CoreExpr Global) Global). ends m.left (call_part (eval f') shape (map (λ (e : Rc CoreExpr Global). eval e.value) (drop 0 v.items)) (site_now m) (state_of m) (rest_of m))) same
+      ∙ ap (λ (e : CoreExpr). ends m.left (call_part (eval e) shape (parts_from 0 es) (site_now m) (state_of m) (rest_of m))) ef
 
 pub ruleset leaves = (name_form, number_form, true_form, false_form, none_form, temp_form)
 

@@ -12,7 +12,8 @@ use Rattle.py_world.specs.Site.{Site, trace_of}
 use Rattle.py_world.specs.World.{heap_of}
 use Rattle.core_meaning.specs.Expressions.{CorePart, eval}
 use Rattle.machine_state.specs.declared.frame.Display.{Display}
-use Rattle.machine_state.specs.Frames.{CoreRest, CoreState, CoreThen, display_of, parts_from}
+use Rattle.machine_state.specs.Places.{CoreRest, CoreState, CoreThen, parts_from}
+use Rattle.machine_state.specs.Frames.{display_of}
 use Rattle.machine_expr.specs.Parts.{pairs_from}
 
 module _ (part : CorePart) (ps rest : List CorePart) (none : List Value) (more : List Value → List CorePart) (p : Site) (s : CoreState) (k : CoreThen) (go : List Value → CoreState → CoreRest) where

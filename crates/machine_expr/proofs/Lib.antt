@@ -2,9 +2,8 @@ pub mod Parts
 pub mod Pairs
 pub mod Displays
 pub mod Rows
-pub mod Naming
 pub mod Temps
 pub mod AtOnces
-pub mod EarlyNames
 pub mod Noted
 pub mod Weights
+pub mod Shapes

@@ -4,7 +4,7 @@ use Rattle.py_source.specs.declared.pos.Pos.{Pos}
 use Rattle.py_core.specs.declared.expr.CoreExprKind as f
 use Rattle.py_core.specs.declared.expr.CoreExprKind.{CoreExprKind}
 use Rattle.py_core.specs.declared.expr.CoreExprKind.TheVariants as v
-use Rattle.machine_state.specs.Frames.{CoreRest, ends}
+use Rattle.machine_state.specs.Places.{CoreRest, ends}
 use Rattle.machine_state.proofs.Costs.{ends_note}
 use Rattle.machine_expr.specs.Noting.{with_note}
 
@@ -18,7 +18,7 @@ ends_noted n at v.True u = ends_note n at u
 ends_noted n at v.False u = ends_note n at u
 ends_noted n at v.None u = ends_note n at u
 ends_noted n at (f.Paren' p a e) u = ends_note n at u
-ends_noted n at (f.Call' p a e q m es) u = ends_note n at u
+ends_noted n at (f.Call' p a e q m es names) u = ends_note n at u
 ends_noted n at (f.Unary' op p a e) u = ends_note n at u
 ends_noted n at (f.Binary' p a l op q b r) u = ends_note n at u
 ends_noted n at (f.Compare' p a e ops q m es) u = ends_note n at u

@@ -15,13 +15,14 @@ use Rattle.py_tree.specs.declared.op.BinOp.{BinOp}
 use Rattle.py_tree.specs.declared.op.CmpOp.{CmpOp}
 use Rattle.py_tree.specs.declared.op.UnOp.{UnOp}
 use Rattle.py_world.specs.Site.{Site}
-use Rattle.py_world.specs.Arguments.{plain}
+use Rattle.py_tree.specs.declared.expr.ArgName.{ArgName}
+use Rattle.py_world.specs.Arguments.{arguments_of}
 use Rattle.py_world.specs.Attributes.{attribute_part}
 use Rattle.py_world.specs.Displays.{collected, displayed, dict_part, subscript_part, slice_part}
 use Rattle.py_world.specs.Expressions.{call_part, and_part, or_part, compare_part, unary_part, binary_part, choice_part, kept_part}
 use Rattle.core_meaning.specs.Expressions.{CorePart, eval, eval_at, parts}
 use Rattle.core_meaning.specs.Statements.{some_part}
-use Rattle.machine_state.specs.Frames.{CoreState, CoreThen, parts_from}
+use Rattle.machine_state.specs.Places.{CoreState, CoreThen, parts_from}
 use Rattle.machine_state.specs.Work.{weight, weight_at, weights, weight_from, some_weight}
 use Rattle.machine_expr.specs.Noting.{with_note}
 use Rattle.machine_expr.specs.Parts.{pairs_weight}
@@ -45,8 +46,8 @@ pub weights_items : (es : Vec (Rc CoreExpr Global) Global) → weights (hidden e
 weights_items es = weights_row (hidden es) ∙ ap (sum_by (λ (e : Rc CoreExpr Global). weight e.value + 1)) (items_hidden es)
 
 module _ (kind : CoreExprKind) (at : Pos) (a : Rc CoreExpr Global) (es : Rc (Vec (Rc CoreExpr Global) Global) Global) (p : Site) (s : CoreState) (k : CoreThen) where
-  pub call_begins : kind ≡ v.Call a es → with_note at kind (call_part (eval a.value) plain (parts_from 0 es) p s k) ≡ eval_at at kind p s k
-  call_begins is = rw is (ap (λ (ps : List CorePart). Note at (call_part (eval a.value) plain ps p s k)) (sym (parts_items es.value)))
+  pub call_begins : (names : Rc (Vec (Option ArgName) Global) Global) → kind ≡ v.Call a es names → with_note at kind (call_part (eval a.value) (arguments_of names.value.items) (parts_from 0 es) p s k) ≡ eval_at at kind p s k
+  call_begins names is = rw is (ap (λ (ps : List CorePart). Note at (call_part (eval a.value) (arguments_of names.value.items) ps p s k)) (sym (parts_items es.value)))
 
   pub and_begins : kind ≡ v.And a es → with_note at kind (and_part (eval a.value) (parts_from 0 es) p s k) ≡ eval_at at kind p s k
   and_begins is = rw is (ap (λ (ps : List CorePart). Note at (and_part (eval a.value) ps p s k)) (sym (parts_items es.value)))
@@ -148,8 +149,8 @@ module _ (kind : CoreExprKind) (a : Rc CoreExpr Global) where
   slice_weight from to by is = rw is (sym (slice_weighs a from to by))
 
 module _ (kind : CoreExprKind) (a : Rc CoreExpr Global) (es : Rc (Vec (Rc CoreExpr Global) Global) Global) where
-  pub call_weight : kind ≡ v.Call a es → weight a.value + (weight_from 0 es + 4) ≡ weight_at kind
-  call_weight is = let e : weights (hidden es.value) ≡ weight_from 0 es = weights_items es.value in rw is (omega (arith, e))
+  pub call_weight : (names : Rc (Vec (Option ArgName) Global) Global) → kind ≡ v.Call a es names → weight a.value + (weight_from 0 es + 4) ≡ weight_at kind
+  call_weight names is = let e : weights (hidden es.value) ≡ weight_from 0 es = weights_items es.value in rw is (omega (arith, e))
 
   pub and_weight : kind ≡ v.And a es → weight a.value + (weight_from 0 es + 2) ≡ weight_at kind
   and_weight is = let e : weights (hidden es.value) ≡ weight_from 0 es = weights_items es.value in rw is (omega (arith, e))

@@ -16,7 +16,7 @@ weighs v.True = omega arith
 weighs v.False = omega arith
 weighs v.None = omega arith
 weighs (f.Paren' p a e) = omega arith
-weighs (f.Call' p a e q n es) = omega arith
+weighs (f.Call' p a e q n es names) = omega arith
 weighs (f.Unary' op p a e) = omega arith
 weighs (f.Binary' p a l op q b r) = omega arith
 weighs (f.Compare' p a e ops q n es) = omega arith
@@ -36,6 +36,7 @@ weighs (v.Temp t) = omega arith
 pub falls_more : (t : TurnEnd) (m : Machine) (left work more : ℕ) → work ≤ more → Falls t m left work → Falls t m left more
 falls_more (turned.Go d) m left work more h f =
     (f.0, λ is. let g : doing_work d + stack_work m < work = f.1 is in omega arith)
+falls_more (turned.Enter e) m left work more h f = f
 falls_more (turned.Over e) m left work more h f = tt
 falls_more (turned.Exhausted trace) m left work more h f = tt
 falls_more (turned.Frozen v) m left work more h f = tt

@@ -7,7 +7,8 @@ use Rattle.py_world.specs.Site.{Site}
 use Rattle.py_world.specs.Outcome.{Gave, operated}
 use Rattle.core_meaning.specs.Expressions.{CorePart}
 use Rattle.machine_state.specs.declared.machine.Machine.{Machine}
-use Rattle.machine_state.specs.Frames.{CoreState, CoreThen, ends, site_now, state_of}
+use Rattle.machine_state.specs.Places.{CoreState, CoreThen, ends}
+use Rattle.machine_state.specs.Frames.{site_now, state_of}
 use Rattle.machine_expr.specs.declared.immediate.Immediate.{Immediate}
 
 -- where a value is there, and the steps that are left behind it

@@ -2,3 +2,4 @@ pub mod Groups
 pub mod Noting
 pub mod Parts
 pub mod AtOnce
+pub mod Shapes

@@ -8,7 +8,7 @@ use Rattle.py_tree.specs.declared.op.CmpOp.{CmpOp}
 use Rattle.py_world.specs.Displays.{in_pairs}
 use Rattle.std.specs.List.{sum_by}
 use Rattle.core_meaning.specs.Expressions.{CorePart, eval}
-use Rattle.machine_state.specs.Frames.{parts_from}
+use Rattle.machine_state.specs.Places.{parts_from}
 use Rattle.machine_state.specs.Work.{weight, weight_from}
 
 abbrev pub IsNext : Option (Rc CoreExpr Global) → ℕ → Rc (Vec (Rc CoreExpr Global) Global) Global → Type 0

@@ -3,7 +3,8 @@
 ghost use Rattle.std.specs.Prelude.{◌≡◌, ◌+◌, ◌≤◌, IfOk, drop};
 ghost use Rattle.py_world.specs.Expressions.{and_on, compare_on, or_on};
 ghost use Rattle.py_world.specs.Outcome.{Gave};
-ghost use Rattle.machine_state.specs.Frames.{on_chain, parts_from, rest_of, site_now, state_of, todo, Follows};
+ghost use Rattle.machine_state.specs.Places.{parts_from};
+ghost use Rattle.machine_state.specs.Frames.{on_chain, rest_of, site_now, state_of, todo, Follows};
 ghost use Rattle.machine_state.specs.Work.{chain_work, doing_work, stack_work, weight_from, Falls};
 ghost use Rattle.machine_expr.specs.Parts.{IsNext, IsNextOp};
 
@@ -11,8 +12,8 @@ use crate::operate::compare;
 use machine_state::frame::{ChainFrame, End, Frame};
 use machine_state::machine::{Doing, Machine, TurnEnd};
 use py_core::{CmpOp, CoreExpr};
+use py_kinds::truth::truth;
 use py_text::OutOfMemory;
-use py_values::truth::truth;
 use py_values::value::Value;
 use std::rc::Rc;
 

@@ -3,10 +3,11 @@
 ghost use Rattle.std.specs.Prelude.{◌≡◌, ◌+◌, ◌<◌, ◌≤◌, ◌∷◌, IfOk, OnOk, length};
 ghost use Rattle.py_world.specs.World.{set_at, temp};
 ghost use Rattle.py_world.specs.Outcome.{Gave};
-ghost use Rattle.py_world.specs.Arguments.{plain};
+ghost use Rattle.py_world.specs.Arguments.{arguments_of};
 ghost use Rattle.py_world.specs.Expressions as world;
 ghost use Rattle.core_meaning.specs.Expressions.{eval};
-ghost use Rattle.machine_state.specs.Frames.{after, ends, handling_of, outer_of, parts_from, rest_of, site_now, site_of, state_of, todo};
+ghost use Rattle.machine_state.specs.Places.{ends, parts_from, site_of};
+ghost use Rattle.machine_state.specs.Frames.{after, handling_of, outer_of, rest_of, site_now, state_of, todo};
 ghost use Rattle.machine_state.specs.Work.{doing_work, frame_work, stack_work, weight, weight_from};
 ghost use Rattle.machine_expr.specs.Groups.{group_of};
 ghost use Rattle.machine_expr.specs.Noting.{with_note};
@@ -16,10 +17,11 @@ use crate::chains::part_at;
 use crate::containers::{begin_attribute, begin_dict, begin_display, begin_slice, begin_subscript};
 use crate::group::{Group, kind_group};
 use crate::immediate::at_once;
-use crate::names::look_up;
+use crate::shape::shape;
+use machine_names::names::look_up;
 use machine_state::frame::{CallFrame, ChainFrame, Display, End, Frame, OperandFrame};
 use machine_state::machine::{Doing, Machine, Origin};
-use py_core::{CmpOp, CoreExpr, CoreExprKind, SrcText};
+use py_core::{ArgName, CmpOp, CoreExpr, CoreExprKind, SrcText};
 use py_text::{OutOfMemory, PyText};
 use py_values::class::ExcClass;
 use py_values::end::Raise;
@@ -93,13 +95,15 @@ fn begin_call(
     m: &mut Machine,
     f: &Rc<CoreExpr>,
     es: &Rc<Vec<Rc<CoreExpr>>>,
+    names: &Rc<Vec<Option<ArgName>>>,
 ) -> Result<Doing, OutOfMemory>
-    ensures next { IfOk result (λ d. todo d m.new ≡ world.call_part (eval f.now.value) plain (parts_from 0 es.now) (site_now m.old) (state_of m.old) (rest_of m.old)) }
+    ensures next { IfOk result (λ d. todo d m.new ≡ world.call_part (eval f.now.value) (arguments_of names.now.value.items) (parts_from 0 es.now) (site_now m.old) (state_of m.old) (rest_of m.old)) }
     ensures left { m.new.left ≡ m.old.left }
     ensures work { IfOk result (λ d. doing_work d + stack_work m.new ≡ weight f.now.value + (weight_from 0 es.now + 3 + stack_work m.old)) }
 {
     let operands = es.clone()?;
-    let frame = Frame::Call(CallFrame::Callee(operands));
+    let named = names.clone()?;
+    let frame = Frame::Call(CallFrame::Callee(operands, named));
     descend(m, frame, f)
 }
 
@@ -198,7 +202,7 @@ fn begin_chain(m: &mut Machine, e: &CoreExpr) -> Result<Doing, OutOfMemory>
     ensures work { IfOk result (λ d. doing_work d + stack_work m.new < weight e.now + stack_work m.old) }
 {
     match &e.kind {
-        CoreExprKind::Call(f, es) => begin_call(m, f, es),
+        CoreExprKind::Call(f, es, names) => begin_call(m, f, es, names),
         CoreExprKind::Compare(a, ops, es) => begin_compare(m, a, ops, es),
         CoreExprKind::And(a, es) => begin_and(m, a, es),
         CoreExprKind::Or(a, es) => begin_or(m, a, es),
@@ -252,20 +256,20 @@ pub fn next_argument(
 fn argument(
     m: &mut Machine,
     callee: Value,
+    names: Rc<Vec<Option<ArgName>>>,
     so_far: Vec<Value>,
     es: Rc<Vec<Rc<CoreExpr>>>,
 ) -> Result<Doing, OutOfMemory>
-    ensures next { IfOk result (λ d. todo d m.new ≡ world.call_on callee plain (parts_from (length so_far.items) es) so_far.items (site_now m.old) (state_of m.old) (rest_of m.old)) }
+    ensures next { IfOk result (λ d. todo d m.new ≡ world.call_on callee (arguments_of names.value.items) (parts_from (length so_far.items) es) so_far.items (site_now m.old) (state_of m.old) (rest_of m.old)) }
     ensures left { m.new.left ≡ m.old.left }
     ensures work { IfOk result (λ d. doing_work d + stack_work m.new ≤ weight_from (length so_far.items) es + 1 + stack_work m.old) }
 {
     match next_argument(&es, &so_far)? {
         Some(e) => {
-            m.stack
-                .push(Frame::Call(CallFrame::Argument(callee, so_far, es)))?;
+            m.stack.push(Frame::Call(CallFrame::Argument(callee, names, so_far, es)))?;
             Ok(Doing::Evaluate(e))
         }
-        None => Ok(Doing::Apply(callee, so_far)),
+        None => Ok(Doing::Apply(callee, shape(m.alloc, &names, so_far)?)),
     }
 }
 
@@ -273,10 +277,11 @@ fn argument(
 pub fn arguments(
     m: &mut Machine,
     callee: Value,
+    names: Rc<Vec<Option<ArgName>>>,
     so_far: Vec<Value>,
     es: Rc<Vec<Rc<CoreExpr>>>,
 ) -> Result<Doing, OutOfMemory>
-    ensures next { IfOk result (λ d. ends m.new.left (todo d m.new) ≡ ends m.old.left (world.call_on callee plain (parts_from (length so_far.items) es) so_far.items (site_now m.old) (state_of m.old) (rest_of m.old))) }
+    ensures next { IfOk result (λ d. ends m.new.left (todo d m.new) ≡ ends m.old.left (world.call_on callee (arguments_of names.value.items) (parts_from (length so_far.items) es) so_far.items (site_now m.old) (state_of m.old) (rest_of m.old))) }
     ensures left { m.new.left ≤ m.old.left }
     ensures work { IfOk result (λ d. doing_work d + stack_work m.new ≤ weight_from (length so_far.items) es + 1 + stack_work m.old) }
 {
@@ -288,15 +293,20 @@ pub fn arguments(
                 m.left = there.left;
                 so_far.push(there.value)?;
             }
-            None => return argument(m, callee, so_far, es),
+            None => return argument(m, callee, names, so_far, es),
         }
     }
-    Ok(Doing::Apply(callee, so_far))
+    Ok(Doing::Apply(callee, shape(m.alloc, &names, so_far)?))
 }
 
 /// Begins a call, with its callee and its first arguments where they are there at once.
-fn call(m: &mut Machine, f: &Rc<CoreExpr>, es: &Rc<Vec<Rc<CoreExpr>>>) -> Result<Doing, OutOfMemory>
-    ensures next { IfOk result (λ d. ends m.new.left (todo d m.new) ≡ ends m.old.left (world.call_part (eval f.now.value) plain (parts_from 0 es.now) (site_now m.old) (state_of m.old) (rest_of m.old))) }
+fn call(
+    m: &mut Machine,
+    f: &Rc<CoreExpr>,
+    es: &Rc<Vec<Rc<CoreExpr>>>,
+    names: &Rc<Vec<Option<ArgName>>>,
+) -> Result<Doing, OutOfMemory>
+    ensures next { IfOk result (λ d. ends m.new.left (todo d m.new) ≡ ends m.old.left (world.call_part (eval f.now.value) (arguments_of names.now.value.items) (parts_from 0 es.now) (site_now m.old) (state_of m.old) (rest_of m.old))) }
     ensures left { m.new.left ≤ m.old.left }
     ensures work { IfOk result (λ d. doing_work d + stack_work m.new ≤ weight f.now.value + (weight_from 0 es.now + 3 + stack_work m.old)) }
 {
@@ -304,9 +314,10 @@ fn call(m: &mut Machine, f: &Rc<CoreExpr>, es: &Rc<Vec<Rc<CoreExpr>>>) -> Result
         Some(there) => {
             m.left = there.left;
             let none = Vec::new(m.alloc);
-            arguments(m, there.value, none, es.clone()?)
+            let named = names.clone()?;
+            arguments(m, there.value, named, none, es.clone()?)
         }
-        None => begin_call(m, f, es),
+        None => begin_call(m, f, es, names),
     }
 }
 
@@ -316,8 +327,8 @@ fn begin_parts(m: &mut Machine, e: &CoreExpr) -> Result<Doing, OutOfMemory>
     ensures left { m.new.left ≤ m.old.left }
     ensures work { IfOk result (λ d. doing_work d + stack_work m.new < weight e.now + stack_work m.old) }
 {
-    if let CoreExprKind::Call(f, es) = &e.kind {
-        return call(m, f, es);
+    if let CoreExprKind::Call(f, es, names) = &e.kind {
+        return call(m, f, es, names);
     }
     begin(m, e)
 }

@@ -33,7 +33,7 @@ pub fn kind_group(kind: &CoreExprKind) -> Group
         | CoreExprKind::Not(_)
         | CoreExprKind::IfElse(_, _, _)
         | CoreExprKind::SetTemp(_, _) => Group::Operator,
-        CoreExprKind::Call(_, _)
+        CoreExprKind::Call(_, _, _)
         | CoreExprKind::Compare(_, _, _)
         | CoreExprKind::And(_, _)
         | CoreExprKind::Or(_, _) => Group::Chain,

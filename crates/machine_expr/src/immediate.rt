@@ -8,20 +8,20 @@ ghost use Rattle.py_ops.specs.Unary.{unary_of};
 ghost use Rattle.py_world.specs.Expressions as world;
 ghost use Rattle.py_world.specs.Outcome.{operated};
 ghost use Rattle.core_meaning.specs.Expressions.{eval};
-ghost use Rattle.machine_state.specs.Frames.{parts_from};
+ghost use Rattle.machine_state.specs.Places.{parts_from};
 ghost use Rattle.machine_expr.specs.AtOnce.{IsImmediate, IsGiven, ended_at};
 
 use crate::chains::op_at;
 use crate::evaluate::temp_value;
-use crate::names::look_up;
+use machine_names::names::look_up;
 use machine_state::machine::Machine;
 use py_core::{BinOp, CmpOp, CoreExpr, CoreExprKind, SrcText, UnOp};
+use py_kinds::truth::truth;
 use py_ops::binary::binary_made;
 use py_ops::compare::compare_made;
 use py_ops::unary::unary_made;
 use py_text::OutOfMemory;
 use py_values::end::{Made, made_within};
-use py_values::truth::truth;
 use py_values::value::Value;
 use std::rc::Rc;
 

@@ -9,17 +9,18 @@ ghost use Rattle.py_world.specs.Outcome.{costing};
 ghost use Rattle.py_world.specs.Site.{trace_of};
 ghost use Rattle.py_world.specs.World.{heap_of};
 ghost use Rattle.core_meaning.specs.Statements.{some_part};
-ghost use Rattle.machine_state.specs.Frames.{display_of, on_item, parts_from, rest_of, site_now, state_of, todo, Follows};
+ghost use Rattle.machine_state.specs.Places.{parts_from};
+ghost use Rattle.machine_state.specs.Frames.{display_of, on_item, rest_of, site_now, state_of, todo, Follows};
 ghost use Rattle.machine_state.specs.Work.{doing_work, item_work, some_weight, stack_work, weight_from, Falls};
 ghost use Rattle.machine_expr.specs.Parts.{IsNextPair, pairs_from, pairs_weight};
 
 use crate::containers::{displayed, pair_part};
 use crate::evaluate::next_argument;
 use crate::operate::{settle, subscript};
-use machine_items::attributes::attribute_made;
 use machine_items::displays::{bound_given, dict_displayed};
 use machine_state::frame::{Display, Frame, ItemFrame};
 use machine_state::machine::{Doing, Machine, Origin, TurnEnd};
+use py_attributes::attributes::attribute_made;
 use py_core::{CoreExpr, SrcText};
 use py_text::OutOfMemory;
 use py_values::end::{Made, made_within};
@@ -107,7 +108,7 @@ fn attribute(m: &mut Machine, x: Value, name: &SrcText) -> Result<Doing, OutOfMe
     ensures work { IfOk result (λ d. doing_work d ≡ 0) }
     ensures stack { m.new.stack ≡ m.old.stack }
 {
-    let made = attribute_made(m.alloc, &m.heap, x, name)?;
+    let made = attribute_made(m.alloc, &m.heap, x, name.chars())?;
     m.make(made, Origin::Code)
 }
 

@@ -3,15 +3,16 @@
 //! # What it is for
 //!
 //! `evaluate` begins an expression; `take_operand`, `take_chain`, `take_call` and `take_item` go on with the value of an operand, of an
-//! operand of a chain, of a part of a call and of a part of a display, a subscript, a slice or an attribute. What makes no object, raises nothing and calls nothing within the steps that are left is
-//! evaluated where it stands (`at_once`), without a frame and a turn, and pays each step that the meaning says.
+//! operand of a chain, of a part of a call and of a part of a display, a subscript, a slice or an attribute. What makes no object, raises
+//! nothing and calls nothing within the steps that are left is evaluated where it stands (`at_once`), without a frame and a turn, and pays
+//! each step that the meaning says.
 //!
 //! # What is proved
 //!
 //! - `evaluate`, `take_operand`, `take_chain`, `take_call`, `take_item`, for each form of core expressions: the run of what is left stays the same
 //!   (`next`), no step is gained (`left`), and a turn spends a step or leaves less to do (`work`).
 //! - `at_once`, `operate_now`: the run of the expression is that of what follows its value, under the steps that are left behind it.
-//! - `look_up` gives what the meaning's look-up of a name gives.
+//! - `shape` gives the arguments of a call by position and by name (`arguments_of`), in the order of the text.
 //!
 //! # What tests alone show
 //!
@@ -28,6 +29,6 @@ pub mod evaluate;
 pub mod group;
 pub mod immediate;
 pub mod items;
-pub mod names;
 pub mod operands;
 pub mod operate;
+pub mod shape;

@@ -8,8 +8,8 @@ use crate::evaluate::{arguments, set_temp};
 use crate::operate::{operate, operate_before};
 use machine_state::frame::{CallFrame, End, Frame, OperandFrame};
 use machine_state::machine::{Doing, Machine, TurnEnd};
+use py_kinds::truth::truth;
 use py_text::OutOfMemory;
-use py_values::truth::truth;
 use py_values::value::Value;
 
 /// Goes on with the value of an operand.
@@ -48,14 +48,14 @@ pub fn take_call(m: &mut Machine, frame: CallFrame, v: Value) -> Result<TurnEnd,
     ensures work { IfOk result (λ t. Falls t m.new m.old.left (call_work frame + stack_work m.old)) }
 {
     match frame {
-        CallFrame::Callee(es) => {
+        CallFrame::Callee(es, names) => {
             let none = Vec::new(m.alloc);
-            Ok(TurnEnd::Go(arguments(m, v, none, es)?))
+            Ok(TurnEnd::Go(arguments(m, v, names, none, es)?))
         }
-        CallFrame::Argument(callee, so_far, es) => {
+        CallFrame::Argument(callee, names, so_far, es) => {
             let mut so_far = so_far;
             so_far.push(v)?;
-            Ok(TurnEnd::Go(arguments(m, callee, so_far, es)?))
+            Ok(TurnEnd::Go(arguments(m, callee, names, so_far, es)?))
         }
     }
 }

@@ -29,7 +29,8 @@ use Rattle.machine_state.specs.declared.place.Here.{Here}
 use Rattle.machine_state.specs.declared.frame.Frame.{Frame}
 use Rattle.machine_state.specs.declared.frame.Frame.TheVariants.{Flow}
 use Rattle.machine_state.specs.declared.frame.FlowFrame.TheVariants.{Iterable, Taken, ForTurn}
-use Rattle.machine_state.specs.Frames.{CoreRest, CoreState, CoreThen, after, ends, handling_of, layers_of, outer_of, site_of}
+use Rattle.machine_state.specs.Places.{CoreRest, CoreState, CoreThen, ends, site_of}
+use Rattle.machine_state.specs.Frames.{after, handling_of, layers_of, outer_of}
 use Rattle.machine_flow.specs.declared.turns.Look.TheVariants as look
 use Rattle.machine_flow.specs.Looks.{told}
 use Rattle.machine_flow.proofs.Flows.{asked_runs}

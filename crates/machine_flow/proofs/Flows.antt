@@ -1,5 +1,5 @@
--- Conditions, turns of `while` and definitions begin.
-use Rattle.std.proofs.Common.{◌≡◌, ◌∙◌, ◌+◌, ℕ, suc, List, [], ◌∷◌, ◌++◌, length, map, drop, refl, sym, ap}
+-- Conditions and turns of `while` begin.
+use Rattle.std.proofs.Common.{◌≡◌, ◌∙◌, ◌+◌, ℕ, suc, List, [], ◌∷◌, ◌++◌, drop, refl, sym, ap}
 use Rattle.std.specs.declared.alloc.Global.{Global}
 use Rattle.std.specs.declared.rc.Rc.{Rc}
 use Rattle.std.specs.declared.vec.Vec.{Vec}
@@ -8,26 +8,19 @@ use Rattle.py_core.specs.declared.expr.CoreExpr.{CoreExpr}
 use Rattle.py_core.specs.declared.stmt.CoreBlock.{CoreBlock}
 use Rattle.py_core.specs.declared.stmt.CoreBranch as branch
 use Rattle.py_core.specs.declared.stmt.CoreBranch.{CoreBranch, out-CoreBranch}
-use Rattle.py_core.specs.declared.stmt.CoreFn as fn
-use Rattle.py_core.specs.declared.stmt.CoreFn.{CoreFn, out-CoreFn}
-use Rattle.py_values.specs.declared.value.Value.TheVariants as val
-use Rattle.py_values.specs.declared.object.Obj.{Obj}
-use Rattle.py_values.specs.Ends.{id_at}
-use Rattle.py_world.specs.World.{Stored, state}
-use Rattle.py_world.specs.Arguments.{required}
+use Rattle.py_world.specs.World.{state}
 use Rattle.py_world.specs.Site.{Site}
-use Rattle.py_world.specs.Statements.{asked, branches_on, define, function_object, loop, stored, turn_of}
-use Rattle.py_world.specs.Targets.{store_name}
+use Rattle.py_world.specs.Statements.{asked, branches_on, loop, turn_of}
 use Rattle.core_meaning.specs.Requests.{Layer, Turn, TurnOf}
 use Rattle.core_meaning.specs.Expressions.{eval}
-use Rattle.core_meaning.specs.Statements.{act, block, choice, choices, define_fn}
-use Rattle.machine_state.specs.declared.machine.Machine.{Machine}
+use Rattle.core_meaning.specs.Statements.{act, block, choice, choices}
 use Rattle.machine_state.specs.declared.place.Here.{Here}
 use Rattle.machine_state.specs.declared.frame.Frame.{Frame}
 use Rattle.machine_state.specs.declared.frame.Frame.TheVariants.{Flow}
 use Rattle.machine_state.specs.declared.frame.FlowFrame.TheVariants.{Branch, Test, Turn as Turns}
 use Rattle.machine_state.specs.Work.{block_work, branch_work, weight}
-use Rattle.machine_state.specs.Frames.{CoreRest, CoreState, CoreThen, after, at_line, ends, frozen_of, handling_of, layers_of, outer_of, rest_of, site_now, site_of, state_of}
+use Rattle.machine_state.specs.Places.{CoreRest, CoreState, CoreThen, at_line, ends, site_of}
+use Rattle.machine_state.specs.Frames.{after, handling_of, layers_of, outer_of}
 
 -- a branch by its parts
 pub choice_is : (ls : List Layer) (b : CoreBranch) → choice ls b ≡ ((out-CoreBranch b).at.line, (eval (out-CoreBranch b).condition.value, block ls (out-CoreBranch b).body.value))
@@ -68,16 +61,3 @@ pub turn_runs : (n l l' : ℕ) (h h1 : Here) (fs fs1 fs' : List Frame) (s s1 : C
 turn_runs n l l' h h1 fs fs1 fs' s s1 test body again t e less here stack state pushed same is =
     asked_runs n l (TurnOf test.value body.value) (site_of h (outer_of fs) (handling_of fs)) s (after fs h) e
     ∙ ap (ends l) (sym (is ∙ turn_begins h h1 fs fs1 fs' s s1 test body again here stack state pushed same)) ∙ ap (λ (x : ℕ). ends x t) (sym less)
-
--- a definition by its parts
-define_is : (f : CoreFn) → define_fn f ≡ define (out-CoreFn f).name (out-CoreFn f).at.line (map required (out-CoreFn f).params) (out-CoreFn f).yields f
-define_is (fn.CoreFn' source at name params locals yields p body) = rw (fn.outs-CoreFn') refl
-
--- a function is made, and its name bound
-pub defines : (f g : CoreFn) (m : Machine) (codes : List (Stored CoreFn)) (heap : List Obj) (code : Stored CoreFn) (o : Obj) (at id : ℕ)
-    → g ≡ f → code ≡ stored f (site_now m).scene → o ≡ function_object (out-CoreFn f).name (out-CoreFn f).at.line (map required (out-CoreFn f).params) (out-CoreFn f).yields at (site_now m).scene → at ≡ length m.codes.items
-    → codes ≡ m.codes.items ++ code ∷ [] → heap ≡ m.heap ++ o ∷ [] → id ≡ length m.heap
-    → store_name (out-CoreFn g).name (val.Ref (id_at id)) (site_now m)
-    (state m.locals m.temps.items (record { sources = m.sources.items; modules = m.modules.items; heap = heap; codes = codes; printed = m.printed.items; frozen = map frozen_of m.frozen.items; traces = m.traces })) (rest_of m)
-    ≡ define_fn f (site_now m) (state_of m) (rest_of m)
-defines f g m codes heap code o at id e e1 e2 e3 e4 e5 e6 = rw (e, e6, e5, e4, e2, e1, e3, define_is f) refl

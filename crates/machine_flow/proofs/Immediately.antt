@@ -5,7 +5,7 @@ use Rattle.std.specs.declared.rc.Rc.{Rc}
 use Rattle.py_core.specs.declared.expr.CoreExpr.{CoreExpr}
 use Rattle.py_core.specs.declared.stmt.CoreBlock.{CoreBlock}
 use Rattle.py_core.specs.declared.stmt.CoreBranch.{CoreBranch, out-CoreBranch}
-use Rattle.py_values.specs.Truth.{truth}
+use Rattle.py_kinds.specs.Truth.{truth}
 use Rattle.py_world.specs.Outcome.{Gave, Next, if_true, on_value}
 use Rattle.py_world.specs.World.{heap_of}
 use Rattle.py_world.specs.Statements.{asked, branches_on, loop}
@@ -13,7 +13,8 @@ use Rattle.core_meaning.specs.Requests.{TurnOf}
 use Rattle.core_meaning.specs.Expressions.{eval}
 use Rattle.core_meaning.specs.Statements.{CoreBody, CoreChoice, block, choice}
 use Rattle.machine_state.specs.declared.machine.Machine.{Machine}
-use Rattle.machine_state.specs.Frames.{CoreThen, at_line, ends, layers_of, rest_of, site_now, state_of}
+use Rattle.machine_state.specs.Places.{CoreThen, at_line, ends}
+use Rattle.machine_state.specs.Frames.{layers_of, rest_of, site_now, state_of}
 use Rattle.machine_expr.specs.declared.immediate.Immediate.{Immediate}
 use Rattle.machine_expr.specs.AtOnce.{IsImmediate}
 use Rattle.machine_expr.proofs.AtOnces.{found}

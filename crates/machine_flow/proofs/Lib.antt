@@ -3,4 +3,3 @@ pub mod Flows
 pub mod Elements
 pub mod Entering
 pub mod Immediately
-pub mod Parameters

@@ -3,12 +3,13 @@
 ghost use Rattle.std.specs.Prelude.{◌≡◌, ◌+◌, ◌≤◌, ◌∷◌, IfOk, drop};
 ghost use Rattle.std.specs.List.{sum_by};
 ghost use Rattle.py_core.specs.Blocks.{stmts_in};
-ghost use Rattle.py_values.specs.Truth.{truth};
+ghost use Rattle.py_kinds.specs.Truth.{truth};
 ghost use Rattle.py_world.specs.Outcome.{if_true};
 ghost use Rattle.py_world.specs.Statements as world;
 ghost use Rattle.core_meaning.specs.Statements as meaning;
 ghost use Rattle.core_meaning.specs.Statements.{block, choice, choices};
-ghost use Rattle.machine_state.specs.Frames.{ends, layers_of, on_flow, outcome, rest_of, site_now, state_of, todo, Follows};
+ghost use Rattle.machine_state.specs.Places.{ends, outcome};
+ghost use Rattle.machine_state.specs.Frames.{layers_of, on_flow, rest_of, site_now, state_of, todo, Follows};
 ghost use Rattle.machine_state.specs.Work.{block_work, branch_work, doing_work, flow_work, stack_work, Falls};
 
 use machine_expr::immediate::at_once;
@@ -16,8 +17,8 @@ use machine_state::frame::{End, FlowFrame, Frame};
 use machine_state::machine::{Doing, Machine, TurnEnd};
 use machine_unwind::block::begin_block;
 use py_core::{CoreBlock, CoreBranch};
+use py_kinds::truth::truth;
 use py_text::OutOfMemory;
-use py_values::truth::truth;
 use py_values::value::Value;
 use std::rc::Rc;
 

@@ -1,12 +1,13 @@
 // Loops (Language Reference, the while statement).
 
 ghost use Rattle.std.specs.Prelude.{◌≡◌, ◌+◌, ℕ, IfOk};
-ghost use Rattle.py_values.specs.Truth.{truth};
+ghost use Rattle.py_kinds.specs.Truth.{truth};
 ghost use Rattle.py_world.specs.Outcome.{Next, if_true};
 ghost use Rattle.py_world.specs.Statements as world;
 ghost use Rattle.core_meaning.specs.Requests.{TurnOf};
 ghost use Rattle.core_meaning.specs.Expressions.{eval};
-ghost use Rattle.machine_state.specs.Frames.{layers_of, on_flow, outcome, rest_of, site_now, state_of, todo, Follows};
+ghost use Rattle.machine_state.specs.Places.{outcome};
+ghost use Rattle.machine_state.specs.Frames.{layers_of, on_flow, rest_of, site_now, state_of, todo, Follows};
 ghost use Rattle.machine_state.specs.Work.{doing_work, flow_work, stack_work, weight, Falls};
 
 use machine_expr::evaluate::descend;
@@ -15,8 +16,8 @@ use machine_state::frame::{End, FlowFrame, Frame};
 use machine_state::machine::{Doing, Machine, Origin, TurnEnd};
 use machine_unwind::block::begin_block;
 use py_core::{CoreBlock, CoreExpr};
+use py_kinds::truth::truth;
 use py_text::OutOfMemory;
-use py_values::truth::truth;
 use py_values::value::Value;
 use std::rc::Rc;
 

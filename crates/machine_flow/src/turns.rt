@@ -8,7 +8,8 @@ ghost use Rattle.py_world.specs.Statements.{asked};
 ghost use Rattle.core_meaning.specs.Requests.{ForOf};
 ghost use Rattle.core_meaning.specs.Expressions.{eval};
 ghost use Rattle.core_meaning.specs.Statements.{block, store};
-ghost use Rattle.machine_state.specs.Frames.{layers_of, on_flow, outcome, rest_of, site_now, state_of, todo, Follows};
+ghost use Rattle.machine_state.specs.Places.{outcome};
+ghost use Rattle.machine_state.specs.Frames.{layers_of, on_flow, rest_of, site_now, state_of, todo, Follows};
 ghost use Rattle.machine_state.specs.Work.{doing_work, flow_work, stack_work, Falls};
 ghost use Rattle.machine_flow.specs.Looks.{told};
 
@@ -20,7 +21,7 @@ use machine_unwind::block::begin_block;
 use py_core::{CoreBlock, CoreExpr, CoreTarget};
 use py_items::iter::IterAt;
 use py_items::turn::{iterate, turn_made};
-use py_ops::faults::not_iterable;
+use py_operands::faults::not_iterable;
 use py_text::OutOfMemory;
 use py_values::end::{Made, Raise};
 use py_values::value::Value;

@@ -2,20 +2,20 @@
 use Rattle.std.proofs.Common.{ℕ, suc, ◌+◌, ◌-◌, ◌*◌, ◌/◌, ◌^◌, ◌<◌, ◌≤◌, ◌≡◌, ◌∙◌, Bool, true, false, List, [], ◌∷◌, length, drop, get_or, nat_le, not, ◌&&◌, is_some, if◌then◌else◌, Some, None, refl, ap, arith, drop-cons}
 use Rattle.std.proofs.lemmas.Bool.{lt-ltb}
 use Rattle.py_values.specs.Ends.{cost_of, within}
-use Rattle.py_values.specs.Keys.{key_of, key_steps}
+use Rattle.py_kinds.specs.Keys.{key_of, key_steps}
 use Rattle.py_values.specs.Limits.{most_elements}
 use Rattle.py_values.specs.Pairs.{find_pair, put_pair}
 use Rattle.py_values.specs.declared.dict.Pair.{Pair}
 use Rattle.py_values.specs.declared.end.Made.{Made}
 use Rattle.py_values.specs.declared.end.Made.TheVariants.{New}
 use Rattle.py_values.specs.declared.key.Atom.{Atom}
-use Rattle.py_values.specs.declared.keys.Keyed.{Keyed}
-use Rattle.py_values.specs.declared.keys.Keyed.TheVariants as keyed
+use Rattle.py_kinds.specs.declared.keys.Keyed.{Keyed}
+use Rattle.py_kinds.specs.declared.keys.Keyed.TheVariants as keyed
 use Rattle.py_values.specs.declared.object.Obj.{Obj}
 use Rattle.py_values.specs.declared.object.Obj.TheVariants as obj
 use Rattle.py_values.specs.declared.value.Value.{Value}
 use Rattle.py_values.specs.declared.value.Value.TheVariants as val
-use Rattle.py_ops.specs.Sequences.{too_long}
+use Rattle.py_operands.specs.Sequences.{too_long}
 use Rattle.py_world.specs.Displays.{pair_stored, pairs_stored, pair_count}
 
 pub next_pair : (xs : List Value) (i : ℕ) → 2 * i + 1 < length xs

@@ -1,10 +1,10 @@
 -- What the store of a pair of a dict's display tells.
 use Rattle.std.specs.Prelude.{ℕ, ◌+◌, ◌^◌, ◌≤◌, ◌≡◌, List}
-use Rattle.py_values.specs.Keys.{key_steps}
+use Rattle.py_kinds.specs.Keys.{key_steps}
 use Rattle.py_values.specs.declared.dict.Pair.{Pair}
 use Rattle.py_values.specs.declared.end.Made.{Made}
 use Rattle.py_values.specs.declared.key.Atom.{Atom}
-use Rattle.py_values.specs.declared.keys.Keyed.{Keyed}
+use Rattle.py_kinds.specs.declared.keys.Keyed.{Keyed}
 use Rattle.py_values.specs.declared.object.Obj.{Obj}
 use Rattle.py_values.specs.declared.value.Value.{Value}
 use Rattle.py_world.specs.Displays.{pair_stored}

@@ -2,12 +2,14 @@
 
 ghost use Rattle.std.specs.Prelude.{◌≡◌, IfOk, OnOk, Some, is_some, slice_get};
 ghost use Rattle.py_values.specs.Changes.{changed};
-ghost use Rattle.py_values.specs.Kinds.{kind_name};
+ghost use Rattle.py_kinds.specs.Kinds.{kind_name};
+ghost use Rattle.py_attributes.specs.Attributes as attributes;
 ghost use Rattle.py_items.specs.Items as items;
 ghost use Rattle.py_world.specs.Attributes as world;
 ghost use Rattle.machine_items.specs.Changes.{attribute_told};
 
-use crate::attributes::{is_args, no_attribute, own_value};
+use py_attributes::missing::no_attribute;
+use py_attributes::names::{is_args, own_value};
 use py_items::subscript::object_at;
 use py_source::SrcText;
 use py_values::OutOfMemory;
@@ -93,7 +95,8 @@ fn unbind_of(obj: &mut Obj, name: &Name)
     }
 }
 
-fn bind_at(heap: &mut Heap, id: ObjId, name: Name, v: Value) -> Result<(), OutOfMemory>
+/// Binds a name of the object at a place.
+pub fn bind_at(heap: &mut Heap, id: ObjId, name: Name, v: Value) -> Result<(), OutOfMemory>
     ensures { OnOk result (heap.new ≡ changed (world.with_attribute name v) id.at heap.old (slice_get heap.old id.at)) }
 {
     if id.at >= heap.len() {
@@ -102,7 +105,8 @@ fn bind_at(heap: &mut Heap, id: ObjId, name: Name, v: Value) -> Result<(), OutOf
     bind_of(heap.obj_mut(id), name, v)
 }
 
-fn unbind_at(heap: &mut Heap, id: ObjId, name: &Name)
+/// Unbinds a name of the object at a place.
+pub fn unbind_at(heap: &mut Heap, id: ObjId, name: &Name)
     ensures { heap.new ≡ changed (world.without_attribute name.now) id.at heap.old (slice_get heap.old id.at) }
 {
     if id.at < heap.len() {
@@ -119,7 +123,7 @@ pub fn set_attribute(
     v: Value,
 ) -> Result<Option<Raise>, OutOfMemory>
     ensures { IfOk result (λ r. (r, heap.new)
-        ≡ attribute_told (world.takes_names (items.object_at heap.old x)) (world.with_attribute name.now v) x (world.no_attribute (kind_name heap.old x) name.now) heap.old) }
+        ≡ attribute_told (world.takes_names (items.object_at heap.old x)) (world.with_attribute name.now v) x (attributes.no_attribute (kind_name heap.old x) name.now) heap.old) }
 {
     if takes_names(heap, x) {
         if let Value::Ref(id) = x {
@@ -128,7 +132,7 @@ pub fn set_attribute(
             return Ok(None);
         }
     }
-    Ok(Some(no_attribute(alloc, heap, x, name)?))
+    Ok(Some(no_attribute(alloc, heap, x, name.chars())?))
 }
 
 /// Deletes an attribute, or says what is raised (Language Reference, the del statement).
@@ -139,7 +143,7 @@ pub fn unset_attribute(
     name: &SrcText,
 ) -> Result<Option<Raise>, OutOfMemory>
     ensures { IfOk result (λ r. (r, heap.new)
-        ≡ attribute_told (is_some (world.own_value name.now (items.object_at heap.old x))) (world.without_attribute name.now) x (world.no_attribute (kind_name heap.old x) name.now) heap.old) }
+        ≡ attribute_told (is_some (attributes.own_value name.now (items.object_at heap.old x))) (world.without_attribute name.now) x (attributes.no_attribute (kind_name heap.old x) name.now) heap.old) }
 {
     let key = Name::from_chars(alloc, name.chars())?;
     if own_value(heap, x, &key).is_some() {
@@ -148,5 +152,5 @@ pub fn unset_attribute(
             return Ok(None);
         }
     }
-    Ok(Some(no_attribute(alloc, heap, x, name)?))
+    Ok(Some(no_attribute(alloc, heap, x, name.chars())?))
 }

@@ -2,17 +2,17 @@
 
 ghost use Rattle.std.specs.Prelude.{◌≡◌, IfOk};
 ghost use Rattle.py_values.specs.Ends.{within};
-ghost use Rattle.py_values.specs.Keys.{key_of};
+ghost use Rattle.py_kinds.specs.Keys.{key_of};
 ghost use Rattle.py_values.specs.declared.object.Obj.TheVariants as obj;
 ghost use Rattle.py_world.specs.Displays as world;
 ghost use Rattle.machine_items.specs.Storing.{pair_told};
 
-use py_ops::faults::{key_fault, too_long};
+use py_kinds::keys::{Keyed, key};
+use py_operands::faults::{key_fault, too_long};
 use py_values::OutOfMemory;
 use py_values::dict::Dict;
 use py_values::end::{Made, made_within};
 use py_values::heap::Heap;
-use py_values::keys::{Keyed, key};
 use py_values::limits::MOST_ELEMENTS;
 use py_values::object::Obj;
 use py_values::rows::Values;

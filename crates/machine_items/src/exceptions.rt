@@ -1,67 +1,18 @@
-// What values are to `raise`, `except` and `with`.
+// What values are to `raise` and `except`.
 
-ghost use Rattle.std.specs.Prelude.{◌≡◌, slice_get};
-ghost use Rattle.std.specs.List.{list_all};
-ghost use Rattle.py_items.specs.Items as items;
+ghost use Rattle.std.specs.Prelude.{◌≡◌, IfOk, slice_get};
 ghost use Rattle.py_world.specs.Exceptions as world;
+ghost use Rattle.py_world.specs.Raising as raising;
 ghost use Rattle.machine_items.specs.Raising.{raisable_of};
 
-use py_items::subscript::object_at;
+use py_attributes::classes::init_of;
+use py_kinds::classes::{are_exc_classes, is_a, is_exc_class};
+use py_values::OutOfMemory;
 use py_values::class::{ClassForm, ClassRef};
-use py_values::classes::{is_a, root_of};
 use py_values::heap::Heap;
 use py_values::object::Obj;
 use py_values::value::{ObjId, Value};
-
-/// Whether a value is a class of exceptions.
-#[tactic(auto, unfolding(py_world::specs::Exceptions::is_exc_class))]
-pub fn is_exc_class(heap: &Heap, v: Value) -> bool
-    ensures { result ≡ world.is_exc_class heap.now v }
-{
-    match v {
-        Value::Ref(id) => root_of(heap, ClassRef::Defined(id)).is_some(),
-        Value::None | Value::Bool(_) | Value::Int(_) => false,
-    }
-}
-
-/// Whether all of these are classes of exceptions.
-fn all_exc_classes(heap: &Heap, cs: &[Value]) -> bool
-    ensures { result ≡ list_all (world.is_exc_class heap.now) cs.now }
-{
-    cs.iter().all(|c| is_exc_class(heap, *c))
-}
-
-/// Whether a value is what an `except` may take: a class of exceptions, or a tuple of them.
-fn are_exc_classes(heap: &Heap, v: Value) -> bool
-    ensures { result ≡ world.are_exc_classes heap.now v }
-{
-    match object_at(heap, v) {
-        Some(Obj::Tuple(cs)) => all_exc_classes(heap, cs.items()),
-        Some(
-            Obj::Text(_)
-            | Obj::List(_)
-            | Obj::Dict(_)
-            | Obj::Range(_)
-            | Obj::Function(_)
-            | Obj::Method(_)
-            | Obj::Builtin(_)
-            | Obj::Class(_)
-            | Obj::Instance(_)
-            | Obj::Exception(_)
-            | Obj::Module(_)
-            | Obj::Fixture(_)
-            | Obj::MarkMaker
-            | Obj::Mark(_)
-            | Obj::Hook(_)
-            | Obj::Param(_)
-            | Obj::Request(_)
-            | Obj::Raises(_)
-            | Obj::Info(_)
-            | Obj::Item(_),
-        )
-        | None => is_exc_class(heap, v),
-    }
-}
+use std::alloc::Global;
 
 /// Whether an `except` with this value takes an exception; None where the value is no class (Language Reference, the try
 /// statement).
@@ -87,7 +38,7 @@ pub enum RaiseKind {
 }
 
 /// The class that exceptions of a class object have.
-fn class_by(id: ObjId, form: ClassForm) -> ClassRef
+pub fn class_by(id: ObjId, form: ClassForm) -> ClassRef
     ensures { result ≡ world.class_by id form }
 {
     match form {
@@ -148,34 +99,29 @@ pub fn raisable(heap: &Heap, v: Value) -> RaiseKind
     }
 }
 
-/// Whether a value is what `with` takes (Language Reference, the with statement).
-pub fn is_context(heap: &Heap, v: Value) -> bool
-    ensures { result ≡ world.is_context (items.object_at heap.now v) }
+/// The `__init__` of a class, where it is one of exceptions.
+fn init_if(
+    alloc: Global,
+    heap: &Heap,
+    is_class: bool,
+    id: ObjId,
+) -> Result<Option<Value>, OutOfMemory>
+    ensures { IfOk result (λ v. v ≡ raising.init_if is_class heap.now id) }
 {
-    match object_at(heap, v) {
-        Some(Obj::Raises(_)) => true,
-        Some(
-            Obj::Text(_)
-            | Obj::List(_)
-            | Obj::Tuple(_)
-            | Obj::Dict(_)
-            | Obj::Range(_)
-            | Obj::Function(_)
-            | Obj::Method(_)
-            | Obj::Builtin(_)
-            | Obj::Class(_)
-            | Obj::Instance(_)
-            | Obj::Exception(_)
-            | Obj::Module(_)
-            | Obj::Fixture(_)
-            | Obj::MarkMaker
-            | Obj::Mark(_)
-            | Obj::Hook(_)
-            | Obj::Param(_)
-            | Obj::Request(_)
-            | Obj::Info(_)
-            | Obj::Item(_),
-        )
-        | None => false,
+    if is_class {
+        init_of(alloc, heap, id)
+    } else {
+        Ok(None)
+    }
+}
+
+/// The `__init__` of a value that is a class of exceptions, where it has one.
+#[tactic(auto, unfolding(py_world::specs::Raising::raise_init))]
+pub fn raise_init(alloc: Global, heap: &Heap, v: Value) -> Result<Option<Value>, OutOfMemory>
+    ensures { IfOk result (λ init. init ≡ raising.raise_init heap.now v) }
+{
+    match v {
+        Value::Ref(id) => init_if(alloc, heap, is_exc_class(heap, v), id),
+        Value::None | Value::Bool(_) | Value::Int(_) => Ok(None),
     }
 }

@@ -11,7 +11,8 @@ use Rattle.py_world.specs.Targets.{assign, store_all}
 use Rattle.core_meaning.specs.Expressions.{eval}
 use Rattle.core_meaning.specs.Statements.{stores}
 use Rattle.machine_state.specs.declared.machine.Machine.{Machine}
-use Rattle.machine_state.specs.Frames.{ends, rest_of, site_now, state_of}
+use Rattle.machine_state.specs.Places.{ends}
+use Rattle.machine_state.specs.Frames.{rest_of, site_now, state_of}
 use Rattle.machine_expr.specs.declared.immediate.Immediate.{Immediate}
 use Rattle.machine_expr.specs.AtOnce.{IsImmediate}
 use Rattle.machine_store.proofs.Immediately.{goes}

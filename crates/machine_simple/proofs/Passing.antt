@@ -6,8 +6,9 @@ use Rattle.py_world.specs.Site.{Site}
 use Rattle.py_world.specs.Outcome.{Returned, Broke, Continued, Raised}
 use Rattle.core_meaning.specs.Requests.{Layer}
 use Rattle.machine_state.specs.declared.frame.SimpleFrame.{SimpleFrame}
-use Rattle.machine_state.specs.declared.frame.SimpleFrame.TheVariants.{Forget, Assign, Targets, Augment, Store, Raise, Return, Fail, Explain, Yield}
-use Rattle.machine_state.specs.Frames.{CoreState, CoreThen, on_simple}
+use Rattle.machine_state.specs.declared.frame.SimpleFrame.TheVariants.{Forget, Assign, Targets, Augment, Store, Raise, Throw, Return, Fail, Explain, Yield}
+use Rattle.machine_state.specs.Places.{CoreState, CoreThen}
+use Rattle.machine_state.specs.Frames.{on_simple}
 
 pub simple_returned : (f : SimpleFrame) (ls : List Layer) (p : Site) (r : Value) (s : CoreState) (k : CoreThen) → on_simple f ls p (Returned r s) k ≡ k (Returned r s)
 simple_returned Forget ls p r s k = refl
@@ -16,6 +17,7 @@ simple_returned (Targets ts at w) ls p r s k = refl
 simple_returned (Augment x op place) ls p r s k = refl
 simple_returned (Store place) ls p r s k = refl
 simple_returned Raise ls p r s k = refl
+simple_returned Throw ls p r s k = refl
 simple_returned Return ls p r s k = refl
 simple_returned Fail ls p r s k = refl
 simple_returned (Explain shown) ls p r s k = refl
@@ -28,6 +30,7 @@ simple_broke (Targets ts at w) ls p s k = refl
 simple_broke (Augment x op place) ls p s k = refl
 simple_broke (Store place) ls p s k = refl
 simple_broke Raise ls p s k = refl
+simple_broke Throw ls p s k = refl
 simple_broke Return ls p s k = refl
 simple_broke Fail ls p s k = refl
 simple_broke (Explain shown) ls p s k = refl
@@ -40,6 +43,7 @@ simple_continued (Targets ts at w) ls p s k = refl
 simple_continued (Augment x op place) ls p s k = refl
 simple_continued (Store place) ls p s k = refl
 simple_continued Raise ls p s k = refl
+simple_continued Throw ls p s k = refl
 simple_continued Return ls p s k = refl
 simple_continued Fail ls p s k = refl
 simple_continued (Explain shown) ls p s k = refl
@@ -52,6 +56,7 @@ simple_raised (Targets ts at w) ls p e trace s k = refl
 simple_raised (Augment x op place) ls p e trace s k = refl
 simple_raised (Store place) ls p e trace s k = refl
 simple_raised Raise ls p e trace s k = refl
+simple_raised Throw ls p e trace s k = refl
 simple_raised Return ls p e trace s k = refl
 simple_raised Fail ls p e trace s k = refl
 simple_raised (Explain shown) ls p e trace s k = refl

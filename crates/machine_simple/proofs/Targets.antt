@@ -17,7 +17,8 @@ use Rattle.machine_state.specs.declared.place.Here.{Here}
 use Rattle.machine_state.specs.declared.frame.Frame.{Frame}
 use Rattle.machine_state.specs.declared.frame.Frame.TheVariants.{Simple}
 use Rattle.machine_state.specs.declared.frame.SimpleFrame.TheVariants.{Targets}
-use Rattle.machine_state.specs.Frames.{CoreOutcome, CoreState, CoreThen, after, handling_of, outer_of, site_of}
+use Rattle.machine_state.specs.Places.{CoreOutcome, CoreState, CoreThen, site_of}
+use Rattle.machine_state.specs.Frames.{after, handling_of, outer_of}
 use Rattle.machine_state.specs.Work.{taker_work}
 use Rattle.machine_expr.proofs.Parts.{drop_some}
 

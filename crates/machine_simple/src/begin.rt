@@ -1,13 +1,14 @@
 // Simple statements begin.
 
 ghost use Rattle.std.specs.Prelude.{◌≡◌, ◌≤◌, IfOk, true};
-ghost use Rattle.py_world.specs.Exceptions as exceptions;
+ghost use Rattle.py_world.specs.Raising as raising;
 ghost use Rattle.py_world.specs.Outcome.{Gave, Next};
 ghost use Rattle.py_world.specs.Statements as world;
 ghost use Rattle.py_world.specs.Targets as targets;
 ghost use Rattle.core_meaning.specs.Expressions.{eval};
 ghost use Rattle.core_meaning.specs.Statements as meaning;
-ghost use Rattle.machine_state.specs.Frames.{ends, layers_of, rest_of, site_now, state_of, todo};
+ghost use Rattle.machine_state.specs.Places.{ends};
+ghost use Rattle.machine_state.specs.Frames.{layers_of, rest_of, site_now, state_of, todo};
 ghost use Rattle.machine_simple.specs.Simple as kinds;
 
 use crate::failure::begin_failure;
@@ -95,7 +96,7 @@ fn begin_yield(m: &mut Machine, e: &Option<Rc<CoreExpr>>) -> Result<Doing, OutOf
 
 /// Begins a `raise`.
 fn begin_raise(m: &mut Machine, e: &Option<Rc<CoreExpr>>) -> Result<Doing, OutOfMemory>
-    ensures next { IfOk result (λ d. todo d m.new ≡ exceptions.raise_value (meaning.some_part e.now) (site_now m.old) (state_of m.old) (rest_of m.old)) }
+    ensures next { IfOk result (λ d. todo d m.new ≡ raising.raise_value meaning.entry (meaning.some_part e.now) (site_now m.old) (state_of m.old) (rest_of m.old)) }
     ensures left { m.new.left ≡ m.old.left }
 {
     match e {
@@ -123,10 +124,13 @@ pub fn is_simple(kind: &CoreStmtKind) -> bool
         | CoreStmtKind::Continue
         | CoreStmtKind::If(_, _)
         | CoreStmtKind::While(_, _)
-        | CoreStmtKind::Def(_)
+        | CoreStmtKind::Def(_, _, _)
         | CoreStmtKind::For(_, _, _)
         | CoreStmtKind::Try(_, _)
-        | CoreStmtKind::With(_, _, _) => false,
+        | CoreStmtKind::With(_, _, _)
+        | CoreStmtKind::Class(_, _, _)
+        | CoreStmtKind::Import(_, _)
+        | CoreStmtKind::ImportFrom(_, _) => false,
     }
 }
 

@@ -5,7 +5,8 @@ ghost use Rattle.std.specs.List.{sum_by};
 ghost use Rattle.py_world.specs.Outcome.{Gave, Next};
 ghost use Rattle.py_world.specs.Targets.{store_all};
 ghost use Rattle.core_meaning.specs.Statements as meaning;
-ghost use Rattle.machine_state.specs.Frames.{layers_of, on_simple, outcome, rest_of, site_now, state_of, todo, Follows};
+ghost use Rattle.machine_state.specs.Places.{outcome};
+ghost use Rattle.machine_state.specs.Frames.{layers_of, on_simple, rest_of, site_now, state_of, todo, Follows};
 ghost use Rattle.machine_state.specs.Work.{doing_work, simple_work, stack_work, taker_work, Falls};
 
 use crate::failure::{explain, fail};
@@ -14,7 +15,7 @@ use machine_state::machine::{Doing, Machine, TurnEnd};
 use machine_store::assign::store_target;
 use machine_store::operate::augment;
 use machine_store::spot::store_spot;
-use machine_unwind::raise::raise_value;
+use machine_unwind::raise::{raise_it, raise_value};
 use py_core::CoreTarget;
 use py_text::OutOfMemory;
 use py_values::value::Value;
@@ -58,7 +59,8 @@ fn take_value(m: &mut Machine, frame: SimpleFrame, v: Value) -> Result<TurnEnd, 
             augment(m, op, x, v)
         }
         SimpleFrame::Store(place) => store_spot(m, place, v),
-        SimpleFrame::Raise => Ok(TurnEnd::Go(raise_value(m, v)?)),
+        SimpleFrame::Raise => raise_value(m, v),
+        SimpleFrame::Throw => Ok(TurnEnd::Go(raise_it(m, v)?)),
         SimpleFrame::Return => Ok(TurnEnd::Go(Doing::Back(End::Returned(v)))),
         SimpleFrame::Fail => Ok(TurnEnd::Go(fail(m, Some(v))?)),
         SimpleFrame::Explain(shown) => Ok(TurnEnd::Go(explain(m, &shown, Some(v))?)),

@@ -1,10 +1,10 @@
 -- The exception that is being handled, from the innermost frame on.
-use Rattle.std.proofs.Common.{ℕ, suc, ◌+◌, ◌<◌, ◌≡◌, ◌∙◌, List, [], ◌∷◌, length, take, get_or, Option, Some, None, refl, sym, ap}
+use Rattle.std.proofs.Common.{ℕ, ◌+◌, ◌<◌, ◌≡◌, ◌∙◌, List, [], ◌∷◌, length, take, get_or, Some, None, sym, ap}
 use Rattle.std.specs.Prelude.{reverse}
 use Rattle.std.proofs.lemmas.List.{take_more, reverse-append}
 use Rattle.py_world.specs.declared.ended.Thrown.{Thrown}
 use Rattle.machine_state.specs.declared.frame.Frame.{Frame}
-use Rattle.machine_state.specs.Frames.{handling_in, handling_of}
+use Rattle.machine_state.specs.Frames.{handling_of}
 use Rattle.machine_state.specs.Handled.{FrameTells}
 
 reverse_more : (xs : List Frame) (i : ℕ) (x : Frame) → i < length xs → x ≡ get_or xs i x → reverse (take (i + 1) xs) ≡ x ∷ reverse (take i xs)

@@ -1,7 +1,6 @@
 -- The place of a name among those of a call.
-use Rattle.std.proofs.Common.{◌≡◌, ◌<◌, ◌+◌, ◌∙◌, ℕ, zero, suc, List, [], ◌∷◌, ◌++◌, length, get_or, Option, Some, None, Bool, true, false, refl, sym, ap, subst, arith, add-one}
+use Rattle.std.proofs.Common.{◌≡◌, ◌<◌, ◌+◌, ◌∙◌, ℕ, zero, suc, List, [], ◌∷◌, ◌++◌, length, get_or, Some, None, true, false, refl, sym, ap, subst, arith, add-one}
 use Rattle.std.specs.Prelude.{slice_set, take, drop}
-use Rattle.std.specs.List.{remove}
 use Rattle.py_values.specs.declared.value.Value.{Value}
 use Rattle.py_values.specs.Names.{bind_name, find_name, unbind_name, name_eq}
 use Rattle.machine_state.specs.LocalNames.{Bindings, IsPlaceOf, NoneBefore}

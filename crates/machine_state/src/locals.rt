@@ -1,6 +1,7 @@
 // The names of a call.
 
-ghost use Rattle.std.specs.Prelude.{◌≡◌, [], OnOk};
+ghost use Rattle.std.specs.Prelude.{◌≡◌, ◌++◌, ◌∷◌, [], OnOk};
+ghost use Rattle.py_world.specs.Calls.{nothing_named};
 ghost use Rattle.py_values.specs.Names.{bind_name, find_name, unbind_name};
 ghost use Rattle.machine_state.specs.LocalNames.{IsPlaceOf};
 
@@ -34,6 +35,13 @@ impl Locals {
         }
     }
 
+    /// The names with their values, in order.
+    pub fn entries(&self) -> &[(SrcText, Value)]
+        ensures { result.now ≡ self.now }
+    {
+        &self.entries
+    }
+
     /// The value of a name.
     pub fn find(&self, name: &SrcText) -> Option<Value>
         ensures { result ≡ find_name name.now self.now }
@@ -58,6 +66,21 @@ impl Locals {
                 Ok(())
             }
         }
+    }
+
+    /// Puts a name behind the others, whether or not it is there.
+    pub fn push(&mut self, name: &SrcText, v: Value) -> Result<(), OutOfMemory>
+        ensures { OnOk result (self.new ≡ self.old ++ (name.now, v) ∷ []) }
+    {
+        self.entries.push((name.clone()?, v))?;
+        Ok(())
+    }
+
+    /// Whether there is no name.
+    pub fn is_empty(&self) -> bool
+        ensures { result ≡ nothing_named self.now }
+    {
+        self.entries.is_empty()
     }
 
     /// Takes a name away; those behind it move up.

@@ -7,7 +7,8 @@ use Rattle.py_world.specs.Outcome.{Paused}
 use Rattle.core_meaning.specs.Requests.{core_kinds}
 use Rattle.machine_state.specs.declared.frame.Frame.{Frame}
 use Rattle.machine_state.specs.declared.place.Here.{Here}
-use Rattle.machine_state.specs.Frames.{CoreOutcome, after, ends, step}
+use Rattle.machine_state.specs.Places.{CoreOutcome, ends, step}
+use Rattle.machine_state.specs.Frames.{after}
 use Rattle.machine_state.proofs.Costs.{ends_done}
 
 -- nothing is left on the stack

@@ -9,7 +9,7 @@ use Rattle.py_world.specs.Outcome.{Next, raised_at}
 use Rattle.py_world.specs.Site.{Site}
 use Rattle.py_world.specs.World.{heap_of, with_heap}
 use Rattle.machine_items.specs.Changes.{attribute_told}
-use Rattle.machine_state.specs.Frames.{CoreOutcome, CoreState, CoreThen}
+use Rattle.machine_state.specs.Places.{CoreOutcome, CoreState, CoreThen}
 
 -- how a change ends that raises this, or nothing, with this heap behind it
 abbrev pub told_end : Option Raise × List Obj → Site → CoreState → CoreOutcome

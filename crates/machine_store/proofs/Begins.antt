@@ -13,7 +13,8 @@ use Rattle.machine_state.specs.declared.frame.Frame.TheVariants.{Simple, Target}
 use Rattle.machine_state.specs.declared.frame.SimpleFrame.TheVariants.{Augment}
 use Rattle.machine_state.specs.declared.frame.Spot.TheVariants.{Name}
 use Rattle.machine_state.specs.declared.frame.TargetFrame.TheVariants.{Attribute, Item, AugmentAttribute, AugmentItem, DeleteAttribute, DeleteItem}
-use Rattle.machine_state.specs.Frames.{CoreState, after, handling_of, outer_of, site_of}
+use Rattle.machine_state.specs.Places.{CoreState, site_of}
+use Rattle.machine_state.specs.Frames.{after, handling_of, outer_of}
 
 module _ (h : Here) (fs : List Frame) (s : CoreState) (first : CorePart) where
   pub attribute_begins : (name name' : List ℕ) (v : Value) → name' ≡ name

@@ -10,7 +10,8 @@ use Rattle.py_world.specs.Outcome.{Gave, on_value, operated}
 use Rattle.py_world.specs.Targets.{augmented, augment_on, store_name}
 use Rattle.core_meaning.specs.Expressions.{eval}
 use Rattle.machine_state.specs.declared.machine.Machine.{Machine}
-use Rattle.machine_state.specs.Frames.{CoreThen, ends, rest_of, site_now, state_of}
+use Rattle.machine_state.specs.Places.{CoreThen, ends}
+use Rattle.machine_state.specs.Frames.{rest_of, site_now, state_of}
 use Rattle.machine_expr.specs.declared.immediate.Immediate.{Immediate}
 use Rattle.machine_expr.specs.AtOnce.{IsImmediate}
 use Rattle.machine_expr.proofs.AtOnces.{found}

@@ -17,7 +17,7 @@ use Rattle.py_world.specs.Names.{named}
 use Rattle.py_world.specs.Outcome.{made, on_value, raised}
 use Rattle.py_world.specs.Targets.{augment_name, augment_on, store_name}
 use Rattle.core_meaning.specs.Expressions.{CorePart}
-use Rattle.machine_state.specs.Frames.{CoreState, CoreThen}
+use Rattle.machine_state.specs.Places.{CoreState, CoreThen}
 
 module _ (name : List ℕ) (op : BinOp) (e : CorePart) (p : Site) (s : CoreState) (k : CoreThen) (look : Made) (is : look ≡ named name p.scene s.locals (heap_of s)) where
   taken : on_value (made look (trace_of p) s) k (λ x s. augment_on x op e (store_name name) p s k) ≡ augment_name name op e p s k

@@ -12,9 +12,9 @@ use machine_expr::evaluate::descend;
 use machine_state::frame::{End, Frame, TargetFrame};
 use machine_state::machine::{Doing, Machine, Origin};
 use py_core::{CoreExpr, CoreSingle, CoreSingleKind, CoreTarget, SrcText};
-use py_ops::faults::not_iterable;
+use py_kinds::length::length_of;
+use py_operands::faults::not_iterable;
 use py_text::OutOfMemory;
-use py_values::length::length_of;
 use py_values::value::Value;
 use std::rc::Rc;
 

@@ -7,17 +7,18 @@ ghost use Rattle.py_world.specs.Targets as world;
 ghost use Rattle.core_meaning.specs.Expressions.{eval};
 ghost use Rattle.core_meaning.specs.Statements as meaning;
 ghost use Rattle.machine_expr.specs.AtOnce.{IsImmediate};
-ghost use Rattle.machine_state.specs.Frames.{ends, rest_of, site_now, state_of, todo, Follows};
+ghost use Rattle.machine_state.specs.Places.{ends};
+ghost use Rattle.machine_state.specs.Frames.{rest_of, site_now, state_of, todo, Follows};
 ghost use Rattle.machine_state.specs.Work.{doing_work, stack_work, weight, Falls};
 
 use crate::names::store;
 use machine_expr::evaluate::descend;
 use machine_expr::immediate::{Immediate, at_once, operate_now};
-use machine_expr::names::look_up;
 use machine_expr::operate::subscript;
-use machine_items::attributes::attribute_made;
+use machine_names::names::look_up;
 use machine_state::frame::{End, Frame, SimpleFrame, Spot, TargetFrame};
 use machine_state::machine::{Doing, Machine, Origin, TurnEnd};
+use py_attributes::attributes::attribute_made;
 use py_core::{BinOp, CoreExpr, CoreSingle, CoreSingleKind, SrcText};
 use py_text::OutOfMemory;
 use py_values::end::Made;
@@ -172,7 +173,7 @@ pub fn augment_attribute(
     ensures left { m.new.left ≡ m.old.left }
     ensures work { IfOk result (λ d. doing_work d + stack_work m.new < weight e.value + 3 + stack_work m.old) }
 {
-    let made = attribute_made(m.alloc, &m.heap, x, &name)?;
+    let made = attribute_made(m.alloc, &m.heap, x, name.chars())?;
     let frame = TargetFrame::Old(Spot::Attribute(x, name), op, e);
     m.stack.push(Frame::Target(frame))?;
     m.make(made, Origin::Code)

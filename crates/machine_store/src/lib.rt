@@ -11,7 +11,8 @@
 //! - `take_target`, for each frame of a target: the run of what is left stays the same (`next`), and a turn spends a step or leaves less
 //!   to do (`work`).
 //! - `store_target`, `begin_augment`, `begin_delete`: what is left to do is what the meaning of the target says, for each of its forms.
-//! - `bind`, `unbind`, `store`, `delete_name`: the state behind them is the meaning's, with the name bound or unbound where it stands.
+//! - `bind`, `unbind`, `store`, `delete_name`: the state behind them is the meaning's, with the name bound or unbound where it stands: in the
+//!   call, in the class whose body runs, or in the module.
 //! - `elements` takes exactly the elements that an unpacking takes, in order, with the heap behind them.
 //!
 //! # What tests alone show

@@ -1,13 +1,16 @@
 // Names are bound, unbound and deleted.
 
-ghost use Rattle.std.specs.Prelude.{◌≡◌, IfOk, OnOk, slice_get};
+ghost use Rattle.std.specs.Prelude.{◌≡◌, IfOk, OnOk, false, slice_get};
 ghost use Rattle.py_values.specs.Changes.{changed};
 ghost use Rattle.py_world.specs.Names as world;
 ghost use Rattle.py_world.specs.Targets.{store_name};
-ghost use Rattle.machine_state.specs.Frames.{own_in, rest_of, site_now, state_of, todo};
+ghost use Rattle.machine_state.specs.Places.{own_in};
+ghost use Rattle.machine_state.specs.Owning.{is_own};
+ghost use Rattle.machine_state.specs.Frames.{rest_of, site_now, state_of, todo};
 ghost use Rattle.machine_state.specs.Work.{doing_work};
 
-use machine_expr::names::{module_value, not_defined, unbound};
+use machine_items::changes::{bind_at, unbind_at};
+use machine_names::names::{class_value, module_value, not_defined, unbound};
 use machine_state::frame::End;
 use machine_state::machine::{Doing, Machine, Origin};
 use py_core::SrcText;
@@ -34,8 +37,25 @@ fn bind_global(heap: &mut Heap, home: usize, name: Name, v: Value) -> Result<(),
     }
 }
 
-/// Binds a name (Language Reference, naming and binding): a local one in the call, another in the module.
-#[tactic(auto, using(crate::proofs::Binding::bound_own, crate::proofs::Binding::bound_other))]
+/// Binds a name that is not local: one of a class in the class, another in the module.
+#[tactic(auto, using(crate::proofs::Binding::bound_of_class, crate::proofs::Binding::bound_other))]
+fn bind_other(m: &mut Machine, name: &SrcText, v: Value) -> Result<(), OutOfMemory>
+    requires { is_own m.old.here.place name.now ≡ false }
+    ensures state { OnOk result (state_of m.new ≡ world.bound name.now v (site_now m.old).scene (state_of m.old)) }
+    ensures here { m.new.here ≡ m.old.here }
+    ensures stack { m.new.stack ≡ m.old.stack }
+    ensures left { m.new.left ≡ m.old.left }
+{
+    let key = Name::from_chars(m.alloc, name.chars())?;
+    match m.here.class_at() {
+        Some(at) => bind_at(&mut m.heap, ObjId { at }, key, v),
+        None => bind_global(&mut m.heap, m.here.home(), key, v),
+    }
+}
+
+/// Binds a name (Language Reference, naming and binding): a local one in the call, one of a class in the class, another in the
+/// module.
+#[tactic(auto, using(crate::proofs::Binding::bound_own))]
 pub fn bind(m: &mut Machine, name: &SrcText, v: Value) -> Result<(), OutOfMemory>
     ensures state { OnOk result (state_of m.new ≡ world.bound name.now v (site_now m.old).scene (state_of m.old)) }
     ensures here { m.new.here ≡ m.old.here }
@@ -46,9 +66,7 @@ pub fn bind(m: &mut Machine, name: &SrcText, v: Value) -> Result<(), OutOfMemory
         m.locals.bind(name, v)?;
         Ok(())
     } else {
-        let key = Name::from_chars(m.alloc, name.chars())?;
-        bind_global(&mut m.heap, m.here.home(), key, v)?;
-        Ok(())
+        bind_other(m, name, v)
     }
 }
 
@@ -77,8 +95,25 @@ fn unbind_global(heap: &mut Heap, home: usize, name: &Name)
     }
 }
 
+/// Unbinds a name that is not local.
+#[tactic(auto, using(crate::proofs::Binding::unbound_of_class, crate::proofs::Binding::unbound_other))]
+fn unbind_other(m: &mut Machine, name: &SrcText) -> Result<(), OutOfMemory>
+    requires { is_own m.old.here.place name.now ≡ false }
+    ensures state { OnOk result (state_of m.new ≡ world.unbound name.now (site_now m.old).scene (state_of m.old)) }
+    ensures here { m.new.here ≡ m.old.here }
+    ensures stack { m.new.stack ≡ m.old.stack }
+    ensures left { m.new.left ≡ m.old.left }
+{
+    let key = Name::from_chars(m.alloc, name.chars())?;
+    match m.here.class_at() {
+        Some(at) => unbind_at(&mut m.heap, ObjId { at }, &key),
+        None => unbind_global(&mut m.heap, m.here.home(), &key),
+    }
+    Ok(())
+}
+
 /// Unbinds a name where it would be bound.
-#[tactic(auto, using(crate::proofs::Binding::unbound_own, crate::proofs::Binding::unbound_other))]
+#[tactic(auto, using(crate::proofs::Binding::unbound_own))]
 pub fn unbind(m: &mut Machine, name: &SrcText) -> Result<(), OutOfMemory>
     ensures state { OnOk result (state_of m.new ≡ world.unbound name.now (site_now m.old).scene (state_of m.old)) }
     ensures here { m.new.here ≡ m.old.here }
@@ -89,21 +124,31 @@ pub fn unbind(m: &mut Machine, name: &SrcText) -> Result<(), OutOfMemory>
         m.locals.unbind(name);
         Ok(())
     } else {
-        let key = Name::from_chars(m.alloc, name.chars())?;
-        unbind_global(&mut m.heap, m.here.home(), &key);
-        Ok(())
+        unbind_other(m, name)
+    }
+}
+
+/// The value of a name that is not local where it would be bound.
+#[tactic(auto, using(crate::proofs::Binding::value_of_class, crate::proofs::Binding::value_other))]
+fn other_value(m: &Machine, name: &SrcText) -> Result<Option<Value>, OutOfMemory>
+    requires { is_own m.now.here.place name.now ≡ false }
+    ensures { IfOk result (λ v. v ≡ world.bound_value (own_in m.now.here.place) name.now (site_now m.now).scene.home m.now.locals m.now.heap) }
+{
+    match m.here.class_at() {
+        Some(at) => class_value(m.alloc, &m.heap, at, name),
+        None => module_value(m.alloc, &m.heap, m.here.home(), name),
     }
 }
 
 /// The value that a name has where it would be bound.
-#[tactic(auto, using(crate::proofs::Binding::value_own, crate::proofs::Binding::value_other))]
+#[tactic(auto, using(crate::proofs::Binding::value_own))]
 fn bound_value(m: &Machine, name: &SrcText) -> Result<Option<Value>, OutOfMemory>
     ensures { IfOk result (λ v. v ≡ world.bound_value (own_in m.now.here.place) name.now (site_now m.now).scene.home m.now.locals m.now.heap) }
 {
     if m.here.is_own(name) {
         Ok(m.locals.find(name))
     } else {
-        module_value(m.alloc, &m.heap, m.here.home(), name)
+        other_value(m, name)
     }
 }
 

@@ -2,7 +2,8 @@
 
 ghost use Rattle.std.specs.Prelude.{◌+◌, IfOk};
 ghost use Rattle.py_world.specs.Outcome.{Gave, Next};
-ghost use Rattle.machine_state.specs.Frames.{on_target, outcome, rest_of, site_now, state_of, Follows};
+ghost use Rattle.machine_state.specs.Places.{outcome};
+ghost use Rattle.machine_state.specs.Frames.{on_target, rest_of, site_now, state_of, Follows};
 ghost use Rattle.machine_state.specs.Work.{stack_work, target_work, Falls};
 
 use crate::assign::store_each;

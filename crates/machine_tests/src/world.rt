@@ -1,105 +1,89 @@
-// A world's sources and modules.
+// Worlds of a row's sources.
 
-use crate::told::{add_text, executed, loaded, told, value_at};
-use py_machine::{World, add_source, fault, line, take_printed};
-use py_source::{Pos, SourceFault, SyntaxKind};
-use py_values::value::Value;
-use std::alloc::Global;
-use std::test::Fail;
+ghost use Rattle.std.specs.Prelude.{◌≡◌, IfOk, OnOk, IsSome, IsTrue, chars};
+ghost use Rattle.std.specs.List.{list_any};
+ghost use Rattle.py_values.specs.Names.{name_eq};
+ghost use Rattle.py_world.specs.Runs.{coded, source_at};
+ghost use Rattle.py_world.specs.Imports.{paths_of};
 
-const SOURCE: &str = "\u{FEFF}def f():\r\n    pass\n\n\u{E9} = 1\n";
+use crate::code::code_of;
+use crate::row::Source;
+use crate::told::Tried;
+use py_machine::{World, add_source, fault, line, run_module};
+use py_text::PyText;
+use py_world::Ended;
+use std::alloc::{AllocError, Global};
 
-/// A path, a line's number, and the line where the source `a/t.py` is the one above.
-const LINES: [(&str, u32, &str); 7] = [
-    ("a/t.py", 0, "no line"),
-    ("a/t.py", 1, "def f():"),
-    ("a/t.py", 2, "    pass"),
-    ("a/t.py", 3, ""),
-    ("a/t.py", 4, "\u{E9} = 1"),
-    ("a/t.py", 5, "no line"),
-    ("a/t.p", 1, "no line"),
-];
+/// The characters of a text.
+pub fn letters_of(alloc: Global, text: &str) -> Result<Vec<char>, AllocError>
+    ensures { IfOk result (λ letters. letters.items ≡ chars text.now) }
+{
+    text.chars().collect(alloc)
+}
 
-/// A line of a path in a world that has the one source `a/t.py`.
-fn line_of(alloc: Global, path: &str, number: u32) -> Result<String, Fail> {
+fn text_of(alloc: Global, text: &str) -> Tried<PyText>
+    ensures { IfOk result (λ t. t ≡ chars text.now) }
+{
+    let letters = letters_of(alloc, text)?;
+    PyText::from_chars(alloc, &letters)
+}
+
+fn is_same(path: &PyText, other: &PyText) -> bool
+    ensures { result ≡ name_eq path.now other.now }
+{
+    path.chars() == other.chars()
+}
+
+fn is_among(paths: &[PyText], path: &PyText) -> bool
+    ensures { result ≡ list_any (name_eq path.now) paths.now }
+{
+    paths.iter().any(|other| is_same(path, other))
+}
+
+/// Adds a source, unless its path has one or a form of it isn't built.
+#[tactic(auto, using(crate::proofs::Sources::absent_of, crate::proofs::Sources::paths_behind))]
+fn add(alloc: Global, world: &mut World, paths: &mut Vec<PyText>, source: &Source) -> Tried<()>
+    requires { paths_of world.old.sources ≡ paths.old.items }
+    ensures { OnOk result (paths_of world.new.sources ≡ paths.new.items) }
+{
+    let path = text_of(alloc, source.path.as_str())?;
+    if is_among(paths, &path) {
+        return Ok(());
+    }
+    let text = source.text.as_str();
+    if let Some(code) = code_of(alloc, text)? {
+        add_source(world, source.path.as_str(), text.as_bytes(), code)?;
+        paths.push(path)?;
+    }
+    Ok(())
+}
+
+/// A world of sources.
+pub fn world_of(alloc: Global, sources: &[Source]) -> Tried<World> {
     let mut world = World::new(alloc)?;
-    add_text(alloc, &mut world, "a/t.py", "pass\n", SOURCE.as_bytes())?;
-    match line(&world, path, number) {
-        Some(text) => Ok(String::from_str(alloc, text)?),
-        None => Ok(String::from_str(alloc, "no line")?),
+    let mut paths = Vec::new(alloc);
+    for source in sources {
+        add(alloc, &mut world, &mut paths, source)?;
     }
+    Ok(world)
 }
 
-/// The fault of a path's source in a world that has this one source.
-fn only(
-    alloc: Global,
-    source: (&str, &[u8], SourceFault),
-    path: &str,
-) -> Result<Option<SourceFault>, Fail> {
-    let mut world = World::new(alloc)?;
-    let (at, bytes, broken) = source;
-    add_source(&mut world, at, bytes, Err(broken))?;
-    Ok(fault(&world, path))
-}
-
-#[test]
-fn sources_have_their_faults(rt: HostRuntime) -> Result<(), Fail> {
-    let alloc = rt.alloc();
-    let at = Pos { line: 3, column: 5 };
-    let broken = SourceFault::Syntax(at, SyntaxKind::Unexpected);
-    let bytes = b"x\ny";
-    let found = only(alloc, ("\u{E9}.py", bytes, broken), "\u{E9}.py")?;
-    assert_eq!(rt; found, Some(broken));
-    let found = only(alloc, ("b.py", b"\xFF\n", SourceFault::NotUtf8(1)), "b.py")?;
-    assert_eq!(rt; found, Some(SourceFault::NotUtf8(1)));
-    assert_eq!(rt; only(alloc, ("b.py", bytes, broken), "c.py")?, None);
-    assert_eq!(rt; only(alloc, ("b.py", bytes, broken), "b.p")?, None);
-    assert_eq!(rt; only(alloc, ("b.py", bytes, broken), "b.pyc")?, None);
-    Ok(())
-}
-
-#[test]
-fn sources_have_their_lines(rt: HostRuntime) -> Result<(), Fail> {
-    let alloc = rt.alloc();
-    for (path, number, expected) in LINES {
-        let found = line_of(alloc, path, number)?;
-        assert_eq!(rt; found.as_str(), expected);
+/// Whether a path has code, and a first line.
+#[tactic(auto, using(crate::proofs::Sources::code_seen))]
+fn has_code(world: &World, path: &str) -> bool
+    ensures { IsTrue result → IsSome (coded (source_at (chars path.now) world.now.sources)) }
+{
+    if fault(world, path).is_some() {
+        return false;
     }
-    Ok(())
+    line(world, path, 1).is_some()
 }
 
-#[test]
-fn a_load_binds_names_in_their_order(rt: HostRuntime) -> Result<(), Fail> {
-    let alloc = rt.alloc();
-    let (world, id) = loaded(alloc, "x = 1\ny = x + 1\nx += 1\n")?;
-    assert_eq!(rt; value_at(&world, id, 0), Value::Int(2));
-    assert_eq!(rt; value_at(&world, id, 1), Value::Int(2));
-    assert_eq!(rt; value_at(&world, id, 2), Value::None);
-    Ok(())
-}
-
-/// A text, a budget, and what is told of its load.
-const LOADS: [(&str, u64, &str); 2] = [
-    ("x\n", 1, "NameError: name 'x' is not defined 1 1:<module>"),
-    ("while True:\n    pass\n", 7, "exhausted 7 1:<module>"),
-];
-
-#[test]
-fn a_load_may_fail(rt: HostRuntime) -> Result<(), Fail> {
-    let alloc = rt.alloc();
-    for (text, budget, expected) in LOADS {
-        let (world, ended) = executed(alloc, text, budget)?;
-        let shown = told(alloc, &world, &ended)?;
-        assert_eq!(rt; shown.as_str(), expected);
+/// Loads a module, where the path has code.
+pub fn load(world: &mut World, path: &str, budget: u64) -> Tried<Option<Ended>> {
+    if !has_code(world, path) {
+        return Ok(None);
     }
-    Ok(())
-}
-
-#[test]
-fn a_module_has_a_name_from_its_start(rt: HostRuntime) -> Result<(), Fail> {
-    let alloc = rt.alloc();
-    let (mut world, ended) = executed(alloc, "print(__name__)\n", 9)?;
-    assert_eq!(rt; ended.steps, 4);
-    assert_eq!(rt; take_printed(&mut world).as_slice(), b"t\n".as_slice());
-    Ok(())
+    let ended = run_module(world, path, budget)?;
+    Ok(Some(ended))
 }

@@ -26,7 +26,8 @@ use Rattle.machine_state.specs.declared.place.Here.{Here}
 use Rattle.machine_state.specs.declared.frame.Frame.{Frame}
 use Rattle.machine_state.specs.declared.frame.Frame.TheVariants.{Unwind}
 use Rattle.machine_state.specs.declared.frame.UnwindFrame.TheVariants.{Catch, Named}
-use Rattle.machine_state.specs.Frames.{CoreState, CoreThen, after, handling_of, layers_of, on_caught, on_class, outer_of, site_of}
+use Rattle.machine_state.specs.Places.{CoreState, CoreThen, site_of}
+use Rattle.machine_state.specs.Frames.{after, handling_of, layers_of, on_caught, on_class, outer_of}
 use Rattle.machine_state.specs.Work.{block_work, catch_work, handler_work, some_weight}
 use Rattle.machine_expr.proofs.Parts.{drop_some}
 

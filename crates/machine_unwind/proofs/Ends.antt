@@ -17,7 +17,8 @@ use Rattle.machine_state.specs.declared.frame.End.TheVariants as end
 use Rattle.machine_state.specs.declared.frame.Frame.{Frame}
 use Rattle.machine_state.specs.declared.frame.Frame.TheVariants.{Unwind}
 use Rattle.machine_state.specs.declared.frame.UnwindFrame.TheVariants.{Again, Guarded, Last}
-use Rattle.machine_state.specs.Frames.{CoreOutcome, CoreState, CoreThen, after, handling_of, handling_again, layers_of, outcome, outer_of, site_of}
+use Rattle.machine_state.specs.Places.{CoreOutcome, CoreState, CoreThen, outcome, site_of}
+use Rattle.machine_state.specs.Frames.{after, handling_of, handling_again, layers_of, outer_of}
 
 -- an end with its state changed
 pub changed : (e : End) (f : CoreState → CoreState) (s : CoreState) (k : CoreThen) → route (changing f k) (outcome e s) ≡ k (outcome e (f s))

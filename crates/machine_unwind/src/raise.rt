@@ -1,16 +1,19 @@
 // What a `raise` raises (Language Reference, the raise statement).
 
-ghost use Rattle.std.specs.Prelude.{◌≡◌, IfOk};
+ghost use Rattle.std.specs.Prelude.{◌≡◌, ◌+◌, IfOk};
 ghost use Rattle.py_world.specs.Exceptions as world;
 ghost use Rattle.py_world.specs.Outcome.{raised_at};
+ghost use Rattle.py_world.specs.Raising as raising;
 ghost use Rattle.py_world.specs.Site.{trace_of};
 ghost use Rattle.py_world.specs.World.{trace_at};
-ghost use Rattle.machine_state.specs.Frames.{handling_of, rest_of, site_now, state_of, todo};
-ghost use Rattle.machine_state.specs.Work.{doing_work};
+ghost use Rattle.core_meaning.specs.Statements.{entry};
+ghost use Rattle.machine_state.specs.Frames.{handling_of, rest_of, site_now, state_of, todo, Follows};
+ghost use Rattle.machine_state.specs.Work.{doing_work, stack_work, Falls};
 
-use machine_items::exceptions::{RaiseKind, raisable};
-use machine_state::frame::End;
-use machine_state::machine::{Doing, Machine, Origin};
+use machine_items::exceptions::{RaiseKind, raisable, raise_init};
+use machine_state::arguments::CallArguments;
+use machine_state::frame::{End, Frame, SimpleFrame};
+use machine_state::machine::{Doing, Entry, Machine, Origin, TurnEnd};
 use machine_state::traces::copy_trace;
 use py_text::OutOfMemory;
 use py_values::class::{ClassRef, ExcClass};
@@ -71,9 +74,9 @@ pub fn refuse(m: &mut Machine) -> Result<Doing, OutOfMemory>
     m.raise(raise, Origin::Code)
 }
 
-/// Raises a value: an exception of the heap keeps the trace of its first raise, and of a class one is made.
-pub fn raise_value(m: &mut Machine, v: Value) -> Result<Doing, OutOfMemory>
-    ensures next { IfOk result (λ d. todo d m.new ≡ rest_of m.old (world.raised_by (world.raisable m.old.heap v) (site_now m.old) (state_of m.old))) }
+/// Raises a value as it is: an exception of the heap keeps the trace of its first raise, and of a class one is made.
+pub fn raise_it(m: &mut Machine, v: Value) -> Result<Doing, OutOfMemory>
+    ensures next { IfOk result (λ d. todo d m.new ≡ raising.raise_it v (site_now m.old) (state_of m.old) (rest_of m.old)) }
     ensures left { m.new.left ≡ m.old.left }
     ensures work { IfOk result (λ d. doing_work d ≡ 0) }
     ensures stack { m.new.stack ≡ m.old.stack }
@@ -82,6 +85,22 @@ pub fn raise_value(m: &mut Machine, v: Value) -> Result<Doing, OutOfMemory>
         RaiseKind::Exception(id) => raise_object(m, id),
         RaiseKind::Class(class) => raise_class(m, class),
         RaiseKind::Neither => refuse(m),
+    }
+}
+
+/// Raises what code hands to `raise`: of a class of exceptions with an `__init__` the instance that a call of it makes, which takes no
+/// step, and else the value as it is.
+pub fn raise_value(m: &mut Machine, v: Value) -> Result<TurnEnd, OutOfMemory>
+    ensures next { IfOk result (λ t. Follows t m.new m.old.left (raising.raise_on entry (raising.raise_init m.old.heap v) v (site_now m.old) (state_of m.old) (rest_of m.old))) }
+    ensures work { IfOk result (λ t. Falls t m.new m.old.left (1 + stack_work m.old)) }
+{
+    match raise_init(m.alloc, &m.heap, v)? {
+        Some(_) => {
+            m.stack.push(Frame::Simple(SimpleFrame::Throw))?;
+            let none = CallArguments::plain(m.alloc, Vec::new(m.alloc));
+            Ok(TurnEnd::Enter(Entry::Call(v, none)))
+        }
+        None => Ok(TurnEnd::Go(raise_it(m, v)?)),
     }
 }
 

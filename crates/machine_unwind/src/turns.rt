@@ -8,7 +8,8 @@ ghost use Rattle.py_world.specs.Outcome.{changing, on_next, on_value, route};
 ghost use Rattle.py_world.specs.Names.{unbound};
 ghost use Rattle.core_meaning.specs.Statements as meaning;
 ghost use Rattle.core_meaning.specs.Statements.{block, handlings};
-ghost use Rattle.machine_state.specs.Frames.{CoreState, CoreThen, after, handling_of, here_unwind, layers_of, on_caught, on_unwind, outcome, outer_of, rest_of, site_now, site_of, state_of, todo};
+ghost use Rattle.machine_state.specs.Places.{CoreState, CoreThen, outcome, site_of};
+ghost use Rattle.machine_state.specs.Frames.{after, handling_of, here_unwind, layers_of, on_caught, on_unwind, outer_of, rest_of, site_now, state_of, todo};
 ghost use Rattle.machine_state.specs.Work.{block_work, catch_work, doing_work, handler_work, last_work, stack_work, unwind_work};
 
 use crate::block::begin_block;

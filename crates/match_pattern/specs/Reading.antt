@@ -1,11 +1,12 @@
 -- What is read at the head of a text.
-use Rattle.std.specs.Prelude.{◌≡◌, ℕ, ◌==◌, Bool, true, false, cond, List, [], ◌∷◌, ◌++◌, Option, Some, None}
+use Rattle.std.specs.Prelude.{◌≡◌, ℕ, zero, suc, ◌==◌, Bool, true, false, cond, List, [], ◌∷◌, ◌++◌, length, Option, Some, None}
 use Rattle.std.specs.Char.{is_ascii_alphanumeric}
 use Rattle.match_pattern.specs.declared.pattern.Atom.{Atom}
 use Rattle.match_pattern.specs.declared.pattern.Atom.TheVariants.{AnyCharacter, Character}
 use Rattle.match_pattern.specs.declared.pattern.Times.{Times}
 use Rattle.match_pattern.specs.declared.pattern.Times.TheVariants.{Once, ZeroOrMore, OneOrMore}
 use Rattle.match_pattern.specs.declared.pattern.Item.{Item}
+use Rattle.match_pattern.specs.declared.pattern.Pattern.{Pattern}
 use Rattle.match_pattern.specs.Pattern.{is_special, end_sign, AreItems}
 
 abbrev pub escaped_at : List ℕ → Option (Atom × List ℕ)
@@ -51,3 +52,30 @@ pub record UpTo (text : List ℕ) (items : List Item) (rest : List ℕ) : Type 0
 -- the same, and no item begins there
 abbrev pub ReadsUpTo : List ℕ → List Item → List ℕ → Type 0
 ReadsUpTo text items rest = UpTo text items rest × (item_at rest ≡ None)
+
+-- an item before others
+abbrev pub item_before : Item → List Item × List ℕ → List Item × List ℕ
+item_before item x = (item ∷ x.0, x.1)
+
+abbrev pub items_then : List ℕ → (List ℕ → List Item × List ℕ) → Option (Item × List ℕ) → List Item × List ℕ
+items_then text more None = ([], text)
+items_then text more (Some x) = item_before x.0 (more x.1)
+
+-- the items at the head of a text, so many at most, and what stands behind them
+abbrev pub items_from : ℕ → List ℕ → List Item × List ℕ
+items_from zero text = ([], text)
+items_from (suc n) text = items_then text (items_from n) (item_at text)
+
+abbrev pub with_end : ℕ → Bool → List Item → Option Bool → Option Pattern
+with_end n at_start items (Some at_end) = Some (record { at_start = at_start; items = items; at_end = at_end; length = n })
+with_end n at_start items None = None
+
+abbrev pub with_items_read : ℕ → Bool → List Item × List ℕ → Option Pattern
+with_items_read n at_start x = with_end n at_start x.0 (end_at x.1)
+
+abbrev pub behind_start : ℕ → Bool × List ℕ → Option Pattern
+behind_start n x = with_items_read n x.0 (items_from (length x.1) x.1)
+
+-- THE PATTERN THAT A TEXT IS, where it is one: `^` or not, items, of which a text has no more than characters, `$` or not
+unfoldable pub pattern_of : List ℕ → Option Pattern
+pattern_of text = behind_start (length text) (start_at text)

@@ -10,7 +10,8 @@
 //! # What is proved
 //!
 //! - [`read_pattern`]: what it gives is the text's pattern by the grammar in `specs/Pattern.antt` (`read`), and the text is no other
-//!   pattern (`only`). `Unsupported` comes only where the text is none (`unsupported`), so exactly there, unless memory runs out.
+//!   pattern (`only`). `Unsupported` comes only where the text is none (`unsupported`), so exactly there, unless memory runs out. As a
+//!   function of the text it is `pattern_of` (`exact`, `none`).
 //! - [`found`] is true exactly where the pattern matches somewhere in the text (`matches`): the text is something before, a middle
 //!   that is cut into a text for each item, and something behind. It is also what the plain program of `specs/Searching.antt` gives
 //!   (`exact`), which tries one way after the other; the code moves marks at all places of the text at once, item by item, so it

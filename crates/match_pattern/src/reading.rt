@@ -1,9 +1,9 @@
 // A text read as a pattern.
 
-ghost use Rattle.std.specs.Prelude.{◌≡◌, Some, None, IfOk, IsErrOf, MatchOption};
+ghost use Rattle.std.specs.Prelude.{◌≡◌, Some, None, IfOk, IsErrOf, MatchOption, length};
 ghost use Rattle.match_pattern.specs.declared.pattern.Pattern.{Pattern as PatternRead};
 ghost use Rattle.match_pattern.specs.Pattern.{is_special, IsPattern};
-ghost use Rattle.match_pattern.specs.Reading.{escaped_at, atom_at, times_at, item_at, start_at, end_at, ReadsUpTo};
+ghost use Rattle.match_pattern.specs.Reading.{escaped_at, atom_at, times_at, item_at, start_at, end_at, items_from, pattern_of, ReadsUpTo};
 
 use crate::fault::PatternFault;
 use crate::pattern::{Atom, Item, Pattern, Times};
@@ -84,7 +84,8 @@ fn item_at(text: &[char]) -> Option<(Item, &[char])>
 
 /// The items at the head of a text, and what stands behind them, where no item begins.
 fn items_at(alloc: Global, text: &[char]) -> Result<(Seq<Item>, &[char]), OutOfMemory>
-    ensures { IfOk result (λ x. ReadsUpTo text.now x.0 x.1.now) }
+    ensures reads { IfOk result (λ x. ReadsUpTo text.now x.0 x.1.now) }
+    ensures exact { IfOk result (λ x. items_from (length text.now) text.now ≡ (x.0, x.1.now)) }
 {
     let mut items = Seq::new(alloc);
     let mut rest = text;
@@ -134,6 +135,9 @@ pub fn read_pattern(alloc: Global, text: &[char]) -> Result<Pattern, PatternFaul
     ensures read { IfOk result (λ p. IsPattern text.now p) }
     ensures only { IfOk result (λ p. (q : PatternRead) → IsPattern text.now q → q ≡ p) }
     ensures unsupported { IsErrOf result PatternFault.Unsupported → (q : PatternRead) → IsPattern text.now q → ⊥ }
+    // The same as a function of the text.
+    ensures exact { IfOk result (λ p. pattern_of text.now ≡ Some p) }
+    ensures none { IsErrOf result PatternFault.Unsupported → pattern_of text.now ≡ None }
 {
     let (at_start, behind) = start_at(text);
     let (items, rest) = items_at(alloc, behind)?;

@@ -8,6 +8,7 @@ use Rattle.param_rows.specs.declared.param.ParamMark.{ParamMark}
 use Rattle.param_rows.specs.declared.fault.RowFault.{RowFault}
 use Rattle.param_rows.specs.declared.fault.RowFault.TheVariants.{Width, Duplicate, NoArgument, TooMany}
 use Rattle.param_rows.specs.Ids.{Id}
+use Rattle.param_rows.specs.Limits.{most_rows}
 use Rattle.param_rows.specs.Rows.{rows_of}
 
 abbrev pub among : ℕ → List ℕ → Bool
@@ -38,7 +39,7 @@ marks_fault known earlier [] = None
 marks_fault known earlier (mark ∷ marks) = option_or (mark_fault known earlier mark) (marks_fault known (earlier ++ mark.names) marks)
 
 abbrev pub size_fault : ℕ → Option RowFault
-size_fault many = if nat_lt 65536 many then Some TooMany else None
+size_fault many = if nat_lt most_rows many then Some TooMany else None
 
 -- the faults of the marks, and then that there are too many rows
 abbrev pub first_fault : List (ℕ × Vec Id Global) → List ParamMark → List ℕ → Option RowFault

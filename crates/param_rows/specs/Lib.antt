@@ -1,4 +1,5 @@
 pub mod Ids
+pub mod Limits
 pub mod Rows
 pub mod Faults
 pub mod Steps

@@ -1,4 +1,5 @@
-ghost use Rattle.std.specs.Prelude.{◌≡◌, ◌≤◌, ◌*◌, min, map, length};
+ghost use Rattle.std.specs.Prelude.{◌≡◌, ◌≤◌, ◌*◌, suc, min, map, length};
+ghost use Rattle.param_rows.specs.Limits.{most_rows};
 ghost use Rattle.param_rows.specs.Rows.{fixture_choices, mark_choices, product, choice_lists};
 
 use crate::id::PyId;
@@ -9,14 +10,14 @@ pub const MOST_ROWS: usize = 65_536;
 
 /// The product, or one more than the limit where it is larger.
 fn times(total: usize, more: usize) -> usize
-    ensures { result ≡ min (total * more) 65537 }
+    ensures { result ≡ min (total * more) (suc most_rows) }
 {
     total.saturating_mul(more).min(MOST_ROWS + 1)
 }
 
 fn times_fixtures(total: usize, fixtures: &[(u32, Vec<PyId>)]) -> usize
-    requires { total ≤ 65537 }
-    ensures { result ≡ min (total * length (product (map fixture_choices fixtures.now))) 65537 }
+    requires { total ≤ suc most_rows }
+    ensures { result ≡ min (total * length (product (map fixture_choices fixtures.now))) (suc most_rows) }
 {
     let mut total = total;
     for (_, ids) in fixtures {
@@ -26,8 +27,8 @@ fn times_fixtures(total: usize, fixtures: &[(u32, Vec<PyId>)]) -> usize
 }
 
 fn times_marks(total: usize, marks: &[ParamMark]) -> usize
-    requires { total ≤ 65537 }
-    ensures { result ≡ min (total * length (product (map mark_choices marks.now))) 65537 }
+    requires { total ≤ suc most_rows }
+    ensures { result ≡ min (total * length (product (map mark_choices marks.now))) (suc most_rows) }
 {
     let mut total = total;
     for mark in marks {
@@ -38,7 +39,7 @@ fn times_marks(total: usize, marks: &[ParamMark]) -> usize
 
 /// How many rows there are, or one more than the limit where there are more.
 pub fn count(fixtures: &[(u32, Vec<PyId>)], marks: &[ParamMark]) -> usize
-    ensures { result ≡ min (length (product (choice_lists fixtures.now marks.now))) 65537 }
+    ensures { result ≡ min (length (product (choice_lists fixtures.now marks.now))) (suc most_rows) }
 {
     times_marks(times_fixtures(1, fixtures), marks)
 }

@@ -4,6 +4,7 @@ ghost use Rattle.param_rows.specs.declared.fault.RowFault.TheVariants.{OutOfMemo
 ghost use Rattle.param_rows.specs.Rows.{Choice, set_choice, param_choice, fixture_choices, mark_choices, choice_lists, product, is_named, rows_of};
 ghost use Rattle.param_rows.specs.Steps.{with_choice, rows_in};
 ghost use Rattle.param_rows.specs.Faults.{first_fault};
+ghost use Rattle.param_rows.specs.Limits.{most_rows};
 
 use crate::checking::check_marks;
 use crate::counting::{MOST_ROWS, count};
@@ -65,7 +66,7 @@ impl RowMaker {
         ids: &[PyId],
         rest: &[ParamRow],
     ) -> Result<Vec<ParamRow>, OutOfMemory>
-        requires { length ids.now ≤ 65536 }
+        requires { length ids.now ≤ most_rows }
         ensures { IfOk result (λ rows. rows.items ≡ flat_map (λ choice. map (with_choice self.now.named choice) rest.now) (map (param_choice fixture) (enumerate_from 0 ids.now))) }
     {
         let mut rows = Vec::new(self.alloc);
@@ -106,7 +107,7 @@ impl RowMaker {
         fixtures: &[(u32, Vec<PyId>)],
         marks: &[ParamMark],
     ) -> Result<Vec<ParamRow>, OutOfMemory>
-        requires { All (λ fixture. length (fixture_choices fixture) ≤ 65536) fixtures.now }
+        requires { All (λ fixture. length (fixture_choices fixture) ≤ most_rows) fixtures.now }
         ensures { IfOk result (λ rows. rows.items ≡ rows_in self.now.named (choice_lists fixtures.now marks.now)) }
     {
         let mut rows = self.rows_of_marks(marks)?;

@@ -105,6 +105,19 @@ ERROR test_a.py - SyntaxError: source is not UTF-8
 =================================== 1 error ====================================
 ";
 
+const SKIPS: &str = "import pytest\n\ndef test_s():\n    pytest.skip(\"later\")\n";
+
+const SKIPPED: &str = "\
+============================= test session starts ==============================
+collected 1 item
+
+test_a.py s
+
+================================== 1 skipped ===================================
+";
+
+const FIXTURE: &str = "import pytest\n\n@pytest.fixture\ndef a():\n    return 1\n";
+
 const FACTORIAL: &str =
     "def fact(n):\n    r = 1\n    while n > 0:\n        r = r * n\n        n = n - 1\n    return r\n\n\
         def test_f():\n    assert fact(4) == 24\n";
@@ -173,6 +186,8 @@ fn writes_the_report_and_answers_its_status(rt: HostRuntime) -> Result<(), Fail>
             "ERROR: not built\n",
             4,
         ),
+        ("test_a.py", SKIPS, SKIPPED, 0),
+        ("test_a.py", FIXTURE, "ERROR: not built\n", 4),
         ("conftest.py", PASSES, "ERROR: not built\n", 4),
         ("-- -a.py", PASSES, "ERROR: not built\n", 4),
         ("sub/test_a.py", PASSES, "ERROR: not built\n", 4),

@@ -1,3 +1,3 @@
-pub mod Names
 pub mod Built
+pub mod Compound
 pub mod Lists

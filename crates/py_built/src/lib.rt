@@ -3,11 +3,12 @@
 //! # What it is for
 //!
 //! The grammar reads the whole language. What the meaning doesn't have yet is refused above the parser, by its form, so that
-//! nothing is ever run with another meaning than its own. [`is_built`] says of a tree whether all of its forms are there.
+//! nothing is ever run with another meaning than its own. [`is_built`] says of a tree whether all of its forms are there: all are but
+//! `yield`.
 //!
 //! # What is proved
 //!
-//! - `is_built`: exactly where each form of the tree is one of the list at [`is_built`] (`specs/Built.antt`).
+//! - `is_built`: exactly where no statement of the tree is a `yield` (`specs/Built.antt`).
 //!
 //! That such a tree has a meaning, and that core code can stand for it, is a law of `read_law`.
 //!
@@ -16,10 +17,7 @@
 //! Nothing.
 #![tactic(auto)]
 
-mod expressions;
-mod names;
+mod simple;
 mod statements;
-mod targets;
 
-pub use names::{UNBUILT_METHODS, UNBUILT_NAMES};
 pub use statements::is_built;

@@ -3,7 +3,7 @@ use Rattle.std.specs.Prelude.{ℕ, List, ◌++◌, if◌then◌else◌, codes, O
 use Rattle.py_values.specs.Limits.{most_elements}
 use Rattle.py_calls.specs.declared.made.TextMade.{TextMade}
 use Rattle.py_calls.specs.declared.made.TextMade.TheVariants.{Text, Refused}
-use Rattle.py_values.specs.Builtins.{builtin_name}
+use Rattle.py_kinds.specs.Builtins.{builtin_name}
 use Rattle.py_values.specs.Raises.{raise}
 use Rattle.py_repr.specs.Repr.{str_of}
 use Rattle.py_repr.specs.Symbols.{shown}

@@ -1,78 +1,23 @@
-// Calls of the built-in functions.
+// Calls of what is built in.
 
 ghost use Rattle.std.specs.Prelude.{◌≡◌, ◌≤◌, ◌++◌, IfOk, OnOk};
+ghost use Rattle.call_products.specs.Products as products;
 ghost use Rattle.py_calls.specs.Calls as calls;
-ghost use Rattle.py_values.specs.Ends.{finished, within, steps_of};
+ghost use Rattle.py_values.specs.Ends.{steps_of};
 
+use crate::functions::{len_made, number_call, object_call, sequence_call, str_made};
 use crate::line::{print_text, push_bytes};
 use crate::made::TextMade;
-use crate::text::{text_of, wrong};
+use crate::methods::{dict_call, list_call, text_call, tuple_call};
+use call_products::arguments::sole;
+use call_products::product::{Product, finish_product, plain, product_within};
 use py_values::builtin::Builtin;
-use py_values::class::ExcClass;
-use py_values::end::{Made, OpEnd, Raise, finish, made_within, push_ascii};
+use py_values::end::{Made, OpEnd};
 use py_values::heap::Heap;
-use py_values::kinds::kind_name;
-use py_values::length::length_of;
-use py_values::object::Obj;
 use py_values::value::Value;
 use py_values::{OutOfMemory, PyText};
+use pytest_calls::calls::{addfinalizer_called, pytest_called};
 use std::alloc::Global;
-
-fn one_arg(args: &[Value], named: &[(PyText, Value)]) -> Option<Value>
-    ensures { result ≡ calls.one_arg args.now named.now }
-{
-    match (args, named) {
-        ([v], []) => Some(*v),
-        _ => None,
-    }
-}
-
-fn str_made(alloc: Global, heap: &Heap, arg: Option<Value>) -> Result<Made, OutOfMemory>
-    ensures { IfOk result (λ m. m ≡ calls.str_made heap.now arg) }
-{
-    let Some(v) = arg else {
-        let raise = wrong(alloc, Builtin::Str)?;
-        return Ok(Made::Fail(raise, 0));
-    };
-    match text_of(alloc, heap, v)? {
-        TextMade::Text(text) => {
-            let len = text.chars().len() as u64;
-            Ok(Made::New(Obj::Text(text), len))
-        }
-        TextMade::Refused(raise) => Ok(Made::Fail(raise, 0)),
-    }
-}
-
-fn len_by(alloc: Global, kind: &[char], len: Option<usize>) -> Result<Made, OutOfMemory>
-    ensures { IfOk result (λ m. m ≡ calls.len_by kind.now len) }
-{
-    match len {
-        Some(len) => Ok(Made::Give(Value::Int(len as i128), 0)),
-        None => {
-            let mut text = Vec::new(alloc);
-            push_ascii(&mut text, "'")?;
-            text.extend_from_slice(kind)?;
-            push_ascii(&mut text, "' object is not iterable")?;
-            let raise = Raise::from_chars(alloc, ExcClass::TypeError, &text)?;
-            Ok(Made::Fail(raise, 0))
-        }
-    }
-}
-
-fn len_made(alloc: Global, heap: &Heap, arg: Option<Value>) -> Result<Made, OutOfMemory>
-    ensures { IfOk result (λ m. m ≡ calls.len_made heap.now arg) }
-{
-    match arg {
-        Some(v) => {
-            let kind = kind_name(alloc, heap, v)?;
-            len_by(alloc, kind.chars(), length_of(heap, v))
-        }
-        None => {
-            let raise = wrong(alloc, Builtin::Len)?;
-            Ok(Made::Fail(raise, 0))
-        }
-    }
-}
 
 /// Prints a text, where the budget suffices for its length.
 fn print_by(
@@ -80,8 +25,8 @@ fn print_by(
     printed: &mut Vec<u8>,
     text: TextMade,
     budget: u64,
-) -> Result<Option<Made>, OutOfMemory>
-    ensures made { IfOk result (λ m. m ≡ within budget (calls.print_by text).made) }
+) -> Result<Option<Product>, OutOfMemory>
+    ensures made { IfOk result (λ p. p ≡ products.product_within budget (calls.print_by text).product) }
     ensures printed { OnOk result (printed.new.items ≡ printed.old.items ++ calls.printed_within budget (calls.print_by text)) }
 {
     match text {
@@ -91,13 +36,14 @@ fn print_by(
                 return Ok(None);
             }
             push_bytes(alloc, printed, text.chars())?;
-            Ok(Some(Made::Give(Value::None, cost)))
+            Ok(Some(plain(alloc, Made::Give(Value::None, cost))))
         }
-        TextMade::Refused(raise) => Ok(Some(Made::Fail(raise, 0))),
+        TextMade::Refused(raise) => Ok(Some(plain(alloc, Made::Fail(raise, 0)))),
     }
 }
 
-/// What a call of a built-in function makes, under a budget; what it prints is put behind what was printed.
+/// What a call makes, under a budget (of a method the first argument is the value through which it was read); what it prints is put behind
+/// what was printed.
 #[tactic(auto, using(crate::proofs::Quiet::quiet_prints))]
 pub fn called(
     alloc: Global,
@@ -107,8 +53,8 @@ pub fn called(
     args: &[Value],
     named: &[(PyText, Value)],
     budget: u64,
-) -> Result<Option<Made>, OutOfMemory>
-    ensures made { IfOk result (λ m. m ≡ within budget (calls.called_of which heap.now args.now named.now).made) }
+) -> Result<Option<Product>, OutOfMemory>
+    ensures made { IfOk result (λ p. p ≡ products.product_within budget (calls.called_of which heap.now args.now named.now).product) }
     ensures printed { OnOk result
         (printed.new.items ≡ printed.old.items ++ calls.printed_within budget (calls.called_of which heap.now args.now named.now)) }
 {
@@ -118,17 +64,44 @@ pub fn called(
             print_by(alloc, printed, text, budget)
         }
         Builtin::Len => {
-            let made = len_made(alloc, heap, one_arg(args, named))?;
-            Ok(made_within(made, budget))
+            let product = len_made(alloc, heap, sole(args, named))?;
+            Ok(product_within(product, budget))
         }
         Builtin::Str => {
-            let made = str_made(alloc, heap, one_arg(args, named))?;
-            Ok(made_within(made, budget))
+            let product = str_made(alloc, heap, sole(args, named))?;
+            Ok(product_within(product, budget))
+        }
+        Builtin::Sequence(call) => {
+            let product = sequence_call(alloc, heap, call, args, named)?;
+            Ok(product_within(product, budget))
+        }
+        Builtin::Number(call) => number_call(alloc, heap, call, args, named, budget),
+        Builtin::Object(call) => {
+            let product = object_call(alloc, heap, call, args, named)?;
+            Ok(product_within(product, budget))
+        }
+        Builtin::Text(method) => {
+            let product = text_call(alloc, heap, method, args, named)?;
+            Ok(product_within(product, budget))
+        }
+        Builtin::List(method) => list_call(alloc, heap, method, args, named, budget),
+        Builtin::Tuple(method) => tuple_call(alloc, heap, method, args, named, budget),
+        Builtin::Dict(method) => {
+            let product = dict_call(alloc, heap, method, args, named)?;
+            Ok(product_within(product, budget))
+        }
+        Builtin::Pytest(call) => {
+            let product = pytest_called(alloc, heap, call, args, named)?;
+            Ok(product_within(product, budget))
+        }
+        Builtin::AddFinalizer => {
+            let product = addfinalizer_called(alloc, heap, args, named)?;
+            Ok(product_within(product, budget))
         }
     }
 }
 
-/// A call of a built-in function (Python library reference, built-in functions), within a budget of steps.
+/// A call of what is built in (Python library reference, built-in functions and types; pytest's reference), within a budget of steps.
 #[tactic(auto, using(crate::proofs::Within::within_cost))]
 pub fn builtin(
     alloc: Global,
@@ -140,11 +113,11 @@ pub fn builtin(
     budget: u64,
 ) -> Result<OpEnd, OutOfMemory>
     ensures end { IfOk result
-        (λ e. (e, heap.new) ≡ finished heap.old (within budget (calls.called_of which heap.old args.now named.now).made)) }
+        (λ e. (e, heap.new) ≡ products.product_finished heap.old (products.product_within budget (calls.called_of which heap.old args.now named.now).product)) }
     ensures printed { OnOk result
         (printed.new.items ≡ printed.old.items ++ calls.printed_within budget (calls.called_of which heap.old args.now named.now)) }
     ensures cost { IfOk result (λ e. steps_of e ≤ budget) }
 {
     let made = called(alloc, heap, printed, which, args, named, budget)?;
-    finish(heap, made)
+    finish_product(heap, made)
 }

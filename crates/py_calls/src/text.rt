@@ -4,11 +4,11 @@ ghost use Rattle.std.specs.Prelude.{◌≡◌, IfOk};
 ghost use Rattle.py_calls.specs.Texts as texts;
 
 use crate::made::TextMade;
+use py_kinds::builtins::builtin_name;
 use py_repr::repr::str;
 use py_repr::shown::Shown;
 use py_values::OutOfMemory;
 use py_values::builtin::Builtin;
-use py_values::builtins::builtin_name;
 use py_values::class::ExcClass;
 use py_values::end::{Raise, push_ascii};
 use py_values::heap::Heap;

@@ -16,8 +16,10 @@ mod expr;
 mod stmt;
 
 pub use expr::{CoreExpr, CoreExprKind};
-pub use py_tree::{BinOp, CmpOp, Expr, Function, Handler, Names, Pos, SrcText, Stmt, UnOp};
+pub use py_tree::{
+    Alias, ArgName, BinOp, CmpOp, Expr, Function, Handler, Names, Pos, SrcText, Stmt, UnOp,
+};
 pub use stmt::{
-    Core, CoreBlock, CoreBranch, CoreFn, CoreGuard, CoreHandler, CoreSingle, CoreSingleKind,
-    CoreStmt, CoreStmtKind, CoreTarget, Template,
+    Core, CoreBlock, CoreBranch, CoreClass, CoreFn, CoreGuard, CoreHandler, CoreParam, CoreSingle,
+    CoreSingleKind, CoreStmt, CoreStmtKind, CoreTarget, Template,
 };

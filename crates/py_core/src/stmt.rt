@@ -5,7 +5,7 @@ ghost use Rattle.py_core.specs.Blocks.{stmts_in, handlers_in};
 
 use crate::expr::CoreExpr;
 use py_source::{Pos, SrcText};
-use py_tree::{BinOp, Expr, Function, Handler, Names, Stmt};
+use py_tree::{Alias, BinOp, Expr, Function, Handler, Names, Stmt};
 use std::rc::Rc;
 
 /// The core code of a source.
@@ -68,7 +68,8 @@ pub enum CoreStmtKind {
     /// A `yield`, and what it gives.
     Yield(Option<Rc<CoreExpr>>),
     While(Rc<CoreExpr>, Rc<CoreBlock>),
-    Def(Rc<CoreFn>),
+    /// The decorators from top to bottom, the defaults of the parameters that have one, and the function.
+    Def(Rc<Vec<Rc<CoreExpr>>>, Rc<Vec<Rc<CoreExpr>>>, Rc<CoreFn>),
     /// `raise`, and what it raises.
     Raise(Option<Rc<CoreExpr>>),
     Del(CoreSingle),
@@ -77,6 +78,12 @@ pub enum CoreStmtKind {
     Try(Rc<CoreBlock>, Rc<CoreGuard>),
     /// The context, the name behind `as`, and the block.
     With(Rc<CoreExpr>, Option<SrcText>, Rc<CoreBlock>),
+    /// The decorators from top to bottom, the base, and the class.
+    Class(Rc<Vec<Rc<CoreExpr>>>, Option<Rc<CoreExpr>>, Rc<CoreClass>),
+    /// The dotted name, and the name behind `as`.
+    Import(Rc<Vec<SrcText>>, Option<SrcText>),
+    /// The dotted name, and what is imported from it.
+    ImportFrom(Rc<Vec<SrcText>>, Rc<Vec<Alias>>),
 }
 
 /// What guards the block of a `try`: its handlers, the source's handlers for which they stand, and the blocks behind `else` and
@@ -134,12 +141,29 @@ pub struct CoreFn {
     /// Where the word `def` stands.
     pub at: Pos,
     pub name: SrcText,
-    /// The names of its parameters.
-    pub params: Names,
+    /// Its parameters.
+    pub params: Rc<Vec<CoreParam>>,
     /// Its parameters and the names that it binds, but for those that it declares global.
     pub locals: Names,
     /// Whether its body has a `yield`.
     pub yields: bool,
+    pub body: Rc<CoreBlock>,
+}
+
+/// A parameter's name, and whether it has a default.
+#[derive(Drop)]
+pub struct CoreParam {
+    pub name: SrcText,
+    pub has_default: bool,
+}
+
+/// A class (Language Reference, class definitions).
+#[derive(Drop)]
+#[cycle(statement)]
+pub struct CoreClass {
+    /// Where the word `class` stands.
+    pub at: Pos,
+    pub name: SrcText,
     pub body: Rc<CoreBlock>,
 }
 

@@ -1,4 +1,5 @@
 ghost use Rattle.std.specs.Prelude.{◌≡◌, ◌≤◌, ◌<◌, ◌+◌, max, false, IfOk};
+ghost use Rattle.py_source.specs.Limits.{most_levels};
 ghost use Rattle.py_tree.specs.Trees.{tree};
 ghost use Rattle.py_expressions.specs.Sorts.{other, atom, arguments, slice, primary, power, unary, negation, expr, exprs};
 ghost use Rattle.py_nodes.specs.Parts.{row_of, pairs_of, args_of, chain_of, maybe_of, high_of};
@@ -30,7 +31,7 @@ pub fn expressions(
     levels: u32,
     tokens: &[Token],
 ) -> Result<(Node, &[Token]), Stop<'_>>
-    requires { levels ≤ 100 }
+    requires { levels ≤ most_levels }
     ensures reads { Gives (λ x. ((tree x.0.expr.value, x.0.height), x.1.now)) result (reads levels exprs tokens.now) }
     ensures fits { IfOk result (λ x. x.0.height ≤ levels) }
 {
@@ -59,7 +60,7 @@ fn items(
     tokens: &[Token],
 ) -> Result<(Row, &[Token]), Stop<'_>>
     requires some { 0 < levels }
-    requires few { levels ≤ 100 }
+    requires few { levels ≤ most_levels }
     requires open { row.ended ≡ false }
     requires low { row.all.height < levels }
     ensures reads { Gives (λ x. ((row_of x.0, x.0.all.height), x.1.now)) result (items levels (row_of row, row.all.height) tokens.now) }
@@ -86,7 +87,7 @@ pub fn expression(
     levels: u32,
     tokens: &[Token],
 ) -> Result<(Node, &[Token]), Stop<'_>>
-    requires { levels ≤ 100 }
+    requires { levels ≤ most_levels }
     ensures reads { Gives (λ x. ((tree x.0.expr.value, x.0.height), x.1.now)) result (reads levels expr tokens.now) }
     ensures fits { IfOk result (λ x. x.0.height ≤ levels) }
 {
@@ -116,7 +117,7 @@ fn chained(
     tokens: &[Token],
 ) -> Result<(Node, &[Token]), Stop<'_>>
     requires some { 0 < levels }
-    requires few { levels ≤ 100 }
+    requires few { levels ≤ most_levels }
     ensures reads { Gives (λ x. ((tree x.0.expr.value, x.0.height), x.1.now)) result (linked levels link tokens.now) }
     ensures fits { IfOk result (λ x. x.0.height ≤ levels) }
 {
@@ -142,7 +143,7 @@ fn further(
     tokens: &[Token],
 ) -> Result<(Chain, &[Token]), Stop<'_>>
     requires some { 0 < levels }
-    requires few { levels ≤ 100 }
+    requires few { levels ≤ most_levels }
     requires low { max chain.head.height chain.more.height < levels }
     ensures reads { Gives (λ x. ((chain_of x.0, max x.0.head.height x.0.more.height), x.1.now)) result (links_more levels link (chain_of chain, max chain.head.height chain.more.height) tokens.now) }
     ensures fits { IfOk result (λ x. max x.0.head.height x.0.more.height < levels) }
@@ -167,7 +168,7 @@ fn operand(
     tokens: &[Token],
 ) -> Result<(Node, &[Token]), Stop<'_>>
     requires some { 0 < levels }
-    requires few { levels ≤ 100 }
+    requires few { levels ≤ most_levels }
     ensures reads { Gives (λ x. ((tree x.0.expr.value, x.0.height), x.1.now)) result (operand_of levels link tokens.now) }
     ensures fits { IfOk result (λ x. x.0.height ≤ levels) }
 {
@@ -183,7 +184,7 @@ fn operand(
 #[cycle(expression)]
 fn negation(alloc: Global, levels: u32, tokens: &[Token]) -> Result<(Node, &[Token]), Stop<'_>>
     requires some { 0 < levels }
-    requires few { levels ≤ 100 }
+    requires few { levels ≤ most_levels }
     ensures reads { Gives (λ x. ((tree x.0.expr.value, x.0.height), x.1.now)) result (reads levels negation tokens.now) }
     ensures fits { IfOk result (λ x. x.0.height ≤ levels) }
 {
@@ -207,7 +208,7 @@ fn binary(
     tokens: &[Token],
 ) -> Result<(Node, &[Token]), Stop<'_>>
     requires some { 0 < levels }
-    requires few { levels ≤ 100 }
+    requires few { levels ≤ most_levels }
     ensures reads { Gives (λ x. ((tree x.0.expr.value, x.0.height), x.1.now)) result (ranked levels rank tokens.now) }
     ensures fits { IfOk result (λ x. x.0.height ≤ levels) }
 {
@@ -231,7 +232,7 @@ fn binary(
 #[cycle(expression)]
 fn unary(alloc: Global, levels: u32, tokens: &[Token]) -> Result<(Node, &[Token]), Stop<'_>>
     requires some { 0 < levels }
-    requires few { levels ≤ 100 }
+    requires few { levels ≤ most_levels }
     ensures reads { Gives (λ x. ((tree x.0.expr.value, x.0.height), x.1.now)) result (reads levels unary tokens.now) }
     ensures fits { IfOk result (λ x. x.0.height ≤ levels) }
 {
@@ -255,7 +256,7 @@ fn unary(alloc: Global, levels: u32, tokens: &[Token]) -> Result<(Node, &[Token]
 #[cycle(expression)]
 fn power(alloc: Global, levels: u32, tokens: &[Token]) -> Result<(Node, &[Token]), Stop<'_>>
     requires some { 0 < levels }
-    requires few { levels ≤ 100 }
+    requires few { levels ≤ most_levels }
     ensures reads { Gives (λ x. ((tree x.0.expr.value, x.0.height), x.1.now)) result (reads levels power tokens.now) }
     ensures fits { IfOk result (λ x. x.0.height ≤ levels) }
 {
@@ -275,7 +276,7 @@ fn power(alloc: Global, levels: u32, tokens: &[Token]) -> Result<(Node, &[Token]
 #[cycle(expression)]
 fn primary(alloc: Global, levels: u32, tokens: &[Token]) -> Result<(Node, &[Token]), Stop<'_>>
     requires some { 0 < levels }
-    requires few { levels ≤ 100 }
+    requires few { levels ≤ most_levels }
     ensures reads { Gives (λ x. ((tree x.0.expr.value, x.0.height), x.1.now)) result (reads levels primary tokens.now) }
     ensures fits { IfOk result (λ x. x.0.height ≤ levels) }
 {
@@ -300,7 +301,7 @@ fn trailer(
     of: Node,
     tokens: &[Token],
 ) -> Result<(Node, &[Token]), Stop<'_>>
-    requires few { levels ≤ 100 }
+    requires few { levels ≤ most_levels }
     requires low { of.height < levels }
     ensures reads { Gives (λ x. ((tree x.0.expr.value, x.0.height), x.1.now)) result (trailer_on levels (tree of.expr.value, of.height) tokens.now) }
     ensures fits { IfOk result (λ x. x.0.height ≤ levels) }
@@ -325,7 +326,7 @@ fn subscript(
     of: Node,
     tokens: &[Token],
 ) -> Result<(Node, &[Token]), Stop<'_>>
-    requires few { levels ≤ 100 }
+    requires few { levels ≤ most_levels }
     requires low { of.height < levels }
     ensures reads { Gives (λ x. ((tree x.0.expr.value, x.0.height), x.1.now)) result (index_on levels (tree of.expr.value, of.height) tokens.now) }
     ensures fits { IfOk result (λ x. x.0.height ≤ levels) }
@@ -347,7 +348,7 @@ fn subscript(
 #[cycle(expression)]
 pub fn slice(alloc: Global, levels: u32, tokens: &[Token]) -> Result<(Bounds, &[Token]), Stop<'_>>
     requires some { 0 < levels }
-    requires few { levels ≤ 100 }
+    requires few { levels ≤ most_levels }
     ensures reads { Gives (λ x. (((maybe_of x.0.to, maybe_of x.0.by), 1 + max (high_of x.0.to) (high_of x.0.by)), x.1.now)) result (reads levels slice tokens.now) }
     ensures fits { IfOk result (λ x. max (high_of x.0.to) (high_of x.0.by) < levels) }
 {
@@ -369,7 +370,7 @@ fn bounds(
     tokens: &[Token],
 ) -> Result<(Bounds, &[Token]), Stop<'_>>
     requires some { 0 < levels }
-    requires few { levels ≤ 100 }
+    requires few { levels ≤ most_levels }
     requires low { high_of to < levels }
     ensures reads { Gives (λ x. (((maybe_of x.0.to, maybe_of x.0.by), 1 + max (high_of x.0.to) (high_of x.0.by)), x.1.now)) result (slice_more levels (maybe_of to, high_of to) tokens.now) }
     ensures fits { IfOk result (λ x. max (high_of x.0.to) (high_of x.0.by) < levels) }
@@ -395,7 +396,7 @@ pub fn arguments(
     tokens: &[Token],
 ) -> Result<(Arguments, &[Token]), Stop<'_>>
     requires some { 0 < levels }
-    requires few { levels ≤ 100 }
+    requires few { levels ≤ most_levels }
     ensures reads { Gives (λ x. ((args_of x.0, 1 + x.0.all.height), x.1.now)) result (reads levels arguments tokens.now) }
     ensures fits { IfOk result (λ x. x.0.all.height < levels) }
 {
@@ -420,7 +421,7 @@ fn more_arguments(
     tokens: &[Token],
 ) -> Result<(Arguments, &[Token]), Stop<'_>>
     requires some { 0 < levels }
-    requires few { levels ≤ 100 }
+    requires few { levels ≤ most_levels }
     requires open { first.ended ≡ false }
     requires low { first.all.height < levels }
     ensures reads { Gives (λ x. ((args_of x.0, x.0.all.height), x.1.now)) result (args_more levels (args_of first, first.all.height) tokens.now) }
@@ -449,7 +450,7 @@ fn argument(
     tokens: &[Token],
 ) -> Result<(Arguments, &[Token]), Stop<'_>>
     requires some { 0 < levels }
-    requires few { levels ≤ 100 }
+    requires few { levels ≤ most_levels }
     requires low { before.all.height < levels }
     ensures reads { Gives (λ x. ((args_of x.0, x.0.all.height), x.1.now)) result (arg_on levels (args_of before, before.all.height) tokens.now) }
     ensures fits { IfOk result (λ x. x.0.all.height < levels) }
@@ -471,7 +472,7 @@ fn argument(
 #[cycle(expression)]
 fn atom(alloc: Global, levels: u32, tokens: &[Token]) -> Result<(Node, &[Token]), Stop<'_>>
     requires some { 0 < levels }
-    requires few { levels ≤ 100 }
+    requires few { levels ≤ most_levels }
     ensures reads { Gives (λ x. ((tree x.0.expr.value, x.0.height), x.1.now)) result (reads levels atom tokens.now) }
     ensures fits { IfOk result (λ x. x.0.height ≤ levels) }
 {
@@ -490,7 +491,7 @@ pub fn other_atom(
     levels: u32,
     tokens: &[Token],
 ) -> Result<(Node, &[Token]), Stop<'_>>
-    requires { levels ≤ 100 }
+    requires { levels ≤ most_levels }
     ensures reads { Gives (λ x. ((tree x.0.expr.value, x.0.height), x.1.now)) result (reads levels other tokens.now) }
     ensures fits { IfOk result (λ x. x.0.height ≤ levels) }
 {
@@ -519,7 +520,7 @@ fn group(
     tokens: &[Token],
 ) -> Result<(Node, &[Token]), Stop<'_>>
     requires some { 0 < levels }
-    requires few { levels ≤ 100 }
+    requires few { levels ≤ most_levels }
     ensures reads { Gives (λ x. ((tree x.0.expr.value, x.0.height), x.1.now)) result (group_on levels at tokens.now) }
     ensures fits { IfOk result (λ x. x.0.height ≤ levels) }
 {
@@ -535,7 +536,7 @@ fn group(
 #[cycle(expression)]
 fn list(alloc: Global, levels: u32, at: Pos, tokens: &[Token]) -> Result<(Node, &[Token]), Stop<'_>>
     requires some { 0 < levels }
-    requires few { levels ≤ 100 }
+    requires few { levels ≤ most_levels }
     ensures reads { Gives (λ x. ((tree x.0.expr.value, x.0.height), x.1.now)) result (list_on levels at tokens.now) }
     ensures fits { IfOk result (λ x. x.0.height ≤ levels) }
 {
@@ -553,7 +554,7 @@ fn list(alloc: Global, levels: u32, at: Pos, tokens: &[Token]) -> Result<(Node, 
 #[cycle(expression)]
 fn dict(alloc: Global, levels: u32, at: Pos, tokens: &[Token]) -> Result<(Node, &[Token]), Stop<'_>>
     requires some { 0 < levels }
-    requires few { levels ≤ 100 }
+    requires few { levels ≤ most_levels }
     ensures reads { Gives (λ x. ((tree x.0.expr.value, x.0.height), x.1.now)) result (dict_on levels at tokens.now) }
     ensures fits { IfOk result (λ x. x.0.height ≤ levels) }
 {
@@ -577,7 +578,7 @@ fn more_pairs(
     tokens: &[Token],
 ) -> Result<(Pairs, &[Token]), Stop<'_>>
     requires some { 0 < levels }
-    requires few { levels ≤ 100 }
+    requires few { levels ≤ most_levels }
     requires open { first.ended ≡ false }
     requires low { max first.names.height first.values.height < levels }
     ensures reads { Gives (λ x. ((pairs_of x.0, max x.0.names.height x.0.values.height), x.1.now)) result (pairs_more levels (pairs_of first, max first.names.height first.values.height) tokens.now) }
@@ -605,7 +606,7 @@ fn pair(
     tokens: &[Token],
 ) -> Result<(Pairs, &[Token]), Stop<'_>>
     requires some { 0 < levels }
-    requires few { levels ≤ 100 }
+    requires few { levels ≤ most_levels }
     requires low { max before.names.height before.values.height < levels }
     ensures reads { Gives (λ x. ((pairs_of x.0, max x.0.names.height x.0.values.height), x.1.now)) result (pair_on levels (pairs_of before, max before.names.height before.values.height) tokens.now) }
     ensures fits { IfOk result (λ x. max x.0.names.height x.0.values.height < levels) }

@@ -2,8 +2,8 @@
 use Rattle.std.specs.Prelude.{ℕ, ◌+◌, ◌^◌, ◌<◌, Bool, List, [], ◌∷◌, ◌++◌, length, nat_lt, eqb, if◌then◌else◌, Option, Some, None, codes, slice_get}
 use Rattle.py_values.specs.Changes.{heap_after}
 use Rattle.py_values.specs.Ends.{id_at}
-use Rattle.py_values.specs.Kinds.{kind_name}
-use Rattle.py_values.specs.Lengths.{length_of}
+use Rattle.py_kinds.specs.Kinds.{kind_name}
+use Rattle.py_kinds.specs.Lengths.{length_of}
 use Rattle.py_values.specs.Raises.{raise}
 use Rattle.py_values.specs.declared.class.ExcClass.TheVariants.{RuntimeError}
 use Rattle.py_values.specs.declared.dict.Pair.{Pair}
@@ -14,9 +14,9 @@ use Rattle.py_values.specs.declared.object.Obj.{Obj}
 use Rattle.py_values.specs.declared.object.Obj.TheVariants as obj
 use Rattle.py_values.specs.declared.value.Value.{Value}
 use Rattle.py_values.specs.declared.value.Value.TheVariants as val
-use Rattle.py_ops.specs.Faults.{not_iterable}
+use Rattle.py_operands.specs.Faults.{not_iterable}
 use Rattle.py_items.specs.Items.{given, char_given, object_at}
-use Rattle.py_ops.specs.Ranges.{range_number}
+use Rattle.py_operands.specs.Ranges.{range_number}
 use Rattle.py_items.specs.declared.iter.IterAt.{IterAt}
 use Rattle.py_items.specs.declared.iter.Turn.{Turn}
 use Rattle.py_items.specs.declared.iter.Turn.TheVariants as turn

@@ -2,10 +2,10 @@
 
 ghost use Rattle.std.specs.Prelude.{◌≡◌, IfOk, length, slice_get, option_copied};
 ghost use Rattle.py_items.specs.Items as items;
-ghost use Rattle.py_ops.specs.Ranges as ranges;
+ghost use Rattle.py_operands.specs.Ranges as ranges;
 
-use py_ops::faults::{no_index, out_of_range};
-use py_ops::ranges::range_number;
+use py_operands::faults::{no_index, out_of_range};
+use py_operands::ranges::range_number;
 use py_values::end::Made;
 use py_values::object::Obj;
 use py_values::range::RangeObj;

@@ -4,7 +4,7 @@ ghost use Rattle.std.specs.Prelude.{◌≡◌, ◌≢◌, ◌^◌, ◌≤◌, �
 ghost use Rattle.py_values.specs.declared.object.Obj.TheVariants as obj;
 ghost use Rattle.py_items.specs.Items as items;
 
-use py_ops::faults::{failed, no_index};
+use py_operands::faults::{failed, no_index};
 use py_values::class::ExcClass;
 use py_values::end::Made;
 use py_values::number::number;

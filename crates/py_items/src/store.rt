@@ -2,23 +2,23 @@
 
 ghost use Rattle.std.specs.Prelude.{◌≡◌, ◌≤◌, IfOk, length, slice_get};
 ghost use Rattle.py_values.specs.Ends.{finished, within, steps_of};
-ghost use Rattle.py_values.specs.Keys.{key_of};
-ghost use Rattle.py_values.specs.Kinds as kinds;
+ghost use Rattle.py_kinds.specs.Keys.{key_of};
+ghost use Rattle.py_kinds.specs.Kinds as kinds;
 ghost use Rattle.py_values.specs.Numbers.{number_of};
 ghost use Rattle.py_values.specs.Pairs.{find_pair};
 ghost use Rattle.py_values.specs.declared.value.Value.TheVariants as val;
-ghost use Rattle.py_ops.specs.Faults as faults;
+ghost use Rattle.py_operands.specs.Faults as faults;
 ghost use Rattle.py_items.specs.Items as items;
 
 use crate::index::{Found, find_place};
-use py_ops::faults::{key_fault, no_index, no_key, not_subscriptable, out_of_range, too_long};
+use py_kinds::keys::{Keyed, key};
+use py_operands::faults::{key_fault, no_index, no_key, not_subscriptable, out_of_range, too_long};
 use py_values::OutOfMemory;
 use py_values::change::Change;
 use py_values::dict::Dict;
 use py_values::end::{Made, OpEnd, finish, made_within};
 use py_values::heap::Heap;
 use py_values::key::Key;
-use py_values::keys::{Keyed, key};
 use py_values::limits::MOST_ELEMENTS;
 use py_values::number::number;
 use py_values::object::Obj;

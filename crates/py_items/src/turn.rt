@@ -2,20 +2,20 @@
 
 ghost use Rattle.std.specs.Prelude.{◌≡◌, IfOk, OnOk, length, slice_get};
 ghost use Rattle.py_items.specs.Items as items;
-ghost use Rattle.py_ops.specs.Ranges as ranges;
+ghost use Rattle.py_operands.specs.Ranges as ranges;
 ghost use Rattle.py_items.specs.Turns as turns;
 
 use crate::index::{char_given, given, value_at};
 use crate::iter::{IterAt, Turn};
 use crate::subscript::object_at;
-use py_ops::faults::{failed, not_iterable};
-use py_ops::ranges::range_number;
+use py_kinds::length::length_of;
+use py_operands::faults::{failed, not_iterable};
+use py_operands::ranges::range_number;
 use py_values::OutOfMemory;
 use py_values::class::ExcClass;
 use py_values::dict::Dict;
 use py_values::end::Made;
 use py_values::heap::Heap;
-use py_values::length::length_of;
 use py_values::object::Obj;
 use py_values::range::RangeObj;
 use py_values::value::Value;

@@ -9,7 +9,7 @@ use Rattle.py_values.specs.declared.value.Value.{Value}
 use Rattle.py_values.specs.Names.{name_eq}
 use Rattle.py_world.specs.declared.ended.Ended.{Ended}
 use Rattle.py_world.specs.declared.load.Load.{Load}
-use Rattle.py_world.specs.World.{Kinds, World, Source, Coded, Code, Fault, Stored, Frozen, Traces, world_with_printed}
+use Rattle.py_world.specs.World.{Kinds, World, Source, Coded, Code, Fault, Stored, Frozen, Traces, world_with_heap, world_with_printed}
 use Rattle.py_world.specs.Runs.{source_at}
 use Rattle.core_meaning.specs.Requests.{Layer}
 use Rattle.core_meaning.specs.Meaning.{CoreWorld, core_call, core_module}
@@ -48,6 +48,13 @@ printed_alike printed (worlds xs ys zs modules heap p traces) = worlds xs ys zs 
 
 pub printed_sound : (printed : List ℕ) (w : CoreWorld) → Sound w → Sound (world_with_printed printed w)
 printed_sound printed w sound = ∥∥₁_map sound (λ h. printed_alike printed h)
+
+-- another heap
+heap_alike : (heap : List Obj) {w : SourceWorld} {z : CoreWorld} → LoweredWorld w z → LoweredWorld (world_with_heap heap w) (world_with_heap heap z)
+heap_alike heap (worlds xs ys zs modules h printed traces) = worlds xs ys zs modules heap printed traces
+
+pub heap_sound : (heap : List Obj) (w : CoreWorld) → Sound w → Sound (world_with_heap heap w)
+heap_sound heap w sound = ∥∥₁_map sound (λ h. heap_alike heap h)
 
 -- one source more
 map_more : (xs : List (Source Core)) (x : Source Core) → map file_view (xs ++ x ∷ []) ≡ map file_view xs ++ file_view x ∷ []

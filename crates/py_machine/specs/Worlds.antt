@@ -8,7 +8,7 @@ use Rattle.py_values.specs.declared.object.Obj.{Obj}
 use Rattle.py_values.specs.declared.object.Obj.TheVariants as obj
 use Rattle.py_values.specs.declared.value.Value.{Value}
 use Rattle.py_world.specs.World.{Source, Coded, Code, Fault}
-use Rattle.py_values.specs.Builtins.{first_heap}
+use Rattle.py_kinds.specs.Builtins.{first_heap}
 use Rattle.source_meaning.specs.Meaning.{SourceWorld}
 use Rattle.lower_law.specs.Sourced.{module_of}
 use Rattle.lower_law.specs.Lowered.{LoweredModule}

@@ -16,13 +16,14 @@ use machine_state::source::{SourceCode, SourceFile};
 use machine_state::stack::ControlStack;
 use machine_state::traces::Traces;
 use py_core::Core;
+use py_kinds::builtins::first_heap;
 use py_source::SourceFault;
 use py_text::{OutOfMemory, PyText};
-use py_values::builtins::first_heap;
 use py_values::heap::Heap;
 use py_values::object::Obj;
 use py_values::value::{ObjId, Value};
 use py_world::Ended;
+use runner_values::{New, add};
 use std::alloc::Global;
 use std::marker::Model;
 use std::mem;
@@ -209,9 +210,8 @@ fn forget_code(m: &mut Machine)
     m.frozen = Vec::new(m.alloc);
 }
 
-/// Executes a module, at most once per world, within a budget of steps.
+/// Executes a module, at most once per world, within a budget of steps. A path without code gives `None` at no step.
 pub fn run_module(world: &mut World, path: &str, budget: u64) -> Result<Ended, OutOfMemory>
-    requires { IsSome (coded (source_at (chars path.now) world.old.sources)) }
     ensures { IfOk result (λ e. (e, world.new) ≡ source_module (chars path.now) budget world.old) }
 {
     match load::load(&mut world.machine, path, budget) {
@@ -223,5 +223,13 @@ pub fn run_module(world: &mut World, path: &str, budget: u64) -> Result<Ended, O
     }
 }
 
-ghost use Rattle.std.specs.Prelude.{IsSome};
-ghost use Rattle.py_world.specs.Runs.{coded};
+/// Gives the language an object: no code of the sources runs for it. Behind want of memory the heap may have objects more.
+pub fn make(world: &mut World, new: &New) -> Result<Value, OutOfMemory>
+    requires { ClassIsThere new.now world.old.heap }
+    ensures given { IfOk result (λ v. IsGiven new.now v world.old.heap world.new.heap) }
+    ensures same { world.new ≡ seen.world_with_heap world.new.heap world.old }
+{
+    add(world.machine.alloc, &mut world.machine.heap, new)
+}
+
+ghost use Rattle.runner_values.specs.Given.{ClassIsThere, IsGiven};

@@ -1,9 +1,5 @@
-pub mod Bits
-pub mod Dividing
 pub mod Judging
 pub mod Parting
-pub mod Powers
 pub mod Ranging
-pub mod Repeating
 pub mod Searching
 pub mod Within

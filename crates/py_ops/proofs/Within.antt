@@ -2,9 +2,9 @@
 use Rattle.std.proofs.Common.{ℕ, ◌≤◌, ◌≡◌, Bool, true, false, nat_lt, if◌then◌else◌, Option, Some, None, refl, arith}
 use Rattle.std.proofs.lemmas.Grind.{common_steps}
 use Rattle.py_ops.specs.Binary.{or_fail, put_whole, put_some}
-use Rattle.py_ops.specs.Attempts.{attempted}
-use Rattle.py_ops.specs.declared.attempt.Attempt.{Attempt}
-use Rattle.py_ops.specs.declared.attempt.Attempt.TheVariants as attempt
+use Rattle.py_operands.specs.Attempts.{attempted}
+use Rattle.py_operands.specs.declared.attempt.Attempt.{Attempt}
+use Rattle.py_operands.specs.declared.attempt.Attempt.TheVariants as attempt
 use Rattle.py_values.specs.Ends.{within, made_cost, cost_of}
 use Rattle.py_values.specs.declared.end.Made.{Made}
 use Rattle.py_values.specs.declared.end.Made.TheVariants.{Give, New, Put, Fail}

@@ -3,7 +3,7 @@ use Rattle.std.specs.Prelude.{ℕ, ℤ, ◌+ℤ◌, ◌-ℤ◌, ◌*ℤ◌, Bool
 use Rattle.py_tree.specs.declared.op.BinOp.{BinOp}
 use Rattle.py_tree.specs.declared.op.BinOp.TheVariants as op
 use Rattle.py_values.specs.Numbers.{number_of}
-use Rattle.py_values.specs.Kinds.{kind_name}
+use Rattle.py_kinds.specs.Kinds.{kind_name}
 use Rattle.py_values.specs.Raises.{raise}
 use Rattle.py_values.specs.declared.change.Change.TheVariants.{Whole}
 use Rattle.py_values.specs.declared.class.ExcClass.TheVariants.{TypeError}
@@ -14,8 +14,8 @@ use Rattle.py_values.specs.declared.object.Obj.TheVariants as obj
 use Rattle.py_values.specs.declared.value.ObjId.{ObjId}
 use Rattle.py_values.specs.declared.value.Value.{Value}
 use Rattle.py_values.specs.declared.value.Value.TheVariants as val
-use Rattle.py_ops.specs.Numbers.{number, floor_div, floor_mod, divided, power, shift_left, shift_right, int_and, int_or, int_xor}
-use Rattle.py_ops.specs.Sequences.{objs_added, obj_times}
+use Rattle.py_operands.specs.Numbers.{number, floor_div, floor_mod, divided, power, shift_left, shift_right, int_and, int_or, int_xor}
+use Rattle.py_operands.specs.Sequences.{objs_added, obj_times}
 
 abbrev pub binary_text : BinOp → List ℕ
 binary_text op.Add = codes "+"

@@ -1,16 +1,16 @@
 -- Operators before a value (Language Reference, unary arithmetic and bitwise operations).
-use Rattle.std.specs.Prelude.{ℕ, ℤ, pos, negsuc, neg_ℤ, List, ◌++◌, Option, Some, None, codes}
+use Rattle.std.specs.Prelude.{ℕ, ℤ, neg_ℤ, List, ◌++◌, Option, Some, None, codes}
 use Rattle.py_tree.specs.declared.op.UnOp.{UnOp}
 use Rattle.py_tree.specs.declared.op.UnOp.TheVariants as op
 use Rattle.py_values.specs.Numbers.{number_of}
-use Rattle.py_values.specs.Kinds.{kind_name}
+use Rattle.py_kinds.specs.Kinds.{kind_name}
 use Rattle.py_values.specs.Raises.{raise}
 use Rattle.py_values.specs.declared.class.ExcClass.TheVariants.{TypeError}
 use Rattle.py_values.specs.declared.end.Made.{Made}
 use Rattle.py_values.specs.declared.end.Made.TheVariants.{Fail}
 use Rattle.py_values.specs.declared.object.Obj.{Obj}
 use Rattle.py_values.specs.declared.value.Value.{Value}
-use Rattle.py_ops.specs.Numbers.{number}
+use Rattle.py_operands.specs.Numbers.{number, inverted}
 
 abbrev pub unary_text : UnOp → List ℕ
 unary_text op.Minus = codes "-"
@@ -19,11 +19,6 @@ unary_text op.Invert = codes "~"
 
 abbrev pub bad_operand : List ℕ → List ℕ → Made
 bad_operand o a = Fail (raise TypeError (codes "bad operand type for unary " ++ (o ++ (codes ": '" ++ (a ++ codes "'"))))) 0
-
--- -(x+1)
-abbrev pub inverted : ℤ → ℤ
-inverted (pos n) = negsuc n
-inverted (negsuc n) = pos n
 
 abbrev pub number_unary : UnOp → ℤ → Made
 number_unary op.Minus x = number (neg_ℤ x)

@@ -2,27 +2,27 @@
 
 ghost use Rattle.std.specs.Prelude.{◌≡◌, ◌≤◌, IfOk, slice_get};
 ghost use Rattle.py_ops.specs.Binary as binary;
-ghost use Rattle.py_ops.specs.Numbers as numbers;
-ghost use Rattle.py_ops.specs.Attempts.{attempted};
+ghost use Rattle.py_operands.specs.Numbers as numbers;
+ghost use Rattle.py_operands.specs.Attempts.{attempted};
 ghost use Rattle.py_values.specs.Numbers.{number_of};
 ghost use Rattle.py_values.specs.Ends.{finished, within, steps_of};
-ghost use Rattle.py_values.specs.Kinds as kinds;
+ghost use Rattle.py_kinds.specs.Kinds as kinds;
 ghost use Rattle.py_values.specs.declared.value.Value.TheVariants as val;
 
-use crate::attempt::{Attempt, attempt_within};
-use crate::faults::{failed, kinds_error};
-use crate::numbers::{
+use py_kinds::kinds::kind_name;
+use py_operands::attempt::{Attempt, attempt_within};
+use py_operands::faults::{failed, kinds_error};
+use py_operands::numbers::{
     difference, floor_div, floor_mod, int_and, int_or, int_xor, itself, number_made, power,
     product, shift_left, shift_right, sum,
 };
-use crate::sequences::{obj_times, objs_added};
+use py_operands::sequences::{obj_times, objs_added};
 use py_tree::BinOp;
 use py_values::OutOfMemory;
 use py_values::change::Change;
 use py_values::class::ExcClass;
 use py_values::end::{Made, OpEnd, finish};
 use py_values::heap::Heap;
-use py_values::kinds::kind_name;
 use py_values::number::number;
 use py_values::object::Obj;
 use py_values::value::{ObjId, Value};

@@ -10,9 +10,7 @@
 //!
 //! - `binary`, `augmented`, `unary`, `compare`: each ends as its definition says under the budget, in the heap that it leaves (`end`),
 //!   and takes at most the budget's steps (`cost`). `binary_made` and its kin decide the same on a heap that is only read.
-//! - All operators of the language are there. Numbers are exact or an `OverflowError`; `//` rounds down and `%` has the divisor's sign, for
-//!   which a law (`division_law`) says that a number is its quotient times the divisor and the rest (`whole`), which has the divisor's sign
-//!   (`above`, `below`) and is smaller than it (`rest`).
+//! - All operators of the language are there; what they do with numbers, ranges and sequences stands in py_operands.
 //!
 //! # What tests alone show
 //!
@@ -23,13 +21,7 @@
 //! How long a call takes.
 #![tactic(auto)]
 
-pub mod attempt;
 pub mod binary;
 pub mod compare;
 mod contains;
-pub mod faults;
-pub mod laws;
-pub mod numbers;
-pub mod ranges;
-pub mod sequences;
 pub mod unary;

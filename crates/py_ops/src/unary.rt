@@ -4,13 +4,13 @@ ghost use Rattle.std.specs.Prelude.{◌≡◌, ◌≤◌, IfOk};
 ghost use Rattle.py_ops.specs.Unary as unary;
 ghost use Rattle.py_values.specs.Ends.{finished, within, steps_of};
 
-use crate::faults::kind_error;
-use crate::numbers::{inverted, itself, negative, number_made};
+use py_kinds::kinds::kind_name;
+use py_operands::faults::kind_error;
+use py_operands::numbers::{inverted, itself, negative, number_made};
 use py_tree::UnOp;
 use py_values::OutOfMemory;
 use py_values::end::{Made, OpEnd, finish, made_within};
 use py_values::heap::Heap;
-use py_values::kinds::kind_name;
 use py_values::number::number;
 use py_values::value::Value;
 use std::alloc::Global;

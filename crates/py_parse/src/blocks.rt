@@ -1,4 +1,5 @@
 ghost use Rattle.std.specs.Prelude.{◌≡◌, ◌≤◌, ◌<◌, nat_le};
+ghost use Rattle.py_source.specs.Limits.{most_levels};
 ghost use Rattle.py_tree.specs.Trees.{tree, trees, some_tree, Empty};
 ghost use Rattle.py_tree.specs.Statements.{statement, block, branches, handlers};
 ghost use Rattle.py_cursor.specs.Cursor.{Gives};
@@ -73,7 +74,7 @@ const BEGINS_STATEMENT: [Sign; 32] = [
 #[tactic(auto, unfolding(statement_readers::specs::Words::suite))]
 #[cycle(block)]
 fn suite(alloc: Global, levels: u32, tokens: &[Token]) -> Result<(Vec<Stmt>, &[Token]), Stop<'_>>
-    requires few { levels ≤ 100 }
+    requires few { levels ≤ most_levels }
     requires some { 0 < levels }
     ensures { Gives (λ x. (block x.0.items, x.1.now)) result (suite (block_at levels) tokens.now) }
 {
@@ -90,7 +91,7 @@ fn suite_behind(
     word: Op,
     tokens: &[Token],
 ) -> Result<(Vec<Stmt>, &[Token]), Stop<'_>>
-    requires few { levels ≤ 100 }
+    requires few { levels ≤ most_levels }
     requires some { 0 < levels }
     ensures { Gives (λ x. (block x.0.items, x.1.now)) result (suite_behind (block_at levels) (op_number word) tokens.now) }
 {
@@ -108,7 +109,7 @@ fn arm(
     levels: u32,
     tokens: &[Token],
 ) -> Result<(Rc<Expr>, Vec<Stmt>, &[Token]), Stop<'_>>
-    requires few { levels ≤ 100 }
+    requires few { levels ≤ most_levels }
     requires some { 0 < levels }
     ensures { Gives (λ x. ((tree x.0.value, block x.1.items), x.2.now)) result (arm (block_at levels) tokens.now) }
 {
@@ -126,7 +127,7 @@ fn further_branches<'t>(
     first: Vec<Branch>,
     tokens: &'t [Token],
 ) -> Result<(Vec<Branch>, &'t [Token]), Stop<'t>>
-    requires few { levels ≤ 100 }
+    requires few { levels ≤ most_levels }
     requires some { 0 < levels }
     ensures { Gives (λ x. (branches x.0.items, x.1.now)) result (elifs_on (block_at levels) (branches first.items, tokens.now)) }
 {
@@ -149,7 +150,7 @@ fn choosing(
     at: Pos,
     tokens: &[Token],
 ) -> Result<(Stmt, &[Token]), Stop<'_>>
-    requires few { levels ≤ 100 }
+    requires few { levels ≤ most_levels }
     requires some { 0 < levels }
     ensures { Gives (λ x. (statement x.0, x.1.now)) result (if_behind (block_at levels) at tokens.now) }
 {
@@ -169,7 +170,7 @@ fn looping(
     at: Pos,
     tokens: &[Token],
 ) -> Result<(Stmt, &[Token]), Stop<'_>>
-    requires few { levels ≤ 100 }
+    requires few { levels ≤ most_levels }
     requires some { 0 < levels }
     ensures { Gives (λ x. (statement x.0, x.1.now)) result (while_behind (block_at levels) at tokens.now) }
 {
@@ -186,7 +187,7 @@ fn running(
     at: Pos,
     tokens: &[Token],
 ) -> Result<(Stmt, &[Token]), Stop<'_>>
-    requires few { levels ≤ 100 }
+    requires few { levels ≤ most_levels }
     requires some { 0 < levels }
     ensures { Gives (λ x. (statement x.0, x.1.now)) result (for_behind (block_at levels) at tokens.now) }
 {
@@ -206,7 +207,7 @@ fn entering(
     at: Pos,
     tokens: &[Token],
 ) -> Result<(Stmt, &[Token]), Stop<'_>>
-    requires few { levels ≤ 100 }
+    requires few { levels ≤ most_levels }
     requires some { 0 < levels }
     ensures { Gives (λ x. (statement x.0, x.1.now)) result (with_behind (block_at levels) at tokens.now) }
 {
@@ -226,7 +227,7 @@ fn handler<'t>(
     word: Pos,
     tokens: &'t [Token],
 ) -> Result<(Vec<Handler>, &'t [Token]), Stop<'t>>
-    requires few { levels ≤ 100 }
+    requires few { levels ≤ most_levels }
     requires some { 0 < levels }
     ensures { Gives (λ x. (handlers x.0.items, x.1.now)) result (handler (block_at levels) (handlers before.items) word tokens.now) }
 {
@@ -244,7 +245,7 @@ fn further_handlers<'t>(
     first: Vec<Handler>,
     tokens: &'t [Token],
 ) -> Result<(Vec<Handler>, &'t [Token]), Stop<'t>>
-    requires few { levels ≤ 100 }
+    requires few { levels ≤ most_levels }
     requires some { 0 < levels }
     ensures { Gives (λ x. (handlers x.0.items, x.1.now)) result (handlers_on (block_at levels) (handlers first.items, tokens.now)) }
 {
@@ -269,7 +270,7 @@ fn handling<'t>(
     word: Pos,
     tokens: &'t [Token],
 ) -> Result<(Stmt, &'t [Token]), Stop<'t>>
-    requires few { levels ≤ 100 }
+    requires few { levels ≤ most_levels }
     requires some { 0 < levels }
     ensures { Gives (λ x. (statement x.0, x.1.now)) result (handled (block_at levels) at (block body.items) word tokens.now) }
 {
@@ -289,7 +290,7 @@ fn trying(
     at: Pos,
     tokens: &[Token],
 ) -> Result<(Stmt, &[Token]), Stop<'_>>
-    requires few { levels ≤ 100 }
+    requires few { levels ≤ most_levels }
     requires some { 0 < levels }
     ensures { Gives (λ x. (statement x.0, x.1.now)) result (try_behind (block_at levels) at tokens.now) }
 {
@@ -314,7 +315,7 @@ fn defining<'t>(
     word: Pos,
     tokens: &'t [Token],
 ) -> Result<(Stmt, &'t [Token]), Stop<'t>>
-    requires few { levels ≤ 100 }
+    requires few { levels ≤ most_levels }
     requires some { 0 < levels }
     ensures { Gives (λ x. (statement x.0, x.1.now)) result (def_behind (block_at levels) at (trees decorators.items) word tokens.now) }
 {
@@ -338,7 +339,7 @@ fn classing<'t>(
     word: Pos,
     tokens: &'t [Token],
 ) -> Result<(Stmt, &'t [Token]), Stop<'t>>
-    requires few { levels ≤ 100 }
+    requires few { levels ≤ most_levels }
     requires some { 0 < levels }
     ensures { Gives (λ x. (statement x.0, x.1.now)) result (class_behind (block_at levels) at (trees decorators.items) word tokens.now) }
 {
@@ -358,7 +359,7 @@ fn decorated(
     at: Pos,
     tokens: &[Token],
 ) -> Result<(Stmt, &[Token]), Stop<'_>>
-    requires few { levels ≤ 100 }
+    requires few { levels ≤ most_levels }
     requires some { 0 < levels }
     ensures { Gives (λ x. (statement x.0, x.1.now)) result (decorated_behind (block_at levels) at tokens.now) }
 {
@@ -374,7 +375,7 @@ fn decorated(
 #[tactic(auto, unfolding(statement_readers::specs::Words::compound))]
 #[cycle(block)]
 fn compound(alloc: Global, levels: u32, tokens: &[Token]) -> Result<(Stmt, &[Token]), Stop<'_>>
-    requires few { levels ≤ 100 }
+    requires few { levels ≤ most_levels }
     requires some { 0 < levels }
     ensures { Gives (λ x. (statement x.0, x.1.now)) result (compound (block_at levels) tokens.now) }
 {
@@ -412,7 +413,7 @@ fn statement(
     before: Vec<Stmt>,
     tokens: &[Token],
 ) -> Result<(Vec<Stmt>, &[Token]), Stop<'_>>
-    requires { levels ≤ 100 }
+    requires { levels ≤ most_levels }
     ensures { Gives (λ x. (block x.0.items, x.1.now)) result (stmt (block_at levels) (nat_le 1 levels) (block before.items) tokens.now) }
 {
     if !begins(tokens, &BEGINS_COMPOUND) {
@@ -434,7 +435,7 @@ fn further_statements<'t>(
     first: Vec<Stmt>,
     tokens: &'t [Token],
 ) -> Result<(Vec<Stmt>, &'t [Token]), Stop<'t>>
-    requires { levels ≤ 100 }
+    requires { levels ≤ most_levels }
     ensures { Gives (λ x. (block x.0.items, x.1.now)) result (stmts_on (block_at levels) (nat_le 1 levels) (block first.items, tokens.now)) }
 {
     let mut all = first;
@@ -455,7 +456,7 @@ fn statements(
     levels: u32,
     tokens: &[Token],
 ) -> Result<(Vec<Stmt>, &[Token]), Stop<'_>>
-    requires { levels ≤ 100 }
+    requires { levels ≤ most_levels }
     ensures { Gives (λ x. (block x.0.items, x.1.now)) result (stmts (block_at levels) (nat_le 1 levels) tokens.now) }
 {
     let (first, rest) = statement(alloc, levels, Vec::new(alloc), tokens)?;
@@ -466,7 +467,7 @@ fn statements(
 #[tactic(auto, using(statement_readers::proofs::Suites::block_rules))]
 #[cycle(block)]
 fn block(alloc: Global, levels: u32, tokens: &[Token]) -> Result<(Vec<Stmt>, &[Token]), Stop<'_>>
-    requires few { levels ≤ 100 }
+    requires few { levels ≤ most_levels }
     requires some { 0 < levels }
     ensures { Gives (λ x. (block x.0.items, x.1.now)) result (block_at levels tokens.now) }
 {

@@ -6,14 +6,14 @@ ghost use Rattle.statement_readers.specs.Words.{optional_expr, optional_exprs, e
 
 use py_cursor::{Sign, Stop, begins, chars_of, expect, first_of};
 use py_expression_parser::{BEGINS_EXPRESSION, expression, expressions};
-use py_source::SrcText;
+use py_source::{MOST_LEVELS, SrcText};
 use py_tokens::{Op, Token};
 use py_tree::Expr;
 use std::alloc::{AllocError, Global};
 use std::rc::Rc;
 
 /// So many expressions may stand in one another, and so many blocks.
-pub const LEVELS: u32 = 100;
+pub const LEVELS: u32 = MOST_LEVELS as u32;
 
 /// An expression, where one begins.
 #[tactic(auto, unfolding(statement_readers::specs::Words::optional_expr))]

@@ -3,9 +3,9 @@ use Rattle.std.specs.Prelude.{ℕ, zero, suc, Bool, true, false, List, [], ◌�
 use Rattle.py_values.specs.Limits.{most_levels}
 use Rattle.std.specs.List.{list_any}
 use Rattle.std.specs.Fmt.{signed_decimal}
-use Rattle.py_values.specs.Builtins.{builtin_name}
-use Rattle.py_values.specs.Classes.{exc_eq, root_of}
-use Rattle.py_values.specs.Kinds.{class_name_at, class_ref_name}
+use Rattle.py_kinds.specs.Builtins.{builtin_name}
+use Rattle.py_kinds.specs.Classes.{exc_eq, root_of}
+use Rattle.py_kinds.specs.Kinds.{class_name_at, class_ref_name}
 use Rattle.py_values.specs.Raises.{args_in}
 use Rattle.py_values.specs.declared.class.ClassRef.{ClassRef}
 use Rattle.py_values.specs.declared.class.ExcClass.{ExcClass}

@@ -8,9 +8,9 @@ ghost use Rattle.py_repr.specs.Repr as told;
 ghost use Rattle.py_values.specs.declared.value.Value.TheVariants as val;
 
 use crate::shower::Shower;
+use py_kinds::classes::root_of;
 use py_text::OutOfMemory;
 use py_values::class::{ClassRef, ExcClass};
-use py_values::classes::root_of;
 use py_values::dict::{Dict, Pair};
 use py_values::heap::Heap;
 use py_values::object::Obj;

@@ -1,4 +1,5 @@
 ghost use Rattle.std.specs.Prelude.{◌≡◌, ◌≤◌, ◌<◌, ◌+◌, max, false, IfOk};
+ghost use Rattle.py_source.specs.Limits.{most_levels};
 ghost use Rattle.py_tree.specs.Trees.{tree};
 ghost use Rattle.py_tree.specs.Statements.{place, taker};
 ghost use Rattle.py_expressions.specs.Values.{first_place, one_place};
@@ -43,7 +44,7 @@ const GOES_ON: [Sign; 3] = [
 #[tactic(auto, using(crate::proofs::Aims::aim_rules))]
 fn start(alloc: Global, levels: u32, tokens: &[Token]) -> Result<(Aim, &[Token]), Stop<'_>>
     requires some { 0 < levels }
-    requires few { levels ≤ 100 }
+    requires few { levels ≤ most_levels }
     ensures reads { Gives (λ x. ((aim_of x.0.is_target (tree x.0.node.expr.value), aim_tall x.0.is_target x.0.node.height), x.1.now)) result (start_on levels tokens.now) }
     ensures place { IfOk result (λ x. IsPlace x.0.is_target (tree x.0.node.expr.value)) }
     ensures fits { IfOk result (λ x. aim_tall x.0.is_target x.0.node.height ≤ levels) }
@@ -72,7 +73,7 @@ fn start(alloc: Global, levels: u32, tokens: &[Token]) -> Result<(Aim, &[Token])
 /// `.name`, `[index]` or `(arguments)` behind an expression.
 #[tactic(auto, using(crate::proofs::Aims::aim_rules))]
 fn step(alloc: Global, levels: u32, of: Node, tokens: &[Token]) -> Result<(Aim, &[Token]), Stop<'_>>
-    requires few { levels ≤ 100 }
+    requires few { levels ≤ most_levels }
     requires low { of.height < levels }
     ensures reads { Gives (λ x. ((aim_of x.0.is_target (tree x.0.node.expr.value), aim_tall x.0.is_target x.0.node.height), x.1.now)) result (step_on levels (tree of.expr.value, of.height) tokens.now) }
     ensures place { IfOk result (λ x. IsPlace x.0.is_target (tree x.0.node.expr.value)) }
@@ -114,7 +115,7 @@ fn index(
     of: Node,
     tokens: &[Token],
 ) -> Result<(Aim, &[Token]), Stop<'_>>
-    requires few { levels ≤ 100 }
+    requires few { levels ≤ most_levels }
     requires low { of.height < levels }
     ensures reads { Gives (λ x. ((aim_of x.0.is_target (tree x.0.node.expr.value), aim_tall x.0.is_target x.0.node.height), x.1.now)) result (aim_index_on levels (tree of.expr.value, of.height) tokens.now) }
     ensures place { IfOk result (λ x. IsPlace x.0.is_target (tree x.0.node.expr.value)) }
@@ -162,7 +163,7 @@ fn index(
 /// What takes one value: a name, an attribute or a subscript.
 #[tactic(auto, using(crate::proofs::Aims::single_rules))]
 pub fn single(alloc: Global, levels: u32, tokens: &[Token]) -> Result<(Aimed, &[Token]), Stop<'_>>
-    requires { levels ≤ 100 }
+    requires { levels ≤ most_levels }
     ensures reads { Gives (λ x. ((place x.0.single, x.0.height), x.1.now)) result (reads levels single_line tokens.now) }
     ensures fits { IfOk result (λ x. x.0.height ≤ levels) }
     ensures some { IfOk result (λ x. 0 < x.0.height) }
@@ -197,7 +198,7 @@ pub fn single(alloc: Global, levels: u32, tokens: &[Token]) -> Result<(Aimed, &[
 /// What takes a value, or several with commas between them, which unpack it.
 #[tactic(auto, using(crate::proofs::Aims::targets_rules))]
 pub fn targets(alloc: Global, levels: u32, tokens: &[Token]) -> Result<(Taken, &[Token]), Stop<'_>>
-    requires { levels ≤ 100 }
+    requires { levels ≤ most_levels }
     ensures reads { Gives (λ x. ((taker x.0.target, x.0.height), x.1.now)) result (reads levels targets_line tokens.now) }
     ensures fits { IfOk result (λ x. x.0.height ≤ levels) }
 {
@@ -268,7 +269,7 @@ fn further(
     tokens: &[Token],
 ) -> Result<(Places, &[Token]), Stop<'_>>
     requires some { 0 < levels }
-    requires few { levels ≤ 100 }
+    requires few { levels ≤ most_levels }
     requires open { places.ended ≡ false }
     requires low { places.height < levels }
     ensures reads { Gives (λ x. ((places_of x.0, x.0.height), x.1.now)) result (places_more levels (places_of places, places.height) tokens.now) }

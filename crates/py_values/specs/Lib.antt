@@ -4,13 +4,7 @@ pub mod Pairs
 pub mod Names
 pub mod Changes
 pub mod Lending
-pub mod Truth
-pub mod Kinds
 pub mod Ends
 pub mod Raises
 pub mod Numbers
-pub mod Keys
-pub mod Classes
-pub mod Builtins
 pub mod Ranges
-pub mod Lengths

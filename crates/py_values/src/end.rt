@@ -93,6 +93,7 @@ pub fn made_within(made: Made, budget: u64) -> Option<Made>
     ensures { result ≡ within budget made }
 {
     if budget < made.cost() {
+        drop(made);
         None
     } else {
         Some(made)

@@ -80,6 +80,7 @@ impl Heap {
         ensures { OnOk result (self.new ≡ heap_after id change self.old) }
     {
         if id.at >= self.len() {
+            drop(change);
             return Ok(());
         }
         apply(self.obj_mut(id), change)

@@ -6,8 +6,8 @@
 //! language (texts, lists, tuples, dicts, ranges, functions, methods, built-in functions, classes, instances, exceptions,
 //! modules, and the objects that pytest's names make). Keys of dicts are plain data, so dicts are maps in order of insertion.
 //! How an operator or a call ends (`OpEnd`), what it makes before the heap has it (`Made`), and how an object is changed
-//! (`Change`) stand here too, since all crates above speak of them; so do the two tables of built-in names and the limits of
-//! values.
+//! (`Change`) stand here too, since all crates above speak of them; so do the tables of built-in names and the limits of values.
+//! What values do (truth, length, keys, the names of their kinds, their classes) stands in py_kinds.
 //!
 //! # What is proved
 //!
@@ -15,34 +15,27 @@
 //!   list, and `heap_after` says which object a change leaves.
 //! - `Dict` and `Names` are lists of pairs in order of insertion: an equal key that is there stays, at its place (`put_pair`,
 //!   `bind_name`), and one that goes leaves the others in order (`without_pair`, `unbind_name`).
-//! - `truth`, `kind_name`, `length_of`, `is_a`, `root_of`, `stands_on`, `key` (with its steps, and why a value is no key), `throw` and
-//!   `throw_with` equal the definitions of the same names.
-//! - `first_heap`, `builtin_value`, `builtin_name` and `takes` follow from the tables of built-in functions and of classes of exceptions.
+//! - `throw` and `throw_with` equal the definitions of the same names.
 //! - `finish` puts what was made into the heap (`end`), with its steps (`cost`), and `made_within` lets it through exactly where
 //!   the budget suffices.
 //!
 //! # What tests alone show
 //!
-//! That the definitions give what CPython gives, row by row, and that the calls succeed with ample memory (`value_tests`).
+//! That the calls succeed with ample memory (`value_tests`).
 //!
 //! # What neither shows
 //!
-//! How long a call takes; that chains of classes are walked without recursion (a reader sees it).
+//! How long a call takes.
 #![tactic(auto)]
 
 pub mod builtin;
-pub mod builtins;
 pub mod change;
 pub mod class;
-pub mod classes;
 pub mod dict;
 pub mod end;
 pub mod heap;
 pub mod index;
 pub mod key;
-pub mod keys;
-pub mod kinds;
-pub mod length;
 pub mod limits;
 pub mod names;
 pub mod number;
@@ -50,7 +43,6 @@ pub mod object;
 pub mod range;
 pub mod rows;
 pub mod throw;
-pub mod truth;
 pub mod value;
 
 pub use py_text::{OutOfMemory, PyText};

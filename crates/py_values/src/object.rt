@@ -118,12 +118,12 @@ pub struct ParamObj {
     pub marks: Values,
 }
 
-/// What a fixture asks for: its name, its scope, its parameter where it has one, its finalizers in order, and whether it is
-/// closed.
+/// What asks for fixtures: its fixture's name, where a fixture asks (a test has none), its scope's name, its parameter where it
+/// has one, its finalizers in order, and whether it is closed.
 #[derive(Drop)]
 pub struct RequestObj {
-    pub name: PyText,
-    pub scope: FixtureScope,
+    pub name: Option<PyText>,
+    pub scope: PyText,
     pub param: Option<Value>,
     pub finalizers: Values,
     pub closed: bool,

@@ -1,8 +1,6 @@
--- Exceptions (Language Reference, the raise statement; the try statement; the with statement).
-use Rattle.std.specs.Prelude.{ℕ, Bool, true, false, List, [], ◌∷◌, length, is_some, Option, Some, None, codes, slice_get}
-use Rattle.std.specs.List.{list_all}
-use Rattle.py_values.specs.Classes.{root_of, is_a}
-use Rattle.py_values.specs.Ends.{id_at}
+-- Exceptions (Language Reference, the raise statement; the try statement).
+use Rattle.std.specs.Prelude.{ℕ, Bool, true, false, List, [], ◌∷◌, Option, Some, None, codes, slice_get}
+use Rattle.py_kinds.specs.Classes.{is_a, is_exc_class, are_exc_classes}
 use Rattle.py_values.specs.Raises.{raise, thrown_with}
 use Rattle.py_values.specs.declared.class.ClassForm.{ClassForm}
 use Rattle.py_values.specs.declared.class.ClassForm.TheVariants as form
@@ -15,10 +13,9 @@ use Rattle.py_values.specs.declared.object.Obj.TheVariants as obj
 use Rattle.py_values.specs.declared.value.ObjId.{ObjId}
 use Rattle.py_values.specs.declared.value.Value.{Value}
 use Rattle.py_values.specs.declared.value.Value.TheVariants as val
-use Rattle.py_items.specs.Items.{object_at}
 use Rattle.py_world.specs.declared.ended.Thrown.{Thrown}
 use Rattle.py_world.specs.declared.trace.TraceFrame.{TraceFrame}
-use Rattle.py_world.specs.World.{Kinds, State, heap_of, with_object, trace_at, with_trace}
+use Rattle.py_world.specs.World.{Kinds, State, heap_of, trace_at, with_trace}
 use Rattle.py_world.specs.Site.{Scene, Site, trace_of, scene_handling, site_handling}
 use Rattle.py_world.specs.Names.{bound, unbound}
 use Rattle.py_world.specs.Outcome.{Outcome, Gave, Next, Returned, Broke, Continued, Raised, Rest, Then, Part, After, Body, Ways, route, onward, changing, on_value, on_next, raised_in, raised_at}
@@ -28,44 +25,6 @@ no_exception = raise TypeError (codes "exceptions must derive from BaseException
 
 abbrev pub nothing_raised : Raise
 nothing_raised = raise RuntimeError (codes "no exception to raise")
-
-abbrev pub bad_context : Raise
-bad_context = raise TypeError (codes "bad context")
-
--- whether a value is a class of exceptions
-unfoldable pub is_exc_class : List Obj → Value → Bool
-is_exc_class heap (val.Ref id) = is_some (root_of heap (ref.Defined id))
-is_exc_class heap val.None = false
-is_exc_class heap (val.Bool b) = false
-is_exc_class heap (val.Int n) = false
-
--- what an `except` may take: a class of exceptions, or a tuple of them
-abbrev pub tuple_or : List Obj → Value → Option Obj → Bool
-tuple_or heap v (Some (obj.Text x)) = is_exc_class heap v
-tuple_or heap v (Some (obj.List x)) = is_exc_class heap v
-tuple_or heap v (Some (obj.Tuple x)) = list_all (is_exc_class heap) x
-tuple_or heap v (Some (obj.Dict x)) = is_exc_class heap v
-tuple_or heap v (Some (obj.Range x)) = is_exc_class heap v
-tuple_or heap v (Some (obj.Function x)) = is_exc_class heap v
-tuple_or heap v (Some (obj.Method x)) = is_exc_class heap v
-tuple_or heap v (Some (obj.Builtin x)) = is_exc_class heap v
-tuple_or heap v (Some (obj.Class x)) = is_exc_class heap v
-tuple_or heap v (Some (obj.Instance x)) = is_exc_class heap v
-tuple_or heap v (Some (obj.Exception x)) = is_exc_class heap v
-tuple_or heap v (Some (obj.Module x)) = is_exc_class heap v
-tuple_or heap v (Some (obj.Fixture x)) = is_exc_class heap v
-tuple_or heap v (Some obj.MarkMaker) = is_exc_class heap v
-tuple_or heap v (Some (obj.Mark x)) = is_exc_class heap v
-tuple_or heap v (Some (obj.Hook x)) = is_exc_class heap v
-tuple_or heap v (Some (obj.Param x)) = is_exc_class heap v
-tuple_or heap v (Some (obj.Request x)) = is_exc_class heap v
-tuple_or heap v (Some (obj.Raises x)) = is_exc_class heap v
-tuple_or heap v (Some (obj.Info x)) = is_exc_class heap v
-tuple_or heap v (Some (obj.Item x)) = is_exc_class heap v
-tuple_or heap v None = is_exc_class heap v
-
-abbrev pub are_exc_classes : List Obj → Value → Bool
-are_exc_classes heap v = tuple_or heap v (object_at heap v)
 
 -- whether an `except` with this value takes an exception; none where the value is no class
 abbrev pub takes_by : Bool → Bool → Option Bool
@@ -142,11 +101,6 @@ module _ {K : Kinds} where
   raised_again (Some t) p s = Raised t.exc t.trace s
   raised_again None p s = raised_at nothing_raised p s
 
-  -- THE `raise` STATEMENT
-  abbrev pub raise_value : Option (Part K) → Part K
-  raise_value None p s k = k (raised_again p.scene.around.handling p s)
-  raise_value (Some e) p s k = e p s (λ o. on_value o k (λ v s. k (raised_by (raisable (heap_of s) v) p s)))
-
 -- an `except`: what it takes, where that is said; the name behind `as`; its block
 abbrev pub Handling : (K : Kinds) → Type 0
 Handling K = Option (Part K) × (Option (List ℕ) × Body K)
@@ -191,45 +145,3 @@ module _ {K : Kinds} where
   -- THE `try` STATEMENT
   abbrev pub try_statement : Body K → List (Handling K) → Body K → Body K → Part K
   try_statement body handlers other last p s k = body p.scene s (λ o. guarded handlers other last p o k)
-
--- whether a value is what `with` takes: an object of kind raises
-abbrev pub is_context : Option Obj → Bool
-is_context (Some (obj.Text x)) = false
-is_context (Some (obj.List x)) = false
-is_context (Some (obj.Tuple x)) = false
-is_context (Some (obj.Dict x)) = false
-is_context (Some (obj.Range x)) = false
-is_context (Some (obj.Function x)) = false
-is_context (Some (obj.Method x)) = false
-is_context (Some (obj.Builtin x)) = false
-is_context (Some (obj.Class x)) = false
-is_context (Some (obj.Instance x)) = false
-is_context (Some (obj.Exception x)) = false
-is_context (Some (obj.Module x)) = false
-is_context (Some (obj.Fixture x)) = false
-is_context (Some obj.MarkMaker) = false
-is_context (Some (obj.Mark x)) = false
-is_context (Some (obj.Hook x)) = false
-is_context (Some (obj.Param x)) = false
-is_context (Some (obj.Request x)) = false
-is_context (Some (obj.Raises x)) = true
-is_context (Some (obj.Info x)) = false
-is_context (Some (obj.Item x)) = false
-is_context None = false
-
-module _ {K : Kinds} where
-  -- the name behind `as` is a new info object
-  abbrev pub info_named : Option (List ℕ) → Value → Scene → State K → State K
-  info_named (Some name) v scene s = bound name v scene s
-  info_named None v scene s = s
-
-  abbrev pub with_info : Option (List ℕ) → Scene → State K → State K
-  with_info name scene s = info_named name (val.Ref (id_at (length (heap_of s)))) scene (with_object (obj.Info (record { value = None })) s)
-
-  abbrev pub context_entered : Bool → Option (List ℕ) → Body K → Part K
-  context_entered true name body p s k = body p.scene (with_info name p.scene s) k
-  context_entered false name body p s k = k (raised_at bad_context p s)
-
-  -- THE `with` STATEMENT; what it swallows is not said yet: each end of its block is handed on
-  abbrev pub with_statement : Part K → Option (List ℕ) → Body K → Part K
-  with_statement e name body p s k = e p s (λ o. on_value o k (λ v s. context_entered (is_context (object_at (heap_of s) v)) name body p s k))

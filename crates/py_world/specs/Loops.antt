@@ -1,10 +1,10 @@
 -- The turns of a `for` (Language Reference, the for statement).
 use Rattle.std.specs.Prelude.{Option, Some, None}
-use Rattle.py_values.specs.Kinds.{kind_name}
+use Rattle.py_kinds.specs.Kinds.{kind_name}
 use Rattle.py_values.specs.declared.end.Made.{Made}
 use Rattle.py_values.specs.declared.end.Made.TheVariants.{Give, New, Put, Fail}
 use Rattle.py_values.specs.declared.value.Value.{Value}
-use Rattle.py_ops.specs.Faults.{not_iterable}
+use Rattle.py_operands.specs.Faults.{not_iterable}
 use Rattle.py_items.specs.Turns.{turn_of as element_of, next_by, iterate}
 use Rattle.py_items.specs.declared.iter.IterAt.{IterAt}
 use Rattle.py_world.specs.World.{Kinds, heap_of}

@@ -11,7 +11,8 @@ use Rattle.py_values.specs.declared.object.Obj.{Obj}
 use Rattle.py_values.specs.Ends.{cost_of, id_at}
 use Rattle.py_values.specs.Changes.{heap_after}
 use Rattle.py_values.specs.Raises.{thrown}
-use Rattle.py_world.specs.World.{Kinds, State, heap_of, with_heap, with_object, back_to}
+use Rattle.call_products.specs.declared.product.Product.{Product}
+use Rattle.py_world.specs.World.{Kinds, State, heap_of, with_heap, with_object, with_objects, back_to}
 use Rattle.py_world.specs.Site.{Around, Scene, Site, trace_of}
 use Rattle.py_world.specs.Arguments.{Arguments}
 use Rattle.py_world.specs.declared.trace.TraceFrame.{TraceFrame}
@@ -92,6 +93,10 @@ module _ {K : Kinds} where
   made (New o n) trace s = Gave (val.Ref (id_at (length (heap_of s)))) (with_object o s)
   made (Put id change v n) trace s = Gave v (with_heap (heap_after id change (heap_of s)) s)
   made (Fail r n) trace s = raised r trace s
+
+  -- how a call of what no source defines ends: what it makes, in the heap that has its new objects
+  abbrev pub product_end : Product → List TraceFrame → State K → Outcome K
+  product_end x trace s = made x.made trace (with_objects x.objects s)
 
   -- how a call ends, for the caller
   abbrev pub call_end : State K → Outcome K → Outcome K

@@ -3,7 +3,7 @@ use Rattle.std.specs.Prelude.{ℕ, ◌-◌, Bool, true, false, List, [], ◌∷�
 use Rattle.std.specs.Fmt.{decimal}
 use Rattle.std.specs.List.{list_any}
 use Rattle.std.specs.Map.{lookup}
-use Rattle.run_tree.specs.Todo.{Todo, Done, run}
+use Rattle.run_tree.specs.Todo.{Done, run}
 use Rattle.run_tree.specs.Todo as tree
 use Rattle.py_source.specs.declared.pos.Pos.{Pos}
 use Rattle.py_values.specs.declared.class.ExcClass.TheVariants.{StepLimit}
@@ -25,8 +25,8 @@ use Rattle.py_world.specs.World.{Kinds, World, State, Locals, Source, Coded, Cod
 use Rattle.py_world.specs.Site.{Around, no_call, around_of, Scene, InModule, frame}
 use Rattle.py_world.specs.Arguments.{plain}
 use Rattle.py_world.specs.ModuleNames.{module_name, module_object}
-use Rattle.py_world.specs.Outcome.{Outcome, Gave, Next, Returned, Broke, Continued, Raised, Spent, Paused, Rest, Then, Part, Request, raised, call_end}
-use Rattle.py_world.specs.Calls.{Meaning, arguments_for, invoke, body_of}
+use Rattle.py_world.specs.Outcome.{Outcome, Gave, Next, Returned, Broke, Continued, Raised, Spent, Paused, Rest, Then, Part, Body, Request, raised, call_end}
+use Rattle.py_world.specs.Calls.{Meaning, arguments_for, function_of_object, invoke, body_of}
 
 -- what is told of an end, and the world behind it
 abbrev pub Told : (K : Kinds) → Type 0
@@ -132,16 +132,21 @@ module _ {K : Kinds} where
   module_end path id (Broke s) = Gave (val.Ref (id_at id)) (with_module_load path (Loaded (id_at id)) s)
   module_end path id (Continued s) = Gave (val.Ref (id_at id)) (with_module_load path (Loaded (id_at id)) s)
 
--- a function of the sources, where an object is one
-abbrev pub function_of_object : Option Obj → Option FunctionObj
-function_of_object (Some (obj.Function x)) = Some x
-function_of_object _ = None
+-- the function that a value is, or whose method it is, with the arguments of a call
+abbrev pub with_args : List Value → Option FunctionObj → Option (FunctionObj × List Value)
+with_args args (Some f) = Some (f, args)
+with_args args None = None
 
-module _ {K : Kinds} (meaning : Meaning K) where
+abbrev pub function_and : List Obj → List Value → Option Obj → Option (FunctionObj × List Value)
+function_and heap args (Some (obj.Function f)) = Some (f, args)
+function_and heap args (Some (obj.Method m)) = with_args (m.receiver ∷ args) (function_of_object (slice_get heap m.function.at))
+function_and heap args _ = None
+
+module _ {K : Kinds} (body : K.script → Body K) where
   -- a module is executed, in a state without names
   abbrev pub executed : List ℕ → K.script → Around → World K → Then K → Rest K
   executed path code a w k =
-      meaning.body code (module_scene path (module_place path w) a) (start (with_module path w)) (λ o. k (module_end path (module_place path w) o))
+      body code (module_scene path (module_place path w) a) (start (with_module path w)) (λ o. k (module_end path (module_place path w) o))
 
   -- A LOAD IN MID-RUN (Language Reference, the import system), which costs no step: one that runs is given as it is, one that has
   -- failed raises again; missing is what a path without code does
@@ -158,27 +163,28 @@ module _ {K : Kinds} (meaning : Meaning K) where
   abbrev pub load_part : List ℕ → Part K → Part K
   load_part path missing p s k = load_by (load_at path s.world.modules) path missing p s k
 
+module _ {K : Kinds} (meaning : Meaning K) where
   abbrev pub run_of : ℕ → Rest K → Told K
   run_of budget tree = told_by budget (run (body_of meaning) budget tree).1
 
   -- the runner's own call: an error that it makes has the one frame of the function, at its `def`, and takes no step
   abbrev pub fitting_begun : Result Locals Raise → List TraceFrame → Value → List Value → State K → Rest K
-  fitting_begun (Ok names) at f args s = invoke meaning f (plain args) no_call s (λ o. Done (call_end s o))
+  fitting_begun (Ok names) at f args s = invoke meaning.entry f (plain args) no_call s (λ o. Done (call_end s o))
   fitting_begun (Err r) at f args s = Done (raised r at s)
 
-  abbrev pub function_begun : Option (Stored K.code) → FunctionObj → Value → List Value → State K → Rest K
-  function_begun None x f args s = invoke meaning f (plain args) no_call s (λ o. Done (call_end s o))
-  function_begun (Some st) x f args s = fitting_begun (arguments_for x (plain args)) (frame x.path x.line x.name ∷ []) f args s
+  abbrev pub function_begun : Option (Stored K.code) → FunctionObj → List Value → Value → List Value → State K → Rest K
+  function_begun None x all f args s = invoke meaning.entry f (plain args) no_call s (λ o. Done (call_end s o))
+  function_begun (Some st) x all f args s = fitting_begun (arguments_for x (plain all)) (frame x.path x.line x.name ∷ []) f args s
 
-  abbrev pub object_begun : Option FunctionObj → Value → List Value → State K → Rest K
-  object_begun (Some x) f args s = function_begun (slice_get s.world.codes x.code) x f args s
-  object_begun None f args s = invoke meaning f (plain args) no_call s (λ o. Done (call_end s o))
+  abbrev pub object_begun : Option (FunctionObj × List Value) → Value → List Value → State K → Rest K
+  object_begun (Some x) f args s = function_begun (slice_get s.world.codes x.0.code) x.0 x.1 f args s
+  object_begun None f args s = invoke meaning.entry f (plain args) no_call s (λ o. Done (call_end s o))
 
   abbrev pub begun_by_runner : Value → List Value → State K → Rest K
-  begun_by_runner (val.Ref id) args s = object_begun (function_of_object (slice_get s.world.heap id.at)) (val.Ref id) args s
-  begun_by_runner val.None args s = invoke meaning val.None (plain args) no_call s (λ o. Done (call_end s o))
-  begun_by_runner (val.Bool b) args s = invoke meaning (val.Bool b) (plain args) no_call s (λ o. Done (call_end s o))
-  begun_by_runner (val.Int n) args s = invoke meaning (val.Int n) (plain args) no_call s (λ o. Done (call_end s o))
+  begun_by_runner (val.Ref id) args s = object_begun (function_and s.world.heap args (slice_get s.world.heap id.at)) (val.Ref id) args s
+  begun_by_runner val.None args s = invoke meaning.entry val.None (plain args) no_call s (λ o. Done (call_end s o))
+  begun_by_runner (val.Bool b) args s = invoke meaning.entry (val.Bool b) (plain args) no_call s (λ o. Done (call_end s o))
+  begun_by_runner (val.Int n) args s = invoke meaning.entry (val.Int n) (plain args) no_call s (λ o. Done (call_end s o))
 
   -- A CALL BY THE RUNNER
   abbrev pub call_of : Value → List Value → ℕ → World K → Told K
@@ -186,7 +192,7 @@ module _ {K : Kinds} (meaning : Meaning K) where
 
   -- a module that is loaded for the first time
   abbrev pub loading : List ℕ → K.script → World K → Rest K
-  loading path code w = executed path code no_call w (λ o. Done o)
+  loading path code w = executed meaning.body path code no_call w (λ o. Done o)
 
   -- nothing is loaded where there is no code
   abbrev pub loaded_first : Option K.script → List ℕ → ℕ → World K → Told K

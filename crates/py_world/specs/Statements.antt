@@ -1,20 +1,17 @@
 -- What the forms of statements do with the ends of their parts (Language Reference, simple and compound statements).
-use Rattle.std.specs.Prelude.{ℕ, List, [], ◌∷◌, length, Bool, Option, Some, None}
+use Rattle.std.specs.Prelude.{ℕ, List, [], ◌∷◌, length, Option, Some, None}
 use Rattle.run_tree.specs.Todo.{Ask, Freeze}
 use Rattle.py_values.specs.declared.class.ExcClass.TheVariants.{AssertionError}
 use Rattle.py_values.specs.declared.end.Raise.{Raise}
-use Rattle.py_values.specs.declared.rows.Param.{Param}
-use Rattle.py_values.specs.declared.object.Obj.{Obj}
 use Rattle.py_values.specs.declared.object.Obj.TheVariants as obj
 use Rattle.py_values.specs.declared.value.Value.{Value}
 use Rattle.py_values.specs.declared.value.Value.TheVariants as val
 use Rattle.py_values.specs.Ends.{id_at}
-use Rattle.py_values.specs.Truth.{truth}
-use Rattle.py_world.specs.World.{Kinds, State, Stored, heap_of, unset, with_object, with_world, world_with_code}
-use Rattle.py_world.specs.Site.{Scene, Site, site}
+use Rattle.py_kinds.specs.Truth.{truth}
+use Rattle.py_world.specs.World.{Kinds, State, heap_of, unset, with_object}
+use Rattle.py_world.specs.Site.{Site, site}
 use Rattle.py_world.specs.Explained.{explanation}
 use Rattle.py_tree.specs.Trees.{Tree}
-use Rattle.py_world.specs.Names.{bound}
 use Rattle.py_world.specs.Outcome.{Outcome, paused, Next, Returned, Broke, Continued, Part, Body, DoOf, on_value, on_turn, if_true, raised_at, spent_at}
 
 -- a condition on its line, and its block
@@ -25,20 +22,7 @@ Choice K = ℕ × (Part K × Body K)
 abbrev pub assertion : Option Value → Raise
 assertion message = record { class = AssertionError; text = []; arg = message }
 
--- a function of no class, with its parameters and whether it yields
-abbrev pub function_object : List ℕ → ℕ → List Param → Bool → ℕ → Scene → Obj
-function_object name line params yields code scene =
-    obj.Function (record { path = scene.path; name = name; line = line; params = params; yields = yields; marks = []; class = None; code = code })
-
-abbrev pub stored : {C : Type 0} → C → Scene → Stored C
-stored code scene = record { path = scene.path; home = scene.home; code = code }
-
 module _ {K : Kinds} where
-  -- a state with a function more
-  abbrev pub with_function : List ℕ → ℕ → List Param → Bool → K.code → Scene → State K → State K
-  with_function name line params yields code scene s =
-      with_object (function_object name line params yields (length s.world.codes) scene) (with_world (world_with_code (stored code scene) s.world) s)
-
   -- a failure with a text, which is a new object
   abbrev pub failed_with : List ℕ → Site → State K → Outcome K
   failed_with text p s = raised_at (assertion (Some (val.Ref (id_at (length (heap_of s)))))) p (with_object (obj.Text text) s)
@@ -96,8 +80,3 @@ module _ {K : Kinds} where
   -- a turn: the block, and then the loop from its condition on
   abbrev pub turn_of : K.turn → Part K → Body K → Part K
   turn_of turn condition block p s k = block p.scene s (λ o. on_turn o k (λ s. loop turn condition p s k))
-
-  -- a function is made, and its name bound
-  abbrev pub define : List ℕ → ℕ → List Param → Bool → K.code → Part K
-  define name line params yields code p s k =
-      k (Next (bound name (val.Ref (id_at (length (heap_of s)))) p.scene (with_function name line params yields code p.scene s)))

@@ -3,15 +3,15 @@
 use Rattle.std.specs.Prelude.{ℕ, zero, suc, ◌+◌, List, [], ◌∷◌, ◌++◌, length, eqb, Option, Some, None, codes, if◌then◌else◌}
 use Rattle.std.specs.Fmt.{decimal}
 use Rattle.py_tree.specs.declared.op.BinOp.{BinOp}
-use Rattle.py_values.specs.Kinds.{kind_name}
-use Rattle.py_values.specs.Lengths.{length_of}
+use Rattle.py_kinds.specs.Kinds.{kind_name}
+use Rattle.py_kinds.specs.Lengths.{length_of}
 use Rattle.py_values.specs.Raises.{raise}
 use Rattle.py_values.specs.declared.class.ExcClass.TheVariants.{ValueError}
 use Rattle.py_values.specs.declared.end.Raise.{Raise}
 use Rattle.py_values.specs.declared.index.Index.TheVariants.{At}
 use Rattle.py_values.specs.declared.object.Obj.{Obj}
 use Rattle.py_values.specs.declared.value.Value.{Value}
-use Rattle.py_ops.specs.Faults.{not_iterable}
+use Rattle.py_operands.specs.Faults.{not_iterable}
 use Rattle.py_ops.specs.Binary.{augmented_of}
 use Rattle.py_items.specs.Items.{subscript_of, store_of, delete_of}
 use Rattle.py_items.specs.Turns.{turn_of as element_of, turn_end}

@@ -1,6 +1,6 @@
 -- The report of a file whose source has a fault: an error of collection (pytest, "Managing pytest's output").
 use Rattle.std.specs.Prelude.{◌≡◌, ℕ, List, [], ◌∷◌, ◌++◌, Option, codes}
-use Rattle.py_machine.specs.Lines as lines
+use Rattle.file_session.specs.Lines as lines
 use Rattle.py_source.specs.Faults.{source_line, source_text}
 use Rattle.py_source.specs.declared.fault.SourceFault.{SourceFault}
 use Rattle.report_parts.specs.declared.report.CollectReport.{CollectReport}

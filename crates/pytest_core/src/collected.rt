@@ -1,10 +1,10 @@
 // The report of a file whose source has a fault.
 
 ghost use Rattle.std.specs.Prelude.{◌≡◌, IfOk, option_map};
-ghost use Rattle.py_machine.specs.Lines.{source_line, told_line};
+ghost use Rattle.file_session.specs.Lines.{source_line, told_line};
 ghost use Rattle.pytest_core.specs.Collected as meant;
 
-use py_machine::source_line;
+use file_session::source_line;
 use py_source::SourceFault;
 use py_text::{OutOfMemory, PyText};
 use py_values::end::push_ascii;

@@ -1,23 +1,26 @@
 -- What statements do (Language Reference, simple and compound statements).
-use Rattle.std.specs.Prelude.{ℕ, List, [], ◌∷◌, ◌++◌, map, Option, Bool, true, false}
+use Rattle.std.specs.Prelude.{ℕ, List, [], ◌∷◌, ◌++◌, Option, Bool, true, false}
 use Rattle.py_source.specs.declared.pos.Pos.{Pos}
 use Rattle.py_tree.specs.declared.op.BinOp.{BinOp}
 use Rattle.py_tree.specs.Statements as t
-use Rattle.py_tree.specs.Statements.{Statement, Block, Branches, Handlers, NoStatement, NoBranch, NoHandler, Place, NamePlace, AttributePlace, SubscriptPlace, Taker, One, Unpack, Parameter}
-use Rattle.py_tree.specs.Names.{names_of, locals_of, yields_in}
-use Rattle.py_values.specs.Truth.{truth}
-use Rattle.source_meaning.specs.Expressions.{SourcePart, missing, eval, some_part}
+use Rattle.py_tree.specs.Statements.{Statement, Block, Branches, Handlers, NoStatement, NoBranch, NoHandler, Place, NamePlace, AttributePlace, SubscriptPlace, Taker, One, Unpack, Parameter, Parameter_at}
+use Rattle.py_tree.specs.Names.{locals_of, yields_in}
+use Rattle.py_kinds.specs.Truth.{truth}
+use Rattle.source_meaning.specs.Expressions.{SourcePart, missing, eval, parts, some_part}
 use Rattle.source_meaning.specs.Requests.{source_kinds, Layer, Statements, Guard, Turn, StatementOf, TurnOf, ForOf, Script, Function}
 use Rattle.source_meaning.specs.Watched.{watch}
-use Rattle.py_tree.specs.Trees.{Tree}
+use Rattle.py_tree.specs.Trees.{Tree, Maybe, Absent, Present}
 use Rattle.py_world.specs.Site.{site}
-use Rattle.py_world.specs.Arguments.{required}
 use Rattle.py_world.specs.World.{heap_of, unset}
 use Rattle.py_world.specs.Outcome.{Body, After, Next, on_next, on_value, if_true}
-use Rattle.py_world.specs.Statements.{Choice, asked, expression_statement, return_value, yield_value, pass, leave_loop, next_turn, fail, fail_explained, choose, loop, turn_of, define}
+use Rattle.py_world.specs.Statements.{Choice, asked, expression_statement, return_value, yield_value, pass, leave_loop, next_turn, fail, fail_explained, choose, loop, turn_of}
+use Rattle.py_world.specs.Definitions.{Written, define, class_statement}
 use Rattle.py_world.specs.Names.{delete_name}
 use Rattle.py_world.specs.Targets.{Store, store_name, store_attribute, store_item, unpack, assign, augment_name, augment_attribute, augment_item, delete_attribute, delete_item}
-use Rattle.py_world.specs.Exceptions.{Handling, raise_value, guarded, try_statement, with_statement}
+use Rattle.py_world.specs.Exceptions.{Handling, guarded, try_statement}
+use Rattle.py_world.specs.Contexts.{with_statement}
+use Rattle.py_world.specs.Raising.{raise_value}
+use Rattle.py_world.specs.Imports.{import_statement, import_from}
 use Rattle.py_world.specs.Loops.{for_statement, for_turn}
 use Rattle.py_world.specs.Calls.{Entry}
 
@@ -141,6 +144,29 @@ abbrev pub try_at : Bool → List Layer → Block → Handlers → List Statemen
 try_at x ls body handlers other last p s k =
     try_statement (block x (Guard x p.line handlers other last ∷ ls) body) (handlings x ls handlers) (sequence x ls other) (sequence x ls last) p s k
 
+abbrev pub entry : Function → Entry source_kinds
+entry f = record { name = f.name; own = locals_of f.params f.body; body = block f.explains [] f.body }
+
+abbrev pub script_body : Script → SourceBody
+script_body m = block m.explains [] m.body
+
+-- parameters as they are written, and the defaults of those that have one
+abbrev pub is_given : Maybe → Bool
+is_given Absent = false
+is_given (Present e) = true
+
+abbrev pub written : List Parameter → List Written
+written [] = []
+written (Parameter_at at name annotation default ∷ ps) = (name, is_given default) ∷ written ps
+
+abbrev pub with_part : Maybe → List SourcePart → List SourcePart
+with_part Absent es = es
+with_part (Present e) es = eval e ∷ es
+
+abbrev pub default_parts : List Parameter → List SourcePart
+default_parts [] = []
+default_parts (Parameter_at at name annotation default ∷ ps) = with_part default (default_parts ps)
+
 -- WHAT A STATEMENT DOES, its step being taken
 abbrev pub statement : Bool → List Layer → Statement → SourcePart
 statement x ls (t.Do at e) = expression_statement (eval e)
@@ -154,26 +180,20 @@ statement x ls (t.Break at) = leave_loop
 statement x ls (t.Continue at) = next_turn
 statement x ls (t.If at branches other) = choose (choices x ls branches) (block x ls other)
 statement x ls (t.While at e body) = loop (TurnOf x e body) (eval e)
-statement x ls (t.Def at decorators word name params returns body) = define name word.line (map required (names_of params)) (yields_in body) (function x name params body)
+statement x ls (t.Def at decorators word name params returns body) = define (parts decorators) (default_parts params) (written params) name word.line (yields_in body) (function x name params body)
 statement x ls (t.YieldOf at word e) = yield_value (some_part e) ls
 statement x ls (t.AssignYield at ts word e) = missing
 statement x ls (t.ReturnYield at word e) = missing
-statement x ls (t.Raise at e) = raise_value (some_part e)
+statement x ls (t.Raise at e) = raise_value entry (some_part e)
 statement x ls (t.Del at p) = delete p
-statement x ls (t.Import at names alias) = missing
-statement x ls (t.ImportFrom at names all) = missing
+statement x ls (t.Import at names alias) = import_statement script_body names alias
+statement x ls (t.ImportFrom at names all) = import_from script_body names all
 statement x ls (t.For at taker e body) = for_statement (ForOf x taker body) (eval e)
 statement x ls (t.Try at body handlers other final) = try_at x ls body handlers (listed other) (listed final)
-statement x ls (t.With at e name body) = with_statement (eval e) name (block x ls body)
-statement x ls (t.Class at decorators word name base body) = missing
+statement x ls (t.With at e name body) = with_statement (eval e) name (block x [] body)
+statement x ls (t.Class at decorators word name base body) = class_statement (parts decorators) (some_part base) name word.line (block x [] body)
 
 abbrev pub act : Turn → SourcePart
 act (StatementOf x ls st) = statement x ls st
 act (TurnOf x e body) = turn_of (TurnOf x e body) (eval e) (block x [] body)
 act (ForOf x taker body at) = for_turn (ForOf x taker body) (store taker) (block x [] body) at
-
-abbrev pub entry : Function → Entry source_kinds
-entry f = record { name = f.name; own = locals_of f.params f.body; body = block f.explains [] f.body }
-
-abbrev pub script_body : Script → SourceBody
-script_body m = block m.explains [] m.body

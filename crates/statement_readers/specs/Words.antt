@@ -3,6 +3,7 @@ use Rattle.std.specs.Prelude.{◌≡◌, ℕ, Bool, true, false, cond, nat_le, L
 use Rattle.std.proofs.Common.{zero, suc}
 use Rattle.py_source.specs.declared.pos.Pos.{Pos}
 use Rattle.py_tokens.specs.declared.token.Token.{Token}
+use Rattle.py_source.specs.Limits.{most_levels}
 use Rattle.py_tree.specs.declared.op.BinOp.{BinOp}
 use Rattle.py_tree.specs.declared.stmt.Alias.{Alias}
 use Rattle.py_tree.specs.Trees.{Tree, Trees, Maybe, Absent, Present, Empty, More}
@@ -33,13 +34,13 @@ one c ts = first_of kind (c ∷ []) ts
 
 -- an expression, where one begins; one behind a token
 unfoldable pub optional_expr : Reader Maybe
-optional_expr ts = cond (starts E1 ts) (reads 100 expr ts >>= λ x. Found (Present x.0.0) x.1) (Found Absent ts)
+optional_expr ts = cond (starts E1 ts) (reads most_levels expr ts >>= λ x. Found (Present x.0.0) x.1) (Found Absent ts)
 
 unfoldable pub optional_exprs : Reader Maybe
-optional_exprs ts = cond (starts E1 ts) (reads 100 exprs ts >>= λ x. Found (Present x.0.0) x.1) (Found Absent ts)
+optional_exprs ts = cond (starts E1 ts) (reads most_levels exprs ts >>= λ x. Found (Present x.0.0) x.1) (Found Absent ts)
 
 unfoldable pub expr_behind : ℕ → Reader Maybe
-expr_behind c ts = pick (one c ts) (λ o. reads 100 expr o.1 >>= λ x. Found (Present x.0.0) x.1) (Found Absent ts)
+expr_behind c ts = pick (one c ts) (λ o. reads most_levels expr o.1 >>= λ x. Found (Present x.0.0) x.1) (Found Absent ts)
 
 -- NAMES, with a token between them
 unfoldable pub name_at : Reader (List ℕ)
@@ -85,7 +86,7 @@ unfoldable pub return_behind : Pos → Reader Statement
 return_behind at ts = pick (two k.left_paren k.yield ts) (λ o. optional_exprs o.1 >>= λ v. wanted (k.right_paren ∷ []) v.1 >>= λ c. Found (ReturnYield at o.0.at v.0) c.1) (optional_exprs ts >>= λ v. Found (Return at v.0) v.1)
 
 unfoldable pub assert_behind : Pos → Reader Statement
-assert_behind at ts = reads 100 expr ts >>= λ x. expr_behind k.comma x.1 >>= λ m. Found (Assert at x.0.0 m.0) m.1
+assert_behind at ts = reads most_levels expr ts >>= λ x. expr_behind k.comma x.1 >>= λ m. Found (Assert at x.0.0 m.0) m.1
 
 unfoldable pub raise_behind : Pos → Reader Statement
 raise_behind at ts = optional_expr ts >>= λ v. Found (Raise at v.0) v.1
@@ -111,7 +112,7 @@ unfoldable pub yield_to : Pos → List Taker → Pos → Reader Statement
 yield_to at all word ts = optional_exprs ts >>= λ v. Found (AssignYield at all word v.0) v.1
 
 abbrev pub assigned : Pos → List Taker → Reader (Turn (List Taker × Tree) Statement)
-assigned at all ts = cond (starts E1 ts) (reads 100 exprs ts >>= λ y. Found (On (all, y.0.0)) y.1) (wanted (k.yield ∷ []) ts >>= λ o. yield_to at all o.0.at o.1 >>= λ s. Found (Out s.0) s.1)
+assigned at all ts = cond (starts E1 ts) (reads most_levels exprs ts >>= λ y. Found (On (all, y.0.0)) y.1) (wanted (k.yield ∷ []) ts >>= λ o. yield_to at all o.0.at o.1 >>= λ s. Found (Out s.0) s.1)
 
 abbrev pub assign_step : Pos → List Taker × Tree → Token × List Token → Read Token (Turn (List Taker × Tree) Statement)
 assign_step at s o = pick (taker_in s.1) (λ t. assigned at (s.0 ++ t ∷ []) o.1) (Found (Out (assignment at s.0 s.1)) (o.0 ∷ o.1))
@@ -124,10 +125,10 @@ abbrev pub change_on : List Token → Option ((Token × BinOp) × List Token)
 change_on ts = first_meant kind (changes.0 ∷ changes.1) ts
 
 unfoldable pub valued : Reader Statement
-valued ts = reads 100 exprs ts >>= λ x. pick (change_on x.1) (λ c. pick (place_in x.0.0) (λ p. reads 100 expr c.1 >>= λ y. Found (AugAssign (at_of x.0.0) p c.0.1 y.0.0) y.1) (assigns (at_of x.0.0) (([], x.0.0), x.1))) (assigns (at_of x.0.0) (([], x.0.0), x.1))
+valued ts = reads most_levels exprs ts >>= λ x. pick (change_on x.1) (λ c. pick (place_in x.0.0) (λ p. reads most_levels expr c.1 >>= λ y. Found (AugAssign (at_of x.0.0) p c.0.1 y.0.0) y.1) (assigns (at_of x.0.0) (([], x.0.0), x.1))) (assigns (at_of x.0.0) (([], x.0.0), x.1))
 
 unfoldable pub del_behind : Pos → Reader Statement
-del_behind at ts = reads 100 single ts >>= λ x. Found (Del at x.0.0) x.1
+del_behind at ts = reads most_levels single ts >>= λ x. Found (Del at x.0.0) x.1
 
 -- a statement that begins with a word, and any
 unfoldable pub worded : Reader Statement
@@ -162,10 +163,10 @@ params ts = pick (one k.right_paren ts) (λ o. Found [] o.1) (param [] ts >>= λ
 
 -- a class's base
 unfoldable pub base : Reader Maybe
-base ts = pick (one k.left_paren ts) (λ o. pick (one k.right_paren o.1) (λ c. Found Absent c.1) (reads 100 expr o.1 >>= λ e. wanted (k.right_paren ∷ []) e.1 >>= λ c. Found (Present e.0.0) c.1)) (Found Absent ts)
+base ts = pick (one k.left_paren ts) (λ o. pick (one k.right_paren o.1) (λ c. Found Absent c.1) (reads most_levels expr o.1 >>= λ e. wanted (k.right_paren ∷ []) e.1 >>= λ c. Found (Present e.0.0) c.1)) (Found Absent ts)
 
 unfoldable pub decorator : Reader Tree
-decorator ts = reads 100 expr ts >>= λ e. wanted (k.newline ∷ []) e.1 >>= λ c. Found e.0.0 c.1
+decorator ts = reads most_levels expr ts >>= λ e. wanted (k.newline ∷ []) e.1 >>= λ c. Found e.0.0 c.1
 
 abbrev pub decorator_step : Trees → Token × List Token → Read Token (Turn Trees Trees)
 decorator_step ds o = decorator o.1 >>= λ e. Found (On (More ds e.0)) e.1
@@ -178,7 +179,7 @@ decorators ts = decorator ts >>= λ e. decorators_on (More Empty e.0, e.1)
 
 -- what a handler catches, and the name behind `as`
 unfoldable pub caught : Reader (Maybe × Option (List ℕ))
-caught ts = cond (starts E1 ts) (reads 100 expr ts >>= λ c. alias_behind c.1 >>= λ n. Found (Present c.0.0, n.0) n.1) (Found (Absent, None) ts)
+caught ts = cond (starts E1 ts) (reads most_levels expr ts >>= λ c. alias_behind c.1 >>= λ n. Found (Present c.0.0, n.0) n.1) (Found (Absent, None) ts)
 
 -- STATEMENTS WITH BLOCKS; b is what reads a block
 module _ (b : Reader Block) where
@@ -190,7 +191,7 @@ module _ (b : Reader Block) where
   suite_behind c ts = pick (one c ts) (λ o. suite o.1) (Found NoStatement ts)
 
   unfoldable pub arm : Reader (Tree × Block)
-  arm ts = reads 100 expr ts >>= λ c. suite c.1 >>= λ x. Found (c.0.0, x.0) x.1
+  arm ts = reads most_levels expr ts >>= λ c. suite c.1 >>= λ x. Found (c.0.0, x.0) x.1
 
   abbrev pub elif_step : Branches → Token × List Token → Read Token (Turn Branches Branches)
   elif_step bs o = arm o.1 >>= λ y. Found (On (Branch bs o.0.at y.0.0 y.0.1)) y.1
@@ -205,10 +206,10 @@ module _ (b : Reader Block) where
   while_behind at ts = arm ts >>= λ y. Found (While at y.0.0 y.0.1) y.1
 
   unfoldable pub with_behind : Pos → Reader Statement
-  with_behind at ts = reads 100 expr ts >>= λ c. alias_behind c.1 >>= λ n. suite n.1 >>= λ x. Found (With at c.0.0 n.0 x.0) x.1
+  with_behind at ts = reads most_levels expr ts >>= λ c. alias_behind c.1 >>= λ n. suite n.1 >>= λ x. Found (With at c.0.0 n.0 x.0) x.1
 
   unfoldable pub for_behind : Pos → Reader Statement
-  for_behind at ts = reads 100 targets ts >>= λ t. wanted (k.in_word ∷ []) t.1 >>= λ i. reads 100 exprs i.1 >>= λ e. suite e.1 >>= λ x. Found (For at t.0.0 e.0.0 x.0) x.1
+  for_behind at ts = reads most_levels targets ts >>= λ t. wanted (k.in_word ∷ []) t.1 >>= λ i. reads most_levels exprs i.1 >>= λ e. suite e.1 >>= λ x. Found (For at t.0.0 e.0.0 x.0) x.1
 
   -- handlers, and one more behind `except`
   unfoldable pub handler : Handlers → Pos → Reader Handlers
@@ -258,4 +259,4 @@ block_at zero ts = deep_at (λ t. has (kind t) (k.newline ∷ SI)) ts
 block_at (suc n) ts = pick (one k.newline ts) (λ o. wanted (k.indent ∷ []) o.1 >>= λ i. stmts (block_at n) (nat_le 1 n) i.1 >>= λ x. wanted (k.dedent ∷ []) x.1 >>= λ d. Found x.0 d.1) (simples NoStatement ts)
 
 unfoldable pub source : Reader Block
-source ts = pick (one k.end ts) (λ o. Found NoStatement o.1) (stmts (block_at 100) true ts >>= λ x. wanted (k.end ∷ []) x.1 >>= λ e. Found x.0 e.1)
+source ts = pick (one k.end ts) (λ o. Found NoStatement o.1) (stmts (block_at most_levels) true ts >>= λ x. wanted (k.end ∷ []) x.1 >>= λ e. Found x.0 e.1)

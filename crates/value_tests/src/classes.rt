@@ -1,10 +1,13 @@
-// Rows on classes of the sources.
+// Rows on classes.
 
 use crate::objects::class;
 use crate::shown::value_told;
-use crate::spelled::{Tried, count, values};
+use crate::spelled::{Tried, characters, copied, count, values};
+use py_kinds::builtins::{builtin_value, first_heap};
+use py_kinds::classes::{is_a, root_of};
+use py_kinds::kinds::class_name;
+use py_values::builtin::EXCEPTIONS;
 use py_values::class::{ClassForm, ClassRef, ExcClass};
-use py_values::classes::{is_a, root_of};
 use py_values::heap::Heap;
 use py_values::names::Names;
 use py_values::object::{InstanceObj, Obj};
@@ -86,10 +89,66 @@ fn chain_told(alloc: Global, levels: usize) -> Tried<String> {
     Ok(format!(in alloc; "{below} {none}")?)
 }
 
+/// The value of a built-in name; `None` where there is none.
+fn named(alloc: Global, name: &str) -> Tried<Value> {
+    let name = characters(alloc, name)?;
+    Ok(builtin_value(&name).unwrap_or(Value::None))
+}
+
+/// The names of the built-in classes of exceptions of which a value is an instance.
+fn classes_told(alloc: Global, heap: &Heap, v: Value) -> Tried<String> {
+    let mut all = String::new(alloc);
+    for class in &EXCEPTIONS {
+        let name = class_name(*class);
+        if is_a(heap, v, named(alloc, name)?) {
+            if !all.is_empty() {
+                all.push(' ')?;
+            }
+            all.push_str(name)?;
+        }
+    }
+    Ok(all)
+}
+
+/// An exception's class, by the class's object.
+fn class_of(heap: &Heap, id: ObjId) -> ClassRef {
+    if let Some(Obj::Class(class)) = heap.get(id) {
+        if let ClassForm::Exception(class) = class.form {
+            return ClassRef::Builtin(class);
+        }
+    }
+    ClassRef::Defined(id)
+}
+
+/// The built-in classes of an exception of the class of a name.
+fn below_told(alloc: Global, name: &str) -> Tried<String> {
+    let mut heap = first_heap(alloc)?;
+    let Value::Ref(id) = named(alloc, name)? else {
+        return copied(alloc, "no class");
+    };
+    let class = class_of(&heap, id);
+    let exc = throw_with(alloc, &mut heap, class, Values::new(alloc))?;
+    classes_told(alloc, &heap, exc)
+}
+
+/// The built-in classes of an exception of a class of the sources that stands on the class of a name.
+fn under_told(alloc: Global, name: &str) -> Tried<String> {
+    let mut heap = first_heap(alloc)?;
+    let Value::Ref(id) = named(alloc, name)? else {
+        return copied(alloc, "no class");
+    };
+    let own = source(alloc, &mut heap, "Own", Some(id))?;
+    let class = ClassRef::Defined(own);
+    let exc = throw_with(alloc, &mut heap, class, Values::new(alloc))?;
+    classes_told(alloc, &heap, exc)
+}
+
 /// What is given, where a row asks for something of classes.
 pub fn given(alloc: Global, word: &str, rest: &str, operands: &str) -> Tried<Option<String>> {
     match word {
         "own" => Ok(Some(own_told(alloc, operands)?)),
+        "below" => Ok(Some(below_told(alloc, operands)?)),
+        "under" => Ok(Some(under_told(alloc, operands)?)),
         "chain" => Ok(Some(chain_told(alloc, count(rest))?)),
         _ => Ok(None),
     }

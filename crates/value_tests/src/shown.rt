@@ -1,26 +1,21 @@
 // What is told of values and of ends.
 
 use crate::spelled::{Tried, copied};
+use py_kinds::kinds::{class_name, kind_name};
+use py_kinds::truth::truth;
 use py_repr::repr::{repr, str};
 use py_repr::shown::Shown;
 use py_values::PyText;
+use py_values::builtin::EXCEPTIONS;
 use py_values::class::ExcClass;
 use py_values::end::{OpEnd, Raise};
 use py_values::heap::Heap;
-use py_values::kinds::{class_name, kind_name};
-use py_values::truth::truth;
 use py_values::value::Value;
 use std::alloc::Global;
 
-const CLASSES: [ExcClass; 3] = [
-    ExcClass::KeyError,
-    ExcClass::TypeError,
-    ExcClass::ValueError,
-];
-
-/// The class of a name, or `NameError`.
+/// The class of exceptions of a name, or `NameError`.
 pub fn class_by(name: &str) -> ExcClass {
-    for class in &CLASSES {
+    for class in &EXCEPTIONS {
         if class_name(*class) == name {
             return *class;
         }

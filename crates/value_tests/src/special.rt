@@ -2,9 +2,12 @@
 
 use crate::shown::class_by;
 use crate::spelled::{Tried, count, put, taken};
+use py_ops::binary::binary;
+use py_tree::BinOp;
 use py_values::change::Change;
 use py_values::class::{ClassRef, ExcClass};
 use py_values::dict::Dict;
+use py_values::end::OpEnd;
 use py_values::heap::Heap;
 use py_values::object::Obj;
 use py_values::rows::Values;
@@ -69,4 +72,19 @@ pub fn exception(
     let (args, class) = spelled.split_once(' ').unwrap_or((spelled, ""));
     let args = Values::from_vec(taken(alloc, stack, count(args))?);
     throw_with(alloc, heap, ClassRef::Builtin(class_by(class)), args)
+}
+
+/// The value before it so many times, which it takes away.
+pub fn repeated(
+    alloc: Global,
+    heap: &mut Heap,
+    stack: &mut Vec<Value>,
+    spelled: &str,
+) -> Tried<Value> {
+    let v = stack.pop().unwrap_or(Value::None);
+    let times = Value::Int(count(spelled) as i128);
+    match binary(alloc, heap, BinOp::Mul, v, times, u64::MAX)? {
+        OpEnd::Value(v, _) => Ok(v),
+        OpEnd::Raised(_, _) | OpEnd::Exhausted => Ok(Value::None),
+    }
 }

@@ -1,10 +1,10 @@
 // Values that rows spell.
 
 use crate::objects::{builtin_function, function, module};
-use crate::special::{exception, full_dict, nested, nested_exception, own_list};
+use crate::special::{exception, full_dict, nested, nested_exception, own_list, repeated};
+use py_kinds::keys::{Keyed, key};
 use py_values::dict::Dict;
 use py_values::heap::Heap;
-use py_values::keys::{Keyed, key};
 use py_values::object::Obj;
 use py_values::range::RangeObj;
 use py_values::rows::Values;
@@ -167,6 +167,7 @@ fn value(
         'K' => full_dict(alloc, heap, count(rest)),
         '!' => nested_exception(alloc, heap, count(rest)),
         'X' => exception(alloc, heap, stack, rest),
+        '*' => repeated(alloc, heap, stack, rest),
         _ => {
             let obj = object(alloc, heap, stack, kind, rest)?;
             Ok(Value::Ref(heap.add(obj)?))
@@ -188,12 +189,15 @@ fn part_value(alloc: Global, heap: &mut Heap, stack: &mut Vec<Value>, part: &str
     )
 }
 
-/// The values of a row, with `|` between their parts; nothing spells none. A part is `None`, a boolean, a number, `'` and a text,
-/// `R` and a range, `L`, `T` or `D` and how many of the values before it are the elements of a list, a tuple or a dict (keys and
-/// values in turn), or one
-/// of the signs of `value`: `@` and the place of a value before it is that value again, `O` a list that holds 1 and itself, `(` 1 within
-/// so many tuples, `!` 7 within so many exceptions, `K` a dict of so many keys, `X` how many of the values before it are an
-/// exception's arguments, and its class; `F` a function, `M` a module and `B` the built-in function `print`.
+/// The values of a row, with `|` between their parts; nothing spells none. A part is
+///
+/// - `None`, a boolean or a number;
+/// - `'` and a text, or `R` and a range's start, stop and step;
+/// - `L`, `T` or `D` and how many of the values before it are the elements of a list, a tuple or a dict (keys and values in turn);
+/// - `@` and the place of a value before it, for that value again, or `*` and how many times the value before it is repeated;
+/// - `O`, a list that holds 1 and itself; `(`, 1 within so many tuples; `!`, 7 within so many exceptions; `K`, a dict of so many keys;
+/// - `X`, how many of the values before it are an exception's arguments, and its class;
+/// - `F` and a function's name, `M` and a module's path, or `B`, the built-in function `print`.
 pub fn values(alloc: Global, heap: &mut Heap, spelled: &str) -> Tried<Vec<Value>> {
     let mut stack = Vec::new(alloc);
     if spelled.is_empty() {

@@ -5,8 +5,8 @@ use crate::spelled::{Tried, at, characters, copied, count, text, values};
 use py_compare::equal::equal;
 use py_compare::order::less;
 use py_compare::tested::Tested;
+use py_kinds::builtins::{builtin_value, first_heap};
 use py_repr::repr::{message, repr};
-use py_values::builtins::{builtin_value, first_heap};
 use py_values::change::Change;
 use py_values::class::ExcClass;
 use py_values::end::Raise;
@@ -105,13 +105,19 @@ fn first_of(names: &Names) -> Option<Value> {
     }
 }
 
-/// What a name is bound to behind the bindings, and the value that stands first.
+/// What a name is bound to, and the value that stands first.
+fn found_told(alloc: Global, heap: &Heap, names: &Names, wanted: &str) -> Tried<String> {
+    let wanted = name(alloc, wanted)?;
+    let there = found(alloc, heap, names.find(&wanted))?;
+    let first = found(alloc, heap, first_of(names))?;
+    Ok(format!(in alloc; "{there} {first}")?)
+}
+
+/// The same behind bindings.
 fn bound_told(alloc: Global, wanted: &str, spelled: &str) -> Tried<String> {
     let heap = Heap::new(alloc)?;
     let names = bound(alloc, spelled)?;
-    let there = found(alloc, &heap, names.find(&name(alloc, wanted)?))?;
-    let first = found(alloc, &heap, first_of(&names))?;
-    Ok(format!(in alloc; "{there} {first}")?)
+    found_told(alloc, &heap, &names, wanted)
 }
 
 /// A value whose object is written anew as a text.

@@ -7,5 +7,8 @@ returns-clause-again c = raising.raised_twice
 pub returns-clause-bound : goal.returns-clause-bound
 returns-clause-bound c = raising.raised_bound
 
+pub returns-clause-taken : goal.returns-clause-taken
+returns-clause-taken c = raising.raised_taken
+
 pub returns-clause-finally : goal.returns-clause-finally
 returns-clause-finally c = raising.finally_runs

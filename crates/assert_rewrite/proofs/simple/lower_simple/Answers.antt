@@ -1,5 +1,4 @@
-use Rattle.std.proofs.Common.{rules, ◌≡◌}
-use Rattle.assert_rewrite.proofs.SimpleForms.{return_form, raise_form, global_form}
+use Rattle.assert_rewrite.proofs.SimpleForms.{return_form, raise_form}
 use Rattle.assert_rewrite.proofs.simple.lower_simple.Goals as goal
 
 pub returns-in_ok-lower_some-in-Return : goal.returns-in_ok-lower_some-in-Return
@@ -7,8 +6,3 @@ returns-in_ok-lower_some-in-Return c = return_form c.args.stmt.now.at c.args.stm
 
 pub returns-in_ok-lower_some-in-Raise : goal.returns-in_ok-lower_some-in-Raise
 returns-in_ok-lower_some-in-Raise c = raise_form c.args.stmt.now.at c.args.stmt.now.kind c.in-Raise.value c.in_ok-lower_some-in-Raise.field-0 c.in-Raise.is c.in_ok-lower_some-in-Raise.ensures
-
-pub returns-in_ok-clone-in-Global : goal.returns-in_ok-clone-in-Global
-returns-in_ok-clone-in-Global c =
-    let same : c.in_ok-clone-in-Global.field-0.value ≡ c.in-Global.names.value = search rules in
-    global_form c.args.stmt.now.at c.args.stmt.now.kind c.in-Global.names c.in_ok-clone-in-Global.field-0 c.in-Global.is same

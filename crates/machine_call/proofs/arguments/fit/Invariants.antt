@@ -3,4 +3,4 @@ use Rattle.py_world.specs.Arguments.{fitted}
 use Rattle.machine_call.proofs.arguments.fit.Given as goal
 
 abbrev pub invariant-loop-i : goal.invariant-loop-i
-invariant-loop-i l = fitted l.fn.params l.fn.args [] [] ≡ fitted (drop l.i l.fn.params) (drop l.i l.fn.args) [] l.names
+invariant-loop-i l = fitted l.fn.params l.fn.args l.fn.by_name [] ≡ fitted (drop l.i l.fn.params) (drop l.i l.fn.args) l.named l.names

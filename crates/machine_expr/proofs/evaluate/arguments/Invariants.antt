@@ -1,7 +1,8 @@
 use Rattle.std.proofs.Common.{◌≡◌, ◌≤◌, ◌-◌, length, vec_len}
-use Rattle.py_world.specs.Arguments.{plain}
+use Rattle.py_world.specs.Arguments.{arguments_of}
 use Rattle.py_world.specs.Expressions.{call_on}
-use Rattle.machine_state.specs.Frames.{ends, parts_from, rest_of, site_now, state_of}
+use Rattle.machine_state.specs.Places.{ends, parts_from}
+use Rattle.machine_state.specs.Frames.{rest_of, site_now, state_of}
 use Rattle.machine_state.specs.Work.{weight_from}
 use Rattle.machine_expr.proofs.evaluate.arguments.Given as goal
 
@@ -11,8 +12,8 @@ invariant-each l =
       same : l.m ≡ record l.fn.m { left = l.m.left };
       fewer : l.m.left ≤ l.fn.m.left;
       lighter : weight_from (length l.so_far.items) l.es ≤ weight_from (length l.fn.so_far.items) l.es;
-      goes_on : ends l.m.left (call_on l.callee plain (parts_from (length l.so_far.items) l.es) l.so_far.items (site_now l.m) (state_of l.m) (rest_of l.m))
-          ≡ ends l.fn.m.left (call_on l.callee plain (parts_from (length l.fn.so_far.items) l.es) l.fn.so_far.items (site_now l.fn.m) (state_of l.fn.m) (rest_of l.fn.m));
+      goes_on : ends l.m.left (call_on l.callee (arguments_of l.names.value.items) (parts_from (length l.so_far.items) l.es) l.so_far.items (site_now l.m) (state_of l.m) (rest_of l.m))
+          ≡ ends l.fn.m.left (call_on l.callee (arguments_of l.names.value.items) (parts_from (length l.fn.so_far.items) l.es) l.fn.so_far.items (site_now l.fn.m) (state_of l.fn.m) (rest_of l.fn.m));
     }
 
 abbrev pub decreases-each : goal.decreases-each

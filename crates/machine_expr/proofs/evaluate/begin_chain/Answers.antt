@@ -1,10 +1,11 @@
 use Rattle.std.proofs.Common.{◌≡◌, ◌∙◌, ap, arith}
 use Rattle.std.proofs.lemmas.Result.{IfOk-weaker}
-use Rattle.py_world.specs.Arguments.{plain}
+use Rattle.py_world.specs.Arguments.{arguments_of}
 use Rattle.py_world.specs.Expressions.{call_part, and_part, or_part, compare_part}
 use Rattle.core_meaning.specs.Expressions.{eval}
 use Rattle.machine_state.specs.declared.machine.Doing.{Doing}
-use Rattle.machine_state.specs.Frames.{parts_from, rest_of, site_now, state_of, todo}
+use Rattle.machine_state.specs.Places.{parts_from}
+use Rattle.machine_state.specs.Frames.{rest_of, site_now, state_of, todo}
 use Rattle.machine_expr.specs.Noting.{with_note}
 use Rattle.machine_expr.proofs.Rows.{call_begins, and_begins, or_begins, compare_begins, call_weight, and_weight, or_weight, compare_weight}
 use Rattle.machine_expr.proofs.evaluate.begin_chain.Goals as goal
@@ -17,13 +18,13 @@ returns-in-Call-clause-next c =
     let p = site_now m in
     let s = state_of m in
     let k = rest_of m in
-    IfOk-weaker c.begin_call.result (λ (d : Doing). todo d m' ≡ call_part (eval c.in-Call.f.value) plain (parts_from 0 c.in-Call.es) p s k) (λ (d : Doing). with_note e.at e.kind (todo d m') ≡ eval e p s k)
-    (λ d h. ap (with_note e.at e.kind) h ∙ call_begins e.kind e.at c.in-Call.f c.in-Call.es p s k c.in-Call.is)
+    IfOk-weaker c.begin_call.result (λ (d : Doing). todo d m' ≡ call_part (eval c.in-Call.f.value) (arguments_of c.in-Call.names.value.items) (parts_from 0 c.in-Call.es) p s k) (λ (d : Doing). with_note e.at e.kind (todo d m') ≡ eval e p s k)
+    (λ d h. ap (with_note e.at e.kind) h ∙ call_begins e.kind e.at c.in-Call.f c.in-Call.es p s k c.in-Call.names c.in-Call.is)
     c.begin_call.ensures.next
 
 pub returns-in-Call-clause-work : goal.returns-in-Call-clause-work
 returns-in-Call-clause-work c =
-    IfOk-weaker c.begin_call.result _ _ (λ d h. omega (arith, h, call_weight c.args.e.now.kind c.in-Call.f c.in-Call.es c.in-Call.is)) c.begin_call.ensures.work
+    IfOk-weaker c.begin_call.result _ _ (λ d h. omega (arith, h, call_weight c.args.e.now.kind c.in-Call.f c.in-Call.es c.in-Call.names c.in-Call.is)) c.begin_call.ensures.work
 
 pub returns-in-And-clause-next : goal.returns-in-And-clause-next
 returns-in-And-clause-next c =

@@ -6,7 +6,8 @@ use Rattle.core_meaning.specs.Expressions.{eval}
 use Rattle.core_meaning.specs.Statements.{some_part}
 use Rattle.machine_state.specs.declared.frame.Display.TheVariants.{Tuple, List}
 use Rattle.machine_state.specs.declared.machine.Doing.{Doing}
-use Rattle.machine_state.specs.Frames.{display_of, parts_from, rest_of, site_now, state_of, todo}
+use Rattle.machine_state.specs.Places.{parts_from}
+use Rattle.machine_state.specs.Frames.{display_of, rest_of, site_now, state_of, todo}
 use Rattle.machine_expr.specs.Noting.{with_note}
 use Rattle.machine_expr.proofs.Rows.{tuple_begins, list_begins, dict_begins, attribute_begins, subscript_begins, slice_begins, tuple_weight, list_weight, dict_weight, attribute_weight, subscript_weight, slice_weight}
 use Rattle.machine_expr.proofs.evaluate.begin_container.Goals as goal

@@ -8,7 +8,7 @@ use Rattle.py_ops.specs.Unary.{unary_of}
 use Rattle.py_world.specs.Expressions.{name_part, unary_part, binary_part, compare_part, not_part}
 use Rattle.py_world.specs.Outcome.{operated}
 use Rattle.core_meaning.specs.Expressions.{eval}
-use Rattle.machine_state.specs.Frames.{parts_from}
+use Rattle.machine_state.specs.Places.{parts_from}
 use Rattle.machine_expr.specs.declared.immediate.Immediate.{Immediate}
 use Rattle.machine_expr.specs.AtOnce.{IsImmediate}
 use Rattle.machine_expr.proofs.AtOnces as once

@@ -7,7 +7,8 @@ use Rattle.py_world.specs.Site.{trace_of}
 use Rattle.py_world.specs.World.{heap_of}
 use Rattle.machine_state.specs.declared.frame.ItemFrame.{ItemFrame}
 use Rattle.machine_state.specs.declared.machine.TurnEnd.{TurnEnd}
-use Rattle.machine_state.specs.Frames.{Follows, display_of, on_item, parts_from, rest_of, site_now, state_of, ends}
+use Rattle.machine_state.specs.Places.{parts_from, ends}
+use Rattle.machine_state.specs.Frames.{Follows, display_of, on_item, rest_of, site_now, state_of}
 use Rattle.machine_expr.specs.Parts.{pairs_from}
 use Rattle.machine_expr.proofs.Displays.{element_taken, pair_taken}
 use Rattle.machine_expr.proofs.items.take_item.Goals as goal

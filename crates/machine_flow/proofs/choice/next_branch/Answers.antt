@@ -6,7 +6,8 @@ use Rattle.py_core.specs.declared.stmt.CoreBranch.{CoreBranch}
 use Rattle.py_world.specs.Statements.{branches_on}
 use Rattle.core_meaning.specs.Statements.{CoreChoice, block, choice, choices}
 use Rattle.machine_state.specs.declared.machine.Doing.{Doing}
-use Rattle.machine_state.specs.Frames.{ends, layers_of, rest_of, site_now, state_of, todo}
+use Rattle.machine_state.specs.Places.{ends}
+use Rattle.machine_state.specs.Frames.{layers_of, rest_of, site_now, state_of, todo}
 use Rattle.machine_flow.proofs.Branches.{choices_some}
 use Rattle.machine_flow.proofs.choice.next_branch.Goals as goal
 

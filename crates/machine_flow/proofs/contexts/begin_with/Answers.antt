@@ -1,12 +1,13 @@
-use Rattle.std.proofs.Common.{◌≡◌, ◌∙◌, ◌∷◌}
+use Rattle.std.proofs.Common.{◌≡◌, ◌∙◌, [], ◌∷◌}
 use Rattle.std.proofs.lemmas.Result.{IfOk-weaker}
-use Rattle.py_world.specs.Exceptions.{with_statement}
+use Rattle.py_world.specs.Contexts.{with_statement}
 use Rattle.core_meaning.specs.Expressions.{eval}
 use Rattle.core_meaning.specs.Statements.{block}
 use Rattle.machine_state.specs.declared.frame.Frame.TheVariants.{Flow}
 use Rattle.machine_state.specs.declared.frame.FlowFrame.TheVariants.{Context}
 use Rattle.machine_state.specs.declared.machine.Doing.{Doing}
-use Rattle.machine_state.specs.Frames.{after, handling_of, layers_of, outer_of, rest_of, site_now, site_of, state_of, todo}
+use Rattle.machine_state.specs.Places.{site_of}
+use Rattle.machine_state.specs.Frames.{after, handling_of, outer_of, rest_of, site_now, state_of, todo}
 use Rattle.machine_flow.proofs.Entering.{with_begins}
 use Rattle.machine_flow.proofs.contexts.begin_with.Goals as goal
 
@@ -17,6 +18,6 @@ returns-clause-next c =
     let e = c.args.e.now in
     let frames = Flow (Context c.in_ok-kept.kept c.in_ok-block.block) ∷ m.stack in
     IfOk-weaker c.descend.result (λ (d : Doing). todo d m' ≡ eval e.value (site_of m.here (outer_of frames) (handling_of frames)) (state_of m) (after frames m.here))
-    (λ (d : Doing). todo d m' ≡ with_statement (eval e.value) c.args.name.now (block (layers_of m.stack) c.args.body.now.value) (site_now m) (state_of m) (rest_of m))
+    (λ (d : Doing). todo d m' ≡ with_statement (eval e.value) c.args.name.now (block [] c.args.body.now.value) (site_now m) (state_of m) (rest_of m))
     (λ d h. h ∙ with_begins m.here m.stack (state_of m) e c.args.name.now c.in_ok-kept.kept c.args.body.now c.in_ok-block.block c.in_ok-kept.ensures c.in_ok-block.ensures.cases)
     c.descend.ensures.next

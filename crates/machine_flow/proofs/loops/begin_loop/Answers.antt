@@ -6,7 +6,8 @@ use Rattle.core_meaning.specs.Expressions.{eval}
 use Rattle.machine_state.specs.declared.frame.Frame.TheVariants.{Flow}
 use Rattle.machine_state.specs.declared.frame.FlowFrame.TheVariants.{Test}
 use Rattle.machine_state.specs.declared.machine.Doing.{Doing}
-use Rattle.machine_state.specs.Frames.{after, handling_of, outer_of, rest_of, site_now, site_of, state_of, todo}
+use Rattle.machine_state.specs.Places.{site_of}
+use Rattle.machine_state.specs.Frames.{after, handling_of, outer_of, rest_of, site_now, state_of, todo}
 use Rattle.std.proofs.Common.{◌∷◌}
 use Rattle.machine_flow.proofs.Flows.{loop_tests}
 use Rattle.machine_flow.proofs.loops.begin_loop.Goals as goal

@@ -4,7 +4,8 @@ use Rattle.py_world.specs.Loops.{behind_target}
 use Rattle.core_meaning.specs.Requests.{ForOf}
 use Rattle.core_meaning.specs.Statements.{block}
 use Rattle.machine_state.specs.declared.machine.Doing.{Doing}
-use Rattle.machine_state.specs.Frames.{after, handling_of, layers_of, outer_of, rest_of, site_now, site_of, state_of, todo}
+use Rattle.machine_state.specs.Places.{site_of}
+use Rattle.machine_state.specs.Frames.{after, handling_of, layers_of, outer_of, rest_of, site_now, state_of, todo}
 use Rattle.machine_flow.proofs.Elements.{body_begins}
 use Rattle.machine_flow.proofs.turns.begin_body.Goals as goal
 

@@ -5,7 +5,8 @@ use Rattle.py_world.specs.Loops.{for_from}
 use Rattle.py_world.specs.Statements.{asked}
 use Rattle.core_meaning.specs.Requests.{ForOf}
 use Rattle.machine_state.specs.declared.machine.TurnEnd.{TurnEnd}
-use Rattle.machine_state.specs.Frames.{ending, ends, rest_of, site_now, state_of}
+use Rattle.machine_state.specs.Places.{ends}
+use Rattle.machine_state.specs.Frames.{ending, rest_of, site_now, state_of}
 use Rattle.machine_flow.proofs.Elements.{there_asks}
 use Rattle.machine_flow.proofs.turns.go_on.Goals as goal
 

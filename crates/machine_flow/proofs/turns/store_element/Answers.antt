@@ -6,7 +6,8 @@ use Rattle.py_world.specs.Outcome.{on_next}
 use Rattle.core_meaning.specs.Requests.{ForOf}
 use Rattle.core_meaning.specs.Statements.{block, store}
 use Rattle.machine_state.specs.declared.machine.Doing.{Doing}
-use Rattle.machine_state.specs.Frames.{after, handling_of, outer_of, rest_of, site_now, site_of, state_of, todo}
+use Rattle.machine_state.specs.Places.{site_of}
+use Rattle.machine_state.specs.Frames.{after, handling_of, outer_of, rest_of, site_now, state_of, todo}
 use Rattle.machine_flow.proofs.Elements.{element_stored}
 use Rattle.machine_flow.proofs.turns.store_element.Goals as goal
 

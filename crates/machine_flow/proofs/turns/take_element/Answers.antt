@@ -9,7 +9,8 @@ use Rattle.py_world.specs.World.{with_heap}
 use Rattle.core_meaning.specs.Requests.{ForOf}
 use Rattle.core_meaning.specs.Statements.{block, store}
 use Rattle.machine_state.specs.declared.machine.Doing.{Doing}
-use Rattle.machine_state.specs.Frames.{CoreState, rest_of, site_now, state_of, todo}
+use Rattle.machine_state.specs.Places.{CoreState}
+use Rattle.machine_state.specs.Frames.{rest_of, site_now, state_of, todo}
 use Rattle.machine_flow.proofs.Elements.{element_given, element_new, element_put}
 use Rattle.machine_flow.proofs.turns.take_element.Goals as goal
 

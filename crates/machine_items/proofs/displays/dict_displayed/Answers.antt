@@ -1,6 +1,6 @@
 use Rattle.std.proofs.Common.{◌≤◌, ◌<◌, ◌∙◌, ◌*◌, ◌+◌, ◌/◌, ◌^◌, ℕ, List, [], ap, sym, length, drop, get_or, arith, length-drop}
 use Rattle.py_values.specs.Ends.{within}
-use Rattle.py_values.specs.Keys.{key_of, key_steps}
+use Rattle.py_kinds.specs.Keys.{key_of, key_steps}
 use Rattle.py_values.specs.declared.dict.Pair.{Pair}
 use Rattle.py_values.specs.declared.key.Atom.{Atom}
 use Rattle.py_values.specs.declared.value.Value.TheVariants as val

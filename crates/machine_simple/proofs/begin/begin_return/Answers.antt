@@ -3,7 +3,8 @@ use Rattle.std.proofs.lemmas.Result.{IfOk-weaker}
 use Rattle.py_world.specs.Statements.{return_value}
 use Rattle.core_meaning.specs.Expressions.{eval}
 use Rattle.machine_state.specs.declared.machine.Doing.{Doing}
-use Rattle.machine_state.specs.Frames.{ends, rest_of, site_now, state_of, todo}
+use Rattle.machine_state.specs.Places.{ends}
+use Rattle.machine_state.specs.Frames.{rest_of, site_now, state_of, todo}
 use Rattle.machine_expr.proofs.Noted.{same_run}
 use Rattle.machine_store.proofs.Immediately.{fewer}
 use Rattle.machine_simple.proofs.Immediately.{return_there}

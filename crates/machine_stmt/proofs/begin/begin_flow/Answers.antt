@@ -1,15 +1,16 @@
-use Rattle.std.proofs.Common.{◌≡◌, ◌∙◌, ap}
+use Rattle.std.proofs.Common.{◌≡◌, ◌∙◌, [], ap}
 use Rattle.std.proofs.lemmas.Result.{IfOk-weaker}
-use Rattle.py_world.specs.Exceptions.{with_statement}
+use Rattle.py_world.specs.Contexts.{with_statement}
 use Rattle.py_world.specs.Loops.{for_statement}
 use Rattle.py_world.specs.Statements.{choose, loop}
 use Rattle.core_meaning.specs.Requests.{ForOf, TurnOf}
-use Rattle.core_meaning.specs.Expressions.{eval}
-use Rattle.core_meaning.specs.Statements.{block, choices, define_fn, statement_at, try_at}
+use Rattle.core_meaning.specs.Expressions.{eval, parts_of}
+use Rattle.core_meaning.specs.Statements.{block, choices, define_class, define_fn, some_part, statement_at, try_at}
 use Rattle.machine_state.specs.declared.machine.Doing.{Doing}
-use Rattle.machine_state.specs.Frames.{ends, layers_of, rest_of, site_now, state_of, todo}
+use Rattle.machine_state.specs.Places.{ends}
+use Rattle.machine_state.specs.Frames.{layers_of, rest_of, site_now, state_of, todo}
 use Rattle.machine_expr.proofs.Noted.{same_run}
-use Rattle.machine_stmt.proofs.Blocks.{loop_begins, choice_begins, define_begins, for_begins, try_begins, with_begins}
+use Rattle.machine_stmt.proofs.Blocks.{loop_begins, choice_begins, class_begins, define_begins, for_begins, try_begins, with_begins}
 use Rattle.machine_stmt.proofs.begin.begin_flow.Goals as goal
 
 pub returns-in-While-clause-next : goal.returns-in-While-clause-next
@@ -29,16 +30,30 @@ returns-in-While-clause-next c =
 pub returns-in-Def-clause-next : goal.returns-in-Def-clause-next
 returns-in-Def-clause-next c =
     let m = c.args.m.now in
-    let m' = c.define.new.m in
+    let m' = c.begin_def.new.m in
     let kind = c.args.kind.now in
     let ls = layers_of m.stack in
     let p = site_now m in
     let s = state_of m in
     let k = rest_of m in
-    let tree = define_fn c.in-Def.function.value p s k in
+    let tree = define_fn (parts_of c.in-Def.ds.value.items) (parts_of c.in-Def.es.value.items) c.in-Def.function.value p s k in
     let whole = statement_at ls kind p s k in
-    IfOk-weaker c.define.result (λ (d : Doing). todo d m' ≡ tree) (λ (d : Doing). ends m'.left (todo d m') ≡ ends m.left whole)
-    (λ d h. same_run m.left m'.left (todo d m') whole c.define.ensures.left (h ∙ define_begins ls kind p s k c.in-Def.function c.in-Def.is)) c.define.ensures.next
+    IfOk-weaker c.begin_def.result (λ (d : Doing). todo d m' ≡ tree) (λ (d : Doing). ends m'.left (todo d m') ≡ ends m.left whole)
+    (λ d h. same_run m.left m'.left (todo d m') whole c.begin_def.ensures.left (h ∙ define_begins ls kind p s k c.in-Def.ds c.in-Def.es c.in-Def.function c.in-Def.is)) c.begin_def.ensures.next
+
+pub returns-in-Class-clause-next : goal.returns-in-Class-clause-next
+returns-in-Class-clause-next c =
+    let m = c.args.m.now in
+    let m' = c.begin_class.new.m in
+    let kind = c.args.kind.now in
+    let ls = layers_of m.stack in
+    let p = site_now m in
+    let s = state_of m in
+    let k = rest_of m in
+    let tree = define_class (parts_of c.in-Class.ds.value.items) (some_part c.in-Class.base) c.in-Class.class.value p s k in
+    let whole = statement_at ls kind p s k in
+    IfOk-weaker c.begin_class.result (λ (d : Doing). todo d m' ≡ tree) (λ (d : Doing). ends m'.left (todo d m') ≡ ends m.left whole)
+    (λ d h. same_run m.left m'.left (todo d m') whole c.begin_class.ensures.left (h ∙ class_begins ls kind p s k c.in-Class.ds c.in-Class.base c.in-Class.class c.in-Class.is)) c.begin_class.ensures.next
 
 pub returns-in-For-clause-next : goal.returns-in-For-clause-next
 returns-in-For-clause-next c =
@@ -77,7 +92,7 @@ returns-in-With-clause-next c =
     let p = site_now m in
     let s = state_of m in
     let k = rest_of m in
-    let tree = with_statement (eval c.in-With.e.value) c.in-With.name (block ls c.in-With.body.value) p s k in
+    let tree = with_statement (eval c.in-With.e.value) c.in-With.name (block [] c.in-With.body.value) p s k in
     let whole = statement_at ls kind p s k in
     IfOk-weaker c.begin_with.result (λ (d : Doing). todo d m' ≡ tree) (λ (d : Doing). ends m'.left (todo d m') ≡ ends m.left whole)
     (λ d h. same_run m.left m'.left (todo d m') whole c.begin_with.ensures.left (h ∙ with_begins ls kind p s k c.in-With.e c.in-With.name c.in-With.body c.in-With.is)) c.begin_with.ensures.next

@@ -6,7 +6,8 @@ use Rattle.core_meaning.specs.Statements.{block_from}
 use Rattle.machine_state.specs.declared.frame.End.{End}
 use Rattle.machine_state.specs.declared.frame.End.TheVariants as end
 use Rattle.machine_state.specs.declared.machine.TurnEnd.{TurnEnd}
-use Rattle.machine_state.specs.Frames.{ending, ends, layers_of, outcome, rest_of, site_now, state_of}
+use Rattle.machine_state.specs.Places.{ends, outcome}
+use Rattle.machine_state.specs.Frames.{ending, layers_of, rest_of, site_now, state_of}
 use Rattle.machine_stmt.proofs.flow.take_block.Goals as goal
 
 pub returns-in-Next-clause-next : goal.returns-in-Next-clause-next

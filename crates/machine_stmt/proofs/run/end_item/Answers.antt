@@ -3,7 +3,8 @@ use Rattle.std.proofs.lemmas.Result.{IfOk-weaker}
 use Rattle.py_world.specs.Outcome.{on_value}
 use Rattle.machine_state.specs.declared.frame.End.{End}
 use Rattle.machine_state.specs.declared.machine.TurnEnd.{TurnEnd}
-use Rattle.machine_state.specs.Frames.{ending, ends, on_item, rest_of, outcome, site_now, state_of}
+use Rattle.machine_state.specs.Places.{ends, outcome}
+use Rattle.machine_state.specs.Frames.{ending, on_item, rest_of, site_now, state_of}
 use Rattle.machine_stmt.proofs.run.end_item.Goals as goal
 
 pub returns-in-Ok-clause-next : goal.returns-in-Ok-clause-next

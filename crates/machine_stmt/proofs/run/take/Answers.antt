@@ -1,9 +1,13 @@
-use Rattle.std.proofs.Common.{◌≡◌, ◌∙◌, ap}
+use Rattle.std.proofs.Common.{◌≡◌, ◌∙◌, ap, sym}
 use Rattle.std.proofs.lemmas.Result.{IfOk-weaker}
 use Rattle.machine_state.specs.declared.frame.Frame.{Frame}
 use Rattle.machine_state.specs.declared.frame.Frame.TheVariants as frame
 use Rattle.machine_state.specs.declared.machine.TurnEnd.{TurnEnd}
-use Rattle.machine_state.specs.Frames.{after, ending, ends, handling_of, here_in, layers_of, outcome, outer_of, resume, site_of, state_of}
+use Rattle.machine_state.specs.Places.{ends, outcome, site_of}
+use Rattle.machine_state.specs.Frames.{after, ending, handling_of, here_in, layers_of, outer_of, resume, rest_of, site_now, state_of, todo}
+use Rattle.py_world.specs.Outcome.{on_value}
+use Rattle.machine_state.specs.Definings.{on_define}
+use Rattle.machine_expr.proofs.Noted.{same_run}
 use Rattle.machine_stmt.proofs.run.take.Goals as goal
 
 pub returns-in-Operand-clause-next : goal.returns-in-Operand-clause-next
@@ -29,3 +33,13 @@ returns-in-Item-clause-next c =
     let turn = λ (f : Frame). ends m.left (resume f (layers_of m.stack) (site_of (here_in f m.here) (outer_of m.stack) (handling_of m.stack)) (outcome c.args.end (state_of m)) (after m.stack (here_in f m.here))) in
     IfOk-weaker c.end_item.result (λ (t : TurnEnd). turn (frame.Item c.in-Item.frame) ≡ ending t m') (λ (t : TurnEnd). turn c.args.frame ≡ ending t m')
     (λ t h. ap turn c.in-Item.is ∙ h) c.end_item.ensures.next
+
+pub returns-in_ok-take_define-in-Define-clause-next : goal.returns-in_ok-take_define-in-Define-clause-next
+returns-in_ok-take_define-in-Define-clause-next c =
+    let m = c.args.m.now in
+    let m' = c.take_define.new.m in
+    let f = c.in-Define.frame in
+    let d = c.in_ok-take_define-in-Define.field-0 in
+    let turn = λ (f : Frame). ends m.left (resume f (layers_of m.stack) (site_of (here_in f m.here) (outer_of m.stack) (handling_of m.stack)) (outcome c.args.end (state_of m)) (after m.stack (here_in f m.here))) in
+    ap turn c.in-Define.is
+    ∙ sym (same_run m.left m'.left (todo d m') (on_value (outcome c.args.end (state_of m)) (rest_of m) (λ v s. on_define f (site_now m) v s (rest_of m))) c.take_define.ensures.left c.in_ok-take_define-in-Define.ensures.next)

@@ -5,7 +5,8 @@ use Rattle.core_meaning.specs.Expressions.{eval}
 use Rattle.machine_state.specs.declared.frame.Frame.TheVariants.{Target}
 use Rattle.machine_state.specs.declared.frame.TargetFrame.TheVariants.{Attribute}
 use Rattle.machine_state.specs.declared.machine.Doing.{Doing}
-use Rattle.machine_state.specs.Frames.{after, handling_of, outer_of, rest_of, site_now, site_of, state_of, todo}
+use Rattle.machine_state.specs.Places.{site_of}
+use Rattle.machine_state.specs.Frames.{after, handling_of, outer_of, rest_of, site_now, state_of, todo}
 use Rattle.machine_store.proofs.Begins.{attribute_begins}
 use Rattle.machine_store.proofs.assign.store_attribute.Goals as goal
 

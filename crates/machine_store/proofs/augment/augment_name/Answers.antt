@@ -5,7 +5,8 @@ use Rattle.py_world.specs.Outcome.{raised}
 use Rattle.py_world.specs.Site.{trace_of}
 use Rattle.core_meaning.specs.Expressions.{eval}
 use Rattle.machine_state.specs.declared.machine.Doing.{Doing}
-use Rattle.machine_state.specs.Frames.{ends, rest_of, site_now, state_of, todo}
+use Rattle.machine_state.specs.Places.{ends}
+use Rattle.machine_state.specs.Frames.{rest_of, site_now, state_of, todo}
 use Rattle.machine_expr.proofs.Noted.{same_run}
 use Rattle.machine_store.proofs.Looked.{augment_found, augment_fails}
 use Rattle.machine_store.proofs.augment.augment_name.Goals as goal

@@ -5,7 +5,8 @@ use Rattle.py_world.specs.Targets.{augment_attribute, augment_item}
 use Rattle.core_meaning.specs.Expressions.{eval}
 use Rattle.core_meaning.specs.Statements.{augment_at}
 use Rattle.machine_state.specs.declared.machine.Doing.{Doing}
-use Rattle.machine_state.specs.Frames.{ends, rest_of, site_now, state_of, todo}
+use Rattle.machine_state.specs.Places.{ends}
+use Rattle.machine_state.specs.Frames.{rest_of, site_now, state_of, todo}
 use Rattle.machine_expr.proofs.Noted.{same_run}
 use Rattle.machine_store.proofs.augment.begin_augment.Goals as goal
 

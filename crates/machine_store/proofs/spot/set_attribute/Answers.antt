@@ -1,8 +1,9 @@
 use Rattle.std.proofs.Common.{◌≡◌, ◌∙◌}
 use Rattle.std.proofs.lemmas.Result.{IfOk-weaker}
-use Rattle.py_values.specs.Kinds.{kind_name}
+use Rattle.py_kinds.specs.Kinds.{kind_name}
 use Rattle.py_items.specs.Items.{object_at}
-use Rattle.py_world.specs.Attributes.{no_attribute, set_attribute, takes_names, with_attribute}
+use Rattle.py_attributes.specs.Attributes.{no_attribute}
+use Rattle.py_world.specs.Attributes.{set_attribute, takes_names, with_attribute}
 use Rattle.py_world.specs.Outcome.{raised_at}
 use Rattle.py_world.specs.World.{with_heap}
 use Rattle.machine_state.specs.declared.machine.Doing.{Doing}

@@ -10,7 +10,8 @@ use Rattle.core_meaning.specs.Statements.{block, handlings}
 use Rattle.machine_state.specs.declared.frame.Frame.TheVariants.{Unwind}
 use Rattle.machine_state.specs.declared.frame.UnwindFrame.TheVariants.{Catch}
 use Rattle.machine_state.specs.declared.machine.Doing.{Doing}
-use Rattle.machine_state.specs.Frames.{after, handling_of, layers_of, outer_of, rest_of, site_now, site_of, state_of, todo}
+use Rattle.machine_state.specs.Places.{site_of}
+use Rattle.machine_state.specs.Frames.{after, handling_of, layers_of, outer_of, rest_of, site_now, state_of, todo}
 use Rattle.machine_state.specs.Work.{block_work, catch_work, doing_work, handler_work, some_weight, stack_work, weight}
 use Rattle.machine_unwind.proofs.Catching.{catch_weighs, class_begins, handlers_weigh, takes_all}
 use Rattle.machine_unwind.proofs.handlers.next_handler.Goals as goal

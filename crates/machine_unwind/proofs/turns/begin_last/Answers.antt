@@ -4,7 +4,8 @@ use Rattle.py_core.specs.Blocks.{last_in}
 use Rattle.py_world.specs.Exceptions.{finally_on}
 use Rattle.core_meaning.specs.Statements.{block}
 use Rattle.machine_state.specs.declared.machine.Doing.{Doing}
-use Rattle.machine_state.specs.Frames.{after, handling_of, layers_of, outcome, outer_of, rest_of, site_now, site_of, state_of, todo}
+use Rattle.machine_state.specs.Places.{outcome, site_of}
+use Rattle.machine_state.specs.Frames.{after, handling_of, layers_of, outer_of, rest_of, site_now, state_of, todo}
 use Rattle.machine_unwind.proofs.Ends.{last_begins}
 use Rattle.machine_unwind.proofs.turns.begin_last.Goals as goal
 

@@ -2,7 +2,8 @@ use Rattle.std.proofs.Common.{◌≡◌, ◌∙◌}
 use Rattle.std.proofs.lemmas.Result.{IfOk-weaker}
 use Rattle.core_meaning.specs.Statements.{block, try_at}
 use Rattle.machine_state.specs.declared.machine.Doing.{Doing}
-use Rattle.machine_state.specs.Frames.{after, handling_of, layers_of, outer_of, rest_of, site_now, site_of, state_of, todo}
+use Rattle.machine_state.specs.Places.{site_of}
+use Rattle.machine_state.specs.Frames.{after, handling_of, layers_of, outer_of, rest_of, site_now, state_of, todo}
 use Rattle.machine_unwind.proofs.Ends.{try_begins}
 use Rattle.machine_unwind.proofs.turns.begin_try.Goals as goal
 

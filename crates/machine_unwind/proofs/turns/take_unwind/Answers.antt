@@ -7,7 +7,8 @@ use Rattle.core_meaning.specs.Statements.{block}
 use Rattle.machine_state.specs.declared.frame.UnwindFrame.{UnwindFrame}
 use Rattle.machine_state.specs.declared.frame.UnwindFrame.TheVariants as unwind
 use Rattle.machine_state.specs.declared.machine.Doing.{Doing}
-use Rattle.machine_state.specs.Frames.{after, handling_of, here_unwind, layers_of, on_unwind, outcome, outer_of, rest_of, site_now, site_of, state_of, todo}
+use Rattle.machine_state.specs.Places.{outcome, site_of}
+use Rattle.machine_state.specs.Frames.{after, handling_of, here_unwind, layers_of, on_unwind, outer_of, rest_of, site_now, state_of, todo}
 use Rattle.machine_unwind.proofs.turns.take_unwind.Goals as goal
 
 pub returns-in-Guarded-clause-next : goal.returns-in-Guarded-clause-next

@@ -1,0 +1,4 @@
+pub mod Given
+pub mod Names
+pub mod Says
+pub mod Verdicts

@@ -1,0 +1,18 @@
+use Rattle.std.proofs.Common.{sym, ap, ◌∙◌, ◌++◌}
+use Rattle.std.specs.Prelude.{option_map}
+use Rattle.std.specs.Map.Iter.{deref_pair}
+use Rattle.collect_names.specs.Found as tests
+use Rattle.collect_names.proofs.Entries.{further, whole}
+use Rattle.collect_names.proofs.names.test_functions.Goals as goal
+
+pub returns-in_default : goal.returns-in_default
+unfolding tests.test_functions
+returns-in_default c =
+    whole (tests.tests_under c.args.heap.now) c.loop-at.found.items _ c.args.names.now c.loop-at.at c.loop-at.invariant
+    (ap (option_map deref_pair) (sym c.in_default.is) ∙ c.entry.ensures)
+
+pub loop-at-preserved : goal.loop-at-preserved
+loop-at-preserved c =
+    further (tests.tests_under c.args.heap.now) c.loop-at.found.items c.push_under.new.found.items _ c.args.names.now c.loop-at.at (c.in-Some.name.now, c.in-Some.v.now) c.loop-at.invariant
+    (ap (option_map deref_pair) (sym c.in-Some.is) ∙ c.entry.ensures)
+    (c.in_ok-push_under.ensures ∙ ap (λ name. c.loop-at.found.items ++ tests.tests_under c.args.heap.now (name, c.in-Some.v.now)) c.text.ensures)

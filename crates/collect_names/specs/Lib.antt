@@ -1,0 +1,3 @@
+pub mod Objects
+pub mod Found
+pub mod Ids

@@ -1,0 +1,19 @@
+// What collection finds among the names of a module.
+
+use py_text::PyText;
+use py_values::value::Value;
+
+/// A class of tests: the name to which it is bound, and its object.
+#[derive(Drop)]
+pub struct TestClass {
+    pub name: PyText,
+    pub object: Value,
+}
+
+/// A test function: the class in which it stands, where it stands in one, the name to which it is bound, and its object.
+#[derive(Drop)]
+pub struct TestFunction {
+    pub class: Option<TestClass>,
+    pub name: PyText,
+    pub function: Value,
+}

@@ -1,0 +1,12 @@
+-- A load in mid-run that runs nothing.
+use Rattle.std.specs.Prelude.{◌≡◌}
+use Rattle.py_world.specs.World.{Kinds, State}
+use Rattle.py_world.specs.Site.{Site}
+use Rattle.py_world.specs.Outcome.{Outcome, Then, Part}
+use Rattle.core_rules.specs.Exceptions.{state_behind}
+
+-- A PART ENDS AT ONCE: it runs nothing, and leaves the state as it was
+pub record EndsAtOnce {K : Kinds} (e : Part K) (p : Site) (s : State K) : Type 0 where
+  pub end : Outcome K
+  pub ends : (k : Then K) → e p s k ≡ k end
+  pub kept : state_behind end ≡ s

@@ -1,0 +1,4 @@
+pub mod Keyed
+pub mod Copies
+pub mod Views
+pub mod Dicts

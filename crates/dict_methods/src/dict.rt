@@ -1,0 +1,165 @@
+// Calls of the methods of dicts, and of `dict`.
+
+ghost use Rattle.std.specs.Prelude.{◌≡◌, IfOk, length, option_copied};
+ghost use Rattle.dict_methods.specs.Dicts as dicts;
+
+use crate::copies::{copy_made, update_made};
+use crate::keyed::{get, key_args, pop, setdefault};
+use crate::views::{items, keys, values};
+use call_products::arguments::{has_none, pair, sole};
+use call_products::product::{Product, plain, wrong};
+use py_kinds::builtins::builtin_name;
+use py_values::builtin::{Builtin, DictMethod};
+use py_values::change::Change;
+use py_values::dict::Dict;
+use py_values::end::Made;
+use py_values::heap::Heap;
+use py_values::object::Obj;
+use py_values::value::{ObjId, Value};
+use py_values::{OutOfMemory, PyText};
+use std::alloc::Global;
+
+fn clear(alloc: Global, id: ObjId, alone: bool) -> Result<Product, OutOfMemory>
+    ensures { IfOk result (λ p. p ≡ dicts.clear_of id alone) }
+{
+    if !alone {
+        return wrong(alloc, "clear", 0);
+    }
+    let change = Change::Whole(Obj::Dict(Dict::new(alloc)));
+    Ok(plain(alloc, Made::Put(id, change, Value::None, 0)))
+}
+
+fn copy_alone(alloc: Global, dict: &Dict, alone: bool) -> Result<Product, OutOfMemory>
+    ensures { IfOk result (λ p. p ≡ dicts.copy_alone dict.now alone) }
+{
+    if !alone {
+        return wrong(alloc, "copy", dict.len() as u64);
+    }
+    copy_made(alloc, dict, dict.len() as u64)
+}
+
+fn items_alone(alloc: Global, heap: &Heap, dict: &Dict, alone: bool) -> Result<Product, OutOfMemory>
+    ensures { IfOk result (λ p. p ≡ dicts.items_alone (length heap.now) dict.now alone) }
+{
+    if !alone {
+        return wrong(alloc, "items", dict.len() as u64);
+    }
+    items(alloc, heap, dict)
+}
+
+fn keys_alone(alloc: Global, dict: &Dict, alone: bool) -> Result<Product, OutOfMemory>
+    ensures { IfOk result (λ p. p ≡ dicts.keys_alone dict.now alone) }
+{
+    if !alone {
+        return wrong(alloc, "keys", dict.len() as u64);
+    }
+    keys(alloc, dict)
+}
+
+fn values_alone(alloc: Global, dict: &Dict, alone: bool) -> Result<Product, OutOfMemory>
+    ensures { IfOk result (λ p. p ≡ dicts.values_alone dict.now alone) }
+{
+    if !alone {
+        return wrong(alloc, "values", dict.len() as u64);
+    }
+    values(alloc, dict)
+}
+
+/// The dict that a value is.
+fn dict_in(heap: &Heap, v: Option<Value>) -> Option<&Dict>
+    ensures { option_copied result ≡ dicts.dict_in heap.now v }
+{
+    let Some(Value::Ref(id)) = v else {
+        return None;
+    };
+    match heap.get(id) {
+        Some(Obj::Dict(dict)) => Some(dict),
+        _ => None,
+    }
+}
+
+fn update(
+    alloc: Global,
+    heap: &Heap,
+    id: ObjId,
+    dict: &Dict,
+    arg: Option<Value>,
+) -> Result<Product, OutOfMemory>
+    ensures { IfOk result (λ p. p ≡ dicts.update_of heap.now id dict.now arg) }
+{
+    match dict_in(heap, arg) {
+        Some(other) => update_made(alloc, id, dict, other),
+        None => wrong(alloc, "update", dict.len() as u64),
+    }
+}
+
+/// Whether a call has no arguments by name.
+fn no_names(named: &[(PyText, Value)]) -> bool
+    ensures { result ≡ dicts.no_names named.now }
+{
+    match named {
+        [] => true,
+        _ => false,
+    }
+}
+
+/// A call of a method of a dict.
+fn dict_called(
+    alloc: Global,
+    heap: &Heap,
+    which: DictMethod,
+    id: ObjId,
+    dict: &Dict,
+    args: &[Value],
+    named: &[(PyText, Value)],
+) -> Result<Product, OutOfMemory>
+    ensures { IfOk result (λ p. p ≡ dicts.dict_called heap.now which id dict.now args.now named.now) }
+{
+    match which {
+        DictMethod::Clear => clear(alloc, id, has_none(args, named)),
+        DictMethod::Copy => copy_alone(alloc, dict, has_none(args, named)),
+        DictMethod::Get => get(alloc, heap, dict, key_args(args, no_names(named))),
+        DictMethod::Items => items_alone(alloc, heap, dict, has_none(args, named)),
+        DictMethod::Keys => keys_alone(alloc, dict, has_none(args, named)),
+        DictMethod::Pop => pop(alloc, heap, id, dict, key_args(args, no_names(named))),
+        DictMethod::SetDefault => setdefault(alloc, heap, id, dict, pair(args, named)),
+        DictMethod::Update => update(alloc, heap, id, dict, sole(args, named)),
+        DictMethod::Values => values_alone(alloc, dict, has_none(args, named)),
+    }
+}
+
+/// A call of a method that was read through a dict (Python library reference, mapping types).
+#[tactic(auto, unfolding(crate::specs::Dicts::dict_method_of))]
+pub fn dict_method(
+    alloc: Global,
+    heap: &Heap,
+    which: DictMethod,
+    id: ObjId,
+    args: &[Value],
+    named: &[(PyText, Value)],
+) -> Result<Product, OutOfMemory>
+    ensures { IfOk result (λ p. p ≡ dicts.dict_method_of heap.now which id args.now named.now) }
+{
+    match heap.get(id) {
+        Some(Obj::Dict(dict)) => dict_called(alloc, heap, which, id, dict, args, named),
+        _ => wrong(alloc, builtin_name(Builtin::Dict(which)), 0),
+    }
+}
+
+/// A call of `dict` (Python library reference, mapping types): an empty dict, or a copy of one.
+pub fn dict(
+    alloc: Global,
+    heap: &Heap,
+    args: &[Value],
+    named: &[(PyText, Value)],
+) -> Result<Product, OutOfMemory>
+    ensures { IfOk result (λ p. p ≡ dicts.dict_of heap.now args.now named.now) }
+{
+    if has_none(args, named) {
+        return Ok(plain(alloc, Made::New(Obj::Dict(Dict::new(alloc)), 0)));
+    }
+    match dict_in(heap, sole(args, named)) {
+        Some(other) => copy_made(alloc, other, 0),
+        None => wrong(alloc, "dict", 0),
+    }
+}

@@ -1,0 +1,17 @@
+use Rattle.std.proofs.Common.{◌∙◌, ap}
+use Rattle.py_world.specs.World.{state}
+use Rattle.machine_state.specs.declared.machine.Machine.{Machine}
+use Rattle.machine_state.specs.Frames.{state_of, world_of}
+use Rattle.machine_call.proofs.Entering.{runner_enters}
+use Rattle.machine_call.proofs.enter.enter_by_runner.Goals as goal
+
+pub returns-clause-next : goal.returns-clause-next
+returns-clause-next c =
+    let m = c.args.m.now in
+    let m1 = c.open.new.m in
+    let temps = c.in_ok-caller.ensures.opened.0 in
+    let opened = c.in_ok-caller.ensures.opened.1 in
+    runner_enters m c.args.code c.args.names c.in_ok-body.body c.in_ok-caller.caller c.push-2.new.self c.push.new.self m1.stack m1.here (state_of m1)
+    c.requires c.in_ok-body.ensures c.in_ok-caller.ensures.caller c.in_ok-push-2.ensures c.in_ok-push.ensures (ap (λ (x : Machine). x.stack) opened)
+    (ap (λ (x : Machine). x.here) opened)
+    (ap (λ (x : Machine). state x.locals m1.temps.items (world_of x)) opened ∙ ap (λ ts. state c.args.names ts (world_of m)) temps)

@@ -1,5 +1,0 @@
-use Rattle.machine_call.specs.Loads.{NoneBefore}
-use Rattle.machine_call.proofs.load.place_of.Given as goal
-
-abbrev pub invariant-loop-i : goal.invariant-loop-i
-invariant-loop-i l = NoneBefore l.path l.i l.modules

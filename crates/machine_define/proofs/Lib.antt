@@ -1,0 +1,4 @@
+pub mod Classes
+pub mod Decorating
+pub mod Defaults
+pub mod Functions

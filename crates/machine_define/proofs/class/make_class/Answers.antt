@@ -1,0 +1,28 @@
+use Rattle.std.proofs.Common.{◌≡◌, ◌∙◌, [], rules}
+use Rattle.std.proofs.lemmas.Result.{IfOk-weaker}
+use Rattle.py_world.specs.Outcome.{call_end}
+use Rattle.py_world.specs.Site.{trace_of}
+use Rattle.py_world.specs.World.{state, world_with_heap}
+use Rattle.core_meaning.specs.Statements.{block}
+use Rattle.machine_state.specs.declared.machine.Doing.{Doing}
+use Rattle.machine_state.specs.Definings.{core_class_made}
+use Rattle.machine_state.specs.Places.{depth_of, scene_in, site_of}
+use Rattle.machine_state.specs.Frames.{after, handling_of, outer_of, rest_of, site_now, state_of, todo, world_of}
+use Rattle.machine_define.proofs.Classes.{class_runs}
+use Rattle.machine_define.proofs.class.make_class.Goals as goal
+
+pub returns-clause-next : goal.returns-clause-next
+returns-clause-next c =
+    let m = c.args.m.now in
+    let m' = c.begin_body.new.m in
+    let fs = c.push.new.self in
+    let heap = c.add.new.self in
+    let place = c.in_ok-place.place in
+    let b = c.in_ok-body.body.value in
+    IfOk-weaker c.begin_body.result
+    (λ (d : Doing). todo d m' ≡ block [] b (scene_in place (depth_of m.here) (trace_of (site_of m.here (outer_of fs) (handling_of fs))) (handling_of fs)) (state [] [] (world_with_heap heap (world_of m)))
+    (λ o. after fs m.here (call_end (state m.locals m.temps.items (world_with_heap heap (world_of m))) o)))
+    (λ (d : Doing). todo d m' ≡ core_class_made c.args.class.now c.args.ds.items c.args.base (site_now m) (state_of m) (rest_of m))
+    (λ d h. h ∙ class_runs m c.args.class.now c.args.ds c.args.base heap c.in_ok-object.object c.in_ok-id.id.at place c.in_ok-name.name b fs
+    c.in_ok-object.ensures c.in_ok-id.ensures.1 c.in_ok-id.ensures.0 c.in_ok-place.ensures c.in_ok-body.ensures.cases (search rules) c.in_ok-push.ensures)
+    c.begin_body.ensures.next

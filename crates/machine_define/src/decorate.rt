@@ -1,0 +1,45 @@
+// What is defined is decorated and bound.
+
+ghost use Rattle.std.specs.Prelude.{◌≡◌, IfOk};
+ghost use Rattle.py_world.specs.Definitions as world;
+ghost use Rattle.py_world.specs.Outcome.{raised_at};
+ghost use Rattle.machine_state.specs.Frames.{rest_of, site_now, state_of, todo};
+ghost use Rattle.machine_state.specs.Work.{doing_work};
+
+use machine_decorate::decorate::decorate_all;
+use machine_state::machine::{Doing, Machine, Origin};
+use machine_store::names::store;
+use py_core::SrcText;
+use py_text::OutOfMemory;
+use py_values::class::ExcClass;
+use py_values::end::Raise;
+use py_values::value::Value;
+
+/// Says that a value is no decorator of what it decorates.
+fn refuse(m: &mut Machine) -> Result<Doing, OutOfMemory>
+    ensures next { IfOk result (λ d. todo d m.new ≡ rest_of m.old (raised_at world.bad_decorator (site_now m.old) (state_of m.old))) }
+    ensures left { m.new.left ≡ m.old.left }
+    ensures work { IfOk result (λ d. doing_work d ≡ 0) }
+    ensures stack { m.new.stack ≡ m.old.stack }
+{
+    let raise = Raise::from_ascii(m.alloc, ExcClass::TypeError, "bad decorator")?;
+    m.raise(raise, Origin::Code)
+}
+
+/// Binds what is defined to its name behind its decorators, which apply from the bottom to the top.
+pub fn define_as(
+    m: &mut Machine,
+    ds: &[Value],
+    name: &SrcText,
+    v: Value,
+) -> Result<Doing, OutOfMemory>
+    ensures next { IfOk result (λ d. todo d m.new ≡ world.define_as ds.now name.now v (site_now m.old) (state_of m.old) (rest_of m.old)) }
+    ensures left { m.new.left ≡ m.old.left }
+    ensures work { IfOk result (λ d. doing_work d ≡ 0) }
+    ensures stack { m.new.stack ≡ m.old.stack }
+{
+    match decorate_all(m.alloc, &mut m.heap, ds, v)? {
+        Some(v) => store(m, name, v),
+        None => refuse(m),
+    }
+}

@@ -1,0 +1,6 @@
+pub mod Sources
+pub mod Texts
+pub mod Walking
+pub mod Waiting
+pub mod Named
+pub mod Reaching

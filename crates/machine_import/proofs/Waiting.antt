@@ -1,0 +1,17 @@
+-- A module is loaded, and a frame waits for it.
+use Rattle.std.proofs.Common.{◌≡◌, ℕ, List, ◌∷◌, refl}
+use Rattle.py_world.specs.Imports.{faulty}
+use Rattle.py_world.specs.Runs.{load_part}
+use Rattle.core_meaning.specs.Statements.{core_body}
+use Rattle.machine_state.specs.declared.frame.Frame.{Frame}
+use Rattle.machine_state.specs.declared.frame.Frame.TheVariants as on
+use Rattle.machine_state.specs.declared.frame.ModuleFrame.{ModuleFrame}
+use Rattle.machine_state.specs.declared.place.Here.{Here}
+use Rattle.machine_state.specs.Definings.{on_module}
+use Rattle.machine_state.specs.Places.{CoreState, ends, site_of}
+use Rattle.machine_state.specs.Frames.{after, handling_of, outer_of}
+
+pub load_waits : (n : ℕ) (h : Here) (fs fs' : List Frame) (s : CoreState) (f : ModuleFrame) (path : List ℕ) → fs' ≡ on.Module f ∷ fs
+    → ends n (load_part core_body path (faulty path) (site_of h (outer_of fs) (handling_of fs)) s (λ o. on_module f (site_of h (outer_of fs) (handling_of fs)) o (after fs h)))
+    ≡ ends n (load_part core_body path (faulty path) (site_of h (outer_of fs') (handling_of fs')) s (after fs' h))
+load_waits n h fs fs' s f path pushed = rw pushed refl

@@ -1,0 +1,4 @@
+pub mod Dotted
+pub mod Walks
+pub mod Codes
+pub mod Names

@@ -1,0 +1,186 @@
+// Names and their values.
+
+ghost use Rattle.std.specs.Prelude.{◌≡◌, ◌++◌, IfOk, IfSome, Some, false, slice_get};
+ghost use Rattle.py_kinds.specs.Builtins.{builtin_names};
+ghost use Rattle.py_values.specs.Names.{find_name};
+ghost use Rattle.py_values.specs.Raises as raises;
+ghost use Rattle.py_attributes.specs.Attributes.{class_names};
+ghost use Rattle.py_world.specs.Names as world;
+ghost use Rattle.machine_state.specs.Places.{home_in};
+ghost use Rattle.machine_state.specs.Owning.{is_own};
+ghost use Rattle.machine_state.specs.Frames.{site_now};
+
+use machine_state::machine::Machine;
+use py_attributes::classes::named_in;
+use py_core::SrcText;
+use py_kinds::builtins::builtin_value;
+use py_text::OutOfMemory;
+use py_values::class::ExcClass;
+use py_values::end::{Made, Raise, push_ascii};
+use py_values::heap::Heap;
+use py_values::names::{Name, Names};
+use py_values::object::Obj;
+use py_values::value::{ObjId, Value};
+use std::alloc::Global;
+
+/// A raise whose text is a name between two others.
+pub fn raise_about(
+    alloc: Global,
+    class: ExcClass,
+    front: &str,
+    name: &[char],
+    back: &str,
+) -> Result<Raise, OutOfMemory>
+    ensures { IfOk result (λ r. r ≡ raises.raise class (front.now ++ (name.now ++ back.now))) }
+{
+    let mut text = Vec::new(alloc);
+    push_ascii(&mut text, front)?;
+    text.extend_from_slice(name)?;
+    push_ascii(&mut text, back)?;
+    let raise = Raise::from_chars(alloc, class, &text)?;
+    Ok(raise)
+}
+
+/// How many names of a module are looked through before their table is asked.
+const EARLY: usize = 8;
+
+/// The value of a name among the first ones.
+#[tactic(auto, using(crate::proofs::EarlyNames::early_found, crate::proofs::EarlyNames::early_more))]
+fn early_value(names: &Names, name: &SrcText) -> Option<Value>
+    ensures { IfSome result (λ v. find_name name.now names.now ≡ Some v) }
+{
+    for at in 0..EARLY {
+        let Some((key, v)) = names.entry(at) else {
+            return None;
+        };
+        if name.chars() == key.text().chars() {
+            return Some(*v);
+        }
+    }
+    None
+}
+
+/// The value of a name among others.
+fn value_among(alloc: Global, names: &Names, name: &SrcText) -> Result<Option<Value>, OutOfMemory>
+    ensures { IfOk result (λ v. v ≡ find_name name.now names.now) }
+{
+    if let Some(v) = early_value(names, name) {
+        return Ok(Some(v));
+    }
+    let key = Name::from_chars(alloc, name.chars())?;
+    Ok(names.find(&key))
+}
+
+/// The value of a name of a module.
+pub fn module_value(
+    alloc: Global,
+    heap: &Heap,
+    home: usize,
+    name: &SrcText,
+) -> Result<Option<Value>, OutOfMemory>
+    ensures { IfOk result (λ v. v ≡ find_name name.now (world.names_in (slice_get heap.now home))) }
+{
+    match heap.get(ObjId { at: home }) {
+        Some(Obj::Module(module)) => value_among(alloc, &module.names, name),
+        _ => Ok(None),
+    }
+}
+
+/// A name that is neither the module's nor built in.
+pub fn not_defined(alloc: Global, name: &SrcText) -> Result<Raise, OutOfMemory>
+    ensures { IfOk result (λ r. r ≡ raises.raise ExcClass.NameError (world.not_defined name.now)) }
+{
+    raise_about(
+        alloc,
+        ExcClass::NameError,
+        "name '",
+        name.chars(),
+        "' is not defined",
+    )
+}
+
+/// A local name that has no value yet.
+pub fn unbound(alloc: Global, name: &SrcText) -> Result<Raise, OutOfMemory>
+    ensures { IfOk result (λ r. r ≡ raises.raise ExcClass.UnboundLocalError (world.unbound_local name.now)) }
+{
+    raise_about(
+        alloc,
+        ExcClass::UnboundLocalError,
+        "local variable '",
+        name.chars(),
+        "' is unbound",
+    )
+}
+
+fn builtin_found(alloc: Global, name: &SrcText) -> Result<Made, OutOfMemory>
+    ensures { IfOk result (λ made. made ≡ world.builtin_found (find_name name.now builtin_names) name.now) }
+{
+    match builtin_value(name.chars()) {
+        Some(v) => Ok(Made::Give(v, 0)),
+        None => Ok(Made::Fail(not_defined(alloc, name)?, 0)),
+    }
+}
+
+fn global_found(m: &Machine, name: &SrcText) -> Result<Made, OutOfMemory>
+    ensures { IfOk result (λ made. made ≡ world.global name.now (home_in m.now.here.place) m.now.heap) }
+{
+    match module_value(m.alloc, &m.heap, m.here.home(), name)? {
+        Some(v) => Ok(Made::Give(v, 0)),
+        None => builtin_found(m.alloc, name),
+    }
+}
+
+fn local_found(m: &Machine, name: &SrcText) -> Result<Made, OutOfMemory>
+    ensures { IfOk result (λ made. made ≡ world.local_found (find_name name.now m.now.locals) name.now) }
+{
+    match m.locals.find(name) {
+        Some(v) => Ok(Made::Give(v, 0)),
+        None => Ok(Made::Fail(unbound(m.alloc, name)?, 0)),
+    }
+}
+
+/// The value of a name of the class at a place.
+pub fn class_value(
+    alloc: Global,
+    heap: &Heap,
+    at: usize,
+    name: &SrcText,
+) -> Result<Option<Value>, OutOfMemory>
+    ensures { IfOk result (λ v. v ≡ find_name name.now (class_names (slice_get heap.now at))) }
+{
+    let key = Name::from_chars(alloc, name.chars())?;
+    Ok(named_in(heap.get(ObjId { at }), &key))
+}
+
+fn class_found(m: &Machine, at: usize, name: &SrcText) -> Result<Made, OutOfMemory>
+    ensures { IfOk result (λ made. made ≡ world.class_found (find_name name.now (class_names (slice_get m.now.heap at))) name.now (home_in m.now.here.place) m.now.heap) }
+{
+    match class_value(m.alloc, &m.heap, at, name)? {
+        Some(v) => Ok(Made::Give(v, 0)),
+        None => global_found(m, name),
+    }
+}
+
+/// What the look-up of a name gives that is not local.
+#[tactic(auto, using(crate::proofs::Naming::named_class, crate::proofs::Naming::named_other))]
+fn other_found(m: &Machine, name: &SrcText) -> Result<Made, OutOfMemory>
+    requires { is_own m.now.here.place name.now ≡ false }
+    ensures { IfOk result (λ made. made ≡ world.named name.now (site_now m.now).scene m.now.locals m.now.heap) }
+{
+    match m.here.class_at() {
+        Some(at) => class_found(m, at, name),
+        None => global_found(m, name),
+    }
+}
+
+/// What a name's look-up gives, which costs nothing (Language Reference, naming and binding).
+#[tactic(auto, using(crate::proofs::Naming::named_own))]
+pub fn look_up(m: &Machine, name: &SrcText) -> Result<Made, OutOfMemory>
+    ensures { IfOk result (λ made. made ≡ world.named name.now (site_now m.now).scene m.now.locals m.now.heap) }
+{
+    if m.here.is_own(name) {
+        local_found(m, name)
+    } else {
+        other_found(m, name)
+    }
+}

@@ -1,0 +1,27 @@
+use Rattle.std.proofs.Common.{◌≡◌, ◌∙◌}
+use Rattle.std.specs.Prelude.{is_some}
+use Rattle.std.proofs.lemmas.Result.{IfOk-weaker}
+use Rattle.py_kinds.specs.Kinds.{kind_name}
+use Rattle.py_items.specs.Items.{object_at}
+use Rattle.py_attributes.specs.Attributes.{no_attribute, own_value}
+use Rattle.py_world.specs.Attributes.{unset_attribute, without_attribute}
+use Rattle.py_world.specs.Outcome.{raised_at}
+use Rattle.py_world.specs.World.{with_heap}
+use Rattle.machine_state.specs.declared.machine.Doing.{Doing}
+use Rattle.machine_state.specs.Frames.{rest_of, site_now, state_of, todo}
+use Rattle.machine_store.proofs.Attributes.{refused}
+use Rattle.machine_store.proofs.spot.unset_attribute.Goals as goal
+
+pub returns-in-Some-clause-next : goal.returns-in-Some-clause-next
+returns-in-Some-clause-next c =
+    let m = c.args.m.now in
+    let m' = c.raise.new.self in
+    let x = c.args.x in
+    let name = c.args.name.now in
+    let p = site_now m in
+    let s = state_of m in
+    let heap = c.unset_attribute.new.heap in
+    IfOk-weaker c.raise.result (λ (d : Doing). todo d m' ≡ rest_of m (raised_at c.in-Some.raise p (with_heap heap s)))
+    (λ (d : Doing). todo d m' ≡ unset_attribute x name p s (rest_of m))
+    (λ d h. h ∙ refused (is_some (own_value name (object_at m.heap x))) (without_attribute name) x (no_attribute (kind_name m.heap x) name) p s (rest_of m) c.in_ok-unset_attribute.field-0 heap c.in_ok-unset_attribute.ensures c.in-Some.raise c.in-Some.is)
+    c.raise.ensures.next

@@ -1,0 +1,62 @@
+// What is told of values and of ends.
+
+use crate::spelled::{Tried, copied};
+use py_kinds::kinds::class_name;
+use py_repr::repr::repr;
+use py_values::PyText;
+use py_values::end::{OpEnd, Raise};
+use py_values::heap::Heap;
+use py_values::value::Value;
+use std::alloc::Global;
+
+pub fn string(alloc: Global, text: &PyText) -> Tried<String> {
+    let mut all = String::new(alloc);
+    for c in text.chars() {
+        all.push(*c)?;
+    }
+    Ok(all)
+}
+
+/// A value's repr, up to 200 characters.
+pub fn repr_told(alloc: Global, heap: &Heap, v: Value) -> Tried<String> {
+    let shown = repr(alloc, heap, v, 200)?;
+    string(alloc, &shown.text)
+}
+
+/// An exception's class, and its text or the repr of its argument.
+pub fn raised(alloc: Global, heap: &Heap, raise: &Raise) -> Tried<String> {
+    let class = class_name(raise.class);
+    let text = match raise.arg {
+        Some(v) => repr_told(alloc, heap, v)?,
+        None => string(alloc, &raise.text)?,
+    };
+    Ok(format!(in alloc; "{class}: {text}")?)
+}
+
+/// What is told of an end, but for its cost.
+fn what(alloc: Global, heap: &Heap, end: &OpEnd) -> Tried<String> {
+    match end {
+        OpEnd::Value(v, _) => repr_told(alloc, heap, *v),
+        OpEnd::Raised(raise, _) => raised(alloc, heap, raise),
+        OpEnd::Exhausted => copied(alloc, "exhausted"),
+    }
+}
+
+/// The steps of an end.
+pub fn cost(end: &OpEnd) -> u64 {
+    match end {
+        OpEnd::Value(_, cost) => *cost,
+        OpEnd::Raised(_, cost) => *cost,
+        OpEnd::Exhausted => 0,
+    }
+}
+
+/// A value's repr, or an exception's class and text, and the cost.
+pub fn ended(alloc: Global, heap: &Heap, end: &OpEnd) -> Tried<String> {
+    if let OpEnd::Exhausted = end {
+        return copied(alloc, "exhausted");
+    }
+    let text = what(alloc, heap, end)?;
+    let cost = cost(end);
+    Ok(format!(in alloc; "{text} {cost}")?)
+}

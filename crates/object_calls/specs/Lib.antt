@@ -1,0 +1,3 @@
+pub mod Reprs
+pub mod Kinds
+pub mod Attributes

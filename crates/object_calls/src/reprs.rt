@@ -1,0 +1,49 @@
+// `repr`.
+
+ghost use Rattle.std.specs.Prelude.{◌≡◌, IfOk};
+ghost use Rattle.object_calls.specs.Reprs as reprs;
+
+use call_products::arguments::sole;
+use call_products::product::{Product, failed, plain, wrong};
+use py_repr::shown::Shown;
+use py_values::class::ExcClass;
+use py_values::end::Made;
+use py_values::heap::Heap;
+use py_values::limits::MOST_ELEMENTS;
+use py_values::object::Obj;
+use py_values::value::Value;
+use py_values::{OutOfMemory, PyText};
+use std::alloc::Global;
+
+fn text_made(alloc: Global, shown: Shown) -> Result<Product, OutOfMemory>
+    ensures { IfOk result (λ p. p ≡ reprs.text_made shown) }
+{
+    let Shown { text, cut, deep } = shown;
+    if deep {
+        return failed(alloc, ExcClass::RecursionError, "nesting too deep", 0);
+    }
+    if cut {
+        return failed(alloc, ExcClass::MemoryError, "sequence too long", 0);
+    }
+    let len = text.chars().len() as u64;
+    Ok(plain(alloc, Made::New(Obj::Text(text), len)))
+}
+
+/// A call of `repr` (Python library reference, built-in functions).
+#[tactic(auto, unfolding(crate::specs::Reprs::repr_called))]
+pub fn repr(
+    alloc: Global,
+    heap: &Heap,
+    args: &[Value],
+    named: &[(PyText, Value)],
+) -> Result<Product, OutOfMemory>
+    ensures { IfOk result (λ p. p ≡ reprs.repr_called heap.now args.now named.now) }
+{
+    match sole(args, named) {
+        Some(v) => {
+            let shown = py_repr::repr::repr(alloc, heap, v, MOST_ELEMENTS)?;
+            text_made(alloc, shown)
+        }
+        None => wrong(alloc, "repr", 0),
+    }
+}

@@ -1,0 +1,234 @@
+-- The tables of built-in names, and what follows from them.
+use Rattle.std.specs.Prelude.{ℕ, suc, Bool, true, false, List, [], ◌∷◌, ◌++◌, map, length, if◌then◌else◌, Option, Some, None, ◌+◌, option_map, codes}
+use Rattle.py_values.specs.declared.builtin.Builtin.{Builtin}
+use Rattle.py_values.specs.declared.builtin.Builtin.TheVariants as builtin
+use Rattle.py_values.specs.declared.builtin.SequenceCall.{SequenceCall}
+use Rattle.py_values.specs.declared.builtin.SequenceCall.TheVariants as sequence
+use Rattle.py_values.specs.declared.builtin.NumberCall.{NumberCall}
+use Rattle.py_values.specs.declared.builtin.NumberCall.TheVariants as number
+use Rattle.py_values.specs.declared.builtin.ObjectCall.{ObjectCall}
+use Rattle.py_values.specs.declared.builtin.ObjectCall.TheVariants as object
+use Rattle.py_values.specs.declared.builtin.TextMethod.{TextMethod}
+use Rattle.py_values.specs.declared.builtin.TextMethod.TheVariants as text
+use Rattle.py_values.specs.declared.builtin.ListMethod.{ListMethod}
+use Rattle.py_values.specs.declared.builtin.ListMethod.TheVariants as list
+use Rattle.py_values.specs.declared.builtin.TupleMethod.{TupleMethod}
+use Rattle.py_values.specs.declared.builtin.TupleMethod.TheVariants as tuple
+use Rattle.py_values.specs.declared.builtin.DictMethod.{DictMethod}
+use Rattle.py_values.specs.declared.builtin.DictMethod.TheVariants as dict
+use Rattle.py_values.specs.declared.builtin.PytestCall.{PytestCall}
+use Rattle.py_values.specs.declared.builtin.PytestCall.TheVariants as pytest
+use Rattle.py_values.specs.declared.builtin.TheConstants.{BUILTINS, EXCEPTIONS, TEXT_METHODS, LIST_METHODS, TUPLE_METHODS, DICT_METHODS, REQUEST_METHODS, PYTEST_NAMES}
+use Rattle.py_values.specs.declared.class.ClassForm.{ClassForm}
+use Rattle.py_values.specs.declared.class.ClassForm.TheVariants.{Kind, Exception}
+use Rattle.py_values.specs.declared.class.ExcClass.{ExcClass}
+use Rattle.py_values.specs.declared.object.Obj.{Obj}
+use Rattle.py_values.specs.declared.object.Obj.TheVariants as obj
+use Rattle.py_values.specs.declared.value.ObjId.{ObjId}
+use Rattle.py_values.specs.declared.value.Value.{Value}
+use Rattle.py_values.specs.declared.value.Value.TheVariants.{Ref}
+use Rattle.py_values.specs.Ends.{id_at}
+use Rattle.py_values.specs.Names.{name_eq, bind_name}
+use Rattle.py_kinds.specs.Classes.{exc_base, exc_eq}
+use Rattle.py_kinds.specs.Kinds.{class_name}
+
+-- THE NAMES of built-in functions, of methods of built-in kinds, and of the functions of pytest
+abbrev pub sequence_call_name : SequenceCall → List ℕ
+sequence_call_name sequence.All = codes "all"
+sequence_call_name sequence.Any = codes "any"
+sequence_call_name sequence.Dict = codes "dict"
+sequence_call_name sequence.Enumerate = codes "enumerate"
+sequence_call_name sequence.List = codes "list"
+sequence_call_name sequence.Range = codes "range"
+sequence_call_name sequence.Reversed = codes "reversed"
+sequence_call_name sequence.Sorted = codes "sorted"
+sequence_call_name sequence.Tuple = codes "tuple"
+sequence_call_name sequence.Zip = codes "zip"
+
+abbrev pub number_call_name : NumberCall → List ℕ
+number_call_name number.Abs = codes "abs"
+number_call_name number.Bool = codes "bool"
+number_call_name number.Chr = codes "chr"
+number_call_name number.DivMod = codes "divmod"
+number_call_name number.Int = codes "int"
+number_call_name number.Max = codes "max"
+number_call_name number.Min = codes "min"
+number_call_name number.Ord = codes "ord"
+number_call_name number.Sum = codes "sum"
+
+abbrev pub object_call_name : ObjectCall → List ℕ
+object_call_name object.Callable = codes "callable"
+object_call_name object.GetAttr = codes "getattr"
+object_call_name object.HasAttr = codes "hasattr"
+object_call_name object.IsInstance = codes "isinstance"
+object_call_name object.Repr = codes "repr"
+
+abbrev pub text_method_name : TextMethod → List ℕ
+text_method_name text.Count = codes "count"
+text_method_name text.EndsWith = codes "endswith"
+text_method_name text.Find = codes "find"
+text_method_name text.IsDigit = codes "isdigit"
+text_method_name text.Join = codes "join"
+text_method_name text.Lower = codes "lower"
+text_method_name text.Replace = codes "replace"
+text_method_name text.Split = codes "split"
+text_method_name text.StartsWith = codes "startswith"
+text_method_name text.Strip = codes "strip"
+text_method_name text.Upper = codes "upper"
+
+abbrev pub list_method_name : ListMethod → List ℕ
+list_method_name list.Append = codes "append"
+list_method_name list.Clear = codes "clear"
+list_method_name list.Copy = codes "copy"
+list_method_name list.Count = codes "count"
+list_method_name list.Extend = codes "extend"
+list_method_name list.Index = codes "index"
+list_method_name list.Insert = codes "insert"
+list_method_name list.Pop = codes "pop"
+list_method_name list.Remove = codes "remove"
+list_method_name list.Reverse = codes "reverse"
+list_method_name list.Sort = codes "sort"
+
+abbrev pub tuple_method_name : TupleMethod → List ℕ
+tuple_method_name tuple.Count = codes "count"
+tuple_method_name tuple.Index = codes "index"
+
+abbrev pub dict_method_name : DictMethod → List ℕ
+dict_method_name dict.Clear = codes "clear"
+dict_method_name dict.Copy = codes "copy"
+dict_method_name dict.Get = codes "get"
+dict_method_name dict.Items = codes "items"
+dict_method_name dict.Keys = codes "keys"
+dict_method_name dict.Pop = codes "pop"
+dict_method_name dict.SetDefault = codes "setdefault"
+dict_method_name dict.Update = codes "update"
+dict_method_name dict.Values = codes "values"
+
+abbrev pub pytest_call_name : PytestCall → List ℕ
+pytest_call_name pytest.Fail = codes "fail"
+pytest_call_name pytest.Fixture = codes "fixture"
+pytest_call_name pytest.HookImpl = codes "hookimpl"
+pytest_call_name pytest.Param = codes "param"
+pytest_call_name pytest.Raises = codes "raises"
+pytest_call_name pytest.Skip = codes "skip"
+
+abbrev pub builtin_name : Builtin → List ℕ
+builtin_name builtin.Print = codes "print"
+builtin_name builtin.Len = codes "len"
+builtin_name builtin.Str = codes "str"
+builtin_name (builtin.Sequence c) = sequence_call_name c
+builtin_name (builtin.Number c) = number_call_name c
+builtin_name (builtin.Object c) = object_call_name c
+builtin_name (builtin.Text m) = text_method_name m
+builtin_name (builtin.List m) = list_method_name m
+builtin_name (builtin.Tuple m) = tuple_method_name m
+builtin_name (builtin.Dict m) = dict_method_name m
+builtin_name (builtin.Pytest c) = pytest_call_name c
+builtin_name builtin.AddFinalizer = codes "addfinalizer"
+
+-- what a name stands for, and whether it is a class
+abbrev pub Row : Type 0
+Row = Builtin × Bool
+
+-- THE TABLE of built-in functions and kinds
+unfoldable pub rows : List Row
+rows = BUILTINS
+
+-- THE TABLE of the classes of exceptions that are bound to names
+unfoldable pub classes : List ExcClass
+classes = EXCEPTIONS
+
+-- THE TABLES of methods of built-in kinds
+unfoldable pub text_methods : List Builtin
+text_methods = TEXT_METHODS
+
+unfoldable pub list_methods : List Builtin
+list_methods = LIST_METHODS
+
+unfoldable pub tuple_methods : List Builtin
+tuple_methods = TUPLE_METHODS
+
+unfoldable pub dict_methods : List Builtin
+dict_methods = DICT_METHODS
+
+unfoldable pub request_methods : List Builtin
+request_methods = REQUEST_METHODS
+
+-- THE TABLE of the functions of pytest
+unfoldable pub pytest_names : List Builtin
+pytest_names = PYTEST_NAMES
+
+-- the one of a table that has a name
+abbrev pub method_in : List ℕ → List Builtin → Option Builtin
+method_in name [] = None
+method_in name (b ∷ bs) = if name_eq name (builtin_name b) then Some b else method_in name bs
+
+abbrev pub names_from : ℕ → List Row → List (List ℕ × Value)
+names_from n [] = []
+names_from n (r ∷ rs) = (builtin_name r.0, Ref (id_at n)) ∷ names_from (suc n) rs
+
+abbrev pub index_of : ExcClass → List ExcClass → ℕ
+index_of c [] = 0
+index_of c (d ∷ ds) = if exc_eq d c then 0 else suc (index_of c ds)
+
+-- where the object of a class of exceptions stands: behind those of the other table
+abbrev pub class_place : ExcClass → ObjId
+class_place c = id_at (length rows + index_of c classes)
+
+abbrev pub class_entry : ExcClass → List ℕ × Value
+class_entry c = (class_name c, Ref (class_place c))
+
+-- THE BUILT-IN NAMES with their values, which stand in every heap from the start
+abbrev pub builtin_names : List (List ℕ × Value)
+builtin_names = names_from 0 rows ++ map class_entry classes
+
+-- a class that no source defines
+abbrev pub class_object : List ℕ → ClassForm → Option ObjId → Obj
+class_object name form base = obj.Class (record { path = []; name = name; line = 0; form = form; base = base; marks = []; names = [] })
+
+-- a built-in function as an object
+abbrev pub function_object : Builtin → Obj
+function_object b = obj.Builtin (record { which = b; receiver = None })
+
+abbrev pub object_by : Builtin → Bool → Obj
+object_by b class = if class then class_object (builtin_name b) (Kind b) None else function_object b
+
+abbrev pub row_object : Row → Obj
+row_object r = object_by r.0 r.1
+
+-- a class of exceptions, with the object of its base
+abbrev pub exception_class : ExcClass → Obj
+exception_class c = class_object (class_name c) (Exception c) (option_map class_place (exc_base c))
+
+-- where the objects of pytest's functions stand, and behind them `mark`, the text of the module's name and the module
+abbrev pub pytest_place : ℕ
+pytest_place = length rows + length classes
+
+abbrev pub mark_place : ℕ
+mark_place = pytest_place + length pytest_names
+
+abbrev pub pytest_module : ObjId
+pytest_module = id_at (suc (suc mark_place))
+
+-- names bound to the objects of functions, the first of which stands at a place
+abbrev pub bound_functions : ℕ → List Builtin → List (List ℕ × Value) → List (List ℕ × Value)
+bound_functions at [] names = names
+bound_functions at (b ∷ bs) names = bound_functions (suc at) bs (bind_name (builtin_name b) (Ref (id_at at)) names)
+
+-- THE NAMES OF THE MODULE `pytest` (pytest's reference)
+abbrev pub module_names : List (List ℕ × Value)
+module_names =
+    bind_name (codes "mark") (Ref (id_at mark_place))
+    (bound_functions pytest_place pytest_names (bind_name (codes "__name__") (Ref (id_at (suc mark_place))) []))
+
+abbrev pub module_objects : List Obj
+module_objects = obj.MarkMaker ∷ obj.Text (codes "pytest") ∷ obj.Module (record { path = codes "pytest"; names = module_names }) ∷ []
+
+-- THE HEAP from the start
+abbrev pub first_heap : List Obj
+first_heap = map row_object rows ++ (map exception_class classes ++ (map function_object pytest_names ++ module_objects))
+
+-- the arguments of a call with the receiver before them, where there is one
+abbrev pub with_receiver : Option Value → List Value → List Value
+with_receiver (Some v) args = v ∷ args
+with_receiver None args = args

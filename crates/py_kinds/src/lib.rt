@@ -1,0 +1,25 @@
+//! What the values of the interpreted language do by their kinds: truth, length, keys, the names of kinds, classes and what is an instance
+//! of which, and what follows from the tables of built-in names.
+//!
+//! # What is proved
+//!
+//! - `truth`, `kind_name`, `length_of`, `is_a`, `root_of`, `stands_on`, `is_exc_class`, `are_exc_classes` and `key` (with its steps, and why a value
+//!   is no key) equal the definitions of the same names.
+//! - `first_heap`, `builtin_value`, `builtin_name`, `pytest_module` and the methods by their names (`text_method_named` and its kin) follow from the
+//!   tables of built-in functions, of methods, of pytest's functions and of classes of exceptions.
+//!
+//! # What tests alone show
+//!
+//! That the definitions give what CPython gives, row by row, and that the calls succeed with ample memory (`value_tests`).
+//!
+//! # What neither shows
+//!
+//! How long a call takes; that chains of classes are walked without recursion (a reader sees it).
+#![tactic(auto)]
+
+pub mod builtins;
+pub mod classes;
+pub mod keys;
+pub mod kinds;
+pub mod length;
+pub mod truth;

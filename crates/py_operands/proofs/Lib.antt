@@ -1,0 +1,5 @@
+pub mod Bits
+pub mod Dividing
+pub mod Powers
+pub mod Ranging
+pub mod Repeating

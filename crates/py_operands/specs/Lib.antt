@@ -1,0 +1,5 @@
+pub mod Numbers
+pub mod Sequences
+pub mod Attempts
+pub mod Faults
+pub mod Ranges

@@ -1,6 +1,0 @@
-use Rattle.std.proofs.Common.{◌≡◌, ◌++◌, map, take}
-use Rattle.py_values.specs.Builtins.{exception_class, classes}
-use Rattle.py_values.proofs.builtins.add_classes.Given as goal
-
-abbrev pub invariant-loop-class : goal.invariant-loop-class
-invariant-loop-class l = l.heap ≡ l.fn.heap ++ map exception_class (take l.class-index classes)

@@ -1,6 +1,0 @@
-use Rattle.std.proofs.Common.{◌≡◌, ◌-◌}
-use Rattle.py_values.specs.Classes.{exc_within}
-use Rattle.py_values.proofs.classes.exc_below.Given as goal
-
-abbrev pub invariant-loop : goal.invariant-loop
-invariant-loop l = exc_within 4 l.fn.class l.other ≡ exc_within (4 - l.counter) l.at l.other

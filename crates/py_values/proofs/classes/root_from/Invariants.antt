@@ -1,6 +1,0 @@
-use Rattle.std.proofs.Common.{◌≡◌, ◌-◌, length}
-use Rattle.py_values.specs.Classes.{root_within}
-use Rattle.py_values.proofs.classes.root_from.Given as goal
-
-abbrev pub invariant-loop : goal.invariant-loop
-invariant-loop l = root_within (length l.heap) l.heap l.fn.class ≡ root_within (length l.heap - l.counter) l.heap l.at

@@ -1,0 +1,85 @@
+// A text within its quotes.
+
+ghost use Rattle.std.specs.Prelude.{◌≡◌, ◌<◌, ◌++◌, OnOk};
+ghost use Rattle.py_repr.specs.Words as words;
+
+use py_values::OutOfMemory;
+use py_values::end::push_ascii;
+
+/// A digit to the base 16.
+fn hex_digit(n: u8) -> char
+    requires { n < 16 }
+    ensures { result ≡ words.hex_digit n }
+{
+    if n < 10 {
+        char::from(b'0' + n)
+    } else {
+        char::from(b'a' - 10 + n)
+    }
+}
+
+fn has(c: char, text: &[char]) -> bool
+    ensures { result ≡ words.has c text.now }
+{
+    text.iter().any(|d| *d == c)
+}
+
+/// The quote in which a text is shown.
+fn quote_of(text: &[char]) -> char
+    ensures { result ≡ words.quote_of text.now }
+{
+    match (has('\'', text), has('"', text)) {
+        (true, false) => '"',
+        _ => '\'',
+    }
+}
+
+fn push_hex(chars: &mut Vec<char>, n: u8) -> Result<(), OutOfMemory>
+    ensures { OnOk result (chars.new.items ≡ chars.old.items ++ words.hex n) }
+{
+    push_ascii(chars, "\\x")?;
+    chars.push(hex_digit(n / 16))?;
+    chars.push(hex_digit(n % 16))?;
+    Ok(())
+}
+
+/// Puts a character of a text within its quotes.
+fn push_escaped(chars: &mut Vec<char>, quote: char, c: char) -> Result<(), OutOfMemory>
+    ensures { OnOk result (chars.new.items ≡ chars.old.items ++ words.escaped quote c) }
+{
+    if c == quote || c == '\\' {
+        chars.push('\\')?;
+        chars.push(c)?;
+    } else if c == '\n' {
+        push_ascii(chars, "\\n")?;
+    } else if c == '\r' {
+        push_ascii(chars, "\\r")?;
+    } else if c == '\t' {
+        push_ascii(chars, "\\t")?;
+    } else if c < ' ' || c == '\u{7f}' {
+        push_hex(chars, c as u8)?;
+    } else {
+        chars.push(c)?;
+    }
+    Ok(())
+}
+
+fn push_body(chars: &mut Vec<char>, quote: char, text: &[char]) -> Result<(), OutOfMemory>
+    ensures { OnOk result (chars.new.items ≡ chars.old.items ++ words.body quote text.now) }
+{
+    for c in text {
+        push_escaped(chars, quote, *c)?;
+    }
+    Ok(())
+}
+
+/// Puts a text within its quotes behind other characters.
+pub(crate) fn push_quoted(chars: &mut Vec<char>, text: &[char]) -> Result<(), OutOfMemory>
+    ensures { OnOk result (chars.new.items ≡ chars.old.items ++ words.quoted text.now) }
+{
+    let quote = quote_of(text);
+    chars.push(quote)?;
+    push_body(chars, quote, text)?;
+    chars.push(quote)?;
+    Ok(())
+}
