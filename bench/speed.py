@@ -77,12 +77,10 @@ def best(words, folder):
 def times(program, folder, text):
     with open(os.path.join(folder, "test_case.py"), "w") as file:
         file.write(text)
-    # The program refuses a folder with a second Python file, so that one comes behind its run.
-    ours = best([program, "--step-limit", str(STEPS), "test_case.py"], folder)
     with open(os.path.join(folder, "plain.py"), "w") as file:
         file.write(text + CALLS)
+    ours = best([program, "--step-limit", str(STEPS), "test_case.py"], folder)
     theirs = best([sys.executable, "plain.py"], folder)
-    os.remove(os.path.join(folder, "plain.py"))
     return ours, theirs
 
 

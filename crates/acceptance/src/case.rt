@@ -25,6 +25,8 @@ enum Section {
     About,
     Words,
     File(String, String),
+    /// A file whose bytes are written as numbers.
+    Bytes(String, Vec<u8>),
     Output(String),
     Part(String),
 }
@@ -44,6 +46,7 @@ impl Case {
         match section {
             Section::About | Section::Words => {}
             Section::File(path, text) => self.files.push((path, text.into_bytes()))?,
+            Section::Bytes(path, bytes) => self.files.push((path, bytes))?,
             Section::Output(text) => self.wanted.push(Wanted::Output(text))?,
             Section::Part(text) => self.wanted.push(Wanted::Part(text))?,
         }
@@ -65,6 +68,7 @@ fn take_line(
             Section::Words
         }
         Section::File(path, text) => Section::File(path, with_line(text, line)?),
+        Section::Bytes(path, bytes) => Section::Bytes(path, with_bytes(bytes, line)?),
         Section::Output(text) => Section::Output(with_line(text, line)?),
         Section::Part(text) => Section::Part(with_line(text, line)?),
     })
@@ -77,11 +81,26 @@ fn with_line(text: String, line: &str) -> Result<String, AllocError> {
     Ok(text)
 }
 
+/// Some bytes, and behind them those of a line; a word that is no byte's number is left out.
+fn with_bytes(bytes: Vec<u8>, line: &str) -> Result<Vec<u8>, AllocError> {
+    let mut bytes = bytes;
+    for word in line.split(' ') {
+        if let Ok(byte) = word.parse::<u8>() {
+            bytes.push(byte)?;
+        }
+    }
+    Ok(bytes)
+}
+
 /// The section that a heading begins, or None for the status and for what is no heading.
 fn section_of(alloc: Global, heading: &str) -> Result<Option<Section>, AllocError> {
     let text = String::new(alloc);
     if let Some(path) = heading.strip_prefix("file ") {
         return Ok(Some(Section::File(String::from_str(alloc, path)?, text)));
+    }
+    if let Some(path) = heading.strip_prefix("bytes ") {
+        let path = String::from_str(alloc, path)?;
+        return Ok(Some(Section::Bytes(path, Vec::new(alloc))));
     }
     Ok(match heading {
         "words" => Some(Section::Words),
@@ -94,8 +113,8 @@ fn section_of(alloc: Global, heading: &str) -> Result<Option<Section>, AllocErro
 /// Reads a case, or answers None where the text is none.
 ///
 /// What it shows stands first. Then come, each below a heading `>>> words`, `>>> file PATH`,
-/// `>>> stdout` or `>>> part`, the words, one a line, the files and what must be written; the
-/// heading `>>> status N` stands last.
+/// `>>> bytes PATH`, `>>> stdout` or `>>> part`, the words, one a line, the files, as text or as
+/// numbers of bytes, and what must be written; the heading `>>> status N` stands last.
 pub fn read_case(alloc: Global, text: &str) -> Result<Option<Case>, AllocError> {
     let mut case = Case::new(alloc);
     let mut section = Section::About;

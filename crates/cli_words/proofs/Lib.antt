@@ -1,3 +1,4 @@
+pub mod Notices
 pub mod Settings
 pub mod Numbers
 pub mod Cuts

@@ -3,10 +3,11 @@ use Rattle.std.proofs.Common.{◌≡◌, ℕ, List, [], ◌∷◌, ◌++◌, tru
 use Rattle.std.proofs.lemmas.List.{append-nil}
 use Rattle.std.proofs.lemmas.List.Elements.{filter_map-append}
 use Rattle.std.specs.List.{filter_map}
-use Rattle.cli_words.specs.Parts.{Part, PathOf, Sets, Wrong, begins_with_dash, next_valued, option_part, switched, valued}
+use Rattle.cli_words.specs.Parts.{Asks, Part, PathOf, Sets, Wrong, asking, begins_with_dash, next_valued, option_part, switched, valued}
 use Rattle.cli_words.specs.Options.{with_parts, outcome, unless, first_of, fault_of, last_or}
 use Rattle.cli_words.specs.declared.fault.UsageFault.{UsageFault}
 use Rattle.cli_words.specs.declared.fault.UsageFault.TheVariants.{BadValue, NeedsValue, TakesNoValue, Unrecognized}
+use Rattle.cli_words.specs.declared.info.Info.{Info}
 use Rattle.cli_words.specs.declared.table.Rule.{Rule}
 use Rattle.cli_words.specs.declared.table.Given.{Given}
 use Rattle.cli_words.specs.declared.table.Takes.{Takes}
@@ -22,11 +23,11 @@ pub with_parts-append : (o : Options) (ps qs : List Part) → with_parts o (ps +
 unfolding with_parts
 with_parts-append o ps qs = simp (filter_map-append, last_or-append, append_assoc)
 
-first_of-append : {X : Type 0} (x : X) (xs ys : List X) → first_of xs ≡ Some x → first_of (xs ++ ys) ≡ Some x
+pub first_of-append : {X : Type 0} (x : X) (xs ys : List X) → first_of xs ≡ Some x → first_of (xs ++ ys) ≡ Some x
 first_of-append x [] ys e = absurd (cc e)
 first_of-append x (y ∷ xs) ys e = e
 
-first_of-append_none : {X : Type 0} (xs ys : List X) → first_of xs ≡ None → first_of (xs ++ ys) ≡ first_of ys
+pub first_of-append_none : {X : Type 0} (xs ys : List X) → first_of xs ≡ None → first_of (xs ++ ys) ≡ first_of ys
 first_of-append_none [] ys e = refl
 first_of-append_none (y ∷ xs) ys e = absurd (cc e)
 
@@ -93,3 +94,18 @@ switched_none o p option given value e is = rw e (outcome_sets o p (given_settin
 
 pub no_option : (o : Options) (takes : Option Takes) (word option : List ℕ) (value next : Option (List ℕ)) → takes ≡ None → outcome o (option_part takes word option value next ∷ []) ≡ Err (Unrecognized word)
 no_option o takes word option value next e = rw e (outcome_wrong o (Unrecognized word))
+
+with_parts-asks : (o : Options) (info : Info) → with_parts o (Asks info ∷ []) ≡ o
+unfolding with_parts
+with_parts-asks o info =
+    ap (λ (xs : List (List ℕ)). record o { paths = xs; ignore = o.ignore ++ [] }) (append-nil o.paths) ∙ ap (λ (xs : List (List ℕ)). record o { ignore = xs }) (append-nil o.ignore)
+
+outcome_asks : (o : Options) (info : Info) → outcome o (Asks info ∷ []) ≡ Ok o
+unfolding outcome
+outcome_asks o info = ap Ok (with_parts-asks o info)
+
+pub asking_some : (o : Options) (option : List ℕ) (info : Info) (value : Option (List ℕ)) (v : List ℕ) → value ≡ Some v → outcome o (asking option info value ∷ []) ≡ Err (TakesNoValue option)
+asking_some o option info value v e = rw e (outcome_wrong o (TakesNoValue option))
+
+pub asking_none : (o : Options) (option : List ℕ) (info : Info) (value : Option (List ℕ)) → value ≡ None → outcome o (asking option info value ∷ []) ≡ Ok o
+asking_none o option info value e = rw e (outcome_asks o info)

@@ -1,4 +1,5 @@
 pub mod Faults
+pub mod Info
 pub mod Options
 pub mod Parts
 pub mod Table

@@ -1,4 +1,4 @@
--- The command line as a list of parts: settings, paths and faults, in the order of the words.
+-- The command line as a list of parts: settings, paths, faults and texts that are asked for, in the order of the words.
 use Rattle.std.specs.Prelude.{◌≡◌, ◌<◌, length, ℕ, List, [], ◌∷◌, ◌++◌, Bool, true, false, not, ◌||◌, Option, None, Some, map, drop, codes, is_some, nat_eq, ◌==◌, if◌then◌else◌}
 use Rattle.std.specs.List.{filter_map, take_while, prefix_len, before_first, starts_with}
 use Rattle.std.specs.Str.{IsUtf8, bytes_eq}
@@ -6,17 +6,19 @@ use Rattle.cli_words.specs.Table.{takes_named}
 use Rattle.cli_words.specs.Values.{behind, given_setting, setting_of}
 use Rattle.cli_words.specs.declared.fault.UsageFault.{UsageFault}
 use Rattle.cli_words.specs.declared.fault.UsageFault.TheVariants.{Unrecognized, NeedsValue, BadValue, TakesNoValue}
+use Rattle.cli_words.specs.declared.info.Info.{Info}
 use Rattle.cli_words.specs.declared.setting.Setting.{Setting}
 use Rattle.cli_words.specs.declared.table.Given.{Given}
 use Rattle.cli_words.specs.declared.table.Rule.{Rule}
 use Rattle.cli_words.specs.declared.table.Takes.{Takes}
-use Rattle.cli_words.specs.declared.table.Takes.TheVariants.{Nothing, Value}
+use Rattle.cli_words.specs.declared.table.Takes.TheVariants.{Nothing, Value, Tells}
 
 -- a part of the command line
 pub data Part : Type 0 where
   PathOf : List ℕ → Part
   Sets : Setting → Part
   Wrong : UsageFault → Part
+  Asks : Info → Part
 
 -- `--`, behind which all words are paths
 abbrev pub is_end : List ℕ → Bool
@@ -48,10 +50,16 @@ abbrev pub switched : List ℕ → Given → Option (List ℕ) → Part
 switched option given None = Sets (given_setting given)
 switched option given (Some value) = Wrong (TakesNoValue option)
 
+-- an option that asks for a text, and takes no value
+abbrev pub asking : List ℕ → Info → Option (List ℕ) → Part
+asking option info None = Asks info
+asking option info (Some value) = Wrong (TakesNoValue option)
+
 -- what an option of a word says; its value may stand in the word or be the next word
 abbrev pub option_part : Option Takes → List ℕ → List ℕ → Option (List ℕ) → Option (List ℕ) → Part
 option_part None word option value next = Wrong (Unrecognized word)
 option_part (Some (Nothing given)) word option value next = switched option given value
+option_part (Some (Tells info)) word option value next = asking option info value
 option_part (Some (Value rule)) word option None next = next_valued option rule next
 option_part (Some (Value rule)) word option (Some value) next = valued option value (setting_of rule value)
 
@@ -60,6 +68,7 @@ abbrev pub asks : Option Takes → Option (List ℕ) → Bool
 asks (Some (Value rule)) None = true
 asks (Some (Value rule)) (Some value) = false
 asks (Some (Nothing given)) value = false
+asks (Some (Tells info)) value = false
 asks None value = false
 
 -- an option of a word, with the value that stands in the word
@@ -79,6 +88,7 @@ short letter = 45 ∷ letter ∷ []
 abbrev pub given_of : Option Takes → Option Given
 given_of (Some (Nothing given)) = Some given
 given_of (Some (Value rule)) = None
+given_of (Some (Tells info)) = None
 given_of None = None
 
 abbrev pub flag_of : ℕ → Option Given

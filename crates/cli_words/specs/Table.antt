@@ -4,9 +4,10 @@ use Rattle.std.specs.Str.{bytes_eq}
 use Rattle.std.specs.Map.{lookup}
 use Rattle.cli_words.specs.declared.table.Row.{Row}
 use Rattle.cli_words.specs.declared.table.Takes.{Takes}
-use Rattle.cli_words.specs.declared.table.Takes.TheVariants.{Nothing, Value}
+use Rattle.cli_words.specs.declared.table.Takes.TheVariants.{Nothing, Value, Tells}
 use Rattle.cli_words.specs.declared.table.Given.TheVariants.{On, Count}
 use Rattle.cli_words.specs.declared.table.Rule.TheVariants.{Text, Number, Style, Distribution, SeedAndFiles}
+use Rattle.cli_words.specs.declared.info.Info.TheVariants.{Help, Version}
 use Rattle.cli_words.specs.declared.table.Switch.TheVariants.{Verbose, CollectOnly, SetupShow}
 use Rattle.cli_words.specs.declared.table.Counter.TheVariants.{MaxFail, Workers, StepLimit}
 use Rattle.cli_words.specs.declared.table.TextOption.TheVariants.{Keyword, Marks, Ignore}
@@ -31,6 +32,8 @@ options =
     ∷ (codes "--setup-show", Nothing (On SetupShow))
     ∷ (codes "--step-limit", Value (Number StepLimit 1 100000000))
     ∷ (codes "--generated", Value SeedAndFiles)
+    ∷ (codes "--help", Tells Help)
+    ∷ (codes "--version", Tells Version)
     ∷ []
 
 -- what the option of this spelling takes

@@ -3,10 +3,11 @@ ghost use Rattle.std.specs.List.{starts_with};
 ghost use Rattle.std.specs.Str.{IsUtf8};
 ghost use Rattle.cli_words.specs.Values.{given_setting, setting_of};
 ghost use Rattle.cli_words.specs.Table.{takes_named};
-ghost use Rattle.cli_words.specs.Parts.{Sets, PathOf, HasNoFlag, StartsWithFlag, asks, begins_with_dash, behind_flags, flag_part, flags, is_long, is_path, letters_ask, letters_say, option_part, next_valued, parts_of, says, short, switched, takes_next, value_behind, valued};
+ghost use Rattle.cli_words.specs.Parts.{Sets, PathOf, HasNoFlag, StartsWithFlag, asking, asks, begins_with_dash, behind_flags, flag_part, flags, is_long, is_path, letters_ask, letters_say, option_part, next_valued, parts_of, says, short, switched, takes_next, value_behind, valued};
 ghost use Rattle.cli_words.specs.Options.{Gives, Refuses, first_of, options_of, outcome, with_parts};
 
 use crate::fault::UsageFault;
+use crate::info::Info;
 use crate::options::Options;
 use crate::setting::cut_at;
 use crate::table::{Given, Rule, Takes, takes_of};
@@ -14,20 +15,20 @@ use crate::word::Word;
 use seq::OutOfMemory;
 use std::alloc::Global;
 
-fn starts_with(word: &str, front: &str) -> bool
+pub(crate) fn starts_with(word: &str, front: &str) -> bool
     ensures { result ≡ starts_with nat_eq word.now front.now }
 {
     word.starts_with(front)
 }
 
-fn is_path(word: &str) -> bool
+pub(crate) fn is_path(word: &str) -> bool
     ensures { result ≡ is_path word.now }
 {
     !starts_with(word, "-") || word == "-"
 }
 
 /// The first letter and what stands behind it, where the letter is an ASCII character.
-fn first_letter(letters: &str) -> Option<(u8, &str)>
+pub(crate) fn first_letter(letters: &str) -> Option<(u8, &str)>
     ensures { MatchOption result ((letters.now ≡ []) ⊎ (128 ≤ slice_index letters.now 0)) (λ p. (letters.now ≡ p.0 ∷ p.1.now) × (p.0 < 128) × IsUtf8 p.1.now) }
 {
     match letters.as_bytes() {
@@ -37,7 +38,7 @@ fn first_letter(letters: &str) -> Option<(u8, &str)>
 }
 
 /// A value right behind its letter, less one `=`.
-fn value_behind(letters: &str) -> Option<&str>
+pub(crate) fn value_behind(letters: &str) -> Option<&str>
     ensures { option_copied result ≡ value_behind letters.now }
 {
     if letters.is_empty() {
@@ -110,6 +111,16 @@ fn read_switch(
     }
 }
 
+/// Reads an option that asks for a text: it sets nothing.
+fn read_asking(alloc: Global, option: &str, value: Option<&str>) -> Result<(), UsageFault>
+    ensures { (o : Options) (info : Info) → Gives (outcome o (asking option.now info (option_copied value.entry) ∷ [])) o result }
+{
+    match value {
+        Some(_) => Err(UsageFault::TakesNoValue(Word::from_str(alloc, option)?)),
+        None => Ok(()),
+    }
+}
+
 /// Reads an option, whose value may stand in the word; says whether the next word was its value.
 fn read_option(
     alloc: Global,
@@ -128,6 +139,10 @@ fn read_option(
             read_switch(alloc, options, option, given, value)?;
             Ok(false)
         }
+        Some(Takes::Tells(_)) => {
+            read_asking(alloc, option, value)?;
+            Ok(false)
+        }
         Some(Takes::Value(rule)) => match value {
             Some(value) => {
                 set_value(alloc, options, option, rule, value)?;
@@ -142,7 +157,7 @@ fn read_option(
 }
 
 /// The option without value that a text of letters starts with, and the letters behind it.
-fn first_flag(letters: &str) -> Option<(Given, &str)>
+pub(crate) fn first_flag(letters: &str) -> Option<(Given, &str)>
     ensures { MatchOption result (HasNoFlag letters.now) (λ p. StartsWithFlag letters.now p.0 p.1.now) }
 {
     let (letter, rest) = first_letter(letters)?;
@@ -218,7 +233,7 @@ fn read_word(
     }
 }
 
-fn first_word(words: &[String]) -> Option<&str>
+pub(crate) fn first_word(words: &[String]) -> Option<&str>
     ensures { option_copied result ≡ first_of (map string_bytes words.now) }
 {
     match words {
@@ -228,7 +243,7 @@ fn first_word(words: &[String]) -> Option<&str>
 }
 
 /// The words behind the first, if that was taken.
-fn words_left(words: &[String], took: bool) -> &[String]
+pub(crate) fn words_left(words: &[String], took: bool) -> &[String]
     ensures { result.now ≡ (if took then drop 1 words.now else words.now) }
 {
     match words {

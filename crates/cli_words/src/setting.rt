@@ -1,4 +1,4 @@
-ghost use Rattle.std.specs.Prelude.{◌≡◌, ◌≤◌, ◌<◌, ◌==◌, IfOk, option_copied};
+ghost use Rattle.std.specs.Prelude.{◌≡◌, ◌≤◌, ◌<◌, ◌==◌, IfOk, is_some, option_copied};
 ghost use Rattle.std.specs.List.{list_all, before_first};
 ghost use Rattle.std.specs.Char.{is_ascii_digit};
 ghost use Rattle.cli_words.specs.Values.{behind, is_number, number_in, style_named, distribution_named, seed_and_files_in, setting_of, given_setting};
@@ -103,6 +103,20 @@ impl Given {
 }
 
 impl Rule {
+    /// Whether a value is of this form.
+    #[tactic(auto, using(crate::proofs::Notices::some_map))]
+    pub(crate) fn takes(self, value: &str) -> bool
+        ensures { result ≡ is_some (setting_of self value.now) }
+    {
+        match self {
+            Rule::Text(_) => true,
+            Rule::Number(_, low, high) => number(value, low, high).is_some(),
+            Rule::Style => style(value).is_some(),
+            Rule::Distribution => distribution(value).is_some(),
+            Rule::SeedAndFiles => seed_and_files(value).is_some(),
+        }
+    }
+
     /// What a value sets, if it is a value of this form.
     pub(crate) fn setting(self, alloc: Global, value: &str) -> Result<Option<Setting>, OutOfMemory>
         ensures { IfOk result (λ setting. setting ≡ setting_of self value.now) }

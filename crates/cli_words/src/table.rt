@@ -1,6 +1,8 @@
 ghost use Rattle.std.specs.Prelude.{◌≡◌};
 ghost use Rattle.cli_words.specs.Table.{takes_in, takes_named};
 
+use crate::info::Info;
+
 /// What can be switched on.
 #[derive(Clone, Copy, Debug)]
 pub enum Switch {
@@ -48,6 +50,8 @@ pub enum Rule {
 pub enum Takes {
     Nothing(Given),
     Value(Rule),
+    /// No value: the option asks for a text.
+    Tells(Info),
 }
 
 /// An option of the command line.
@@ -58,7 +62,7 @@ pub struct Row {
 }
 
 /// All options, with each of their spellings.
-const OPTIONS: [Row; 17] = [
+const OPTIONS: [Row; 19] = [
     Row {
         spelling: "-k",
         takes: Takes::Value(Rule::Text(TextOption::Keyword)),
@@ -126,6 +130,14 @@ const OPTIONS: [Row; 17] = [
     Row {
         spelling: "--generated",
         takes: Takes::Value(Rule::SeedAndFiles),
+    },
+    Row {
+        spelling: "--help",
+        takes: Takes::Tells(Info::Help),
+    },
+    Row {
+        spelling: "--version",
+        takes: Takes::Tells(Info::Version),
     },
 ];
 

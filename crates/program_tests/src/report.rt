@@ -140,6 +140,103 @@ FAILED test_a.py::test_f - StepLimit: step limit of 3 reached
 =================================== 1 failed ===================================
 ";
 
+const DESELECTED: &str = "\
+============================= test session starts ==============================
+collected 1 item / 1 deselected / 0 selected
+
+================================= 1 deselected =================================
+";
+
+const RAISED: &str = "\
+============================= test session starts ==============================
+collected 0 items / 1 error
+
+==================================== ERRORS ====================================
+__________________________ ERROR collecting test_a.py __________________________
+test_a.py:1: in <module>
+    x = 1 // 0
+E   ZeroDivisionError: division by zero
+=========================== short test summary info ============================
+ERROR test_a.py - ZeroDivisionError: division by zero
+!!!!!!!!!!!!!!!!!!!! Interrupted: 1 error during collection !!!!!!!!!!!!!!!!!!!!
+=================================== 1 error ====================================
+";
+
+const NO_FIXTURE: &str = "\
+============================= test session starts ==============================
+collected 1 item
+
+test_a.py E
+
+==================================== ERRORS ====================================
+___________________________ ERROR at setup of test_x ___________________________
+test_a.py:1: in test_x
+    def test_x(a):
+E   fixture 'a' not found
+=========================== short test summary info ============================
+ERROR test_a.py::test_x - fixture 'a' not found
+=================================== 1 error ====================================
+";
+
+const STORE: &str =
+    "import pytest\n\nclass TestStore:\n    def test_get(self):\n        print('got')\n        assert 1 == 2\n    @pytest.mark.skip\n    def test_put(self):\n        pass\n@pytest.mark.xfail\ndef test_x():\n    assert 0 == 1\n";
+
+const PROJECT: &str = "\
+============================= test session starts ==============================
+collected 4 items
+
+a/test_b.py Fsx
+test_a.py .
+
+=================================== FAILURES ===================================
+______________________________ TestStore.test_get ______________________________
+a/test_b.py:6: in test_get
+    assert 1 == 2
+E   AssertionError
+----------------------------- Captured stdout call -----------------------------
+got
+=========================== short test summary info ============================
+FAILED a/test_b.py::TestStore::test_get - AssertionError
+=================== 1 failed, 1 passed, 1 skipped, 1 xfailed ===================
+";
+
+const VERBOSE_PROJECT: &str = "\
+============================= test session starts ==============================
+collected 4 items / 3 deselected / 1 selected
+
+a/test_b.py::TestStore::test_put SKIPPED
+
+=========================== 1 skipped, 3 deselected ============================
+";
+
+const STOPPED: &str = "\
+============================= test session starts ==============================
+collected 4 items
+
+a/test_b.py F
+
+=================================== FAILURES ===================================
+______________________________ TestStore.test_get ______________________________
+a/test_b.py:6: in test_get
+    assert 1 == 2
+E   AssertionError
+----------------------------- Captured stdout call -----------------------------
+got
+=========================== short test summary info ============================
+FAILED a/test_b.py::TestStore::test_get - AssertionError
+!!!!!!!!!!!!!!!!!!!!!!!!!! stopping after 1 failures !!!!!!!!!!!!!!!!!!!!!!!!!!!
+=================================== 1 failed ===================================
+";
+
+const CONFTEST: &str = "\
+ImportError while loading conftest 'conftest.py'.
+conftest.py:1: in <module>
+    x = 1 // 0
+E   ZeroDivisionError: division by zero
+";
+
+const VERSION: &str = "pytest_run 0.1.0\n";
+
 fn words(alloc: Global, words: &[&str]) -> Result<Vec<String>, AllocError> {
     let mut made = Vec::new(alloc);
     for word in words {
@@ -167,7 +264,17 @@ fn writes_the_report_and_answers_its_status(rt: HostRuntime) -> Result<(), Fail>
         ("test_a.py", FAILS, FAILED, 1),
         ("-v test_a.py", PASSES, VERBOSE, 0),
         ("--co test_a.py", PASSES, COLLECTED, 0),
-        ("-k one test_a.py", PASSES, "ERROR: not built\n", 4),
+        ("-k one test_a.py", PASSES, PASSED, 0),
+        ("-k two test_a.py", PASSES, DESELECTED, 5),
+        (
+            "-k (one test_a.py",
+            PASSES,
+            "ERROR: wrong expression in -k at column 5\n",
+            4,
+        ),
+        ("-n 2 test_a.py", PASSES, "ERROR: not built\n", 4),
+        ("--setup-show test_a.py", PASSES, "ERROR: not built\n", 4),
+        ("--version --tb=long", PASSES, VERSION, 0),
         (
             "--tb=long x",
             PASSES,
@@ -177,23 +284,57 @@ fn writes_the_report_and_answers_its_status(rt: HostRuntime) -> Result<(), Fail>
         ("nope.py", PASSES, "ERROR: not found: nope.py\n", 4),
         ("test_a.py", "x = 1\n", NO_TESTS, 5),
         ("--step-limit=3 test_a.py", FACTORIAL, LIMITED, 1),
-        ("test_a.py", "x = 1 // 0\n", "ERROR: not built\n", 4),
+        ("test_a.py", "x = 1 // 0\n", RAISED, 2),
         ("test_a.py", "x = $\n", MISSPELLED, 2),
         ("--tb=line test_a.py", "x = = 1\n", UNREAD, 2),
-        (
-            "test_a.py",
-            "def test_x(a):\n    pass\n",
-            "ERROR: not built\n",
-            4,
-        ),
+        ("test_a.py", "def test_x(a):\n    pass\n", NO_FIXTURE, 1),
         ("test_a.py", SKIPS, SKIPPED, 0),
         ("test_a.py", FIXTURE, "ERROR: not built\n", 4),
-        ("conftest.py", PASSES, "ERROR: not built\n", 4),
-        ("-- -a.py", PASSES, "ERROR: not built\n", 4),
-        ("sub/test_a.py", PASSES, "ERROR: not built\n", 4),
-        ("test_a.py::test.py", PASSES, "ERROR: not built\n", 4),
+        ("conftest.py", PASSES, "ERROR: not found: conftest.py\n", 4),
+        ("-- -a.py", PASSES, "ERROR: not found: -a.py\n", 4),
+        ("test_a.py::test_one", PASSES, PASSED, 0),
+        (
+            "test_a.py::test.py",
+            PASSES,
+            "ERROR: not found: test_a.py::test.py\n",
+            4,
+        ),
     ] {
         let mut tree = tree(alloc, &[("test_a.py", text)])?;
+        let mut out = SureSink::new(alloc);
+        let mut given = Vec::new(alloc);
+        for word in line.split(' ') {
+            given.push(String::from_str(alloc, word)?)?;
+        }
+        let status = pytest_main(&rt, alloc, &given, &mut tree, &mut out, &OpenGate);
+        assert_eq!(rt; out.bytes(), wanted.as_bytes(), "at {line}");
+        assert_eq!(rt; status.number(), number, "at {line}");
+    }
+    Ok(())
+}
+
+#[test]
+fn collects_a_project_and_runs_it(rt: HostRuntime) -> Result<(), Fail> {
+    let alloc = rt.alloc();
+    for (line, conftest, wanted, number) in [
+        (". .", "x = 1\n", PROJECT, 1u8),
+        ("-x", "x = 1\n", STOPPED, 1),
+        (
+            "-v --tb=line -m skip a test_a.py::test_one",
+            "x = 1\n",
+            VERBOSE_PROJECT,
+            0,
+        ),
+        ("-x", "x = 1 // 0\n", CONFTEST, 4),
+    ] {
+        let mut tree = tree(
+            alloc,
+            &[
+                ("test_a.py", PASSES),
+                ("a/test_b.py", STORE),
+                ("conftest.py", conftest),
+            ],
+        )?;
         let mut out = SureSink::new(alloc);
         let mut given = Vec::new(alloc);
         for word in line.split(' ') {
@@ -263,10 +404,5 @@ fn refuses_the_limits_of_the_tree(rt: HostRuntime) -> Result<(), Fail> {
         assert_eq!(rt; out.bytes(), wanted.as_bytes());
         assert_eq!(rt; status, Status::Usage);
     }
-    let mut two = tree(alloc, &[("test_a.py", PASSES), ("b.py", "")])?;
-    let mut out = SureSink::new(alloc);
-    let status = pytest_main(&rt, alloc, &words, &mut two, &mut out, &OpenGate);
-    assert_eq!(rt; out.bytes(), b"ERROR: not built\n".as_slice());
-    assert_eq!(rt; status.number(), 4);
     Ok(())
 }

@@ -11,7 +11,7 @@ use Rattle.py_values.specs.declared.object.Obj.{Obj}
 use Rattle.py_values.specs.declared.value.Value.{Value}
 use Rattle.pytest_calls.specs.Finalizers.{finalizer_by}
 use Rattle.pytest_calls.specs.Fixtures.{fixture_called}
-use Rattle.pytest_calls.specs.Forms.{function_fits}
+use Rattle.pytest_arguments.specs.Forms.{function_fits}
 use Rattle.pytest_calls.specs.Hooks.{hookimpl_called}
 use Rattle.pytest_calls.specs.Params.{param_called}
 use Rattle.pytest_calls.specs.Raising.{raises_called, outcome_called}

@@ -11,10 +11,10 @@ use Rattle.py_values.specs.declared.object.FixtureScope.TheVariants as scope
 use Rattle.py_values.specs.declared.object.Obj.{Obj}
 use Rattle.py_values.specs.declared.object.Obj.TheVariants as obj
 use Rattle.py_values.specs.declared.value.Value.{Value}
-use Rattle.pytest_calls.specs.declared.form.Argument.{Argument}
-use Rattle.pytest_calls.specs.declared.form.Argument.TheVariants as arg
-use Rattle.pytest_calls.specs.Forms.{named_value, bad_unless, unless_bad}
-use Rattle.pytest_calls.specs.Given.{if_given, unless_none, is_boolean, is_text_value, is_row, are_texts, boolean_given, text_given, row_given, texts_given}
+use Rattle.pytest_arguments.specs.declared.form.Argument.{Argument}
+use Rattle.pytest_arguments.specs.declared.form.Argument.TheVariants as arg
+use Rattle.pytest_arguments.specs.Forms.{named_value, bad_unless, unless_bad}
+use Rattle.pytest_arguments.specs.Given.{if_given, unless_none, is_boolean, is_text_value, is_row, are_texts, boolean_given, text_given, row_given, texts_given}
 
 abbrev pub scope_named : List ℕ → Option FixtureScope
 scope_named t =

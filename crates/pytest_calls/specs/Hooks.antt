@@ -6,9 +6,9 @@ use Rattle.py_values.specs.declared.end.Made.TheVariants.{New}
 use Rattle.py_values.specs.declared.object.HookObj.{HookObj}
 use Rattle.py_values.specs.declared.object.Obj.TheVariants as obj
 use Rattle.py_values.specs.declared.value.Value.{Value}
-use Rattle.pytest_calls.specs.declared.form.Argument.TheVariants as arg
-use Rattle.pytest_calls.specs.Forms.{named_value, bad_named}
-use Rattle.pytest_calls.specs.Given.{is_boolean, boolean_given}
+use Rattle.pytest_arguments.specs.declared.form.Argument.TheVariants as arg
+use Rattle.pytest_arguments.specs.Forms.{named_value, bad_named}
+use Rattle.pytest_arguments.specs.Given.{is_boolean, boolean_given}
 
 -- the name of the first argument, in the order of the call, that is no boolean
 abbrev pub first_unflagged : List (List ℕ × Value) → Option (List ℕ)

@@ -1,5 +1,3 @@
-pub mod Forms
-pub mod Given
 pub mod Fixtures
 pub mod Hooks
 pub mod Params

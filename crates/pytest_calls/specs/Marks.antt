@@ -12,12 +12,12 @@ use Rattle.py_values.specs.declared.object.Obj.{Obj}
 use Rattle.py_values.specs.declared.object.Obj.TheVariants as obj
 use Rattle.py_values.specs.declared.value.Value.{Value}
 use Rattle.py_values.specs.declared.value.Value.TheVariants as val
-use Rattle.pytest_calls.specs.declared.form.Argument.{Argument}
-use Rattle.pytest_calls.specs.declared.form.Argument.TheVariants as arg
-use Rattle.pytest_calls.specs.declared.form.OwnMark.{OwnMark}
-use Rattle.pytest_calls.specs.declared.form.OwnMark.TheVariants as mark
-use Rattle.pytest_calls.specs.Forms.{named_value, own_mark_name, own_marks, mark_in, mark_fits, bad_unless, unless_bad}
-use Rattle.pytest_calls.specs.Given.{if_given, unless_none, is_boolean, is_text_value, is_row, row_at, are_texts}
+use Rattle.pytest_arguments.specs.declared.form.Argument.{Argument}
+use Rattle.pytest_arguments.specs.declared.form.Argument.TheVariants as arg
+use Rattle.pytest_arguments.specs.declared.form.OwnMark.{OwnMark}
+use Rattle.pytest_arguments.specs.declared.form.OwnMark.TheVariants as mark
+use Rattle.pytest_arguments.specs.Forms.{named_value, own_mark_name, own_marks, mark_in, mark_fits, bad_unless, unless_bad}
+use Rattle.pytest_arguments.specs.Given.{if_given, unless_none, is_boolean, is_text_value, is_row, row_at, are_texts}
 
 -- a test of the first argument by position, where there is one
 abbrev pub if_first : (Value → Bool) → List Value → Bool

@@ -9,10 +9,10 @@ use Rattle.py_values.specs.declared.object.Obj.TheVariants as obj
 use Rattle.py_values.specs.declared.object.ParamObj.{ParamObj}
 use Rattle.py_values.specs.declared.value.Value.{Value}
 use Rattle.py_values.specs.declared.value.Value.TheVariants as val
-use Rattle.pytest_calls.specs.declared.form.Argument.{Argument}
-use Rattle.pytest_calls.specs.declared.form.Argument.TheVariants as arg
-use Rattle.pytest_calls.specs.Forms.{named_value, bad_unless, unless_bad}
-use Rattle.pytest_calls.specs.Given.{if_given, unless_none, is_text_value, text_given}
+use Rattle.pytest_arguments.specs.declared.form.Argument.{Argument}
+use Rattle.pytest_arguments.specs.declared.form.Argument.TheVariants as arg
+use Rattle.pytest_arguments.specs.Forms.{named_value, bad_unless, unless_bad}
+use Rattle.pytest_arguments.specs.Given.{if_given, unless_none, is_text_value, text_given}
 
 abbrev pub obj_is_mark : Option Obj → Bool
 obj_is_mark (Some (obj.Mark m)) = true

@@ -15,9 +15,9 @@ use Rattle.py_values.specs.declared.object.Obj.{Obj}
 use Rattle.py_values.specs.declared.object.Obj.TheVariants as obj
 use Rattle.py_values.specs.declared.value.Value.{Value}
 use Rattle.py_values.specs.declared.value.Value.TheVariants as val
-use Rattle.pytest_calls.specs.declared.form.Argument.TheVariants as arg
-use Rattle.pytest_calls.specs.Forms.{named_value, bad}
-use Rattle.pytest_calls.specs.Given.{is_text_value}
+use Rattle.pytest_arguments.specs.declared.form.Argument.TheVariants as arg
+use Rattle.pytest_arguments.specs.Forms.{named_value, bad}
+use Rattle.pytest_arguments.specs.Given.{is_text_value}
 
 abbrev pub raises_made : Value → Option (List ℕ) → Product
 raises_made classes pattern = plain (New (obj.Raises (record { classes = classes; pattern = pattern })) 0)

@@ -5,8 +5,6 @@ ghost use Rattle.pytest_calls.specs.Calls as calls;
 ghost use Rattle.pytest_calls.specs.Finalizers as finalizers;
 
 use crate::fixtures::fixture_called;
-use crate::form::function_fits;
-use crate::given::values_copied;
 use crate::hooks::hookimpl_called;
 use crate::params::param_called;
 use crate::raising::{outcome_called, raises_called};
@@ -21,6 +19,8 @@ use py_values::heap::Heap;
 use py_values::object::{Obj, RequestObj};
 use py_values::value::{ObjId, Value};
 use py_values::{OutOfMemory, PyText};
+use pytest_arguments::form::function_fits;
+use pytest_arguments::given::values_copied;
 use std::alloc::Global;
 
 fn pytest_fitting(

@@ -2,13 +2,8 @@
 
 ghost use Rattle.std.specs.Prelude.{◌≡◌, IfOk, option_copied};
 ghost use Rattle.pytest_calls.specs.Fixtures as fixtures;
-ghost use Rattle.pytest_calls.specs.Given as given;
+ghost use Rattle.pytest_arguments.specs.Given as given;
 
-use crate::form::{Argument, bad, is_word, named_value};
-use crate::given::{
-    boolean_given, boolean_or_absent, no_other_than_row, no_other_than_text, no_other_than_texts,
-    row_given, text_given, texts_given,
-};
 use call_products::arguments::text_of;
 use call_products::product::{Product, plain};
 use py_values::end::Made;
@@ -16,6 +11,11 @@ use py_values::heap::Heap;
 use py_values::object::{FixtureObj, FixtureScope, Obj};
 use py_values::value::Value;
 use py_values::{OutOfMemory, PyText};
+use pytest_arguments::form::{Argument, bad, is_word, named_value};
+use pytest_arguments::given::{
+    boolean_given, boolean_or_absent, no_other_than_row, no_other_than_text, no_other_than_texts,
+    row_given, text_given, texts_given,
+};
 use std::alloc::Global;
 
 fn scope_named(name: &[char]) -> Option<FixtureScope>

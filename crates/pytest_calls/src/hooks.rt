@@ -3,13 +3,13 @@
 ghost use Rattle.std.specs.Prelude.{◌≡◌, IfOk, option_copied};
 ghost use Rattle.pytest_calls.specs.Hooks as hooks;
 
-use crate::form::{Argument, bad_named, named_value};
-use crate::given::{boolean_given, is_boolean};
 use call_products::product::{Product, plain};
 use py_values::end::Made;
 use py_values::object::{HookObj, Obj};
 use py_values::value::Value;
 use py_values::{OutOfMemory, PyText};
+use pytest_arguments::form::{Argument, bad_named, named_value};
+use pytest_arguments::given::{boolean_given, is_boolean};
 use std::alloc::Global;
 
 /// The name of the first argument that is no boolean.

@@ -31,8 +31,6 @@
 
 pub mod calls;
 mod fixtures;
-pub mod form;
-mod given;
 mod hooks;
 pub mod marks;
 mod params;

@@ -3,15 +3,10 @@
 ghost use Rattle.std.specs.Prelude.{◌≡◌, ◌||◌, [], IfOk, option_copied};
 ghost use Rattle.std.specs.List.{list_all};
 ghost use Rattle.py_kinds.specs.Classes.{are_exc_classes};
-ghost use Rattle.pytest_calls.specs.Forms.{unless_bad};
-ghost use Rattle.pytest_calls.specs.Given as given;
+ghost use Rattle.pytest_arguments.specs.Forms.{unless_bad};
+ghost use Rattle.pytest_arguments.specs.Given as given;
 ghost use Rattle.pytest_calls.specs.Marks as marks;
 
-use crate::form::{Argument, OwnMark, bad, mark_fits, named_value, own_mark, own_mark_name};
-use crate::given::{
-    are_texts, boolean_or_absent, each_is_text, is_boolean, is_row, is_text_value,
-    no_other_than_texts, row_at, text_or_absent, values_copied,
-};
 use call_products::arguments::text_of;
 use call_products::product::{Product, plain, wrong};
 use py_kinds::classes::are_exc_classes;
@@ -22,6 +17,13 @@ use py_values::object::{MarkObj, Obj};
 use py_values::rows::Values;
 use py_values::value::Value;
 use py_values::{OutOfMemory, PyText};
+use pytest_arguments::form::{
+    Argument, OwnMark, bad, mark_fits, named_value, own_mark, own_mark_name,
+};
+use pytest_arguments::given::{
+    are_texts, boolean_or_absent, each_is_text, is_boolean, is_row, is_text_value,
+    no_other_than_texts, row_at, text_or_absent, values_copied,
+};
 use std::alloc::Global;
 
 fn first_is_boolean(args: &[Value]) -> bool

@@ -2,11 +2,9 @@
 
 ghost use Rattle.std.specs.Prelude.{◌≡◌, IfOk};
 ghost use Rattle.std.specs.List.{list_all};
-ghost use Rattle.pytest_calls.specs.Given as given;
+ghost use Rattle.pytest_arguments.specs.Given as given;
 ghost use Rattle.pytest_calls.specs.Params as params;
 
-use crate::form::{Argument, bad, named_value};
-use crate::given::{no_other_than_text, text_given, values_copied};
 use call_products::product::{Product, plain};
 use py_values::end::Made;
 use py_values::heap::Heap;
@@ -14,6 +12,8 @@ use py_values::object::{Obj, ParamObj};
 use py_values::rows::Values;
 use py_values::value::Value;
 use py_values::{OutOfMemory, PyText};
+use pytest_arguments::form::{Argument, bad, named_value};
+use pytest_arguments::given::{no_other_than_text, text_given, values_copied};
 use std::alloc::Global;
 
 fn is_mark(heap: &Heap, v: Value) -> bool

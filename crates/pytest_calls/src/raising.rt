@@ -4,8 +4,6 @@ ghost use Rattle.std.specs.Prelude.{◌≡◌, IfOk, option_copied};
 ghost use Rattle.match_pattern.specs.Reading.{pattern_of};
 ghost use Rattle.pytest_calls.specs.Raising as raising;
 
-use crate::form::{Argument, bad, named_value};
-use crate::given::is_text_value;
 use call_products::arguments::text_of;
 use call_products::product::{Product, failed, plain, wrong};
 use match_pattern::{Pattern, PatternFault, read_pattern};
@@ -16,6 +14,8 @@ use py_values::heap::Heap;
 use py_values::object::{Obj, RaisesObj};
 use py_values::value::{ObjId, Value};
 use py_values::{OutOfMemory, PyText};
+use pytest_arguments::form::{Argument, bad, named_value};
+use pytest_arguments::given::is_text_value;
 use seq::Seq;
 use std::alloc::Global;
 

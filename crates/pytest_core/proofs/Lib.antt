@@ -1,5 +1,6 @@
+pub mod Asked
 pub mod Kept
-pub mod Laid
-pub mod OneSource
-pub mod Read
+pub mod NoWorkers
+pub mod Ran
 pub mod Reports
+pub mod Said

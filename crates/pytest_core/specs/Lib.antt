@@ -1,7 +1,5 @@
-pub mod Sources
-pub mod Collected
+pub mod Profile
 pub mod Report
+pub mod Request
 pub mod Status
-pub mod Texts
 pub mod Written
-pub mod Reading

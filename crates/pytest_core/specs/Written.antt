@@ -1,8 +1,23 @@
 use Rattle.std.specs.Prelude.{◌≡◌, ◌⊎◌, ℕ, List, Option}
 use Rattle.edge_io.specs.Told.{Appends, AppendsPrefix}
-use Rattle.pytest_core.specs.Report.{Answer}
+use Rattle.report_rules.specs.Answer.{Answer}
+use Rattle.pytest_core.specs.Status.{status_seen}
 use Rattle.pytest_core.specs.declared.status.Status.{Status}
 use Rattle.pytest_core.specs.declared.status.Status.TheVariants.{OutOfMemory, TreeFault, SinkFault}
+
+-- bytes and a status
+abbrev pub Response : Type 0
+Response = List ℕ × Status
+
+-- the response with an answer
+abbrev pub response_of : Answer → Response
+response_of answer = (answer.0, status_seen answer.1)
+
+-- a response with an answer that is the report
+pub record IsResponseBy (report : Answer → Type 0) (response : Response) : Type 0 where
+  pub answer : Answer
+  pub is : report answer
+  pub same : response ≡ response_of answer
 
 -- nothing was written, or a prefix of the report
 abbrev pub WrotePrefix : (Answer → Type 0) → Option (List ℕ) → Option (List ℕ) → Type 0
@@ -10,7 +25,7 @@ WrotePrefix report old new = (new ≡ old) ⊎ ((answer : Answer) × report answ
 
 -- all of the report was written and nothing else, and this is its status
 abbrev pub WroteAll : (Answer → Type 0) → Option (List ℕ) → Option (List ℕ) → Status → Type 0
-WroteAll report old new status = (answer : Answer) × report answer × Appends old new answer.0 × (answer.1 ≡ status)
+WroteAll report old new status = (answer : Answer) × report answer × Appends old new answer.0 × (status_seen answer.1 ≡ status)
 
 -- what was written, by the status
 abbrev pub Wrote : (Answer → Type 0) → Option (List ℕ) → Option (List ℕ) → Status → Type 0

@@ -1,86 +1,140 @@
-// The report of a file whose source has a fault.
+// The report of what was collected, and what is said where collection ended before.
 
-ghost use Rattle.std.specs.Prelude.{◌≡◌, IfOk, option_map};
-ghost use Rattle.file_session.specs.Lines.{source_line, told_line};
-ghost use Rattle.pytest_core.specs.Collected as meant;
+ghost use Rattle.std.specs.Prelude.{◌≡◌, [], true, false, IfOk, IsSomeAnd, IsTrue, Err as Fails, Some, option_map};
+ghost use Rattle.source_meaning.specs.Meaning.{SourceWorld};
+ghost use Rattle.report_parts.specs.Outcomes.{not_empty};
+ghost use Rattle.collect_tree.specs.Told.{IsWithin, collected_told, end_told};
+ghost use Rattle.file_source.specs.Sources.{HoldsSource};
+ghost use Rattle.pytest_core.specs.Profile.{profile};
+ghost use Rattle.pytest_core.specs.Report.{AreDistinct, end_answer};
+ghost use Rattle.pytest_core.specs.Status.{is_said};
+ghost use Rattle.pytest_core.specs.Written.{response_of};
+ghost use Rattle.report_rules.specs.Report as rules;
+ghost use Rattle.runtest_rules.specs.Rules.{rules as tests};
+ghost use Rattle.selection.specs.Unbuilt.{asks_for_unbuilt};
 
-use file_session::source_line;
-use py_source::SourceFault;
-use py_text::{OutOfMemory, PyText};
-use py_values::end::push_ascii;
-use report_text::{CollectReport, Frame, Frames, Text, Told};
+use crate::refusal::{Response, refuse, refuse_word, tell_conftest};
+use crate::report::{report_bytes, status_of};
+use cli_words::Options;
+use collect_tree::{CollectFault, Collected};
+use py_machine::World;
+use report_text::OutOfMemory;
+use run_items::{RunEnd, not_run, run};
 use std::alloc::Global;
 
-fn text_of(alloc: Global, text: &str) -> Result<Text, OutOfMemory>
-    ensures { IfOk result (λ t. t ≡ text.now) }
+/// With `--collect-only` each selected item is reported, and none runs.
+fn listed(
+    alloc: Global,
+    options: &Options,
+    world: &World,
+    collected: &Collected,
+) -> Result<RunEnd, OutOfMemory>
+    requires within { IsWithin collected.now }
+    requires built { asks_for_unbuilt options.now ≡ false }
+    requires listing { options.now.collect_only ≡ true }
+    ensures reports { IfOk result (λ end. end.reports.items ≡ rules.reports_told HoldsSource profile options.now (collected_told collected.now world.now) []) }
+    ensures stopped { IfOk result (λ end. end.stopped ≡ rules.stopped (tests options.now collected.now.items.items) options.now (collected_told collected.now world.now)) }
 {
-    Text::from_str(alloc, text)
+    let reports = not_run(alloc, &collected.items, &collected.selected)?;
+    Ok(RunEnd {
+        reports,
+        stopped: false,
+    })
 }
 
-/// The line of a source, where it has one.
-fn line_of(alloc: Global, bytes: &[u8], number: u32) -> Result<Option<Text>, OutOfMemory>
-    ensures { IfOk result (λ t. t ≡ source_line bytes.now number) }
+/// Where a file could not be collected, no item is reported.
+fn interrupted(alloc: Global, options: &Options, world: &World, collected: &Collected) -> RunEnd
+    requires built { asks_for_unbuilt options.now ≡ false }
+    requires running { options.now.collect_only ≡ false }
+    requires failed { not_empty collected.now.errors.items ≡ true }
+    ensures reports { result.reports.items ≡ rules.reports_told HoldsSource profile options.now (collected_told collected.now world.now) [] }
+    ensures stopped { result.stopped ≡ rules.stopped (tests options.now collected.now.items.items) options.now (collected_told collected.now world.now) }
 {
-    match source_line(bytes, number) {
-        Some(text) => Ok(Some(text_of(alloc, text)?)),
-        None => Ok(None),
+    RunEnd {
+        reports: Vec::new(alloc),
+        stopped: false,
     }
 }
 
-fn frame_of(
+/// Else the items run.
+fn ran(
     alloc: Global,
-    file: &str,
-    bytes: &[u8],
-    fault: SourceFault,
-) -> Result<Frame, OutOfMemory>
-    ensures { IfOk result (λ f. f ≡ meant.fault_frame file.now bytes.now fault) }
+    options: &Options,
+    world: &mut World,
+    collected: &Collected,
+) -> Result<RunEnd, OutOfMemory>
+    requires within { IsWithin collected.now }
+    requires distinct { AreDistinct (collected_told collected.now world.old) }
+    requires built { asks_for_unbuilt options.now ≡ false }
+    requires running { options.now.collect_only ≡ false }
+    requires whole { not_empty collected.now.errors.items ≡ false }
+    ensures reports { IfOk result (λ end. end.reports.items ≡ rules.reports_told HoldsSource profile options.now (collected_told collected.now world.old) []) }
+    ensures stopped { IfOk result (λ end. end.stopped ≡ rules.stopped (tests options.now collected.now.items.items) options.now (collected_told collected.now world.old)) }
 {
-    Ok(Frame {
-        file: text_of(alloc, file)?,
-        line: fault.line(),
-        name: text_of(alloc, "<module>")?,
-        source: line_of(alloc, bytes, fault.line())?,
-    })
+    run(alloc, world, &collected.items, &collected.selected, options)
 }
 
-/// The text of the exception that a fault is.
-fn fault_text(alloc: Global, fault: SourceFault) -> Result<PyText, OutOfMemory>
-    ensures { IfOk result (λ t. t ≡ meant.fault_text fault) }
+/// The reports of collected items, and whether the run stopped early.
+fn run_of(
+    alloc: Global,
+    options: &Options,
+    world: &mut World,
+    collected: &Collected,
+) -> Result<RunEnd, OutOfMemory>
+    requires within { IsWithin collected.now }
+    requires distinct { AreDistinct (collected_told collected.now world.old) }
+    requires built { asks_for_unbuilt options.now ≡ false }
+    ensures reports { IfOk result (λ end. end.reports.items ≡ rules.reports_told HoldsSource profile options.now (collected_told collected.now world.old) []) }
+    ensures stopped { IfOk result (λ end. end.stopped ≡ rules.stopped (tests options.now collected.now.items.items) options.now (collected_told collected.now world.old)) }
 {
-    let mut text = Vec::new(alloc);
-    push_ascii(&mut text, "SyntaxError: ")?;
-    push_ascii(&mut text, fault.text())?;
-    Ok(PyText::from_vec(text))
+    if options.collect_only {
+        return listed(alloc, options, world, collected);
+    }
+    if !collected.errors.is_empty() {
+        return Ok(interrupted(alloc, options, world, collected));
+    }
+    ran(alloc, options, world, collected)
 }
 
-fn fault_told(
+/// The report of collected items, which run in this world.
+pub fn collected_response(
     alloc: Global,
-    file: &str,
-    bytes: &[u8],
-    fault: SourceFault,
-) -> Result<Told, OutOfMemory>
-    ensures { IfOk result (λ t. t ≡ meant.fault_told file.now bytes.now fault) }
+    options: &Options,
+    world: &mut World,
+    collected: &Collected,
+) -> Result<Response, OutOfMemory>
+    requires within { IsWithin collected.now }
+    requires distinct { AreDistinct (collected_told collected.now world.old) }
+    requires built { asks_for_unbuilt options.now ≡ false }
+    ensures response { IfOk result (λ r. (r.0.items, r.1) ≡ response_of (rules.report HoldsSource profile options.now (collected_told collected.now world.old) [])) }
+    ensures said { IfOk result (λ r. IsTrue (is_said r.1)) }
 {
-    let mut frames = Vec::new(alloc);
-    frames.push(frame_of(alloc, file, bytes, fault)?)?;
-    Ok(Told {
-        frames: Frames::from_vec(frames),
-        text: fault_text(alloc, fault)?,
-    })
+    let end = run_of(alloc, options, world, collected)?;
+    let selected = collected.selected.len() as u32;
+    let errors = collected.errors.as_slice();
+    let reports = end.reports.as_slice();
+    let bytes = report_bytes(
+        alloc,
+        options,
+        selected,
+        collected.deselected,
+        errors,
+        reports,
+        end.stopped,
+    )?;
+    Ok((bytes, status_of(selected, errors, reports)))
 }
 
-/// What is told of a file whose source has a fault.
-pub fn collect_error(
-    alloc: Global,
-    file: &str,
-    bytes: &[u8],
-    fault: SourceFault,
-) -> Result<CollectReport, OutOfMemory>
-    ensures { IfOk result (λ r. r ≡ meant.collect_error file.now bytes.now fault) }
+/// What is said where nothing was collected.
+pub fn fault_response(alloc: Global, fault: &CollectFault) -> Result<Response, OutOfMemory>
+    ensures response { IfOk result (λ r. (w : SourceWorld) → IsSomeAnd (end_told (Fails fault.now) w) (λ end. option_map response_of (end_answer end) ≡ Some (r.0.items, r.1))) }
+    ensures said { IfOk result (λ r. IsTrue (is_said r.1)) }
 {
-    Ok(CollectReport {
-        file: text_of(alloc, file)?,
-        told: fault_told(alloc, file, bytes, fault)?,
-        captured: Text::from_string(String::new(alloc)),
-    })
+    match fault {
+        CollectFault::NotBuilt => refuse(alloc, "not built"),
+        CollectFault::NotFound(name) => refuse_word(alloc, name.text()),
+        CollectFault::TooManyItems => refuse(alloc, "too many items"),
+        CollectFault::Conftest(path, told) => tell_conftest(alloc, path.text(), told),
+        CollectFault::OutOfMemory => Err(OutOfMemory),
+    }
 }

@@ -2,21 +2,23 @@
 //!
 //! # What it is for
 //!
-//! [`pytest_main`] is the program: it reads the words, the kept files of the tree and the one file that they name, runs its tests and
-//! writes the report.
+//! [`pytest_main`] is the program: it reads the words and the kept files of the tree, collects and runs the tests that the words name,
+//! and writes the report.
 //!
 //! # What is proved
 //!
 //! - `report`: where the tree tells its files, the bytes that the sink tells grew by exactly the report's bytes, and the status is the
 //!   report's; where the status is `SinkFault` or `OutOfMemory`, by a prefix of them; where it is `TreeFault`, by nothing. The report
-//!   (`IsReport`) is a relation between words, files and an answer.
+//!   (`IsReport`) is that of `report_rules` for the language of this program (`profile`: the words that it refuses, the collection of
+//!   `collect_tree`, the rules of `runtest_rules`), over the tree's kept files in the order of their paths.
 //! - [`one_report`], [`has_report`], laws: words and files have one report and no other. So the clause above names it.
-//! - `tree`, `read`, `untouched`, `sink`: `TreeFault` comes only where the tree's count of faults rose in this call and the words are
-//!   not refused, and nothing was written then, whatever the tree is; `SinkFault` only where the sink's count rose.
-//! - What a file says is defined of its bytes (`IsSource`): the tree that is the verdict of the grammar on its tokens, or the first
-//!   fault: a place of the text and its kind, or the line of the first byte that is no UTF-8. A fault is told as an error of
-//!   collection, with its line. A tree with a form that isn't built yet is said to be so (`block_built` of py_built). Else its file
-//!   says what the session of that tree says, by the meaning of sources (`file_run` of file_session).
+//! - [`what_a_report_tells`], a law, is the headline. A report is a text that the words ask for, a refusal, that of a conftest that failed,
+//!   or the report of what was collected. There, the selected items are reported, each once, in the stated order, all or up to where
+//!   `--maxfail` was reached; with `--collect-only` all, and where a file could not be collected none; each session's journal is lawful,
+//!   and no frozen frame is left out.
+//! - `tree`, `read`, `untouched`, `sink`: `TreeFault` comes only where the tree's count of faults rose in this call and the words ask for
+//!   a run (`AskForRun`: for no help or version, and they are not refused), and nothing was written then, whatever the tree is;
+//!   `SinkFault` comes only where the sink's count rose.
 //! - `Status::number` is the number of pytest's exit codes.
 //!
 //! # What tests alone show
@@ -25,16 +27,19 @@
 //!
 //! # What neither shows
 //!
-//! Time, and that a folder holds what the tree tells.
+//! That what is collected, and what its tests do, is what pytest's does: a reader compares the definitions. Time. That a folder holds
+//! what the tree tells.
 #![tactic(auto)]
 
 mod answer;
 mod collected;
+mod laws;
+mod refusal;
 mod report;
+mod request;
 mod run;
-mod source;
 mod status;
-mod word;
 
-pub use run::{has_report, one_report, pytest_main};
+pub use laws::{has_report, one_report, what_a_report_tells};
+pub use run::pytest_main;
 pub use status::Status;

@@ -1,52 +1,75 @@
-ghost use Rattle.std.specs.Prelude.{◌≡◌, ◌++◌, ◌≤◌, OnOk, IfOk, length, string_bytes};
+// The report of what was collected.
+
+ghost use Rattle.std.specs.Prelude.{◌≡◌, ◌+◌, ◌≤◌, [], IfOk, IsTrue, length, if◌then◌else◌};
+ghost use Rattle.std.specs.List.{list_any};
+ghost use Rattle.pytest_core.specs.Status.{is_said, status_seen};
 ghost use Rattle.report_parts.specs.Limits.{most_items};
-ghost use Rattle.report_parts.specs.Outcomes.{has_failed};
-ghost use Rattle.pytest_core.specs.Texts.{has_reached, report, usage};
+ghost use Rattle.report_rules.specs.Answer as rules;
 
+use crate::status::Status;
 use cli_words::Options;
-use report_parts::is_failed;
+use report_parts::{is_failed, is_raised};
 use report_text::{CollectReport, ItemReport, OutOfMemory, head, progress, sections, summary};
-use std::alloc::{AllocError, Global};
-use std::fmt::Write;
+use std::alloc::Global;
 
-/// Pushes a usage text.
-#[tactic(auto, unfolding(crate::specs::Texts::usage))]
-pub fn push_usage(out: &mut String, text: &str) -> Result<(), AllocError>
-    ensures { OnOk result (string_bytes out.new ≡ string_bytes out.old ++ usage text.now) }
+/// Whether an item failed or had an error.
+fn is_bad(report: &ItemReport) -> bool
+    ensures { result ≡ rules.is_bad report.now }
 {
-    writeln!(out, "ERROR: {text}")
+    is_failed(&report.call) || (is_raised(&report.setup) || is_raised(&report.teardown))
 }
 
-fn has_failed(item: &ItemReport) -> bool
-    ensures { result ≡ has_failed item.now }
+/// The status of a run that was interrupted, has failed or has no items: the first of these counts.
+fn status_by(interrupted: bool, failed: bool, empty: bool) -> Status
+    ensures answer { result ≡ status_seen (if interrupted then rules.Interrupted else (if failed then rules.Failed else (if empty then rules.NoTests else rules.Passed))) }
+    ensures said { IsTrue (is_said result) }
 {
-    is_failed(&item.call)
+    if interrupted {
+        return Status::Interrupted;
+    }
+    if failed {
+        return Status::Failed;
+    }
+    if empty {
+        return Status::NoTests;
+    }
+    Status::Passed
 }
 
-fn has_reached(ran: &[ItemReport], maxfail: u32) -> bool
-    ensures { result ≡ has_reached maxfail ran.now }
+fn any_bad(reports: &[ItemReport]) -> bool
+    ensures { result ≡ list_any rules.is_bad reports.now }
 {
-    maxfail != 0 && ran.iter().filter(|item| has_failed(item)).count() == maxfail as usize
+    reports.iter().any(|report| is_bad(report))
 }
 
-/// The report of a run with these errors of collection, that collected so many items and ran these: what it is without
-/// workers and deselected items.
+/// The status of a report: files that could not be collected come first, then failures and errors.
+pub fn status_of(selected: u32, errors: &[CollectReport], reports: &[ItemReport]) -> Status
+    ensures answer { result ≡ status_seen (rules.status_of selected errors.now reports.now) }
+    ensures said { IsTrue (is_said result) }
+{
+    status_by(!errors.is_empty(), any_bad(reports), selected == 0)
+}
+
+/// The bytes of a report without workers: the head, the progress, the sections and the summary.
 pub fn report_bytes(
     alloc: Global,
     options: &Options,
+    selected: u32,
+    deselected: u32,
     errors: &[CollectReport],
-    count: u32,
-    ran: &[ItemReport],
+    reports: &[ItemReport],
+    stopped: bool,
 ) -> Result<Vec<u8>, OutOfMemory>
-    requires count { count ≤ most_items }
+    requires items { selected + deselected ≤ most_items }
     requires errors { length errors.now ≤ most_items }
-    ensures { IfOk result (λ bytes. bytes.items ≡ report options.now errors.now count ran.now) }
+    ensures { IfOk result (λ bytes. bytes.items ≡ rules.report_bytes options.now selected deselected errors.now 0 reports.now [] stopped) }
 {
-    let stopped = has_reached(ran, options.maxfail);
-    let mut out = head(alloc, options, count, 0, errors.len() as u32, 0)?;
-    let progress = progress(alloc, options, ran, &[])?;
-    let sections = sections(alloc, options, errors, ran)?;
-    let summary = summary(alloc, options, errors, ran, count, 0, stopped)?;
+    let mut out = head(alloc, options, selected, deselected, errors.len() as u32, 0)?;
+    let progress = progress(alloc, options, reports, &[])?;
+    let sections = sections(alloc, options, errors, reports)?;
+    let summary = summary(
+        alloc, options, errors, reports, selected, deselected, stopped,
+    )?;
     out.extend_from_slice(&progress)?;
     out.extend_from_slice(&sections)?;
     out.extend_from_slice(&summary)?;

@@ -1,12 +1,12 @@
-ghost use Rattle.std.specs.Prelude.{◌≡◌, IfSome, IsSome, List, ℕ, map, string_bytes};
+ghost use Rattle.std.specs.Prelude.{◌≡◌, IfSome, map, string_bytes};
 ghost use Rattle.edge_io.specs.Causes.{Rose};
-ghost use Rattle.edge_io.specs.Files.{File};
-ghost use Rattle.pytest_core.specs.Report.{Answer, IsReport, asked_word};
+ghost use Rattle.pytest_core.specs.Report.{AskForRun, IsReport};
 ghost use Rattle.pytest_core.specs.Written.{Wrote};
 
-use crate::answer::{RunFault, answer};
+use crate::answer::answer;
+use crate::refusal::RunFault;
 use crate::status::Status;
-use edge_io::{Gate, Sink, SinkFail, Tree, one_list_of_kept_files, put_all};
+use edge_io::{Gate, Sink, SinkFail, Tree, put_all};
 use std::alloc::Global;
 use std::thread::Threads;
 
@@ -24,11 +24,11 @@ pub fn pytest_main<R: Threads + Sync, T: Tree, S: Sink, G: Gate + Sync>(
 ) -> Status
     // The bytes written and the status are the report's: all of them, or under a fault a prefix.
     ensures report { IfSome (T.files tree.old) (λ files. Wrote (IsReport (map string_bytes words.now) files) (S.told out.old) (S.told out.new) result) }
-    // The tree's fault comes only where its count rose, and the words are not refused.
+    // The tree's fault comes only where its count rose, and the words ask for a run.
     ensures tree { result ≡ Status.TreeFault → Rose (T.faults tree.old) (T.faults tree.new) }
     // Nothing is written then, whatever the tree is.
     ensures untouched { result ≡ Status.TreeFault → S.told out.new ≡ S.told out.old }
-    ensures read { result ≡ Status.TreeFault → IsSome (asked_word (map string_bytes words.now)) }
+    ensures read { result ≡ Status.TreeFault → AskForRun (map string_bytes words.now) }
     // The sink's fault comes only where its count rose.
     ensures sink { result ≡ Status.SinkFault → Rose (S.faults out.old) (S.faults out.new) }
 {
@@ -43,15 +43,3 @@ pub fn pytest_main<R: Threads + Sync, T: Tree, S: Sink, G: Gate + Sync>(
         Err(SinkFail::OutOfMemory) => Status::OutOfMemory,
     }
 }
-
-/// A law: the words and the tree's files have one report.
-pub fn one_report()
-    ensures { (words : List (List ℕ)) (tree : List File) (a b : Answer) → IsReport words tree a → IsReport words tree b → a ≡ b }
-{
-    one_list_of_kept_files();
-}
-
-/// A law: they have one.
-pub fn has_report()
-    ensures { (words : List (List ℕ)) (tree : List File) → (a : Answer) × IsReport words tree a }
-{}

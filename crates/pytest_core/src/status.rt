@@ -10,9 +10,9 @@ pub enum Status {
     Failed,
     /// The run was interrupted: files could not be collected.
     Interrupted,
-    /// The words or the files were refused.
+    /// The words or the files were refused, or a conftest raised.
     Usage,
-    /// No test was collected.
+    /// No test was selected.
     NoTests,
     OutOfMemory,
     /// The tree failed, and nothing was written.

@@ -2,14 +2,16 @@
 use Rattle.std.proofs.Common.{◌≡◌, ℕ, zero, suc, ◌+◌, ◌-◌, ◌≤◌, Bool, true, false, cond, List, [], ◌∷◌, length, min, inl, inr, refl, sym, ap, subst, eqb, arith, Option, None, Some, Result, Ok, Err, MatchBool, MatchOption, MatchResult, ◌&&◌}
 use Rattle.std.proofs.lemmas.Bool.{ne_eqb}
 use Rattle.cli_words.specs.Faults.{usage_text}
+use Rattle.cli_words.specs.Info.{info_of}
 use Rattle.cli_words.specs.Options.{asks_for_workers, options_of}
 use Rattle.cli_words.specs.declared.fault.UsageFault.{UsageFault}
+use Rattle.cli_words.specs.declared.info.Info.{Info}
 use Rattle.cli_words.specs.declared.options.Options.{Options}
 use Rattle.edge_io.specs.Files.{File, TreeLimit, tree_limit}
-use Rattle.report_rules.specs.Answer.{Answer, conftest_fault, limit_text, refusal}
+use Rattle.report_rules.specs.Answer.{Answer, conftest_fault, info_answer, limit_text, refusal}
 use Rattle.report_rules.specs.Collected.{Collected, Collection, ConftestFault, Profile, Refused, Whole, spoken}
 use Rattle.report_rules.specs.Groups.{groups}
-use Rattle.report_rules.specs.Report.{AreSources, IsReport, IsTaken, SaysOfCollection, SaysOfFiles, SaysOfOptions, files_for, report, runs, workers_of}
+use Rattle.report_rules.specs.Report.{AreSources, IsReport, IsTaken, SaysOfCollection, SaysOfFiles, SaysOfOptions, SaysOfWords, files_for, report, runs, workers_of}
 use Rattle.session_rules.specs.World.{Language}
 use Rattle.share_files.specs.Deal.{BeginWith, Every, RisesFrom, Share, times, times_in}
 use Rattle.share_files.specs.Rule.{workers_from}
@@ -102,8 +104,12 @@ module _ {World Value Thrown Rest Source Table : Type 0} (holds : List ℕ → S
   of_wrong options files None = of_limit options files (tree_limit files)
 
   of_words : (files : List File) (r : Result Options UsageFault) → Some_answer (λ taken answer. MatchResult r (λ options. SaysOfOptions holds profile options taken files answer) (λ fault. (taken ≡ []) × (answer ≡ refusal (usage_text fault))))
-  of_words files (Ok options) = of_wrong options (files_for holds profile options.generated files) (profile.wrong_expression options)
+  of_words files (Ok options) = of_wrong options (files_for holds profile options.generated files) (profile.refused options)
   of_words files (Err fault) = ([], refusal (usage_text fault), (refl, refl))
 
+  of_info : (words : List (List ℕ)) (files : List File) (asked : Option Info) → Some_answer (λ taken answer. MatchOption asked (SaysOfWords holds profile taken words files answer) (λ info. (taken ≡ []) × (answer ≡ info_answer info)))
+  of_info words files (Some info) = ([], info_answer info, (refl, refl))
+  of_info words files None = of_words files (options_of words)
+
   pub some_report : (words : List (List ℕ)) (files : List File) → (answer : Answer) × IsReport holds profile words files answer
-  some_report words files = (let r = of_words files (options_of words) in (r.1, (r.0, r.2)))
+  some_report words files = (let r = of_info words files (info_of words) in (r.1, (r.0, r.2)))

@@ -1,8 +1,10 @@
 -- What the report of words and files tells.
 use Rattle.std.proofs.Common.{◌≡◌, ℕ, Bool, true, false, cond, not, ◌&&◌, ◌||◌, List, [], map, length, min, refl, ap, ap₂, ◌∙◌, eqb, Option, None, Some, Result, Ok, Err, MatchBool, MatchOption, MatchResult}
 use Rattle.cli_words.specs.Faults.{usage_text}
+use Rattle.cli_words.specs.Info.{info_of}
 use Rattle.cli_words.specs.Options.{asks_for_workers, options_of}
 use Rattle.cli_words.specs.declared.fault.UsageFault.{UsageFault}
+use Rattle.cli_words.specs.declared.info.Info.{Info}
 use Rattle.cli_words.specs.declared.options.Options.{Options}
 use Rattle.edge_io.specs.Files.{File, TreeLimit, tree_limit}
 use Rattle.report_parts.specs.Outcomes.{not_empty}
@@ -11,12 +13,12 @@ use Rattle.report_rules.proofs.Placed.{are_placed}
 use Rattle.report_rules.proofs.Journals.{all_lawful, all_tidy}
 use Rattle.report_rules.proofs.Workers.{are_reported}
 use Rattle.report_rules.specs.Alone.{AreAsOneThread}
-use Rattle.report_rules.specs.Answer.{Answer, limit_text, refusal}
+use Rattle.report_rules.specs.Answer.{Answer, info_answer, limit_text, refusal}
 use Rattle.report_rules.specs.Collected.{Collected, Collection, ConftestFault, Profile, Refused, Whole, spoken}
 use Rattle.report_rules.specs.Fits.{IsFit}
 use Rattle.report_rules.specs.Groups.{groups}
-use Rattle.report_rules.specs.Headline.{Headline, IsSound, Raises, Refuses, Reports}
-use Rattle.report_rules.specs.Report.{AreSources, IsReportBy, IsTaken, SaysOfCollection, SaysOfFiles, SaysOfOptions, alone, files_for, rows, runs, workers_of}
+use Rattle.report_rules.specs.Headline.{Headline, Informs, IsSound, Raises, Refuses, Reports}
+use Rattle.report_rules.specs.Report.{AreSources, IsReportBy, IsTaken, SaysOfCollection, SaysOfFiles, SaysOfOptions, SaysOfWords, alone, files_for, rows, runs, workers_of}
 use Rattle.report_rules.specs.Placed.{ArePlaced}
 use Rattle.report_rules.specs.Rows.{Row, row, rows_of}
 use Rattle.report_rules.specs.Shares.{by_group, tasks_from, worked}
@@ -84,8 +86,14 @@ module _ {World Value Thrown Rest Source Table : Type 0} (holds : List ℕ → S
   of_words : (words taken : List (List ℕ)) (files : List File) (answer : Answer) (r : Result Options UsageFault) → options_of words ≡ r
       → MatchResult r (λ options. SaysOfOptions holds profile options taken files answer) (λ fault. (taken ≡ []) × (answer ≡ refusal (usage_text fault)))
       → Headline holds profile taken words answer
-  of_words words taken files answer (Ok options) e s = of_wrong options words taken (files_for holds profile options.generated files) answer (profile.wrong_expression options) e s
+  of_words words taken files answer (Ok options) e s = of_wrong options words taken (files_for holds profile options.generated files) answer (profile.refused options) e s
   of_words words taken files answer (Err fault) e s = Refuses (usage_text fault) s.1
 
+  of_info : (words taken : List (List ℕ)) (files : List File) (answer : Answer) (asked : Option Info) → info_of words ≡ asked
+      → MatchOption asked (SaysOfWords holds profile taken words files answer) (λ info. (taken ≡ []) × (answer ≡ info_answer info))
+      → Headline holds profile taken words answer
+  of_info words taken files answer (Some info) e s = Informs info e s.1
+  of_info words taken files answer None e s = of_words words taken files answer (options_of words) refl s
+
   pub headline : (words taken : List (List ℕ)) (files : List File) (answer : Answer) → IsReportBy holds profile taken words files answer → Headline holds profile taken words answer
-  headline words taken files answer s = of_words words taken files answer (options_of words) refl s
+  headline words taken files answer s = of_info words taken files answer (info_of words) refl s

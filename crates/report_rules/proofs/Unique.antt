@@ -1,14 +1,16 @@
 -- Words and files have one report.
 use Rattle.std.proofs.Common.{◌≡◌, ℕ, Bool, true, false, cond, List, [], ◌∷◌, length, min, refl, sym, ap, ap₂, ◌∙◌, subst, eqb, Option, None, Some, Result, Ok, Err, MatchBool, MatchOption, MatchResult, ◌&&◌}
 use Rattle.cli_words.specs.Faults.{usage_text}
+use Rattle.cli_words.specs.Info.{info_of}
 use Rattle.cli_words.specs.Options.{asks_for_workers, options_of}
 use Rattle.cli_words.specs.declared.fault.UsageFault.{UsageFault}
+use Rattle.cli_words.specs.declared.info.Info.{Info}
 use Rattle.cli_words.specs.declared.options.Options.{Options}
 use Rattle.edge_io.specs.Files.{File, TreeLimit, tree_limit}
-use Rattle.report_rules.specs.Answer.{Answer, limit_text, refusal}
+use Rattle.report_rules.specs.Answer.{Answer, info_answer, limit_text, refusal}
 use Rattle.report_rules.specs.Collected.{Collected, Collection, ConftestFault, Profile, Refused, Whole, spoken}
 use Rattle.report_rules.specs.Groups.{groups}
-use Rattle.report_rules.specs.Report.{AreSources, IsOfOneThread, IsReport, IsReportBy, IsTaken, SaysOfCollection, SaysOfFiles, SaysOfOptions, files_for, report, runs}
+use Rattle.report_rules.specs.Report.{AreSources, IsOfOneThread, IsReport, IsReportBy, IsTaken, SaysOfCollection, SaysOfFiles, SaysOfOptions, SaysOfWords, files_for, report, runs}
 use Rattle.session_rules.specs.World.{Language}
 use Rattle.share_files.specs.Deal.{Share}
 
@@ -53,15 +55,23 @@ module _ {World Value Thrown Rest Source Table : Type 0} (holds : List ℕ → S
       → MatchResult r (λ options. SaysOfOptions holds profile options s files a) (λ fault. (s ≡ []) × (a ≡ refusal (usage_text fault)))
       → MatchResult r (λ options. SaysOfOptions holds profile options t files b) (λ fault. (t ≡ []) × (b ≡ refusal (usage_text fault)))
       → a ≡ b
-  words_one s t (Ok options) files a b same p q = wrong_one options s t (files_for holds profile options.generated files) (profile.wrong_expression options) a b same p q
+  words_one s t (Ok options) files a b same p q = wrong_one options s t (files_for holds profile options.generated files) (profile.refused options) a b same p q
   words_one s t (Err fault) files a b same p q = p.1 ∙ sym q.1
+
+  info_one : (s t words : List (List ℕ)) (asked : Option Info) (files : List File) (a b : Answer)
+      → MatchResult (options_of words) (λ options. (c : Collected (spoken World Value Thrown Rest) Table) → IsTaken options c s → IsTaken options c t → s ≡ t) (λ fault. Unit {0})
+      → MatchOption asked (SaysOfWords holds profile s words files a) (λ info. (s ≡ []) × (a ≡ info_answer info))
+      → MatchOption asked (SaysOfWords holds profile t words files b) (λ info. (t ≡ []) × (b ≡ info_answer info))
+      → a ≡ b
+  info_one s t words (Some info) files a b same p q = p.1 ∙ sym q.1
+  info_one s t words None files a b same p q = words_one s t (options_of words) files a b same p q
 
   any_words : (s : List (List ℕ)) (r : Result Options UsageFault) → MatchResult r (λ options. (c : Collected (spoken World Value Thrown Rest) Table) → IsTaken options c s → IsTaken options c s → s ≡ s) (λ fault. Unit {0})
   any_words s (Ok options) = λ c p q. refl
   any_words s (Err fault) = tt
 
   pub report_one : (taken words : List (List ℕ)) (files : List File) (a b : Answer) → IsReportBy holds profile taken words files a → IsReportBy holds profile taken words files b → a ≡ b
-  report_one taken words files a b p q = words_one taken taken (options_of words) files a b (any_words taken (options_of words)) p q
+  report_one taken words files a b p q = info_one taken taken words (info_of words) files a b (any_words taken (options_of words)) p q
 
   none_taken : (options : Options) (c : Collected (spoken World Value Thrown Rest) Table) (s t : List (List ℕ)) (b : Bool) → b ≡ false → MatchBool (eqb (cond (b && runs options c) (min options.workers (length (groups c.selected))) 0) 0) (s ≡ []) (Share (length (groups c.selected)) (cond (b && runs options c) (min options.workers (length (groups c.selected))) 0) s) → s ≡ []
   none_taken options c s t true e p = cc
@@ -72,4 +82,4 @@ module _ {World Value Thrown Rest Source Table : Type 0} (holds : List ℕ → S
   thread_words s t (Err fault) e = tt
 
   pub thread_one : (words : List (List ℕ)) (files : List File) (a b : Answer) → IsOfOneThread words → IsReport holds profile words files a → IsReport holds profile words files b → a ≡ b
-  thread_one words files a b e p q = words_one p.0 q.0 (options_of words) files a b (thread_words p.0 q.0 (options_of words) e) p.1 q.1
+  thread_one words files a b e p q = info_one p.0 q.0 words (info_of words) files a b (thread_words p.0 q.0 (options_of words) e) p.1 q.1

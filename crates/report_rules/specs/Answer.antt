@@ -2,6 +2,8 @@
 use Rattle.std.specs.Prelude.{ℕ, List, ◌++◌, length, codes, Bool, ◌||◌, ◌==◌, if◌then◌else◌}
 use Rattle.std.specs.List.{list_any}
 use Rattle.texts.specs.Texts.{ended}
+use Rattle.cli_words.specs.Info.{info_text}
+use Rattle.cli_words.specs.declared.info.Info.{Info}
 use Rattle.cli_words.specs.declared.options.Options.{Options}
 use Rattle.edge_io.specs.Files.{TreeLimit, ManyFiles, LargeFile, LargeTree}
 use Rattle.report_blocks.specs.Blocks.{sections_of}
@@ -30,6 +32,10 @@ Answer = List ℕ × Status
 -- words or files that are refused
 abbrev pub refusal : List ℕ → Answer
 refusal text = (codes "ERROR: " ++ ended text, Usage)
+
+-- a text that words ask for
+abbrev pub info_answer : Info → Answer
+info_answer info = (info_text info, Passed)
 
 -- the usage text of a limit
 abbrev pub limit_text : TreeLimit → List ℕ

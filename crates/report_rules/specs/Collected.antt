@@ -58,8 +58,8 @@ pub data Collection (L : Language) (Table : Type 0) : Type 0 where
 
 -- the language: what it makes of options and sources
 pub record Profile (L : Language) (Source Table : Type 0) : Type 0 where
-  -- the usage text of an expression of `-k` or `-m` that is wrong
-  pub wrong_expression : Options → Option (List ℕ)
+  -- the usage text of options that are refused: a wrong expression of `-k` or `-m`, or what the language doesn't offer
+  pub refused : Options → Option (List ℕ)
   -- the files of `--generated`, by seed and number
   pub generated : ℕ → ℕ → List File
   -- all files loaded, in one world, and their items found and ordered: files by path, each with its tree or its fault

@@ -1,10 +1,12 @@
 -- THE HEADLINE: what the report of words and files tells.
-use Rattle.std.specs.Prelude.{◌≡◌, ℕ, List, Ok}
+use Rattle.std.specs.Prelude.{◌≡◌, ℕ, List, Ok, Some}
+use Rattle.cli_words.specs.Info.{info_of}
 use Rattle.cli_words.specs.Options.{options_of}
+use Rattle.cli_words.specs.declared.info.Info.{Info}
 use Rattle.cli_words.specs.declared.options.Options.{Options}
 use Rattle.report_rules.specs.Alone.{AreAsOneThread}
 use Rattle.report_rules.specs.Placed.{ArePlaced}
-use Rattle.report_rules.specs.Answer.{Answer, conftest_fault, refusal}
+use Rattle.report_rules.specs.Answer.{Answer, conftest_fault, info_answer, refusal}
 use Rattle.report_rules.specs.Collected.{Collected, Profile, Whole, spoken}
 use Rattle.report_rules.specs.Fits.{IsFit}
 use Rattle.report_rules.specs.Once.{AreReported}
@@ -31,8 +33,9 @@ module _ {World Value Thrown Rest Source Table : Type 0} (holds : List ℕ → S
     pub placed : (workers_of options c ≡ 0 → ⊥) → ArePlaced c taken (rows_told holds profile options c taken)
     pub alone : (workers_of options c ≡ 0 → ⊥) → AreAsOneThread (profile.rules options c.table) c taken (rows_told holds profile options c taken)
 
-  -- words and files are refused, a conftest raised, or it is the report of what was collected
+  -- words asked for a text, words and files are refused, a conftest raised, or it is the report of what was collected
   pub data Headline (taken words : List (List ℕ)) (answer : Answer) : Type 0 where
+    Informs : (info : Info) → info_of words ≡ Some info → answer ≡ info_answer info → Headline taken words answer
     Refuses : (text : List ℕ) → answer ≡ refusal text → Headline taken words answer
     Raises : (path : List ℕ) (told : Told) → answer ≡ conftest_fault path told → Headline taken words answer
     Reports : (options : Options) (c : Collected (spoken World Value Thrown Rest) Table) → options_of words ≡ Ok options → Tells options c taken answer → Headline taken words answer

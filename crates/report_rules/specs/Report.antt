@@ -2,13 +2,14 @@
 use Rattle.std.specs.Prelude.{◌≡◌, ℕ, List, [], ◌∷◌, length, map, min, Bool, false, not, ◌&&◌, ◌||◌, ◌==◌, Option, None, Some, MatchBool, MatchOption, MatchResult, if◌then◌else◌}
 use Rattle.std.specs.List.{filter_map}
 use Rattle.cli_words.specs.Faults.{usage_text}
+use Rattle.cli_words.specs.Info.{info_of}
 use Rattle.cli_words.specs.Options.{asks_for_workers, options_of}
 use Rattle.cli_words.specs.declared.options.Options.{Options}
 use Rattle.edge_io.specs.Files.{File, tree_limit}
 use Rattle.report_parts.specs.Outcomes.{not_empty}
 use Rattle.report_parts.specs.declared.report.ItemReport.{ItemReport}
 use Rattle.report_parts.specs.declared.report.Place.{Place}
-use Rattle.report_rules.specs.Answer.{Answer, conftest_fault, limit_text, refusal, report_bytes, status_of}
+use Rattle.report_rules.specs.Answer.{Answer, conftest_fault, info_answer, limit_text, refusal, report_bytes, status_of}
 use Rattle.report_rules.specs.Collected.{Collected, Collection, Refused, ConftestFault, Whole, Profile, spoken}
 use Rattle.report_rules.specs.Groups.{groups}
 use Rattle.report_rules.specs.Items.{item_report}
@@ -108,14 +109,20 @@ module _ {World Value Thrown Rest Source Table : Type 0} (holds : List ℕ → S
 
   abbrev pub SaysOfOptions : Options → List (List ℕ) → List File → Answer → Type 0
   SaysOfOptions options taken files answer =
-      MatchOption (profile.wrong_expression options)
+      MatchOption (profile.refused options)
       (SaysOfFiles options taken (files_for options.generated files) answer)
       (λ text. (taken ≡ []) × (answer ≡ refusal text))
 
-  -- the report of words and files, by the groups that the workers took: a list for each worker, none where there are no workers
+  -- what is said of words that ask for no text
+  abbrev pub SaysOfWords : List (List ℕ) → List (List ℕ) → List File → Answer → Type 0
+  SaysOfWords taken words files answer =
+      MatchResult (options_of words) (λ options. SaysOfOptions options taken files answer) (λ fault. (taken ≡ []) × (answer ≡ refusal (usage_text fault)))
+
+  -- the report of words and files, by the groups that the workers took: a list for each worker, none where there are no workers;
+  -- where words ask for a text, nothing else counts
   abbrev pub IsReportBy : List (List ℕ) → List (List ℕ) → List File → Answer → Type 0
   IsReportBy taken words files answer =
-      MatchResult (options_of words) (λ options. SaysOfOptions options taken files answer) (λ fault. (taken ≡ []) × (answer ≡ refusal (usage_text fault)))
+      MatchOption (info_of words) (SaysOfWords taken words files answer) (λ info. (taken ≡ []) × (answer ≡ info_answer info))
 
   -- the report of words and files: with workers, that of some way to share the groups
   abbrev pub IsReport : List (List ℕ) → List File → Answer → Type 0

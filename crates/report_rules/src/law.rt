@@ -38,7 +38,7 @@ pub trait Tests {
     ghost holds: { List ℕ → Self.Source → Type 0 };
 }
 
-/// The headline. Words and files are refused, or a conftest raised, or it is the report of what was collected: the items that
+/// The headline. Words ask for a text, words and files are refused, or a conftest raised, or it is the report of what was collected: the items that
 /// collection selects, each once, in the stated order; the journal of each session is lawful; no frozen frame is left out; with
 /// workers each report has the place that the assignment gives it, and each worker's rows are those of one thread on the items of
 /// its groups.

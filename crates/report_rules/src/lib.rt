@@ -6,7 +6,7 @@
 //!
 //! Proved, each as the contract of a public function with an empty body:
 //!
-//! - `what_a_report_tells`: a report is a refusal of words or files, that of a conftest that raised, or the report of what was collected
+//! - `what_a_report_tells`: a report is the text that words ask for, a refusal of words or files, that of a conftest that raised, or the report of what was collected
 //!   (`Headline`): the items that collection selects are reported, each once, in the stated order; each session's journal is lawful;
 //!   no frozen frame is left out; with workers each report has the place that the assignment gives it, and each worker's rows are those
 //!   of one thread on the items of its groups. Premise: what is collected fits its table (`IsSound`).

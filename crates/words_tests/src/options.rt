@@ -72,7 +72,8 @@ fn shown(alloc: Global, options: &Options) -> Result<String, AllocError> {
     Ok(out)
 }
 
-fn words_of(alloc: Global, line: &str) -> Result<Vec<String>, AllocError> {
+/// The words of a line with `|` between them.
+pub fn words_of(alloc: Global, line: &str) -> Result<Vec<String>, AllocError> {
     let mut words = Vec::new(alloc);
     for word in line.split('|') {
         words.push(String::from_str(alloc, word)?)?;
@@ -172,7 +173,7 @@ const TEXTS_AND_NUMBERS: [(&str, &str); 36] = [
     ("--ignore=", " ignore:"),
 ];
 
-const WORKERS_AND_FORMS: [(&str, &str); 39] = [
+const WORKERS_AND_FORMS: [(&str, &str); 45] = [
     ("-n2", " workers:2"),
     ("-n|2", " workers:2"),
     ("-n=2", " workers:2"),
@@ -230,6 +231,12 @@ const WORKERS_AND_FORMS: [(&str, &str); 39] = [
     ("-q|--tb=x", "unrecognized arguments: -q"),
     ("--tb=x|-q", "argument --tb: invalid value: 'x'"),
     ("-k|--foo", "argument -k: expected one argument"),
+    ("--help", ""),
+    ("--version|a", " path:a"),
+    ("--help=x", "argument --help: takes no value"),
+    ("--version=", "argument --version: takes no value"),
+    ("-h", "unrecognized arguments: -h"),
+    ("-V", "unrecognized arguments: -V"),
 ];
 
 #[test]

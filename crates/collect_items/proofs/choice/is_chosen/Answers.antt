@@ -1,0 +1,20 @@
+use Rattle.std.proofs.Common.{ℕ, List, None, ap, ◌∙◌}
+use Rattle.std.specs.Prelude.{chars}
+use Rattle.collect_marks.specs.Names.{keyword_names, mark_names}
+use Rattle.py_values.specs.declared.value.Value.{Value}
+use Rattle.selection.specs.Exprs.{is_selected}
+use Rattle.collect_items.proofs.choice.is_chosen.Goals as goal
+
+pub returns : goal.returns
+returns c =
+    let o = c.args.options.now in
+    let heap = c.args.heap.now in
+    let item = c.args.item.now in
+    c.is_selected.ensures o c.requires
+    ∙ (ap (λ (ks : List (List ℕ)). is_selected o ks c.deref-2.result.now)
+    (c.deref.ensures.value
+    ∙ (c.in_ok-keywords.ensures
+    ∙ (ap (λ (p : List ℕ). keyword_names heap p item.test None c.items-marks.result.now) (c.in_ok-path.ensures ∙ ap chars c.text.ensures)
+    ∙ ap (λ (ms : List Value). keyword_names heap (chars item.file) item.test None ms) c.items-marks.ensures)))
+    ∙ ap (λ (ns : List (List ℕ)). is_selected o (keyword_names heap (chars item.file) item.test None item.marks) ns)
+    (c.deref-2.ensures.value ∙ (c.in_ok-names.ensures ∙ ap (mark_names heap) c.items-marks.ensures)))

@@ -1,0 +1,5 @@
+pub mod Arguments
+pub mod Items
+pub mod Unbuilt
+pub mod Nodes
+pub mod Chosen

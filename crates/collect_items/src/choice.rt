@@ -1,0 +1,76 @@
+// The items that `-k` and `-m` choose.
+
+ghost use Rattle.std.specs.Prelude.{◌≡◌, ◌++◌, ◌∷◌, ◌<◌, [], All, IfOk, OnOk, length};
+ghost use Rattle.std.specs.List.{filter};
+ghost use Rattle.selection.specs.Exprs.{AreExprs};
+ghost use Rattle.runtest_rules.specs.Items.{numbered_item};
+ghost use Rattle.collect_items.specs.Chosen as choice;
+
+use cli_words::Options;
+use collect_marks::names::{keyword_names, mark_names};
+use py_text::{OutOfMemory, PyText};
+use py_values::heap::Heap;
+use runtest_rules::Item;
+use selection::{Exprs, is_selected};
+use std::alloc::Global;
+
+/// Whether the expressions of these options choose an item.
+fn is_chosen(
+    alloc: Global,
+    options: &Options,
+    exprs: &Exprs,
+    heap: &Heap,
+    item: &Item,
+) -> Result<bool, OutOfMemory>
+    requires { AreExprs options.now exprs.now }
+    ensures { IfOk result (λ b. b ≡ choice.is_chosen options.now heap.now item.now) }
+{
+    let path = PyText::from_str(alloc, item.file.text())?;
+    let marks = item.marks.items();
+    let keywords = keyword_names(alloc, heap, &path, &item.test, None, marks)?;
+    let names = mark_names(alloc, heap, marks)?;
+    Ok(is_selected(exprs, &keywords, &names))
+}
+
+fn push_chosen(
+    alloc: Global,
+    chosen: &mut Vec<usize>,
+    options: &Options,
+    exprs: &Exprs,
+    heap: &Heap,
+    items: &[Item],
+    number: usize,
+) -> Result<(), OutOfMemory>
+    requires { AreExprs options.now exprs.now }
+    ensures same { OnOk result (chosen.new.items ≡ chosen.old.items ++ choice.chosen options.now heap.now items.now (number ∷ [])) }
+    ensures within { OnOk result (All (λ one. one < length items.now) chosen.old.items → All (λ one. one < length items.now) chosen.new.items) }
+{
+    let Some(item) = items.get(number) else {
+        // Numbers are those of items.
+        return Err(OutOfMemory);
+    };
+    if is_chosen(alloc, options, exprs, heap, item)? {
+        chosen.push(number)?;
+    }
+    Ok(())
+}
+
+/// Of some items by number, those that the expressions of these options choose.
+pub fn chosen(
+    alloc: Global,
+    options: &Options,
+    exprs: &Exprs,
+    heap: &Heap,
+    items: &[Item],
+    numbers: &[usize],
+) -> Result<Vec<usize>, OutOfMemory>
+    requires { AreExprs options.now exprs.now }
+    ensures same { IfOk result (λ n. n.items ≡ choice.chosen options.now heap.now items.now numbers.now) }
+    ensures within { IfOk result (λ n. All (λ one. one < length items.now) n.items) }
+{
+    let mut chosen = Vec::new(alloc);
+    for number in numbers {
+        push_chosen(alloc, &mut chosen, options, exprs, heap, items, *number)?;
+    }
+    Ok(chosen)
+}

@@ -1,0 +1,140 @@
+// What words can name of a file.
+
+ghost use Rattle.std.specs.Prelude.{◌≡◌, ◌++◌, ◌∷◌, ◌+◌, [], IfOk, OnOk, option_map, replicate, slice_set};
+ghost use Rattle.collect_items.specs.Nodes as nodes;
+
+use crate::item::classes_in;
+use crate::test_file::TestFile;
+use collect_names::found::TestClass;
+use collect_words::{FileNodes, ItemNames};
+use py_text::OutOfMemory;
+use py_values::heap::Heap;
+use report_parts::Text;
+use runtest_rules::Item;
+use seq::Seq;
+use std::alloc::Global;
+use tracebacks::encoded;
+
+fn class_name(alloc: Global, class: &Option<TestClass>) -> Result<Option<Text>, OutOfMemory>
+    ensures { IfOk result (λ name. name ≡ option_map nodes.class_name class.now) }
+{
+    match class {
+        Some(class) => Ok(Some(encoded(alloc, class.name.chars())?)),
+        None => Ok(None),
+    }
+}
+
+/// The names of an item with this number.
+fn names_of(alloc: Global, number: usize, item: &Item) -> Result<ItemNames, OutOfMemory>
+    ensures { IfOk result (λ names. names ≡ nodes.names_of number item.now) }
+{
+    Ok(ItemNames {
+        number,
+        class: class_name(alloc, &item.test.class)?,
+        function: encoded(alloc, item.test.name.chars())?,
+        id: None,
+    })
+}
+
+fn push_names(
+    alloc: Global,
+    names: &mut Seq<ItemNames>,
+    number: usize,
+    item: &Item,
+) -> Result<(), OutOfMemory>
+    ensures { OnOk result (names.new ≡ names.old ++ nodes.names_of number item.now ∷ []) }
+{
+    let one = names_of(alloc, number, item)?;
+    names.push(one)
+}
+
+/// The number behind this one.
+fn next(number: usize) -> Result<usize, OutOfMemory>
+    ensures { IfOk result (λ n. n ≡ number + 1) }
+{
+    match number.checked_add(1) {
+        Some(next) => Ok(next),
+        // No memory holds so many items.
+        None => Err(OutOfMemory),
+    }
+}
+
+/// The names of items that are numbered from this one on.
+fn numbered(alloc: Global, first: usize, items: &[Item]) -> Result<Seq<ItemNames>, OutOfMemory>
+    ensures { IfOk result (λ names. names ≡ nodes.numbered first items.now) }
+{
+    let mut names = Seq::new(alloc);
+    let mut number = first;
+    for item in items {
+        push_names(alloc, &mut names, number, item)?;
+        let more = next(number)?;
+        number = more;
+    }
+    Ok(names)
+}
+
+/// What words can name of a file whose items have numbers from this one on.
+pub fn file_nodes(
+    alloc: Global,
+    heap: &Heap,
+    first: usize,
+    file: TestFile,
+    items: &[Item],
+) -> Result<FileNodes, OutOfMemory>
+    ensures { IfOk result (λ n. n ≡ nodes.nodes_of heap.now first file items.now) }
+{
+    let classes = classes_in(alloc, heap, file.object)?;
+    Ok(FileNodes {
+        failed: file.object.is_none(),
+        classes,
+        items: numbered(alloc, first, items)?,
+    })
+}
+
+fn no_nodes(alloc: Global) -> FileNodes
+    ensures { result ≡ nodes.no_nodes }
+{
+    FileNodes {
+        failed: false,
+        classes: Seq::new(alloc),
+        items: Seq::new(alloc),
+    }
+}
+
+/// So many files without nodes.
+fn without_nodes(alloc: Global, count: usize) -> Result<Vec<FileNodes>, OutOfMemory>
+    ensures { IfOk result (λ n. n.items ≡ replicate count nodes.no_nodes) }
+{
+    let mut all = Vec::new(alloc);
+    for _ in 0..count {
+        all.push(no_nodes(alloc))?;
+    }
+    Ok(all)
+}
+
+/// Other nodes at a place; nothing changes where there is none.
+fn set(all: &mut Vec<FileNodes>, place: usize, file: FileNodes)
+    ensures { all.new.items ≡ slice_set all.old.items place file }
+{
+    if place < all.len() {
+        all[place] = file;
+    } else {
+        drop(file);
+    }
+}
+
+/// Files with their nodes, each at its place among so many.
+pub fn by_place(
+    alloc: Global,
+    count: usize,
+    files: Vec<(usize, FileNodes)>,
+) -> Result<Vec<FileNodes>, OutOfMemory>
+    ensures { IfOk result (λ n. n.items ≡ nodes.with_nodes files.items (replicate count nodes.no_nodes)) }
+{
+    let mut all = without_nodes(alloc, count)?;
+    let mut left = files;
+    while let Some((place, file)) = left.pop() {
+        set(&mut all, place, file);
+    }
+    Ok(all)
+}

@@ -1,0 +1,5 @@
+use Rattle.collect_tree.proofs.Fits.{collected_fits}
+use Rattle.collect_tree.proofs.law.what_is_collected_fits.Goals as goal
+
+pub returns : goal.returns
+returns c = collected_fits

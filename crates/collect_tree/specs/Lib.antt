@@ -1,0 +1,4 @@
+pub mod Walk
+pub mod Loads
+pub mod Collection
+pub mod Told

@@ -1,0 +1,65 @@
+-- What the code's answers tell of a collection.
+use Rattle.std.specs.Prelude.{◌≡◌, ℕ, ◌+◌, ◌<◌, ◌≤◌, List, Option, Some, None, Result, Ok, Err, All, codes, length, map}
+use Rattle.collect_words.specs.Words.{fault_text}
+use Rattle.collect_words.specs.declared.fault.WordFault.{WordFault}
+use Rattle.collect_words.specs.declared.fault.WordFault.TheVariants as word
+use Rattle.report_parts.specs.Limits.{most_items}
+use Rattle.report_rules.specs.Collected.{Collected as Collection, ConftestFault, Refused, Whole}
+use Rattle.runtest_rules.specs.Language.{python}
+use Rattle.source_meaning.specs.Meaning.{SourceWorld}
+use Rattle.collect_tree.specs.Collection.{End, Table, selected_by}
+use Rattle.collect_tree.specs.Loads.{Loaded, loaded_before}
+use Rattle.collect_tree.specs.declared.collected.Collected.{Collected}
+use Rattle.collect_tree.specs.declared.fault.CollectFault.{CollectFault}
+use Rattle.collect_tree.specs.declared.fault.CollectFault.TheVariants.{NotBuilt, NotFound, TooManyItems, Conftest, OutOfMemory}
+use Rattle.collect_tree.specs.declared.loads.LoadedTests.{LoadedTests}
+
+-- loaded test files, in the world behind the loads
+abbrev pub loaded_told : LoadedTests → SourceWorld → Loaded
+loaded_told loaded w = record { files = loaded.files.items; errors = loaded.errors.items; world = w }
+
+abbrev pub collected_told : Collected → SourceWorld → Collection python Table
+collected_told c w = record {
+  table = c.items.items;
+  world = w;
+  selected = map (selected_by c.items.items c.places.items) c.selected.items;
+  deselected = c.deselected;
+  errors = c.errors.items;
+}
+
+-- the refusal of words
+abbrev pub fault_of : WordFault → CollectFault
+fault_of (word.NotFound name) = NotFound name
+fault_of word.TooManyItems = TooManyItems
+fault_of word.OutOfMemory = OutOfMemory
+
+-- an answer, in the world behind it; want of memory tells nothing
+abbrev pub end_told : Result Collected CollectFault → SourceWorld → Option End
+end_told (Ok c) w = Some (Whole (collected_told c w))
+end_told (Err NotBuilt) w = Some (Refused (codes "not built"))
+end_told (Err (NotFound name)) w = Some (Refused (fault_text (word.NotFound name)))
+end_told (Err TooManyItems) w = Some (Refused (fault_text word.TooManyItems))
+end_told (Err (Conftest path told)) w = Some (ConftestFault path told)
+end_told (Err OutOfMemory) w = None
+
+-- the numbers of what was collected are within the limits
+pub record IsWithin (c : Collected) : Type 0 where
+  pub numbers : All (λ number. number < length c.items.items) c.selected.items
+  pub few : length c.selected.items + c.deselected ≤ most_items
+  pub errors : length c.errors.items ≤ most_items
+
+-- loads behind those that are done
+abbrev pub after : LoadedTests → Loaded → Loaded
+after done rest = loaded_before done.files.items done.errors.items rest
+
+-- one more load is done
+abbrev pub GoesOn : LoadedTests → LoadedTests → (Loaded → Loaded) → Type 0
+GoesOn old new one = (rest : Loaded) → after old (one rest) ≡ after new rest
+
+-- a refusal of words that is meant, or want of memory
+abbrev pub IsRefused : Result (List ℕ) WordFault → CollectFault → Type 0
+IsRefused meant NotBuilt = ⊥
+IsRefused meant (NotFound name) = meant ≡ Err (word.NotFound name)
+IsRefused meant TooManyItems = meant ≡ Err word.TooManyItems
+IsRefused meant (Conftest path told) = ⊥
+IsRefused meant OutOfMemory = Unit {0}

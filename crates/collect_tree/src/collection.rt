@@ -1,0 +1,337 @@
+// The collection.
+
+ghost use Rattle.std.specs.Prelude.{◌≡◌, [], IfOk, IfSome, Ok as Meant};
+ghost use Rattle.edge_io.specs.Files.{InOrder, paths_of};
+ghost use Rattle.py_load.specs.Reading.{AreRead, ReadFile};
+ghost use Rattle.py_machine.specs.Worlds.{empty};
+ghost use Rattle.selection.specs.Exprs.{AreExprs};
+ghost use Rattle.collect_words.specs.Files as files;
+ghost use Rattle.collect_tree.specs.Collection as collection;
+ghost use Rattle.collect_tree.specs.Loads.{test_loads};
+ghost use Rattle.collect_tree.specs.Told.{IsWithin, end_told, loaded_told};
+ghost use Rattle.collect_tree.specs.Walk.{walk_of};
+
+use crate::collected::Collected;
+use crate::fault::{CollectFault, word_fault};
+use crate::loads::{LoadedTests, load_tests, load_told};
+use crate::unbuilt::wants_more;
+use crate::walk::{paths_at, walk_of_files};
+use cli_words::Options;
+use collect_items::{FoundItems, chosen, found_items};
+use collect_words::{NamedWord, Walk, conftests, named_words, selected, test_files, walked};
+use edge_io::Files;
+use py_load::{FailedFile, Prepared, has_reading, load_conftests, prepare};
+use py_machine::{World, heap};
+use py_values::value::Value;
+use report_parts::{CollectReport, MOST_ITEMS, OutOfMemory};
+use selection::Exprs;
+use std::alloc::Global;
+
+/// A number of items as it is reported.
+fn counted(count: usize) -> Result<u32, OutOfMemory>
+    ensures { IfOk result (λ n. n ≡ count) }
+{
+    match u32::try_from(count) {
+        Ok(count) => Ok(count),
+        // More than any session has.
+        Err(_) => Err(OutOfMemory),
+    }
+}
+
+/// How many of the numbers are not accepted.
+fn left_out(numbers: &[usize], accepted: &[usize]) -> Result<u32, OutOfMemory>
+    ensures { IfOk result (λ n. n ≡ length numbers.now - length accepted.now) }
+{
+    counted(numbers.len().saturating_sub(accepted.len()))
+}
+
+fn limited(errors: &[CollectReport]) -> Result<(), OutOfMemory>
+    ensures { OnOk result (length errors.now ≤ most_items) }
+{
+    if errors.len() > MOST_ITEMS as usize {
+        // More than any tree has files.
+        return Err(OutOfMemory);
+    }
+    Ok(())
+}
+
+ghost use Rattle.std.specs.Prelude.{OnOk, length, ◌≤◌, ◌+◌, ◌-◌};
+ghost use Rattle.report_parts.specs.Limits.{most_items};
+
+/// What is collected of the items that the words name.
+fn accepted(
+    alloc: Global,
+    world: &World,
+    options: &Options,
+    exprs: &Exprs,
+    loaded: LoadedTests,
+    found: FoundItems,
+    numbers: &[usize],
+) -> Result<Collected, OutOfMemory>
+    requires exprs { AreExprs options.now exprs.now }
+    requires few { length numbers.now ≤ most_items }
+    ensures told { IfOk result (λ c. collected_told c world.now ≡ collection.collected_with options.now found.items.items found.places.items numbers.now (loaded_told loaded world.now)) }
+    ensures within { IfOk result IsWithin }
+{
+    let LoadedTests { errors, .. } = loaded;
+    let FoundItems { items, places, .. } = found;
+    limited(&errors)?;
+    let selected = chosen(alloc, options, exprs, heap(world), &items, numbers)?;
+    let deselected = left_out(numbers, &selected)?;
+    Ok(Collected {
+        items,
+        places,
+        selected,
+        deselected,
+        errors,
+    })
+}
+
+ghost use Rattle.collect_tree.specs.Told.{collected_told};
+
+/// What is collected of the items that the words name, unless what isn't built yet is wanted.
+fn ended(
+    alloc: Global,
+    world: &World,
+    options: &Options,
+    exprs: &Exprs,
+    modules: &[Value],
+    loaded: LoadedTests,
+    found: FoundItems,
+    numbers: &[usize],
+) -> Result<Collected, CollectFault>
+    requires exprs { AreExprs options.now exprs.now }
+    requires few { length numbers.now ≤ most_items }
+    ensures told { IfSome (end_told result world.now) (λ e. e ≡ collection.ended_with options.now modules.now found.items.items found.places.items (loaded_told loaded world.now) (Meant numbers.now)) }
+    ensures within { IfOk result IsWithin }
+{
+    if wants_more(alloc, heap(world), modules, &loaded.files, &found.items)? {
+        return Err(CollectFault::NotBuilt);
+    }
+    let collected = accepted(alloc, world, options, exprs, loaded, found, numbers)?;
+    Ok(collected)
+}
+
+/// The numbers of the items that the words name, or why they are refused.
+fn named_items(
+    alloc: Global,
+    walk: &Walk,
+    options: &Options,
+    words: &[NamedWord],
+    nodes: &[FileNodes],
+) -> Result<Seq<usize>, CollectFault>
+    ensures ok { IfOk result (λ numbers. nodes_selected options.now walk.now nodes.now words.now ≡ Meant numbers) }
+    ensures few { IfOk result (λ numbers. length numbers ≤ most_items) }
+    ensures refused { IfErr result (IsRefused (nodes_selected options.now walk.now nodes.now words.now)) }
+{
+    let tests = walked(alloc, walk, options.ignore.items())?;
+    match selected(
+        alloc,
+        MOST_ITEMS as usize,
+        walk,
+        tests.items(),
+        nodes,
+        words,
+    ) {
+        Ok(numbers) => Ok(numbers),
+        Err(fault) => Err(word_fault(fault)),
+    }
+}
+
+ghost use Rattle.std.specs.Prelude.{IfErr};
+ghost use Rattle.collect_tree.specs.Collection.{nodes_selected};
+ghost use Rattle.collect_tree.specs.Told.{IsRefused};
+
+use collect_words::FileNodes;
+use seq::Seq;
+
+/// The collection of loaded files.
+fn of_loaded(
+    alloc: Global,
+    world: &World,
+    options: &Options,
+    exprs: &Exprs,
+    walk: &Walk,
+    words: &[NamedWord],
+    modules: &[Value],
+    loaded: LoadedTests,
+) -> Result<Collected, CollectFault>
+    requires { AreExprs options.now exprs.now }
+    ensures told { IfSome (end_told result world.now) (λ e. e ≡ collection.of_loaded options.now walk.now words.now modules.now (loaded_told loaded world.now)) }
+    ensures within { IfOk result IsWithin }
+{
+    let found = found_items(alloc, heap(world), walk, &loaded.files)?;
+    match named_items(alloc, walk, options, words, &found.nodes) {
+        Ok(numbers) => ended(
+            alloc,
+            world,
+            options,
+            exprs,
+            modules,
+            loaded,
+            found,
+            numbers.items(),
+        ),
+        Err(fault) => {
+            drop(found);
+            drop(loaded);
+            Err(fault)
+        }
+    }
+}
+
+/// The collection behind the conftests.
+fn with_tests(
+    alloc: Global,
+    world: &mut World,
+    options: &Options,
+    exprs: &Exprs,
+    walk: &Walk,
+    words: &[NamedWord],
+    places: &[usize],
+    modules: &[Value],
+) -> Result<Collected, CollectFault>
+    requires { AreExprs options.now exprs.now }
+    ensures told { IfSome (end_told result world.new) (λ e. e ≡ collection.of_loaded options.now walk.now words.now modules.now (test_loads options.now.step_limit walk.now places.now world.old)) }
+    ensures within { IfOk result IsWithin }
+{
+    let loaded = load_tests(alloc, world, options.step_limit, walk, places)?;
+    of_loaded(alloc, world, options, exprs, walk, words, modules, loaded)
+}
+
+/// The refusal that a failed conftest is.
+fn conftest_fault(
+    alloc: Global,
+    world: &World,
+    limit: u64,
+    failed: FailedFile,
+) -> Result<CollectFault, OutOfMemory>
+    ensures { IfOk result (λ e. e ≡ Conftest failed.path (load_told limit failed.path failed.error world.now)) }
+{
+    let told = load_told(alloc, world, limit, failed.path.text(), &failed.error)?;
+    let FailedFile { path, .. } = failed;
+    Ok(CollectFault::Conftest(path, told))
+}
+
+ghost use Rattle.collect_tree.specs.Loads.{load_told};
+ghost use Rattle.collect_tree.specs.declared.fault.CollectFault.TheVariants.{Conftest};
+
+/// The collection of test files, with the conftests above them.
+fn of_files(
+    alloc: Global,
+    world: &mut World,
+    options: &Options,
+    exprs: &Exprs,
+    walk: &Walk,
+    words: &[NamedWord],
+    places: &[usize],
+) -> Result<Collected, CollectFault>
+    requires { AreExprs options.now exprs.now }
+    ensures told { IfSome (end_told result world.new) (λ e. e ≡ collection.of_files options.now walk.now words.now places.now world.old) }
+    ensures within { IfOk result IsWithin }
+{
+    let above = conftests(alloc, walk, places)?;
+    let paths = paths_at(alloc, walk, above.items())?;
+    match load_conftests(alloc, world, paths.items(), options.step_limit)? {
+        Ok(modules) => with_tests(alloc, world, options, exprs, walk, words, places, &modules),
+        Err(failed) => {
+            let fault = conftest_fault(alloc, world, options.step_limit, failed)?;
+            Err(fault)
+        }
+    }
+}
+
+/// The collection of the files that the words reach.
+fn of_words(
+    alloc: Global,
+    world: &mut World,
+    options: &Options,
+    exprs: &Exprs,
+    walk: &Walk,
+    words: &[NamedWord],
+) -> Result<Collected, CollectFault>
+    requires { AreExprs options.now exprs.now }
+    ensures told { IfSome (end_told result world.new) (λ e. e ≡ collection.of_files options.now walk.now words.now (files.test_files walk.now (files.walked walk.now options.now.ignore) words.now) world.old) }
+    ensures within { IfOk result IsWithin }
+{
+    let tests = walked(alloc, walk, options.ignore.items())?;
+    let places = test_files(alloc, walk, tests.items(), words)?;
+    of_files(alloc, world, options, exprs, walk, words, places.items())
+}
+
+/// The collection of files, where all their forms are built.
+fn of_sources(
+    alloc: Global,
+    world: &mut World,
+    files: &Files,
+    options: &Options,
+    exprs: &Exprs,
+    walk: &Walk,
+    words: &[NamedWord],
+) -> Result<Collected, CollectFault>
+    requires empty { world.old ≡ empty }
+    requires order { InOrder (paths_of files.now) }
+    requires exprs { AreExprs options.now exprs.now }
+    ensures told { (sources : List ReadFile) × AreRead files.now sources × IfSome (end_told result world.new) (λ e. e ≡ collection.of_words options.now sources walk.now (Meant words.now)) }
+    ensures within { IfOk result IsWithin }
+{
+    has_reading();
+    let Ok(prepared) = prepare(alloc, world, files) else {
+        return Err(CollectFault::OutOfMemory);
+    };
+    match prepared {
+        Prepared::Ready => of_words(alloc, world, options, exprs, walk, words),
+        Prepared::NotBuilt => Err(CollectFault::NotBuilt),
+    }
+}
+
+ghost use Rattle.std.specs.Prelude.{List};
+
+/// The collection by the walk of the files.
+fn of_walk(
+    alloc: Global,
+    world: &mut World,
+    files: &Files,
+    options: &Options,
+    exprs: &Exprs,
+    walk: &Walk,
+) -> Result<Collected, CollectFault>
+    requires empty { world.old ≡ empty }
+    requires order { InOrder (paths_of files.now) }
+    requires exprs { AreExprs options.now exprs.now }
+    ensures told { (sources : List ReadFile) × AreRead files.now sources × IfSome (end_told result world.new) (λ e. e ≡ collection.of_words options.now sources walk.now (named_words walk.now options.now.paths)) }
+    ensures within { IfOk result IsWithin }
+{
+    has_reading();
+    match named_words(alloc, walk, options.paths.items()) {
+        Ok(words) => of_sources(alloc, world, files, options, exprs, walk, words.items()),
+        Err(fault) => Err(word_fault(fault)),
+    }
+}
+
+ghost use Rattle.collect_words.specs.Words.{named_words};
+
+/// Collects what the words of these options name among the files of a tree, and `-k` and `-m` accept. The world is a new one; behind the
+/// call it has all modules that were loaded.
+///
+/// Fails with the first refusal: `NotFound` for a path, `NotBuilt` for a form, `Conftest`, `TooManyItems`, `NotFound` behind `::`, and
+/// `NotBuilt` for what the loaded names ask.
+pub fn collect(
+    alloc: Global,
+    world: &mut World,
+    files: &Files,
+    options: &Options,
+    exprs: &Exprs,
+) -> Result<Collected, CollectFault>
+    requires empty { world.old ≡ empty }
+    requires order { InOrder (paths_of files.now) }
+    requires exprs { AreExprs options.now exprs.now }
+    ensures told { (sources : List ReadFile) × AreRead files.now sources × IfSome (end_told result world.new) (λ e. e ≡ collection.collect options.now sources) }
+    ensures within { IfOk result IsWithin }
+{
+    has_reading();
+    match walk_of_files(alloc, files) {
+        Ok(walk) => of_walk(alloc, world, files, options, exprs, &walk),
+        Err(_) => Err(CollectFault::OutOfMemory),
+    }
+}

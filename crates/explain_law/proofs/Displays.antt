@@ -1,0 +1,134 @@
+-- The same of displays and of what is read of objects.
+use Rattle.std.proofs.Common.{◌≡◌, ℕ, suc, List, [], ◌∷◌, ◌++◌, Option, Some, None, Bool, true, false, refl, ap, subst}
+use Rattle.std.specs.Prelude.{length, eqb, is_some, if◌then◌else◌}
+use Rattle.py_tree.specs.declared.op.BinOp.{BinOp}
+use Rattle.py_tree.specs.Names.{is_among}
+use Rattle.py_values.specs.Ends.{id_at}
+use Rattle.py_kinds.specs.Kinds.{kind_name}
+use Rattle.py_kinds.specs.Lengths.{length_of}
+use Rattle.py_values.specs.Names.{unbind_name}
+use Rattle.py_values.specs.declared.end.Made.{Made}
+use Rattle.py_values.specs.declared.end.Made.TheVariants.{Give, New, Put, Fail}
+use Rattle.py_values.specs.declared.end.Raise.{Raise}
+use Rattle.py_values.specs.declared.index.Index.TheVariants.{At, Slice}
+use Rattle.py_values.specs.declared.object.Obj.{Obj}
+use Rattle.py_values.specs.declared.object.Obj.TheVariants as obj
+use Rattle.py_values.specs.declared.object.RaisesObj.{RaisesObj}
+use Rattle.py_values.specs.declared.value.ObjId.{ObjId}
+use Rattle.py_values.specs.declared.value.Value.{Value}
+use Rattle.py_values.specs.declared.value.Value.TheVariants as val
+use Rattle.py_operands.specs.Faults.{not_iterable}
+use Rattle.py_ops.specs.Binary.{augmented_of}
+use Rattle.py_items.specs.Items.{subscript_of, store_of, delete_of, object_at}
+use Rattle.py_items.specs.Turns.{turn_of as element_of, next_by, iterate}
+use Rattle.py_items.specs.declared.iter.IterAt.{IterAt}
+use Rattle.py_attributes.specs.Attributes.{attribute_of, own_value, no_attribute}
+use Rattle.pytest_calls.specs.Swallowing.{did_not_raise, pattern_end}
+use Rattle.py_kinds.specs.Classes.{is_a}
+use Rattle.py_world.specs.declared.ended.Thrown.{Thrown}
+use Rattle.py_world.specs.declared.trace.TraceFrame.{TraceFrame}
+use Rattle.py_world.specs.World.{Kinds, State, heap_of, with_trace}
+use Rattle.py_world.specs.Site.{Scene, Site, Own, InModule, InFunction, InClass, trace_of, site_handling, scene_handling}
+use Rattle.py_world.specs.Names.{bound_value, not_bound, unbound, unbound_by, unbound_global, unbound_here, unbound_class, deleted, delete_name}
+use Rattle.py_world.specs.Outcome.{Outcome, Gave, Next, Returned, Broke, Continued, Raised, Rest, Then, Part, After, Body, route, onward, changing, costing, operated, on_value, on_next, raised_at}
+use Rattle.py_world.specs.Expressions.{arguments}
+use Rattle.py_world.specs.Displays.{displayed, dict_displayed, in_pairs, bound_given, collected, list_part, tuple_part, dict_part, subscript_part, slice_bound, sliced_at, slice_by, slice_to, slice_on, slice_part}
+use Rattle.py_world.specs.Attributes.{takes_names, with_attribute, without_attribute, changed_or, attribute_end, attribute_part, set_attribute, unset_attribute}
+use Rattle.py_world.specs.Targets.{Store, wrong_count, elements_from, store_name, store_attribute, set_item, store_item, store_all, store_each, store_elements, unpack_by, unpack, assign, augmented, augment_on, augment_name, augment_attribute_of, augment_attribute, augment_item_of, augment_item, delete_attribute, unset_item, delete_item}
+use Rattle.py_world.specs.Exceptions.{Handling, Raisable, Exception_of, Class_of, Neither, no_exception, nothing_raised, raisable, raised_by, raised_again, takes_exception, handler_block, if_taken, handlers_on, guarded_by, then_again, finally_on, guarded, try_statement}
+use Rattle.py_world.specs.Contexts.{bad_context, context_of, info_named, with_info, info_taken, searched, taken_or, not_raised, context_left, context_entered, with_statement}
+use Rattle.py_world.specs.Loops.{turn_begun, for_from, iterated, for_statement, behind_target, turn_with, for_turn}
+use Rattle.explain_law.specs.Choices as alike
+use Rattle.explain_law.specs.Choices.{Choices, K, J, worlds, StatesAlike, states, EndsAlike, gave, next, returned, broke, continued}
+use Rattle.explain_law.proofs.Parts as part
+use Rattle.explain_law.proofs.Blocks as block
+
+module _ (R : Choices) (m : Bool) where
+  abbrev States : State K → State J → Type 0
+  States = StatesAlike R m
+
+  abbrev Ends : Outcome K → Outcome J → Type 0
+  Ends = EndsAlike R m
+
+  abbrev Follow : Rest K → Rest J → Type 0
+  Follow = part.Follow R m
+
+  abbrev Behind : Then K → Then J → Type 0
+  Behind = part.Behind R m
+
+  abbrev PartSame : Part K → Part J → Type 0
+  PartSame = part.PartSame R m
+
+  abbrev PartsSame : List (Part K) → List (Part J) → Type 0
+  PartsSame = part.PartsSame R m
+
+  abbrev SomeSame : Option (Part K) → Option (Part J) → Type 0
+  SomeSame = part.SomeSame R m
+
+  value_same : {o : Outcome K} {q : Outcome J} → Ends o q → (k : Then K) (l : Then J) → Behind k l → (go : Value → State K → Rest K) (go' : Value → State J → Rest J) → ((v : Value) (s : State K) (r : State J) → States s r → Follow (go v s) (go' v r)) → Follow (on_value o k go) (on_value q l go')
+  value_same n k l h go go' g = part.value_same R m n k l h go go' g
+
+  operated_same : (f : List Obj → Made) (p : Site) {s : State K} {r : State J} → States s r → (k : Then K) (l : Then J) → Behind k l → Follow (operated (f (heap_of s)) p s k) (operated (f (heap_of r)) p r l)
+  operated_same f p ss k l h = part.operated_same R m f p ss k l h
+
+  raised_same : (e : Raise) (p : Site) {s : State K} {r : State J} → States s r → Ends (raised_at e p s) (raised_at e p r)
+  raised_same e p ss = part.raised_same R m e (trace_of p) ss
+
+  -- an error whose text names a kind
+  raised_here : (e : List Obj → Raise) (p : Site) {s : State K} {r : State J} → States s r → Ends (raised_at (e (heap_of s)) p s) (raised_at (e (heap_of r)) p r)
+  raised_here e p (states a t (worlds ss cs fs modules heap printed traces)) = raised_same (e heap) p (states a t (worlds ss cs fs modules heap printed traces))
+
+  costing_same : (f : List Obj → Made) (trace : List TraceFrame) {s : State K} {r : State J} → States s r → (k : Then K) (l : Then J) → Behind k l → Follow (costing (f (heap_of s)) trace s k) (costing (f (heap_of r)) trace r l)
+  costing_same f trace (states a t (worlds ss cs fs modules heap printed traces)) k l h = part.costing_same R m (f heap) trace (states a t (worlds ss cs fs modules heap printed traces)) k l h
+
+  pub arguments_same : {es : List (Part K)} {fs : List (Part J)} → PartsSame es fs → (vs : List Value) (p : Site) {s : State K} {r : State J} → States s r → (k : Then K) (l : Then J) → Behind k l → (go : List Value → State K → Rest K) (go' : List Value → State J → Rest J) → ((vs : List Value) (s : State K) (r : State J) → States s r → Follow (go vs s) (go' vs r)) → Follow (arguments es vs p s k go) (arguments fs vs p r l go')
+  arguments_same part.none vs p ss k l h go go' g = g vs _ _ ss
+  arguments_same (part.more {es = es} {fs = fs} x xs) vs p ss k l h go go' g =
+      x.does p ss _ _ (λ o q n. value_same n k l h (λ v s. arguments es (vs ++ v ∷ []) p s k go) (λ v s. arguments fs (vs ++ v ∷ []) p s l go') (λ v s r ss. arguments_same xs (vs ++ v ∷ []) p ss k l h go go' g))
+
+  pub collected_same : (make : List Obj → List Value → Made) {es : List (Part K)} {fs : List (Part J)} → PartsSame es fs → PartSame (collected make es) (collected make fs)
+  collected_same make xs =
+      record { does = λ p ss k l h. arguments_same xs [] p ss k l h (λ vs s. costing (make (heap_of s) vs) (trace_of p) s k) (λ vs s. costing (make (heap_of s) vs) (trace_of p) s l) (λ vs s r ss. costing_same (λ heap. make heap vs) (trace_of p) ss k l h) }
+
+  pub list_same : {es : List (Part K)} {fs : List (Part J)} → PartsSame es fs → PartSame (list_part es) (list_part fs)
+  list_same xs = collected_same (λ heap vs. displayed obj.List vs) xs
+
+  pub tuple_same : {es : List (Part K)} {fs : List (Part J)} → PartsSame es fs → PartSame (tuple_part es) (tuple_part fs)
+  tuple_same xs = collected_same (λ heap vs. displayed obj.Tuple vs) xs
+
+  pairs_same : {ks es : List (Part K)} {js fs : List (Part J)} → PartsSame ks js → PartsSame es fs → PartsSame (in_pairs ks es) (in_pairs js fs)
+  pairs_same part.none xs = part.none
+  pairs_same (part.more k ks) part.none = part.none
+  pairs_same (part.more k ks) (part.more x xs) = part.more k (part.more x (pairs_same ks xs))
+
+  pub dict_same : {ks es : List (Part K)} {js fs : List (Part J)} → PartsSame ks js → PartsSame es fs → PartSame (dict_part ks es) (dict_part js fs)
+  dict_same ks xs = collected_same dict_displayed (pairs_same ks xs)
+
+  pub subscript_same : {a i : Part K} {b j : Part J} → PartSame a b → PartSame i j → PartSame (subscript_part a i) (subscript_part b j)
+  subscript_same a i = record { does = λ p ss k l h. a.does p ss _ _ (λ o q n. value_same n k l h _ _ (λ x s r ss. i.does p ss _ _ (λ o q n. value_same n k l h _ _ (λ y s r ss. operated_same (λ heap. subscript_of heap x (At y)) p ss k l h)))) }
+
+  bound_same : {e : Option (Part K)} {f : Option (Part J)} → SomeSame e f → (p : Site) {s : State K} {r : State J} → States s r → (k : Then K) (l : Then J) → Behind k l → (go : Option Value → State K → Rest K) (go' : Option Value → State J → Rest J) → ((b : Option Value) (s : State K) (r : State J) → States s r → Follow (go b s) (go' b r)) → Follow (slice_bound e p s k go) (slice_bound f p r l go')
+  bound_same part.absent p ss k l h go go' g = g None _ _ ss
+  bound_same (part.present x) p ss k l h go go' g = x.does p ss _ _ (λ o q n. value_same n k l h (λ v s. go (bound_given v) s) (λ v s. go' (bound_given v) s) (λ v s r ss. g (bound_given v) s r ss))
+
+  sliced_same : (x : Value) (a b c : Option Value) → PartSame (sliced_at x a b c) (sliced_at x a b c)
+  sliced_same x a b c = record { does = λ p ss k l h. operated_same (λ heap. subscript_of heap x (Slice a b c)) p ss k l h }
+
+  by_same : (x : Value) (a b : Option Value) {e : Option (Part K)} {f : Option (Part J)} → SomeSame e f → PartSame (slice_by x a b e) (slice_by x a b f)
+  by_same x a b by = record { does = λ p ss k l h. bound_same by p ss k l h (λ c s. sliced_at x a b c p s k) (λ c s. sliced_at x a b c p s l) (λ c s r ss. (sliced_same x a b c).does p ss k l h) }
+
+  to_same : (x : Value) (a : Option Value) {d e : Option (Part K)} {d' e' : Option (Part J)} → SomeSame d d' → SomeSame e e' → PartSame (slice_to x a d e) (slice_to x a d' e')
+  to_same x a {e = e} {e' = e'} to by = record { does = λ p ss k l h. bound_same to p ss k l h (λ b s. slice_by x a b e p s k) (λ b s. slice_by x a b e' p s l) (λ b s r ss. (by_same x a b by).does p ss k l h) }
+
+  from_same : (x : Value) {c d e : Option (Part K)} {c' d' e' : Option (Part J)} → SomeSame c c' → SomeSame d d' → SomeSame e e' → PartSame (slice_on x c d e) (slice_on x c' d' e')
+  from_same x {d = d} {e = e} {d' = d'} {e' = e'} from to by = record { does = λ p ss k l h. bound_same from p ss k l h (λ a s. slice_to x a d e p s k) (λ a s. slice_to x a d' e' p s l) (λ a s r ss. (to_same x a to by).does p ss k l h) }
+
+  pub slice_same : {a : Part K} {a' : Part J} {c d e : Option (Part K)} {c' d' e' : Option (Part J)} → PartSame a a' → SomeSame c c' → SomeSame d d' → SomeSame e e' → PartSame (slice_part a c d e) (slice_part a' c' d' e')
+  slice_same a from to by = record { does = λ p ss k l h. a.does p ss _ _ (λ o q n. value_same n k l h _ _ (λ x s r ss. (from_same x from to by).does p ss k l h)) }
+
+  -- attributes
+  pub attribute_end_same : (x : Value) (name : List ℕ) (p : Site) {s : State K} {r : State J} → States s r → Ends (attribute_end x name p s) (attribute_end x name p r)
+  attribute_end_same x name p (states a t (worlds ss cs fs modules heap printed traces)) = part.made_same R m (attribute_of heap x name) (trace_of p) (states a t (worlds ss cs fs modules heap printed traces))
+
+  pub attribute_same : {e : Part K} {f : Part J} (name : List ℕ) → PartSame e f → PartSame (attribute_part e name) (attribute_part f name)
+  attribute_same name x = record { does = λ p ss k l h. x.does p ss _ _ (λ o q n. value_same n k l h _ _ (λ v s r ss. h _ _ (attribute_end_same v name p ss))) }

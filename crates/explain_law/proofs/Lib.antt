@@ -1,0 +1,9 @@
+pub mod Runs
+pub mod Parts
+pub mod Displays
+pub mod Blocks
+pub mod Flow
+pub mod Classes
+pub mod Loads
+pub mod Forms
+pub mod Whole

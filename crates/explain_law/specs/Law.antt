@@ -1,0 +1,35 @@
+-- The law of two choices of the modules whose asserts are explained.
+use Rattle.std.specs.Prelude.{ℕ, ◌≡◌, List, false}
+use Rattle.py_source.specs.declared.pos.Pos.{Pos}
+use Rattle.run_tree.specs.Todo.{run, Run}
+use Rattle.py_world.specs.Calls.{body_of}
+use Rattle.py_world.specs.Outcome.{Outcome, Rest, Request, Spent, Paused}
+use Rattle.py_world.specs.Runs.{Told, run_of}
+use Rattle.source_meaning.specs.Meaning.{source}
+use Rattle.explain_law.specs.Choices.{Choices, K, J, WorldsAlike, SpentAlike, RequestsAlike, EndsAlike, PausedAlike, FailedApart}
+use Rattle.explain_law.specs.Until.{Until, Apart, SameUntil}
+
+abbrev pub SourceRun : Type 0
+SourceRun = Run Pos (Spent K) (Request K) (Outcome K) (Paused K)
+
+module _ (R : Choices) where
+  -- what is left to do, under each choice, is the same up to a failed assert
+  abbrev pub Follow : Rest K → Rest J → Type 0
+  Follow = Until (SpentAlike R) (RequestsAlike R) (EndsAlike R false) (PausedAlike R) (FailedApart R)
+
+  -- two runs that have come to the first failed assert of a module for which the choices differ
+  abbrev pub RunsApart : SourceRun → SourceRun → Type 0
+  RunsApart = Apart (SpentAlike R) (RequestsAlike R) (EndsAlike R false) (PausedAlike R) (FailedApart R) (body_of source) (body_of source)
+
+  -- runs that are the same up to there
+  abbrev pub RunsAlike : SourceRun → SourceRun → Type 0
+  RunsAlike = SameUntil (SpentAlike R) (RequestsAlike R) (EndsAlike R false) (PausedAlike R) (FailedApart R) (body_of source) (body_of source)
+
+  -- the same is told: value or exception, trace and steps; and the worlds behind it are alike
+  abbrev pub SameTold : Told K → Told J → Type 0
+  SameTold a b = (a.0 ≡ b.0) × WorldsAlike R a.1 b.1
+
+  -- WHAT IS TOLD UNDER EACH CHOICE: the same, or of runs that have come to a failed assert of a module for which the choices differ
+  pub data ToldUntil : Told K → Told J → Type 0 where
+    told : {a : Told K} {b : Told J} → SameTold a b → ToldUntil a b
+    parted : (budget : ℕ) (t : Rest K) (u : Rest J) → RunsApart (run (body_of source) budget t) (run (body_of source) budget u) → ToldUntil (run_of source budget t) (run_of source budget u)

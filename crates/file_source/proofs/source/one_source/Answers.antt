@@ -1,0 +1,5 @@
+use Rattle.file_source.proofs.OneSource as law
+use Rattle.file_source.proofs.source.one_source.Goals as goal
+
+pub returns : goal.returns
+returns c = law.one_source

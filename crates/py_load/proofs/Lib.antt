@@ -1,0 +1,4 @@
+pub mod Readings
+pub mod Absent
+pub mod Adding
+pub mod Turns

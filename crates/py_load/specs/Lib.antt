@@ -1,0 +1,4 @@
+pub mod Reading
+pub mod Prepared
+pub mod Loading
+pub mod InTurn

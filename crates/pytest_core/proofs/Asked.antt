@@ -1,0 +1,78 @@
+-- What words ask for, from what their parts say.
+use Rattle.std.proofs.Common.{◌≡◌, ℕ, List, [], Bool, true, false, Option, None, Some, Result, Ok, Err, codes, refl, sym, subst}
+use Rattle.cli_words.specs.Faults.{usage_text}
+use Rattle.cli_words.specs.Info.{info_of}
+use Rattle.cli_words.specs.Options.{Refuses, options_of}
+use Rattle.cli_words.specs.declared.fault.UsageFault.{UsageFault}
+use Rattle.cli_words.specs.declared.fault.UsageFault.TheVariants as usage
+use Rattle.cli_words.specs.declared.info.Info.{Info}
+use Rattle.cli_words.specs.declared.options.Options.{Options}
+use Rattle.edge_io.specs.Files.{File}
+use Rattle.file_source.specs.Sources.{HoldsSource}
+use Rattle.report_rules.specs.Answer.{Answer, info_answer, refusal}
+use Rattle.report_rules.specs.Report as rules
+use Rattle.selection.specs.Exprs.{AreExprs, IsRefused, refused_expression, selection_text}
+use Rattle.selection.specs.declared.fault.SelectionFault.{SelectionFault}
+use Rattle.selection.specs.declared.fault.SelectionFault.TheVariants as faults
+use Rattle.selection.specs.Unbuilt.{asks_for_unbuilt}
+use Rattle.selection.specs.declared.exprs.Exprs.{Exprs}
+use Rattle.pytest_core.specs.Profile.{profile, refused_text}
+use Rattle.pytest_core.specs.Report.{AskForRun, IsReport, OfKept}
+use Rattle.pytest_core.specs.Request.{OptionsAsk, WordsAsk, is_expression_fault, is_usage_fault}
+use Rattle.pytest_core.specs.Written.{IsResponseBy, Response, response_of}
+use Rattle.pytest_core.specs.declared.request.Request.{Request}
+use Rattle.pytest_core.specs.declared.request.Request.TheVariants.{Run, Said}
+use Rattle.pytest_core.proofs.Said.{accepts, kept_as, of_any, refuses_expression, refuses_unbuilt, says_fault, says_info, says_options, says_refused, says_run}
+
+-- OPTIONS
+pub unbuilt_said : (o : Options) (exprs : Exprs) (r : Response) → AreExprs o exprs → asks_for_unbuilt o ≡ true → r ≡ response_of (refusal (codes "not built"))
+    → (tree : List File) → IsResponseBy (OfKept (rules.SaysOfOptions HoldsSource profile o []) tree) r
+unbuilt_said o exprs r are asks same tree =
+    of_any (rules.SaysOfOptions HoldsSource profile o []) tree (refusal (codes "not built")) r (says_refused o (codes "not built") (refuses_unbuilt o are.fine asks)) same
+
+pub run_asked : (o : Options) (exprs : Exprs) → AreExprs o exprs → asks_for_unbuilt o ≡ false → OptionsAsk o (Run o exprs)
+run_asked o exprs are built = (refl, are, accepts o are.fine built)
+
+refused_by : (o : Options) (fault : SelectionFault) → IsRefused o fault → is_expression_fault fault ≡ true → refused_expression o ≡ Some (selection_text fault)
+refused_by o faults.OutOfMemory h other = absurd (cc)
+refused_by o (faults.Wrong flag column) h other = h
+refused_by o (faults.TooDeep flag) h other = h
+
+pub expression_said : (fault : SelectionFault) (r : Response) → is_expression_fault fault ≡ true → r ≡ response_of (refusal (selection_text fault))
+    → (o : Options) → IsRefused o fault → (tree : List File) → IsResponseBy (OfKept (rules.SaysOfOptions HoldsSource profile o []) tree) r
+expression_said fault r wrong same o refused tree =
+    of_any (rules.SaysOfOptions HoldsSource profile o []) tree (refusal (selection_text fault)) r (says_refused o (selection_text fault) (refuses_expression o (selection_text fault) (refused_by o fault refused wrong)))
+    same
+
+refused_words : (said : Result Options UsageFault) (fault : UsageFault) → Refuses said fault → is_usage_fault fault ≡ true → said ≡ Err fault
+refused_words said usage.OutOfMemory h other = absurd (cc)
+refused_words said (usage.Unrecognized word) h other = h
+refused_words said (usage.NeedsValue option) h other = h
+refused_words said (usage.BadValue option value) h other = h
+refused_words said (usage.TakesNoValue option) h other = h
+refused_words said usage.Conflict h other = h
+
+-- WORDS
+pub info_said : (words : List (List ℕ)) (info : Info) (r : Response) → Some info ≡ info_of words → r ≡ response_of (info_answer info) → (tree : List File) → IsResponseBy (IsReport words tree) r
+info_said words info r asked same tree = of_any (rules.IsReport HoldsSource profile words) tree (info_answer info) r (says_info words info (sym asked)) same
+
+pub fault_said : (fault : UsageFault) (r : Response) → is_usage_fault fault ≡ true → r ≡ response_of (refusal (usage_text fault))
+    → (words : List (List ℕ)) → info_of words ≡ None → Refuses (options_of words) fault → (tree : List File) → IsResponseBy (IsReport words tree) r
+fault_said fault r usage same words none refused tree =
+    of_any (rules.IsReport HoldsSource profile words) tree (refusal (usage_text fault)) r (says_fault words fault none (refused_words (options_of words) fault refused usage)) same
+
+pub words_ask : (words : List (List ℕ)) (o : Options) (q : Request) → None ≡ info_of words → options_of words ≡ Ok o → OptionsAsk o q → WordsAsk words q
+words_ask words o (Run options exprs) none read (same, are, accepted) =
+    (sym none, subst (λ x. options_of words ≡ Ok x) (sym same) read, subst (λ x. AreExprs x exprs) (sym same) are, subst (λ x. refused_text x ≡ None) (sym same) accepted)
+words_ask words o (Said response) none read said =
+    λ tree. kept_as (rules.SaysOfOptions HoldsSource profile o []) (rules.IsReport HoldsSource profile words) tree (response.0.items, response.1) (says_options words o (sym none) read) (said tree)
+
+-- A RUN
+pub run_said : (words : List (List ℕ)) (options : Options) (exprs : Exprs) (tree : List File) (r : Response) → WordsAsk words (Run options exprs)
+    → IsResponseBy (OfKept (rules.SaysOfFiles HoldsSource profile options []) tree) r → IsResponseBy (IsReport words tree) r
+run_said words options exprs tree r (none, read, are, accepted) h =
+    kept_as (rules.SaysOfFiles HoldsSource profile options []) (rules.IsReport HoldsSource profile words) tree r
+    (λ files answer said. says_options words options none read files answer (says_run options accepted files answer said)) h
+
+pub run_words : (words : List (List ℕ)) (options : Options) (exprs : Exprs) → WordsAsk words (Run options exprs) → AskForRun words
+run_words words options exprs (none, read, are, accepted) = record { options = options; no_info = none; read = read; accepted = accepted }

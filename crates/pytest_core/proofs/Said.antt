@@ -1,0 +1,167 @@
+-- What is said of words, from what is said of their options and of files.
+use Rattle.std.proofs.Common.{◌≡◌, ℕ, List, [], ◌∷◌, Bool, true, false, cond, Option, None, Some, Result, Ok, Err, MatchOption, MatchResult, codes, refl, sym, subst, ap, ◌∙◌, ◌||◌}
+use Rattle.std.specs.Prelude.{IfOk, IfSome, IsSome, is_some}
+use Rattle.cli_words.specs.Faults.{usage_text}
+use Rattle.cli_words.specs.Info.{info_of}
+use Rattle.cli_words.specs.Options.{options_of}
+use Rattle.cli_words.specs.declared.fault.UsageFault.{UsageFault}
+use Rattle.cli_words.specs.declared.info.Info.{Info}
+use Rattle.cli_words.specs.declared.options.Options.{Options}
+use Rattle.collect_tree.specs.Collection.{collect}
+use Rattle.edge_io.specs.Files.{File, IsKept, TreeLimit, tree_limit}
+use Rattle.file_source.specs.Sources.{HoldsSource}
+use Rattle.py_load.specs.Reading.{AreRead, ReadFile}
+use Rattle.report_rules.specs.Answer.{Answer, info_answer, limit_text, refusal}
+use Rattle.report_rules.specs.Answer.{Status as Ended}
+use Rattle.report_rules.specs.Answer as ends
+use Rattle.report_rules.specs.Collected.{Collection}
+use Rattle.report_rules.specs.Report as rules
+use Rattle.runtest_rules.specs.Language.{python}
+use Rattle.runtest_rules.specs.declared.item.Item.{Item}
+use Rattle.selection.specs.Exprs.{refused_expression}
+use Rattle.selection.specs.Unbuilt.{asks_for_unbuilt}
+use Rattle.pytest_core.specs.Profile.{first_text, profile, refused_text}
+use Rattle.pytest_core.specs.Report.{IsReport, OfKept}
+use Rattle.pytest_core.specs.Status.{is_said, status_seen}
+use Rattle.pytest_core.specs.Written.{IsResponseBy, Response, response_of}
+use Rattle.pytest_core.proofs.Kept.{kept_files}
+
+-- no groups are shared
+abbrev NoGroups : List (List ℕ)
+NoGroups = []
+
+-- responses
+pub response : (P : Answer → Type 0) (answer : Answer) (r : Response) → P answer → r ≡ response_of answer → IsResponseBy P r
+response P answer r is same = record { answer = answer; is = is; same = same }
+
+pub response_as : (P Q : Answer → Type 0) (r : Response) → ((answer : Answer) → P answer → Q answer) → IsResponseBy P r → IsResponseBy Q r
+response_as P Q r f h = record { answer = h.answer; is = f h.answer h.is; same = h.same }
+
+pub of_kept : (Says : List File → Answer → Type 0) (tree files : List File) (r : Response) → IsKept tree files → IsResponseBy (Says files) r → IsResponseBy (OfKept Says tree) r
+of_kept Says tree files r kept h = response_as (Says files) (OfKept Says tree) r (λ answer is. (files, kept, is)) h
+
+pub kept_as : (P Q : List File → Answer → Type 0) (tree : List File) (r : Response) → ((files : List File) (answer : Answer) → P files answer → Q files answer) → IsResponseBy (OfKept P tree) r → IsResponseBy (OfKept Q tree) r
+kept_as P Q tree r f h = response_as (OfKept P tree) (OfKept Q tree) r (λ answer is. (is.0, is.1, f is.0 answer is.2)) h
+
+-- what doesn't depend on the files
+pub of_any : (Says : List File → Answer → Type 0) (tree : List File) (answer : Answer) (r : Response) → ((files : List File) → Says files answer) → r ≡ response_of answer → IsResponseBy (OfKept Says tree) r
+of_any Says tree answer r is same = let kept = kept_files tree in record { answer = answer; is = (kept.0, kept.1, is kept.0); same = same }
+
+pub some_as : {X : Type 0} (o : Option X) (P Q : X → Type 0) → ((x : X) → P x → Q x) → IfSome o P → IfSome o Q
+some_as None P Q f h = tt
+some_as (Some x) P Q f h = f x h
+
+pub both_as : {X E : Type 0} (x : Result X E) (P Q R : X → Type 0) → ((y : X) → P y → Q y → R y) → IfOk x P → IfOk x Q → IfOk x R
+both_as (Ok y) P Q R f h k = f y h k
+both_as (Err e) P Q R f h k = tt
+
+-- the status of a report
+seen_said : (status : Ended) → is_said (status_seen status) ≡ true
+seen_said ends.Passed = refl
+seen_said ends.Failed = refl
+seen_said ends.Interrupted = refl
+seen_said ends.Usage = refl
+seen_said ends.NoTests = refl
+
+pub said_by : (P : Answer → Type 0) (r : Response) → IsResponseBy P r → is_said r.1 ≡ true
+said_by P r h = ap (λ (x : Response). is_said x.1) h.same ∙ seen_said h.answer.1
+
+-- READ FILES
+pub are_sources : (files : List File) (reads : List ReadFile) → AreRead files reads → rules.AreSources HoldsSource profile files reads
+are_sources [] [] h = tt
+are_sources [] (r ∷ reads) h = absurd h
+are_sources (file ∷ files) [] h = absurd h
+are_sources (file ∷ files) (r ∷ reads) h = (h.0, h.1, are_sources files reads h.2)
+
+-- what is said of files that pass no limit
+pub says_collected : (options : Options) (files : List File) (reads : List ReadFile) (answer : Answer) → tree_limit files ≡ None → AreRead files reads
+    → rules.SaysOfCollection HoldsSource profile options [] (collect options reads) answer → rules.SaysOfFiles HoldsSource profile options [] files answer
+says_collected options files reads answer fits read said =
+    let P : Option TreeLimit → Type 0 =
+    λ limit. MatchOption limit ((sources : List ReadFile) × rules.AreSources HoldsSource profile files sources × rules.SaysOfCollection HoldsSource profile options [] (collect options sources) answer) (λ l. (NoGroups ≡ NoGroups) × (answer ≡ refusal (limit_text l))) in
+    subst P (sym fits) (reads, are_sources files reads read, said)
+
+pub says_limit : (options : Options) (files : List File) (limit : TreeLimit) → tree_limit files ≡ Some limit → rules.SaysOfFiles HoldsSource profile options [] files (refusal (limit_text limit))
+says_limit options files limit passes =
+    let P : Option TreeLimit → Type 0 =
+    λ x. MatchOption x ((sources : List ReadFile) × rules.AreSources HoldsSource profile files sources × rules.SaysOfCollection HoldsSource profile options [] (collect options sources) (refusal (limit_text limit))) (λ l. (NoGroups ≡ NoGroups) × (refusal (limit_text limit) ≡ refusal (limit_text l))) in
+    subst P (sym passes) (refl, refl)
+
+-- a tree that passes a limit
+pub limit_said : (options : Options) (tree : Option (List File)) (limit : Option TreeLimit) (r : Response)
+    → IfSome limit (λ l. IfSome tree (λ fs. (kept : List File) × IsKept fs kept × (tree_limit kept ≡ Some l))) → IfSome limit (λ l. r ≡ response_of (refusal (limit_text l))) → IsSome limit
+    → IfSome tree (λ fs. IsResponseBy (OfKept (rules.SaysOfFiles HoldsSource profile options []) fs) r)
+limit_said options None limit r passes same some = tt
+limit_said options (Some fs) None r passes same some = absurd (cc)
+limit_said options (Some fs) (Some l) r (kept, is, e) same some = record { answer = refusal (limit_text l); is = (kept, is, says_limit options kept l e); same = same }
+
+-- OPTIONS
+abbrev NoText : Option (List ℕ)
+NoText = None
+
+pub no_first : (first : Option (List ℕ)) (more : Bool) (text : List ℕ) → first_text first (cond more (Some text) None) ≡ None → (first ≡ None) × (more ≡ false)
+no_first None false text e = (refl, refl)
+no_first None true text e = absurd (cc)
+no_first (Some said) more text e = absurd (cc)
+
+pub built_by : (options : Options) → refused_text options ≡ None → asks_for_unbuilt options ≡ false
+built_by options e = (no_first (refused_expression options) (asks_for_unbuilt options) (codes "not built") e).1
+
+pub accepts : (options : Options) → refused_expression options ≡ None → asks_for_unbuilt options ≡ false → refused_text options ≡ None
+accepts options none built = ap (λ x. first_text x (cond (asks_for_unbuilt options) (Some (codes "not built")) None)) none ∙ ap (λ (b : Bool). cond b (Some (codes "not built")) NoText) built
+
+pub refuses_unbuilt : (options : Options) → refused_expression options ≡ None → asks_for_unbuilt options ≡ true → refused_text options ≡ Some (codes "not built")
+refuses_unbuilt options none asks = ap (λ x. first_text x (cond (asks_for_unbuilt options) (Some (codes "not built")) None)) none ∙ ap (λ (b : Bool). cond b (Some (codes "not built")) NoText) asks
+
+pub refuses_expression : (options : Options) (text : List ℕ) → refused_expression options ≡ Some text → refused_text options ≡ Some text
+refuses_expression options text e = ap (λ x. first_text x (cond (asks_for_unbuilt options) (Some (codes "not built")) None)) e
+
+pub says_refused : (options : Options) (text : List ℕ) → refused_text options ≡ Some text → (files : List File) → rules.SaysOfOptions HoldsSource profile options [] files (refusal text)
+says_refused options text e files =
+    let P : Option (List ℕ) → Type 0 =
+    λ x. MatchOption x (rules.SaysOfFiles HoldsSource profile options [] (rules.files_for HoldsSource profile options.generated files) (refusal text)) (λ t. (NoGroups ≡ NoGroups) × (refusal text ≡ refusal t)) in
+    subst P (sym e) (refl, refl)
+
+none_asked : (x : Option (ℕ × ℕ)) → is_some x ≡ false → x ≡ None
+none_asked None e = refl
+none_asked (Some asked) e = absurd (cc)
+
+none_in : (a b c : Bool) → (a || (b || c)) ≡ false → c ≡ false
+none_in false false c e = e
+none_in false true c e = absurd (cc)
+none_in true b c e = absurd (cc)
+
+pub none_generated : (options : Options) → asks_for_unbuilt options ≡ false → options.generated ≡ None
+unfolding asks_for_unbuilt
+none_generated options e = none_asked options.generated (none_in _ _ (is_some options.generated) e)
+
+pub says_run : (options : Options) → refused_text options ≡ None → (files : List File) (answer : Answer) → rules.SaysOfFiles HoldsSource profile options [] files answer → rules.SaysOfOptions HoldsSource profile options [] files answer
+says_run options e files answer said =
+    let given : rules.files_for HoldsSource profile options.generated files ≡ files = ap (λ x. rules.files_for HoldsSource profile x files) (none_generated options (built_by options e)) in
+    let P : Option (List ℕ) → Type 0 =
+    λ x. MatchOption x (rules.SaysOfFiles HoldsSource profile options [] (rules.files_for HoldsSource profile options.generated files) answer) (λ t. (NoGroups ≡ NoGroups) × (answer ≡ refusal t)) in
+    subst P (sym e) (subst (λ fs. rules.SaysOfFiles HoldsSource profile options [] fs answer) (sym given) said)
+
+-- WORDS
+by_words : (words : List (List ℕ)) (files : List File) (answer : Answer) → info_of words ≡ None → rules.SaysOfWords HoldsSource profile [] words files answer → rules.IsReport HoldsSource profile words files answer
+by_words words files answer none said =
+    let P : Option Info → Type 0 =
+    λ x. MatchOption x (rules.SaysOfWords HoldsSource profile [] words files answer) (λ info. (NoGroups ≡ NoGroups) × (answer ≡ info_answer info)) in
+    ([], subst P (sym none) said)
+
+abbrev SaysOfRead : List File → Answer → Result Options UsageFault → Type 0
+SaysOfRead files answer x = MatchResult x (λ options. rules.SaysOfOptions HoldsSource profile options [] files answer) (λ fault. (NoGroups ≡ NoGroups) × (answer ≡ refusal (usage_text fault)))
+
+pub says_options : (words : List (List ℕ)) (options : Options) → info_of words ≡ None → options_of words ≡ Ok options
+    → (files : List File) (answer : Answer) → rules.SaysOfOptions HoldsSource profile options [] files answer → rules.IsReport HoldsSource profile words files answer
+says_options words options none read files answer said = by_words words files answer none (subst (SaysOfRead files answer) (sym read) said)
+
+pub says_fault : (words : List (List ℕ)) (fault : UsageFault) → info_of words ≡ None → options_of words ≡ Err fault
+    → (files : List File) → rules.IsReport HoldsSource profile words files (refusal (usage_text fault))
+says_fault words fault none read files = by_words words files (refusal (usage_text fault)) none (subst (SaysOfRead files (refusal (usage_text fault))) (sym read) (refl, refl))
+
+pub says_info : (words : List (List ℕ)) (info : Info) → info_of words ≡ Some info → (files : List File) → rules.IsReport HoldsSource profile words files (info_answer info)
+says_info words info asked files =
+    let P : Option Info → Type 0 =
+    λ x. MatchOption x (rules.SaysOfWords HoldsSource profile [] words files (info_answer info)) (λ i. (NoGroups ≡ NoGroups) × (info_answer info ≡ info_answer i)) in
+    ([], subst P (sym asked) (refl, refl))

@@ -1,0 +1,43 @@
+-- THE LANGUAGE OF A RUN: what the report asks of it, put together.
+use Rattle.std.specs.Prelude.{ℕ, List, [], Option, None, Some, codes, if◌then◌else◌}
+use Rattle.cli_words.specs.declared.options.Options.{Options}
+use Rattle.collect_tree.specs.Collection.{collect}
+use Rattle.edge_io.specs.Files.{File}
+use Rattle.file_source.specs.Sources.{ReadSource}
+use Rattle.report_rules.specs.Collected.{FixtureTexts, Profile}
+use Rattle.runtest_rules.specs.Language.{python}
+use Rattle.runtest_rules.specs.Rules.{rules}
+use Rattle.runtest_rules.specs.declared.item.Item.{Item}
+use Rattle.selection.specs.Exprs.{refused_expression}
+use Rattle.selection.specs.Unbuilt.{asks_for_unbuilt}
+
+-- the first of two texts
+abbrev pub first_text : Option (List ℕ) → Option (List ℕ) → Option (List ℕ)
+first_text (Some text) later = Some text
+first_text None later = later
+
+-- what is said of options that ask for what isn't built
+abbrev pub unbuilt_text : Options → Option (List ℕ)
+unbuilt_text options = if asks_for_unbuilt options then Some (codes "not built") else None
+
+-- the usage text of options that are refused: for a wrong expression, and then for what isn't built
+abbrev pub refused_text : Options → Option (List ℕ)
+refused_text options = first_text (refused_expression options) (unbuilt_text options)
+
+-- words that ask for generated files are refused, so there are none
+abbrev pub no_files : ℕ → ℕ → List File
+no_files seed count = []
+
+-- no test has a fixture
+abbrev pub no_fixture : List Item → ℕ → FixtureTexts
+no_fixture items definition = record { name = []; arguments = [] }
+
+-- pytest over our language: the words that it refuses, its collection, and what its tests do
+abbrev pub profile : Profile python ReadSource (List Item)
+profile = record {
+  refused = refused_text;
+  generated = no_files;
+  collect = collect;
+  rules = rules;
+  fixture = no_fixture;
+}

@@ -1,0 +1,5 @@
+pub mod Selected
+pub mod Phases
+pub mod Ran
+pub mod Course
+pub mod Run

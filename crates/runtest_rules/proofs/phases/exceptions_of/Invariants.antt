@@ -1,0 +1,7 @@
+use Rattle.std.proofs.Common.{◌≡◌, ◌++◌, drop}
+use Rattle.std.specs.Prelude.{map}
+use Rattle.runtest_rules.specs.Failures.{exception_of}
+use Rattle.runtest_rules.proofs.phases.exceptions_of.Given as goal
+
+abbrev pub invariant-loop-failure : goal.invariant-loop-failure
+invariant-loop-failure l = l.values.items ++ map exception_of (drop l.failure-index l.raised) ≡ map exception_of l.raised

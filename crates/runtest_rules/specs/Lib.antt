@@ -1,0 +1,6 @@
+pub mod Items
+pub mod Language
+pub mod Objects
+pub mod Failures
+pub mod Phases
+pub mod Rules

@@ -1,0 +1,3 @@
+pub mod Exprs
+pub mod Reading
+pub mod Unbuilt
