@@ -1,7 +1,7 @@
 -- The lowered forms of handlers and guards, for the tactics.
 use Rattle.std.proofs.Common.{◌≡◌, ℕ, List, [], ◌∷◌, ◌++◌, Option, refl, sym, ap, ◌∙◌, subst, ◌+◌, ◌<◌, ◌≤◌, length, take, get_or, Vec}
 use Rattle.std.proofs.lemmas.List.{take_more, take_all}
-use Rattle.std.specs.Prelude.{false as plain}
+use Rattle.std.specs.Prelude.{Bool}
 use Rattle.std.specs.declared.alloc.Global.{Global}
 use Rattle.std.specs.declared.rc.Rc.{Rc}
 use Rattle.py_tree.specs.declared.stmt.Handler as handler
@@ -29,18 +29,18 @@ handler_rolled before h = ap (λ b. st.Handler before (out-Handler h).at (some_t
 handler_is : (before : Handlers) (h : Handler) → handlers_behind before (h ∷ []) ≡ st.Handler before (out-Handler h).at (some_tree (out-Handler h).class) (out-Handler h).name (block (out-Handler h).body.value.items)
 handler_is before h = subst (λ y. handlers_behind before (y ∷ []) ≡ st.Handler before (out-Handler h).at (some_tree (out-Handler h).class) (out-Handler h).name (block (out-Handler h).body.value.items)) (roll-out-Handler h) (handler_rolled before h)
 
-handler_made : (class : Maybe) (name : Option (List ℕ)) (body : Block) (x : Option (Rc CoreExpr Global)) (ys : Rc CoreBlock Global) → LoweredSome class x → LoweredBody plain (listed body) ys.value → LoweredHandlers plain (catch_at class name body ∷ []) (roll-CoreHandler (record { class = x; name = name; body = ys }) ∷ [])
+handler_made : (z : Bool) (class : Maybe) (name : Option (List ℕ)) (body : Block) (x : Option (Rc CoreExpr Global)) (ys : Rc CoreBlock Global) → LoweredSome class x → LoweredBody z (listed body) ys.value → LoweredHandlers z (catch_at class name body ∷ []) (roll-CoreHandler (record { class = x; name = name; body = ys }) ∷ [])
 unfolding roll-CoreHandler denote.Hole.Carrier.roll
-handler_made class name body x ys h g = low.LoweredHandlers.handles name h g low.LoweredHandlers.unhandled
+handler_made z class name body x ys h g = low.LoweredHandlers.handles name h g low.LoweredHandlers.unhandled
 
-pub handler_form : (h : Handler) (x : Option (Rc CoreExpr Global)) (copy : Option (List ℕ)) (ys : Rc CoreBlock Global) → LowersSome (out-Handler h).class x → copy ≡ (out-Handler h).name → LowersBody (out-Handler h).body.value.items ys.value → LowersHandlers (h ∷ []) (roll-CoreHandler (record { class = x; name = copy; body = ys }) ∷ [])
-handler_form h x copy ys f same g =
-    rw same (record { by = subst (λ t. BuiltHandlers t → LoweredHandlers plain (handlers_listed t) (roll-CoreHandler (record { class = x; name = (out-Handler h).name; body = ys }) ∷ [])) (sym (handler_is NoHandler h)) (λ t. handler_made _ _ _ x ys (f.by t.1) (g.by t.2)) })
+pub handler_form : (z : Bool) (h : Handler) (x : Option (Rc CoreExpr Global)) (copy : Option (List ℕ)) (ys : Rc CoreBlock Global) → LowersSome (out-Handler h).class x → copy ≡ (out-Handler h).name → LowersBody z (out-Handler h).body.value.items ys.value → LowersHandlers z (h ∷ []) (roll-CoreHandler (record { class = x; name = copy; body = ys }) ∷ [])
+handler_form z h x copy ys f same g =
+    rw same (record { by = subst (λ t. BuiltHandlers t → LoweredHandlers z (handlers_listed t) (roll-CoreHandler (record { class = x; name = (out-Handler h).name; body = ys }) ∷ [])) (sym (handler_is NoHandler h)) (λ t. handler_made z _ _ _ x ys (f.by t.1) (g.by t.2)) })
 
 pub ruleset handler_forms = (handler_form)
 
 -- handlers, the first one first
-handlers_push : {hs : List Catch} {xs : List CoreHandler} {gs : List Catch} {ys : List CoreHandler} → LoweredHandlers plain hs xs → LoweredHandlers plain gs ys → LoweredHandlers plain (hs ++ gs) (xs ++ ys)
+handlers_push : {z : Bool} {hs : List Catch} {xs : List CoreHandler} {gs : List Catch} {ys : List CoreHandler} → LoweredHandlers z hs xs → LoweredHandlers z gs ys → LoweredHandlers z (hs ++ gs) (xs ++ ys)
 handlers_push low.LoweredHandlers.unhandled h = h
 handlers_push (low.LoweredHandlers.handles name f g rest) h = low.LoweredHandlers.handles name f g (handlers_push rest h)
 
@@ -48,20 +48,20 @@ behind_handlers : (before : Handlers) (all : List Handler) (h : Handler) → han
 behind_handlers before [] h = refl
 behind_handlers before (handler.Handler' at class name p n body ∷ rest) h = behind_handlers (handlers_behind before (handler.Handler' at class name p n body ∷ [])) rest h
 
-handlers_last : (all : List Handler) (xs : List CoreHandler) (h : Handler) (x : CoreHandler) → LowersHandlers all xs → LowersHandlers (h ∷ []) (x ∷ []) → LowersHandlers (all ++ h ∷ []) (xs ++ x ∷ [])
-handlers_last all xs h x f g =
-    let one : BuiltHandlers (st.Handler NoHandler (out-Handler h).at (some_tree (out-Handler h).class) (out-Handler h).name (block (out-Handler h).body.value.items)) → LoweredHandlers plain (catch_at (some_tree (out-Handler h).class) (out-Handler h).name (block (out-Handler h).body.value.items) ∷ []) (x ∷ []) = subst (λ t. BuiltHandlers t → LoweredHandlers plain (handlers_listed t) (x ∷ [])) (handler_is NoHandler h) g.by in
-    record { by = subst (λ t. BuiltHandlers t → LoweredHandlers plain (handlers_listed t) (xs ++ x ∷ [])) (sym (behind_handlers NoHandler all h ∙ handler_is (handlers all) h)) (λ t. handlers_push (f.by t.0) (one (tt, t.1, t.2))) }
+handlers_last : (z : Bool) (all : List Handler) (xs : List CoreHandler) (h : Handler) (x : CoreHandler) → LowersHandlers z all xs → LowersHandlers z (h ∷ []) (x ∷ []) → LowersHandlers z (all ++ h ∷ []) (xs ++ x ∷ [])
+handlers_last z all xs h x f g =
+    let one : BuiltHandlers (st.Handler NoHandler (out-Handler h).at (some_tree (out-Handler h).class) (out-Handler h).name (block (out-Handler h).body.value.items)) → LoweredHandlers z (catch_at (some_tree (out-Handler h).class) (out-Handler h).name (block (out-Handler h).body.value.items) ∷ []) (x ∷ []) = subst (λ t. BuiltHandlers t → LoweredHandlers z (handlers_listed t) (x ∷ [])) (handler_is NoHandler h) g.by in
+    record { by = subst (λ t. BuiltHandlers t → LoweredHandlers z (handlers_listed t) (xs ++ x ∷ [])) (sym (behind_handlers NoHandler all h ∙ handler_is (handlers all) h)) (λ t. handlers_push (f.by t.0) (one (tt, t.1, t.2))) }
 
 -- one more handler is lowered
-pub handlers_more : (all : List Handler) (xs : List CoreHandler) (i : ℕ) (h : Handler) (x : CoreHandler) → i < length all → h ≡ get_or all i h → LowersHandlers (take i all) xs → LowersHandlers (h ∷ []) (x ∷ []) → LowersHandlers (take (i + 1) all) (xs ++ x ∷ [])
-handlers_more all xs i h x lt is done f = rw (take_more all i h lt, ← is) (handlers_last (take i all) xs h x done f)
+pub handlers_more : (z : Bool) (all : List Handler) (xs : List CoreHandler) (i : ℕ) (h : Handler) (x : CoreHandler) → i < length all → h ≡ get_or all i h → LowersHandlers z (take i all) xs → LowersHandlers z (h ∷ []) (x ∷ []) → LowersHandlers z (take (i + 1) all) (xs ++ x ∷ [])
+handlers_more z all xs i h x lt is done f = rw (take_more all i h lt, ← is) (handlers_last z (take i all) xs h x done f)
 
-pub handlers_none : (xs : List CoreHandler) → xs ≡ [] → LowersHandlers [] xs
-handlers_none xs is = subst (λ xs. LowersHandlers [] xs) (sym is) (record { by = λ b. low.LoweredHandlers.unhandled })
+pub handlers_none : (z : Bool) (xs : List CoreHandler) → xs ≡ [] → LowersHandlers z [] xs
+handlers_none z xs is = subst (λ xs. LowersHandlers z [] xs) (sym is) (record { by = λ b. low.LoweredHandlers.unhandled })
 
-pub handlers_all : (all : List Handler) (i : ℕ) (done : List CoreHandler) → length all ≤ i → LowersHandlers (take i all) done → LowersHandlers all done
-handlers_all all i done le h = subst (λ all. LowersHandlers all done) (take_all i all le) h
+pub handlers_all : (z : Bool) (all : List Handler) (i : ℕ) (done : List CoreHandler) → length all ≤ i → LowersHandlers z (take i all) done → LowersHandlers z all done
+handlers_all z all i done le h = subst (λ all. LowersHandlers z all done) (take_all i all le) h
 
 pub ruleset handler_lists = (handlers_more, handlers_none, handlers_all)
 
@@ -75,6 +75,6 @@ guards_form source cores x y g is = rw is (guards_rolled source cores x y)
 
 pub ruleset guards = (guards_form)
 
-pub guard_made : (all source : List Handler) (other last : Block) (cores : List CoreHandler) (x y : CoreBlock) (g : CoreGuard) → source ≡ all → Guards source cores x y g → LoweredHandlers plain (handlers_listed (handlers all)) cores → LoweredBody plain (listed other) x → LoweredBody plain (listed last) y → LoweredGuard plain (handlers all) (listed other) (listed last) g
-guard_made all source other last cores x y g same is h f e =
-    low.LoweredGuard.guard (ap handlers (is.source ∙ same)) (subst (λ xs. LoweredHandlers plain (handlers_listed (handlers all)) xs) (sym is.cores) h) (subst (λ b. LoweredBody plain (listed other) b) (sym is.other) f) (subst (λ b. LoweredBody plain (listed last) b) (sym is.last) e)
+pub guard_made : (z : Bool) (all source : List Handler) (other last : Block) (cores : List CoreHandler) (x y : CoreBlock) (g : CoreGuard) → source ≡ all → Guards source cores x y g → LoweredHandlers z (handlers_listed (handlers all)) cores → LoweredBody z (listed other) x → LoweredBody z (listed last) y → LoweredGuard z (handlers all) (listed other) (listed last) g
+guard_made z all source other last cores x y g same is h f e =
+    low.LoweredGuard.guard (ap handlers (is.source ∙ same)) (subst (λ xs. LoweredHandlers z (handlers_listed (handlers all)) xs) (sym is.cores) h) (subst (λ b. LoweredBody z (listed other) b) (sym is.other) f) (subst (λ b. LoweredBody z (listed last) b) (sym is.last) e)

@@ -8,8 +8,10 @@ use Rattle.py_tree.specs.declared.stmt.StmtKind.{StmtKind}
 use Rattle.py_tree.specs.declared.stmt.StmtKind.TheVariants as w
 use Rattle.assert_rewrite.specs.declared.groups.ExprGroup.{ExprGroup}
 use Rattle.assert_rewrite.specs.declared.groups.ExprGroup.TheVariants.{Leaf, Operator, Chain, Container}
+use Rattle.assert_rewrite.specs.declared.groups.WatchGroup.{WatchGroup}
+use Rattle.assert_rewrite.specs.declared.groups.WatchGroup.TheVariants.{Whole, Between, Row, Came}
 use Rattle.assert_rewrite.specs.declared.groups.StmtGroup.{StmtGroup}
-use Rattle.assert_rewrite.specs.declared.groups.StmtGroup.TheVariants.{Simple, Naming, Compound, Missing}
+use Rattle.assert_rewrite.specs.declared.groups.StmtGroup.TheVariants.{Simple, Naming, Yielding, Compound}
 
 abbrev pub expr_group : ExprKind → ExprGroup
 expr_group (v.Name name) = Leaf
@@ -34,13 +36,37 @@ expr_group (e.And' p a x q n row) = Chain
 expr_group (e.Or' p a x q n row) = Chain
 expr_group (e.IfElse' p a x q b y r c z) = Operator
 
+-- the groups of the forms of a condition that is explained
+abbrev pub watch_group : ExprKind → WatchGroup
+watch_group (v.Name name) = Whole
+watch_group (v.Number n) = Whole
+watch_group (v.Text text) = Whole
+watch_group v.True = Whole
+watch_group v.False = Whole
+watch_group v.None = Whole
+watch_group (e.Paren' p a x) = Between
+watch_group (e.Tuple' p n row) = Whole
+watch_group (e.List' p n row) = Whole
+watch_group (e.Dict' p n keys q m row) = Whole
+watch_group (e.Attribute' p a x name) = Came
+watch_group (e.Call' p a x q n row names) = Came
+watch_group (e.Subscript' p a x q b y) = Whole
+watch_group (e.Slice' p a x from to by) = Whole
+watch_group (e.Unary' op p a x) = Between
+watch_group (e.Binary' p a x op q b y) = Between
+watch_group (e.Compare' p a x ops q n row) = Row
+watch_group (e.Not' p a x) = Between
+watch_group (e.And' p a x q n row) = Row
+watch_group (e.Or' p a x q n row) = Row
+watch_group (e.IfElse' p a x q b y r c z) = Whole
+
 abbrev pub stmt_group : StmtKind → StmtGroup
 stmt_group (w.Expr x) = Simple
 stmt_group (w.Assign ts x) = Simple
-stmt_group (w.AssignYield ts y) = Missing
+stmt_group (w.AssignYield ts y) = Yielding
 stmt_group (w.AugAssign t op x) = Simple
 stmt_group (w.Return x) = Simple
-stmt_group (w.ReturnYield y) = Missing
+stmt_group (w.ReturnYield y) = Yielding
 stmt_group (w.Raise x) = Simple
 stmt_group (w.Assert x message) = Simple
 stmt_group (w.Del t) = Simple
@@ -48,7 +74,7 @@ stmt_group (w.Global names) = Naming
 stmt_group w.Pass = Simple
 stmt_group w.Break = Simple
 stmt_group w.Continue = Simple
-stmt_group (w.Yield y) = Missing
+stmt_group (w.Yield y) = Yielding
 stmt_group (w.Import names alias) = Naming
 stmt_group (w.ImportFrom names all) = Naming
 stmt_group (s.If' p n branches q m other) = Compound

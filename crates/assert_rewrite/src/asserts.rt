@@ -1,12 +1,12 @@
-ghost use Rattle.std.specs.Prelude.{IfOk, ◌≡◌, ◌∷◌, []};
+ghost use Rattle.std.specs.Prelude.{IfOk, ◌≡◌, ◌∷◌, [], true as explained, false as plain};
 ghost use Rattle.py_tree.specs.declared.stmt.StmtKind.TheVariants as source;
 ghost use Rattle.assert_rewrite.specs.Lowers.{LowersStatement, EmptyBranch};
 ghost use Rattle.lower_law.specs.Lowered.{core_at};
 ghost use Rattle.py_core.specs.Blocks.{stmts_in};
 ghost use Rattle.py_core.specs.declared.stmt.CoreStmtKind.TheVariants as core;
-ghost use Rattle.py_core.specs.declared.stmt.Template.TheVariants.{Plain};
 
 use crate::expressions::{lower_expr, lower_some};
+use crate::watched::watch_expr;
 use py_core::{CoreBlock, CoreBranch, CoreExpr, CoreStmt, CoreStmtKind, Template};
 use py_text::OutOfMemory;
 use py_tree::{Expr, Pos};
@@ -50,28 +50,67 @@ fn empty_branch(
 fn failure(
     alloc: Global,
     at: Pos,
+    shown: Template,
     message: Option<Rc<CoreExpr>>,
 ) -> Result<Rc<CoreBlock>, OutOfMemory>
-    ensures { IfOk result (λ b. stmts_in b.value ≡ core_at at (core.FailWith Plain message) ∷ []) }
+    ensures { IfOk result (λ b. stmts_in b.value ≡ core_at at (core.FailWith shown message) ∷ []) }
 {
     let mut stmts = Vec::new(alloc);
-    let kind = CoreStmtKind::FailWith(Template::Plain, message);
+    let kind = CoreStmtKind::FailWith(shown, message);
     stmts.push(CoreStmt { at, kind })?;
     bare_block(alloc, stmts)
+}
+
+/// The core form of an assert that shows nothing beside its message.
+#[tactic(auto, using(crate::proofs::SimpleForms::plains))]
+fn plain_assert(
+    alloc: Global,
+    at: Pos,
+    condition: &Rc<Expr>,
+    message: &Option<Rc<Expr>>,
+) -> Result<CoreStmtKind, OutOfMemory>
+    ensures { IfOk result (λ made. LowersStatement plain at (source.Assert condition.now message.now) made) }
+{
+    let core = lower_expr(alloc, condition)?;
+    let message = lower_some(alloc, message)?;
+    let branches = empty_branch(alloc, at, core)?;
+    let other = failure(alloc, at, Template::Plain, message)?;
+    Ok(CoreStmtKind::If(branches, other))
+}
+
+/// The core form of an assert that shows its condition, whose parts are kept.
+#[tactic(auto, using(crate::proofs::SimpleForms::explaineds))]
+fn explained_assert(
+    alloc: Global,
+    at: Pos,
+    condition: &Rc<Expr>,
+    message: &Option<Rc<Expr>>,
+) -> Result<CoreStmtKind, OutOfMemory>
+    ensures { IfOk result (λ made. LowersStatement explained at (source.Assert condition.now message.now) made) }
+{
+    let mut next = 0;
+    let core = watch_expr(alloc, condition, &mut next)?;
+    let message = lower_some(alloc, message)?;
+    let branches = empty_branch(alloc, at, core)?;
+    let shown = condition.clone()?;
+    let other = failure(alloc, at, Template::Explain(shown), message)?;
+    Ok(CoreStmtKind::If(branches, other))
 }
 
 /// The core form of an assert at a place: an `if` there that does nothing, whose `else` is the failure.
 #[tactic(auto, using(crate::proofs::SimpleForms::asserts))]
 pub fn lower_assert(
     alloc: Global,
+    explains: bool,
     at: Pos,
     condition: &Rc<Expr>,
     message: &Option<Rc<Expr>>,
 ) -> Result<CoreStmtKind, OutOfMemory>
-    ensures { IfOk result (λ made. LowersStatement at (source.Assert condition.now message.now) made) }
+    ensures { IfOk result (λ made. LowersStatement explains at (source.Assert condition.now message.now) made) }
 {
-    let condition = lower_expr(alloc, condition)?;
-    let message = lower_some(alloc, message)?;
-    let branches = empty_branch(alloc, at, condition)?;
-    Ok(CoreStmtKind::If(branches, failure(alloc, at, message)?))
+    if explains {
+        explained_assert(alloc, at, condition, message)
+    } else {
+        plain_assert(alloc, at, condition, message)
+    }
 }

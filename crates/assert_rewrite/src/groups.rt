@@ -42,14 +42,48 @@ pub fn expr_group(kind: &ExprKind) -> ExprGroup
     }
 }
 
-/// A group of forms of statements: simple ones, of these those that are made of names alone, compound ones, and those that the language
-/// doesn't have yet.
+/// A group of forms of a condition that is explained: those whose value alone is shown; those with one operator and those with a row
+/// of operands, which are shown by their parts; and calls and attributes, which are shown by their value and their parts.
+#[derive(Clone, Copy, Debug, PartialEq, Eq)]
+pub enum WatchGroup {
+    Whole,
+    Between,
+    Row,
+    Came,
+}
+
+/// The group of a form of a condition that is explained.
+pub fn watch_group(kind: &ExprKind) -> WatchGroup
+    ensures { result ≡ groups.watch_group kind.now }
+{
+    match kind {
+        ExprKind::Name(_)
+        | ExprKind::Number(_)
+        | ExprKind::Text(_)
+        | ExprKind::True
+        | ExprKind::False
+        | ExprKind::None
+        | ExprKind::Tuple(_)
+        | ExprKind::List(_)
+        | ExprKind::Dict(_, _)
+        | ExprKind::Subscript(_, _)
+        | ExprKind::Slice(_, _, _, _)
+        | ExprKind::IfElse(_, _, _) => WatchGroup::Whole,
+        ExprKind::Paren(_) | ExprKind::Unary(_, _) | ExprKind::Binary(_, _, _) | ExprKind::Not(_) =>
+            WatchGroup::Between,
+        ExprKind::Compare(_, _, _) | ExprKind::And(_, _) | ExprKind::Or(_, _) => WatchGroup::Row,
+        ExprKind::Call(_, _, _) | ExprKind::Attribute(_, _) => WatchGroup::Came,
+    }
+}
+
+/// A group of forms of statements: simple ones, of these those that are made of names alone and those with a `yield`, and compound
+/// ones.
 #[derive(Clone, Copy, Debug, PartialEq, Eq)]
 pub enum StmtGroup {
     Simple,
     Naming,
+    Yielding,
     Compound,
-    Missing,
 }
 
 /// The group of a form of a statement.
@@ -78,7 +112,7 @@ pub fn stmt_group(kind: &StmtKind) -> StmtGroup
         | StmtKind::Def(_)
         | StmtKind::Class(_) => StmtGroup::Compound,
         StmtKind::AssignYield(_, _) | StmtKind::ReturnYield(_) | StmtKind::Yield(_) => {
-            StmtGroup::Missing
+            StmtGroup::Yielding
         }
     }
 }

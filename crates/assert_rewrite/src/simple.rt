@@ -23,9 +23,9 @@ pub fn copy_name(name: &Option<SrcText>) -> Result<Option<SrcText>, OutOfMemory>
 
 /// The core form of a simple statement.
 #[tactic(auto, using(crate::proofs::SimpleForms::forms))]
-pub fn lower_simple(alloc: Global, stmt: &Stmt) -> Result<CoreStmtKind, OutOfMemory>
+pub fn lower_simple(alloc: Global, explains: bool, stmt: &Stmt) -> Result<CoreStmtKind, OutOfMemory>
     requires { groups.stmt_group stmt.now.kind ≡ StmtGroup.Simple }
-    ensures { IfOk result (λ made. LowersStatement stmt.now.at stmt.now.kind made) }
+    ensures { IfOk result (λ made. LowersStatement explains stmt.now.at stmt.now.kind made) }
 {
     match &stmt.kind {
         StmtKind::Expr(e) => Ok(CoreStmtKind::Expr(lower_expr(alloc, e)?)),
@@ -39,7 +39,9 @@ pub fn lower_simple(alloc: Global, stmt: &Stmt) -> Result<CoreStmtKind, OutOfMem
         }
         StmtKind::Return(value) => Ok(CoreStmtKind::Return(lower_some(alloc, value)?)),
         StmtKind::Raise(value) => Ok(CoreStmtKind::Raise(lower_some(alloc, value)?)),
-        StmtKind::Assert(condition, message) => lower_assert(alloc, stmt.at, condition, message),
+        StmtKind::Assert(condition, message) => {
+            lower_assert(alloc, explains, stmt.at, condition, message)
+        }
         StmtKind::Del(single) => Ok(CoreStmtKind::Del(lower_single(alloc, single)?)),
         StmtKind::Pass => Ok(CoreStmtKind::Pass),
         StmtKind::Break => Ok(CoreStmtKind::Break),
@@ -50,9 +52,9 @@ pub fn lower_simple(alloc: Global, stmt: &Stmt) -> Result<CoreStmtKind, OutOfMem
 
 /// The core form of a statement that is made of names alone.
 #[tactic(auto, using(crate::proofs::SimpleForms::namings))]
-pub fn lower_naming(alloc: Global, stmt: &Stmt) -> Result<CoreStmtKind, OutOfMemory>
+pub fn lower_naming(alloc: Global, explains: bool, stmt: &Stmt) -> Result<CoreStmtKind, OutOfMemory>
     requires { groups.stmt_group stmt.now.kind ≡ StmtGroup.Naming }
-    ensures { IfOk result (λ made. LowersStatement stmt.now.at stmt.now.kind made) }
+    ensures { IfOk result (λ made. LowersStatement explains stmt.now.at stmt.now.kind made) }
 {
     match &stmt.kind {
         StmtKind::Global(names) => Ok(CoreStmtKind::Global(names.clone()?)),

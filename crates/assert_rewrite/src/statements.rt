@@ -7,6 +7,7 @@ use crate::groups::{StmtGroup, stmt_group};
 use crate::parameters::{core_params, lower_defaults};
 use crate::simple::{copy_name, lower_naming, lower_simple};
 use crate::targets::lower_target;
+use crate::yields::lower_yield;
 use py_core::{
     CoreBlock, CoreBranch, CoreClass, CoreFn, CoreGuard, CoreHandler, CoreStmt, CoreStmtKind,
 };
@@ -38,90 +39,93 @@ fn guard(
 /// The core code of statements, in their order.
 #[cycle(block)]
 #[tactic(auto, using(crate::proofs::StatementForms::blocks))]
-fn lower_block(alloc: Global, stmts: &[Stmt]) -> Result<Vec<CoreStmt>, OutOfMemory>
-    ensures { IfOk result (λ cores. LowersBlock stmts.now cores.items) }
+fn lower_block(alloc: Global, explains: bool, stmts: &[Stmt]) -> Result<Vec<CoreStmt>, OutOfMemory>
+    ensures { IfOk result (λ cores. LowersBlock explains stmts.now cores.items) }
 {
     let mut done = Vec::new(alloc);
     for stmt in stmts {
-        let kind = lower_statement(alloc, stmt)?;
+        let kind = lower_statement(alloc, explains, stmt)?;
         done.push(CoreStmt { at: stmt.at, kind })?;
     }
     Ok(done)
 }
 
-/// The core block of a block of the source.
+/// The core block of a block of the source, and whether asserts are explained there.
 #[cycle(block)]
 #[tactic(auto, using(crate::proofs::StatementForms::bodies))]
-pub fn lower_body(alloc: Global, stmts: &Rc<Vec<Stmt>>) -> Result<Rc<CoreBlock>, OutOfMemory>
-    ensures carried { IfOk result (λ b. Carries stmts.now.value.items b.value) }
-    ensures lowered { IfOk result (λ b. LowersBody stmts.now.value.items b.value) }
+pub fn lower_body(
+    alloc: Global,
+    explains: bool,
+    stmts: &Rc<Vec<Stmt>>,
+) -> Result<Rc<CoreBlock>, OutOfMemory>
+    ensures carried { IfOk result (λ b. Carries explains stmts.now.value.items b.value) }
+    ensures lowered { IfOk result (λ b. LowersBody explains stmts.now.value.items b.value) }
 {
     let block = CoreBlock {
         source: stmts.clone()?,
-        explains: false,
-        stmts: lower_block(alloc, stmts)?,
+        explains,
+        stmts: lower_block(alloc, explains, stmts)?,
     };
     Ok(Rc::new(alloc, block)?)
 }
 
-/// The core form of a statement. `pass` stands for a form that the language doesn't have yet.
+/// The core form of a statement.
 #[cycle(block)]
-#[tactic(auto, using(crate::proofs::StatementForms::missing))]
-fn lower_statement(alloc: Global, stmt: &Stmt) -> Result<CoreStmtKind, OutOfMemory>
-    ensures { IfOk result (λ made. LowersStatement stmt.now.at stmt.now.kind made) }
+fn lower_statement(alloc: Global, explains: bool, stmt: &Stmt) -> Result<CoreStmtKind, OutOfMemory>
+    ensures { IfOk result (λ made. LowersStatement explains stmt.now.at stmt.now.kind made) }
 {
     match stmt_group(&stmt.kind) {
-        StmtGroup::Simple => lower_simple(alloc, stmt),
-        StmtGroup::Naming => lower_naming(alloc, stmt),
-        StmtGroup::Compound => lower_compound(alloc, stmt),
-        StmtGroup::Missing => Ok(CoreStmtKind::Pass),
+        StmtGroup::Simple => lower_simple(alloc, explains, stmt),
+        StmtGroup::Naming => lower_naming(alloc, explains, stmt),
+        StmtGroup::Yielding => lower_yield(alloc, explains, stmt),
+        StmtGroup::Compound => lower_compound(alloc, explains, stmt),
     }
 }
 
 /// The core form of a compound statement.
 #[cycle(block)]
 #[tactic(auto, using(crate::proofs::StatementForms::forms))]
-fn lower_compound(alloc: Global, stmt: &Stmt) -> Result<CoreStmtKind, OutOfMemory>
+fn lower_compound(alloc: Global, explains: bool, stmt: &Stmt) -> Result<CoreStmtKind, OutOfMemory>
     requires { groups.stmt_group stmt.now.kind ≡ StmtGroup.Compound }
-    ensures { IfOk result (λ made. LowersStatement stmt.now.at stmt.now.kind made) }
+    ensures { IfOk result (λ made. LowersStatement explains stmt.now.at stmt.now.kind made) }
 {
     match &stmt.kind {
         StmtKind::If(branches, other) => {
-            let branches = lower_branches(alloc, branches)?;
-            Ok(CoreStmtKind::If(branches, lower_body(alloc, other)?))
+            let branches = lower_branches(alloc, explains, branches)?;
+            Ok(CoreStmtKind::If(branches, lower_body(alloc, explains, other)?))
         }
         StmtKind::While(condition, body) => {
             let condition = lower_expr(alloc, condition)?;
-            Ok(CoreStmtKind::While(condition, lower_body(alloc, body)?))
+            Ok(CoreStmtKind::While(condition, lower_body(alloc, explains, body)?))
         }
         StmtKind::For(target, items, body) => {
             let target = Rc::new(alloc, lower_target(alloc, target)?)?;
             let items = lower_expr(alloc, items)?;
-            Ok(CoreStmtKind::For(target, items, lower_body(alloc, body)?))
+            Ok(CoreStmtKind::For(target, items, lower_body(alloc, explains, body)?))
         }
         StmtKind::Try(body, handlers, other, last) => {
-            let body = lower_body(alloc, body)?;
-            let cores = lower_handlers(alloc, handlers)?;
-            let other = lower_body(alloc, other)?;
-            let last = lower_body(alloc, last)?;
+            let body = lower_body(alloc, explains, body)?;
+            let cores = lower_handlers(alloc, explains, handlers)?;
+            let other = lower_body(alloc, explains, other)?;
+            let last = lower_body(alloc, explains, last)?;
             let guard = guard(alloc, handlers.clone()?, cores, other, last)?;
             Ok(CoreStmtKind::Try(body, guard))
         }
         StmtKind::With(context, name, body) => {
             let context = lower_expr(alloc, context)?;
             let name = copy_name(name)?;
-            Ok(CoreStmtKind::With(context, name, lower_body(alloc, body)?))
+            Ok(CoreStmtKind::With(context, name, lower_body(alloc, explains, body)?))
         }
         StmtKind::Def(function) => {
             let decorators = lower_each(alloc, &function.decorators)?;
             let defaults = lower_defaults(alloc, &function.params)?;
-            let function = lower_function(alloc, function)?;
+            let function = lower_function(alloc, explains, function)?;
             Ok(CoreStmtKind::Def(decorators, defaults, Rc::new(alloc, function)?))
         }
         StmtKind::Class(class) => {
             let decorators = lower_each(alloc, &class.decorators)?;
             let base = lower_some(alloc, &class.base)?;
-            let class = lower_class(alloc, class)?;
+            let class = lower_class(alloc, explains, class)?;
             Ok(CoreStmtKind::Class(decorators, base, Rc::new(alloc, class)?))
         }
         _ => unreachable!(),
@@ -131,12 +135,16 @@ fn lower_compound(alloc: Global, stmt: &Stmt) -> Result<CoreStmtKind, OutOfMemor
 /// The core forms of branches, in their order.
 #[cycle(block)]
 #[tactic(auto, using(crate::proofs::StatementForms::branch_lists))]
-fn lower_branches(alloc: Global, all: &[Branch]) -> Result<Rc<Vec<CoreBranch>>, OutOfMemory>
-    ensures { IfOk result (λ cores. LowersBranches all.now cores.value.items) }
+fn lower_branches(
+    alloc: Global,
+    explains: bool,
+    all: &[Branch],
+) -> Result<Rc<Vec<CoreBranch>>, OutOfMemory>
+    ensures { IfOk result (λ cores. LowersBranches explains all.now cores.value.items) }
 {
     let mut done = Vec::new(alloc);
     for branch in all {
-        done.push(lower_branch(alloc, branch)?)?;
+        done.push(lower_branch(alloc, explains, branch)?)?;
     }
     Ok(Rc::new(alloc, done)?)
 }
@@ -144,11 +152,11 @@ fn lower_branches(alloc: Global, all: &[Branch]) -> Result<Rc<Vec<CoreBranch>>, 
 /// The core form of a branch, at its place.
 #[cycle(block)]
 #[tactic(auto, using(crate::proofs::StatementForms::branch_forms))]
-fn lower_branch(alloc: Global, branch: &Branch) -> Result<CoreBranch, OutOfMemory>
-    ensures { IfOk result (λ made. LowersBranches (branch.now ∷ []) (made ∷ [])) }
+fn lower_branch(alloc: Global, explains: bool, branch: &Branch) -> Result<CoreBranch, OutOfMemory>
+    ensures { IfOk result (λ made. LowersBranches explains (branch.now ∷ []) (made ∷ [])) }
 {
     let condition = lower_expr(alloc, &branch.condition)?;
-    let body = lower_body(alloc, &branch.body)?;
+    let body = lower_body(alloc, explains, &branch.body)?;
     Ok(CoreBranch {
         at: branch.at,
         condition,
@@ -159,12 +167,16 @@ fn lower_branch(alloc: Global, branch: &Branch) -> Result<CoreBranch, OutOfMemor
 /// The core forms of handlers, in their order.
 #[cycle(block)]
 #[tactic(auto, using(crate::proofs::HandlerForms::handler_lists))]
-fn lower_handlers(alloc: Global, all: &[Handler]) -> Result<Vec<CoreHandler>, OutOfMemory>
-    ensures { IfOk result (λ cores. LowersHandlers all.now cores.items) }
+fn lower_handlers(
+    alloc: Global,
+    explains: bool,
+    all: &[Handler],
+) -> Result<Vec<CoreHandler>, OutOfMemory>
+    ensures { IfOk result (λ cores. LowersHandlers explains all.now cores.items) }
 {
     let mut done = Vec::new(alloc);
     for handler in all {
-        done.push(lower_handler(alloc, handler)?)?;
+        done.push(lower_handler(alloc, explains, handler)?)?;
     }
     Ok(done)
 }
@@ -172,24 +184,32 @@ fn lower_handlers(alloc: Global, all: &[Handler]) -> Result<Vec<CoreHandler>, Ou
 /// The core form of a handler.
 #[cycle(block)]
 #[tactic(auto, using(crate::proofs::HandlerForms::handler_forms))]
-fn lower_handler(alloc: Global, handler: &Handler) -> Result<CoreHandler, OutOfMemory>
-    ensures { IfOk result (λ made. LowersHandlers (handler.now ∷ []) (made ∷ [])) }
+fn lower_handler(
+    alloc: Global,
+    explains: bool,
+    handler: &Handler,
+) -> Result<CoreHandler, OutOfMemory>
+    ensures { IfOk result (λ made. LowersHandlers explains (handler.now ∷ []) (made ∷ [])) }
 {
     let class = lower_some(alloc, &handler.class)?;
     let name = copy_name(&handler.name)?;
-    let body = lower_body(alloc, &handler.body)?;
+    let body = lower_body(alloc, explains, &handler.body)?;
     Ok(CoreHandler { class, name, body })
 }
 
 /// The core form of a function, where its `def` stands.
 #[cycle(block)]
 #[tactic(auto, using(crate::proofs::StatementForms::functions))]
-fn lower_function(alloc: Global, function: &Rc<Function>) -> Result<CoreFn, OutOfMemory>
-    ensures { IfOk result (λ made. LowersFunction function.now.value made) }
+fn lower_function(
+    alloc: Global,
+    explains: bool,
+    function: &Rc<Function>,
+) -> Result<CoreFn, OutOfMemory>
+    ensures { IfOk result (λ made. LowersFunction explains function.now.value made) }
 {
     let names = bindings_of(alloc, &function.params, &function.body)?;
     let params = core_params(alloc, &function.params)?;
-    let body = lower_body(alloc, &function.body)?;
+    let body = lower_body(alloc, explains, &function.body)?;
     let source = function.clone()?;
     Ok(CoreFn {
         source,
@@ -205,10 +225,10 @@ fn lower_function(alloc: Global, function: &Rc<Function>) -> Result<CoreFn, OutO
 /// The core form of a class, where its `class` stands.
 #[cycle(block)]
 #[tactic(auto, using(crate::proofs::StatementForms::classes))]
-fn lower_class(alloc: Global, class: &Rc<Class>) -> Result<CoreClass, OutOfMemory>
-    ensures { IfOk result (λ made. LowersClass class.now.value made) }
+fn lower_class(alloc: Global, explains: bool, class: &Rc<Class>) -> Result<CoreClass, OutOfMemory>
+    ensures { IfOk result (λ made. LowersClass explains class.now.value made) }
 {
-    let body = lower_body(alloc, &class.body)?;
+    let body = lower_body(alloc, explains, &class.body)?;
     Ok(CoreClass {
         at: class.at,
         name: class.name.clone()?,

@@ -35,7 +35,7 @@ options:
   --collect-only, --co     list the tests and run none
   -v, --verbose            write a line for each test
   --tb STYLE               tell of a failure: short (as without it), line, no
-  --setup-show             show how fixtures are set up (not built yet)
+  --setup-show             show how fixtures are set up
   -n, --numprocesses N     share the tests among N workers (not built yet)
   --dist MODE              share them by file: loadfile; run no worker: no
   --step-limit N           let a test take N steps, 1 to 100000000

@@ -2,4 +2,3 @@ pub mod Entries
 pub mod Numbers
 pub mod Places
 pub mod Steps
-pub mod NoNames

@@ -4,8 +4,8 @@ use Rattle.std.specs.List.{filter}
 use Rattle.cli_words.specs.declared.options.Options.{Options}
 use Rattle.collect_marks.specs.Names.{keyword_names, mark_names}
 use Rattle.py_values.specs.declared.object.Obj.{Obj}
-use Rattle.runtest_rules.specs.Items.{numbered_item}
-use Rattle.runtest_rules.specs.declared.item.Item.{Item}
+use Rattle.test_suite.specs.Suites.{numbered_item}
+use Rattle.test_suite.specs.declared.item.Item.{Item}
 use Rattle.selection.specs.Exprs.{is_selected}
 
 -- by the names of an item and of its marks

@@ -1,48 +1,90 @@
--- THE ITEMS OF A MODULE, in the order of its tests.
-use Rattle.std.specs.Prelude.{ℕ, List, [], ◌∷◌, Option, Some, None, chars, encode_utf8_all, map}
-use Rattle.collect_marks.specs.Given.{item_marks}
-use Rattle.collect_names.specs.Found.{test_functions, class_nodes}
+-- THE ITEMS of the tests, each with what its set-up demands.
+use Rattle.std.specs.Prelude.{ℕ, ◌+◌, List, [], ◌∷◌, None, chars, encode_utf8_all, length, map}
+use Rattle.collect_fixtures.specs.Arguments.{defined_at}
+use Rattle.collect_fixtures.specs.Closures.{item_asks, item_closure}
+use Rattle.collect_fixtures.specs.Definitions.{all_definitions}
+use Rattle.collect_fixtures.specs.Tables.{all_names, table_of}
+use Rattle.collect_fixtures.specs.Tests.{all_tests}
+use Rattle.collect_fixtures.specs.Tree.{all_folders, classes_of, outer_nodes, placed_files}
+use Rattle.collect_fixtures.specs.declared.found.Definition.{Definition}
+use Rattle.collect_fixtures.specs.declared.found.FoundTest.{FoundTest}
+use Rattle.collect_fixtures.specs.declared.found.PlacedFile.{PlacedFile}
+use Rattle.collect_fixtures.specs.declared.test_file.TestFile.{TestFile}
 use Rattle.collect_names.specs.Ids.{item_id, item_name, item_title}
 use Rattle.collect_names.specs.Objects.{object_in, function_at}
-use Rattle.collect_names.specs.declared.found.TestFunction.{TestFunction}
-use Rattle.py_values.specs.declared.object.FunctionObj.{FunctionObj}
+use Rattle.collect_words.specs.Walks.{path_at}
+use Rattle.fixture_table.specs.Tables.{TableValue}
+use Rattle.fixture_table.specs.declared.types.CollectionNode.{CollectionNode}
 use Rattle.py_values.specs.declared.object.Obj.{Obj}
-use Rattle.py_values.specs.declared.value.Value.{Value}
-use Rattle.py_world.specs.Names.{names_in}
-use Rattle.py_world.specs.Site.{frame}
-use Rattle.py_world.specs.declared.trace.TraceFrame.{TraceFrame}
-use Rattle.tracebacks.specs.Frames.{def_frame}
-use Rattle.runtest_rules.specs.declared.item.Item.{Item}
-use Rattle.collect_items.specs.Arguments.{first_argument}
+use Rattle.test_suite.specs.declared.fixture.Fixture.{Fixture}
+use Rattle.test_suite.specs.declared.item.Item.{Item}
+use Rattle.test_suite.specs.declared.suite.Suite.{Suite}
+use Rattle.collect_items.specs.declared.found.FoundSuite.{FoundSuite}
 
--- the names of the module that a value is
-abbrev pub module_names : List Obj → Value → List (List ℕ × Value)
-module_names heap v = names_in (object_in heap v)
+-- the fixtures of a collection: the table of their definitions, and the texts of the names in it
+pub record FixtureTable : Type 0 where
+  pub table : TableValue
+  pub names : List (List ℕ)
+  pub definitions : List Definition
 
--- where a test is defined
-abbrev pub defined_at : Option FunctionObj → TraceFrame
-defined_at (Some f) = def_frame f
-defined_at None = frame [] 0 []
+abbrev pub fixtures_with : TableValue → List (List ℕ) → List Definition → FixtureTable
+fixtures_with table names definitions = record { table = table; names = names; definitions = definitions }
 
--- the item of a test function of the module with these names, in the file with this path
-abbrev pub item : List Obj → List ℕ → List (List ℕ × Value) → TestFunction → Item
-item heap path names test = record {
-  node_id = encode_utf8_all (item_id (chars path) test None);
-  title = encode_utf8_all (item_title test None);
-  file = path;
-  name = item_name test None;
-  test = test;
-  defined = defined_at (function_at (object_in heap test.function));
-  marks = item_marks heap test names;
-  missing = first_argument test.class (function_at (object_in heap test.function));
-}
+module _ (heap : List Obj) (walk : List (List ℕ)) where
+  -- the item of a test with a node
+  abbrev pub item : FixtureTable → ℕ → FoundTest → Item
+  item f node t = record {
+    node_id = encode_utf8_all (item_id (chars (path_at walk t.place)) t.test None);
+    title = encode_utf8_all (item_title t.test None);
+    file = path_at walk t.place;
+    name = item_name t.test None;
+    test = t.test;
+    defined = defined_at (function_at (object_in heap t.test.function));
+    marks = t.marks;
+    node = node;
+    arguments = t.arguments;
+    asked = item_asks f.table f.names node t;
+    closure = item_closure f.table f.names f.definitions node t;
+  }
 
--- no module has no items: a file whose load failed
-abbrev pub items_in : List Obj → List ℕ → Option Value → List Item
-items_in heap path (Some v) = map (item heap path (module_names heap v)) (test_functions heap (module_names heap v))
-items_in heap path None = []
+  -- the items of tests whose nodes follow one another
+  abbrev pub items_from : FixtureTable → ℕ → List FoundTest → List Item
+  items_from f node [] = []
+  items_from f node (t ∷ ts) = item f node t ∷ items_from f (node + 1) ts
 
--- its classes of tests
-abbrev pub classes_in : List Obj → Option Value → List (List ℕ)
-classes_in heap (Some v) = map encode_utf8_all (class_nodes heap (module_names heap v))
-classes_in heap None = []
+-- the table of the definitions that were found, with the tests behind these nodes
+abbrev pub table_with : List CollectionNode → List (List ℕ) → List Definition → List FoundTest → FixtureTable
+table_with outer names definitions tests = fixtures_with (table_of outer names definitions tests) names definitions
+
+abbrev pub defined_fixture : Definition → Fixture
+defined_fixture d = d.fixture
+
+-- the suite of the tests that were found: their nodes stand behind so many others
+abbrev pub suite_with : List Obj → List (List ℕ) → ℕ → FixtureTable → List FoundTest → Suite
+suite_with heap walk outer f tests = record { items = items_from heap walk f outer tests; fixtures = map defined_fixture f.definitions; outer = outer }
+
+-- WHAT IS FOUND in loaded files: the suite, and the table of its fixtures
+module _ (heap : List Obj) (walk : List (List ℕ)) where
+  abbrev pub suite_over : ℕ → List FoundTest → FixtureTable → FoundSuite
+  suite_over outer tests f = record { suite = suite_with heap walk outer f tests; table = f.table }
+
+  -- the suite of these definitions and tests, behind these nodes
+  unfoldable pub suite_behind : List CollectionNode → List Definition → List FoundTest → FoundSuite
+  suite_behind outer definitions tests = suite_over (length outer) tests (table_with outer (all_names definitions tests) definitions tests)
+
+  -- the suite of test files at their nodes, with the conftests above them
+  abbrev pub suite_under : List (List ℕ) → List TestFile → List PlacedFile → FoundSuite
+  suite_under folders conftests placed =
+      suite_behind (outer_nodes heap walk folders placed) (all_definitions heap walk folders conftests placed) (all_tests heap placed)
+
+  -- the test files at their nodes
+  abbrev pub placed_of : List TestFile → List PlacedFile
+  placed_of files = placed_files heap (all_folders walk files) files
+
+  -- THE SUITE of test files, with the conftests above them
+  unfoldable pub found_suite : List TestFile → List TestFile → FoundSuite
+  found_suite conftests files = suite_under (all_folders walk files) conftests (placed_of files)
+
+-- its classes of tests, as words name them
+abbrev pub classes_in : List Obj → TestFile → List (List ℕ)
+classes_in heap file = map encode_utf8_all (classes_of heap file)

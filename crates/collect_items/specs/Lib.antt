@@ -1,4 +1,3 @@
-pub mod Arguments
 pub mod Items
 pub mod Unbuilt
 pub mod Nodes

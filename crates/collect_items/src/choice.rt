@@ -3,16 +3,17 @@
 ghost use Rattle.std.specs.Prelude.{◌≡◌, ◌++◌, ◌∷◌, ◌<◌, [], All, IfOk, OnOk, length};
 ghost use Rattle.std.specs.List.{filter};
 ghost use Rattle.selection.specs.Exprs.{AreExprs};
-ghost use Rattle.runtest_rules.specs.Items.{numbered_item};
+ghost use Rattle.test_suite.specs.Suites.{numbered_item};
 ghost use Rattle.collect_items.specs.Chosen as choice;
 
 use cli_words::Options;
 use collect_marks::names::{keyword_names, mark_names};
 use py_text::{OutOfMemory, PyText};
 use py_values::heap::Heap;
-use runtest_rules::Item;
 use selection::{Exprs, is_selected};
+use seq::Seq;
 use std::alloc::Global;
+use test_suite::Item;
 
 /// Whether the expressions of these options choose an item.
 fn is_chosen(
@@ -32,9 +33,27 @@ fn is_chosen(
     Ok(is_selected(exprs, &keywords, &names))
 }
 
+/// A number as groups of items have it.
+fn narrow(number: usize) -> Result<u32, OutOfMemory>
+    ensures { IfOk result (λ n. n ≡ number) }
+{
+    match u32::try_from(number) {
+        Ok(number) => Ok(number),
+        // No memory holds so many items.
+        Err(_) => Err(OutOfMemory),
+    }
+}
+
+fn push_number(chosen: &mut Seq<u32>, number: usize) -> Result<(), OutOfMemory>
+    ensures { OnOk result (chosen.new ≡ chosen.old ++ number ∷ []) }
+{
+    let one = narrow(number)?;
+    chosen.push(one)
+}
+
 fn push_chosen(
     alloc: Global,
-    chosen: &mut Vec<usize>,
+    chosen: &mut Seq<u32>,
     options: &Options,
     exprs: &Exprs,
     heap: &Heap,
@@ -42,15 +61,15 @@ fn push_chosen(
     number: usize,
 ) -> Result<(), OutOfMemory>
     requires { AreExprs options.now exprs.now }
-    ensures same { OnOk result (chosen.new.items ≡ chosen.old.items ++ choice.chosen options.now heap.now items.now (number ∷ [])) }
-    ensures within { OnOk result (All (λ one. one < length items.now) chosen.old.items → All (λ one. one < length items.now) chosen.new.items) }
+    ensures same { OnOk result (chosen.new ≡ chosen.old ++ choice.chosen options.now heap.now items.now (number ∷ [])) }
+    ensures within { OnOk result (All (λ one. one < length items.now) chosen.old → All (λ one. one < length items.now) chosen.new) }
 {
     let Some(item) = items.get(number) else {
         // Numbers are those of items.
         return Err(OutOfMemory);
     };
     if is_chosen(alloc, options, exprs, heap, item)? {
-        chosen.push(number)?;
+        push_number(chosen, number)?;
     }
     Ok(())
 }
@@ -63,12 +82,12 @@ pub fn chosen(
     heap: &Heap,
     items: &[Item],
     numbers: &[usize],
-) -> Result<Vec<usize>, OutOfMemory>
+) -> Result<Seq<u32>, OutOfMemory>
     requires { AreExprs options.now exprs.now }
-    ensures same { IfOk result (λ n. n.items ≡ choice.chosen options.now heap.now items.now numbers.now) }
-    ensures within { IfOk result (λ n. All (λ one. one < length items.now) n.items) }
+    ensures same { IfOk result (λ n. n ≡ choice.chosen options.now heap.now items.now numbers.now) }
+    ensures within { IfOk result (λ n. All (λ one. one < length items.now) n) }
 {
-    let mut chosen = Vec::new(alloc);
+    let mut chosen = Seq::new(alloc);
     for number in numbers {
         push_chosen(alloc, &mut chosen, options, exprs, heap, items, *number)?;
     }

@@ -1,109 +1,37 @@
-// The items of a module.
+// Items.
 
-ghost use Rattle.std.specs.Prelude.{◌≡◌, ◌++◌, IfOk, OnOk, map, option_copied};
+ghost use Rattle.std.specs.Prelude.{◌≡◌, ◌+◌, ◌≤◌, ◌<◌, ◌++◌, IfOk, OnOk, None, chars, encode_utf8_all, length, map};
+ghost use Rattle.collect_fixtures.specs.Arguments.{defined_at};
+ghost use Rattle.collect_names.specs.Ids.{item_id, item_title};
+ghost use Rattle.collect_names.specs.Objects as objects;
+ghost use Rattle.collect_words.specs.Walks.{path_at};
 ghost use Rattle.collect_items.specs.Items as items;
-ghost use Rattle.py_world.specs.Names.{names_in};
 
-use crate::arguments::first_argument;
-use collect_marks::given::item_marks;
-use collect_names::found::{TestClass, TestFunction};
+use crate::copies::{copied_test, copied_texts, copied_values};
+use collect_fixtures::{
+    Definition, FoundTest, Mentions, TestFile, classes_of, defined_at, item_asks, item_closure,
+    path_text,
+};
+use collect_names::found::TestFunction;
 use collect_names::ids::{item_id, item_name, item_title};
-use collect_names::names::{class_nodes, test_functions};
 use collect_names::objects::{function_at, object_in};
+use collect_words::Walk;
+use fixture_table::Table;
 use py_text::{OutOfMemory, PyText};
 use py_values::heap::Heap;
-use py_values::names::Names;
-use py_values::object::{FunctionObj, Obj};
-use py_values::rows::Values;
-use py_values::value::Value;
 use py_world::TraceFrame;
-use report_parts::Text;
-use runtest_rules::Item;
+use report_parts::{Text, push_chars};
+use seq::Seq;
 use std::alloc::Global;
-use tracebacks::{def_frame, encoded};
+use test_suite::Item;
 
-/// The names of the module that an object is.
-fn names_at<'a>(obj: Option<&'a Obj>) -> Option<&'a Names>
-    ensures { MatchOption result (names_in (option_copied obj.entry) ≡ []) (λ names. names_in (option_copied obj.entry) ≡ names.now) }
+/// A text in UTF-8.
+pub fn encoded(alloc: Global, letters: &[char]) -> Result<Text, OutOfMemory>
+    ensures { IfOk result (λ text. text ≡ encode_utf8_all letters.now) }
 {
-    match obj {
-        Some(Obj::Module(object)) => Some(&object.names),
-        Some(
-            Obj::Text(_)
-            | Obj::List(_)
-            | Obj::Tuple(_)
-            | Obj::Dict(_)
-            | Obj::Range(_)
-            | Obj::Function(_)
-            | Obj::Method(_)
-            | Obj::Builtin(_)
-            | Obj::Class(_)
-            | Obj::Instance(_)
-            | Obj::Exception(_)
-            | Obj::Fixture(_)
-            | Obj::MarkMaker
-            | Obj::Mark(_)
-            | Obj::Hook(_)
-            | Obj::Param(_)
-            | Obj::Request(_)
-            | Obj::Raises(_)
-            | Obj::Info(_)
-            | Obj::Item(_),
-        )
-        | None => None,
-    }
-}
-
-ghost use Rattle.std.specs.Prelude.{[], MatchOption};
-
-/// The names of the module that a value is.
-pub fn module_names<'a>(heap: &'a Heap, v: Value) -> Option<&'a Names>
-    ensures { MatchOption result (items.module_names heap.now v ≡ []) (λ names. items.module_names heap.now v ≡ names.now) }
-{
-    names_at(object_in(heap, v))
-}
-
-fn copied(alloc: Global, text: &PyText) -> Result<PyText, OutOfMemory>
-    ensures { IfOk result (λ t. t ≡ text.now) }
-{
-    PyText::from_chars(alloc, text.chars())
-}
-
-fn copied_class(alloc: Global, class: &Option<TestClass>) -> Result<Option<TestClass>, OutOfMemory>
-    ensures { IfOk result (λ c. c ≡ class.now) }
-{
-    match class {
-        Some(class) => Ok(Some(TestClass {
-            name: copied(alloc, &class.name)?,
-            object: class.object,
-        })),
-        None => Ok(None),
-    }
-}
-
-fn copied_test(alloc: Global, test: &TestFunction) -> Result<TestFunction, OutOfMemory>
-    ensures { IfOk result (λ t. t ≡ test.now) }
-{
-    let class = copied_class(alloc, &test.class)?;
-    Ok(TestFunction {
-        class,
-        name: copied(alloc, &test.name)?,
-        function: test.function,
-    })
-}
-
-/// Where a test is defined.
-fn defined_at(alloc: Global, function: Option<&FunctionObj>) -> Result<TraceFrame, OutOfMemory>
-    ensures { IfOk result (λ f. f ≡ items.defined_at (option_copied function.entry)) }
-{
-    match function {
-        Some(function) => def_frame(alloc, function),
-        None => Ok(TraceFrame {
-            path: PyText::from_vec(Vec::new(alloc)),
-            line: 0,
-            name: PyText::from_vec(Vec::new(alloc)),
-        }),
-    }
+    let mut text = String::new(alloc);
+    push_chars(&mut text, letters)?;
+    Ok(Text::from_string(text))
 }
 
 fn node_id(alloc: Global, path: &str, test: &TestFunction) -> Result<Text, OutOfMemory>
@@ -114,9 +42,6 @@ fn node_id(alloc: Global, path: &str, test: &TestFunction) -> Result<Text, OutOf
     encoded(alloc, id.chars())
 }
 
-ghost use Rattle.std.specs.Prelude.{None, chars, encode_utf8_all};
-ghost use Rattle.collect_names.specs.Ids.{item_id, item_title};
-
 fn title(alloc: Global, test: &TestFunction) -> Result<Text, OutOfMemory>
     ensures { IfOk result (λ t. t ≡ encode_utf8_all (item_title test.now None)) }
 {
@@ -124,133 +49,142 @@ fn title(alloc: Global, test: &TestFunction) -> Result<Text, OutOfMemory>
     encoded(alloc, title.chars())
 }
 
-fn marks(
-    alloc: Global,
-    heap: &Heap,
-    test: &TestFunction,
-    names: &Names,
-) -> Result<Values, OutOfMemory>
-    ensures { IfOk result (λ m. m ≡ item_marks heap.now test.now names.now) }
+/// Where a test is defined.
+fn def_of_test(alloc: Global, heap: &Heap, test: &TestFunction) -> Result<TraceFrame, OutOfMemory>
+    ensures { IfOk result (λ f. f ≡ defined_at (objects.function_at (objects.object_in heap.now test.now.function))) }
 {
-    Ok(Values::from_vec(item_marks(alloc, heap, test, names)?))
+    defined_at(alloc, function_at(object_in(heap, test.function)))
 }
 
-ghost use Rattle.collect_marks.specs.Given.{item_marks};
-
-/// The item of a test function of the module with these names, in the file with this path.
+/// The item of a test with a node.
 fn item(
     alloc: Global,
     heap: &Heap,
-    path: &str,
-    names: &Names,
-    test: &TestFunction,
+    walk: &Walk,
+    table: &Table,
+    names: &Mentions,
+    definitions: &[Definition],
+    node: u32,
+    test: &FoundTest,
 ) -> Result<Item, OutOfMemory>
-    ensures { IfOk result (λ i. i ≡ items.item heap.now path.now names.now test.now) }
+    requires same { length definitions.now ≡ length table.now.defs }
+    requires item { node < length table.now.nodes }
+    ensures { IfOk result (λ i. i ≡ items.item heap.now walk.now (items.fixtures_with table.now names.now definitions.now) node test.now) }
 {
-    let function = function_at(object_in(heap, test.function));
+    let path = path_text(walk, test.place);
+    let asked = item_asks(alloc, table, names, node, test)?;
+    let closure = item_closure(alloc, table, names, definitions, node, test)?;
+    let arguments = copied_texts(alloc, test.arguments.items())?;
     Ok(Item {
-        node_id: node_id(alloc, path, test)?,
-        title: title(alloc, test)?,
+        node_id: node_id(alloc, path, &test.test)?,
+        title: title(alloc, &test.test)?,
         file: Text::from_str(alloc, path)?,
-        name: item_name(alloc, test, None)?,
-        test: copied_test(alloc, test)?,
-        defined: defined_at(alloc, function)?,
-        marks: marks(alloc, heap, test, names)?,
-        missing: first_argument(alloc, &test.class, function)?,
+        name: item_name(alloc, &test.test, None)?,
+        test: copied_test(alloc, &test.test)?,
+        defined: def_of_test(alloc, heap, &test.test)?,
+        marks: copied_values(alloc, test.marks.items())?,
+        node,
+        arguments,
+        asked,
+        closure,
     })
 }
 
-fn items_of(
+/// A number behind this one.
+fn next(number: u32) -> Result<u32, OutOfMemory>
+    ensures { IfOk result (λ n. n ≡ number + 1) }
+{
+    match number.checked_add(1) {
+        Some(next) => Ok(next),
+        // No memory holds so many items.
+        None => Err(OutOfMemory),
+    }
+}
+
+fn push_item(
+    alloc: Global,
+    found: &mut Seq<Item>,
+    heap: &Heap,
+    walk: &Walk,
+    table: &Table,
+    names: &Mentions,
+    definitions: &[Definition],
+    node: u32,
+    test: &FoundTest,
+) -> Result<(), OutOfMemory>
+    requires same { length definitions.now ≡ length table.now.defs }
+    requires item { node < length table.now.nodes }
+    ensures { OnOk result (found.new ≡ found.old ++ items.item heap.now walk.now (items.fixtures_with table.now names.now definitions.now) node test.now ∷ []) }
+{
+    let one = item(alloc, heap, walk, table, names, definitions, node, test)?;
+    found.push(one)
+}
+
+ghost use Rattle.std.specs.Prelude.{◌∷◌, []};
+
+/// The items of tests whose nodes follow one another from this one on.
+pub fn items_from(
     alloc: Global,
     heap: &Heap,
-    path: &str,
-    names: &Names,
-    tests: &[TestFunction],
-) -> Result<Vec<Item>, OutOfMemory>
-    ensures { IfOk result (λ i. i.items ≡ map (items.item heap.now path.now names.now) tests.now) }
+    walk: &Walk,
+    table: &Table,
+    names: &Mentions,
+    definitions: &[Definition],
+    first: u32,
+    tests: &[FoundTest],
+) -> Result<Seq<Item>, OutOfMemory>
+    requires same { length definitions.now ≡ length table.now.defs }
+    requires nodes { first + length tests.now ≤ length table.now.nodes }
+    ensures { IfOk result (λ i. i ≡ items.items_from heap.now walk.now (items.fixtures_with table.now names.now definitions.now) first tests.now) }
 {
-    let mut found = Vec::new(alloc);
+    let mut found = Seq::new(alloc);
+    let mut node = first;
     for test in tests {
-        let one = item(alloc, heap, path, names, test)?;
-        found.push(one)?;
+        push_item(
+            alloc,
+            &mut found,
+            heap,
+            walk,
+            table,
+            names,
+            definitions,
+            node,
+            test,
+        )?;
+        let behind = next(node)?;
+        node = behind;
     }
     Ok(found)
 }
 
-/// The items of a module with these names, in the file with this path.
-fn items_among(
+fn push_encoded(
     alloc: Global,
-    heap: &Heap,
-    path: &str,
-    names: &Names,
-) -> Result<Vec<Item>, OutOfMemory>
-    ensures { IfOk result (λ i. i.items ≡ map (items.item heap.now path.now names.now) (test_functions heap.now names.now)) }
+    texts: &mut Seq<Text>,
+    classes: &Mentions,
+    number: u32,
+) -> Result<(), OutOfMemory>
+    ensures { OnOk result (texts.new ≡ texts.old ++ encode_utf8_all (text_numbered classes.now number) ∷ []) }
 {
-    let tests = test_functions(alloc, heap, names)?;
-    items_of(alloc, heap, path, names, &tests)
-}
-
-ghost use Rattle.collect_names.specs.Found.{test_functions, class_nodes};
-
-/// The items of a file by its module; without one it has none.
-pub fn items_in(
-    alloc: Global,
-    heap: &Heap,
-    path: &str,
-    object: Option<Value>,
-) -> Result<Vec<Item>, OutOfMemory>
-    ensures { IfOk result (λ i. i.items ≡ items.items_in heap.now path.now object) }
-{
-    let Some(v) = object else {
-        return Ok(Vec::new(alloc));
-    };
-    match module_names(heap, v) {
-        Some(names) => items_among(alloc, heap, path, names),
-        None => Ok(Vec::new(alloc)),
-    }
-}
-
-fn push_encoded(alloc: Global, texts: &mut Seq<Text>, name: &PyText) -> Result<(), OutOfMemory>
-    ensures { OnOk result (texts.new ≡ texts.old ++ encode_utf8_all name.now ∷ []) }
-{
-    let text = encoded(alloc, name.chars())?;
+    let text = encoded(alloc, classes.text(number))?;
     texts.push(text)
 }
 
-ghost use Rattle.std.specs.Prelude.{◌∷◌};
+ghost use Rattle.collect_fixtures.specs.Texts.{text_numbered};
 
-use seq::Seq;
-
-fn all_encoded(alloc: Global, names: &[PyText]) -> Result<Seq<Text>, OutOfMemory>
-    ensures { IfOk result (λ t. t ≡ map encode_utf8_all names.now) }
+fn all_encoded(alloc: Global, classes: &Mentions) -> Result<Seq<Text>, OutOfMemory>
+    ensures { IfOk result (λ t. t ≡ map encode_utf8_all classes.now) }
 {
     let mut texts = Seq::new(alloc);
-    for name in names {
-        push_encoded(alloc, &mut texts, name)?;
+    for number in 0..classes.count()? {
+        push_encoded(alloc, &mut texts, classes, number)?;
     }
     Ok(texts)
 }
 
-fn classes_among(alloc: Global, heap: &Heap, names: &Names) -> Result<Seq<Text>, OutOfMemory>
-    ensures { IfOk result (λ t. t ≡ map encode_utf8_all (class_nodes heap.now names.now)) }
+/// The classes of tests of a file, as words name them.
+pub fn classes_in(alloc: Global, heap: &Heap, file: TestFile) -> Result<Seq<Text>, OutOfMemory>
+    ensures { IfOk result (λ t. t ≡ items.classes_in heap.now file) }
 {
-    let classes = class_nodes(alloc, heap, names)?;
+    let classes = classes_of(alloc, heap, file)?;
     all_encoded(alloc, &classes)
-}
-
-/// The classes of tests of a file by its module; without one it has none.
-pub fn classes_in(
-    alloc: Global,
-    heap: &Heap,
-    object: Option<Value>,
-) -> Result<Seq<Text>, OutOfMemory>
-    ensures { IfOk result (λ t. t ≡ items.classes_in heap.now object) }
-{
-    let Some(v) = object else {
-        return Ok(Seq::new(alloc));
-    };
-    match module_names(heap, v) {
-        Some(names) => classes_among(alloc, heap, names),
-        None => Ok(Seq::new(alloc)),
-    }
 }

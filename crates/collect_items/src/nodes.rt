@@ -3,17 +3,15 @@
 ghost use Rattle.std.specs.Prelude.{◌≡◌, ◌++◌, ◌∷◌, ◌+◌, [], IfOk, OnOk, option_map, replicate, slice_set};
 ghost use Rattle.collect_items.specs.Nodes as nodes;
 
-use crate::item::classes_in;
-use crate::test_file::TestFile;
+use crate::item::{classes_in, encoded};
+use collect_fixtures::{FoundTest, TestFile};
 use collect_names::found::TestClass;
 use collect_words::{FileNodes, ItemNames};
 use py_text::OutOfMemory;
 use py_values::heap::Heap;
 use report_parts::Text;
-use runtest_rules::Item;
 use seq::Seq;
 use std::alloc::Global;
-use tracebacks::encoded;
 
 fn class_name(alloc: Global, class: &Option<TestClass>) -> Result<Option<Text>, OutOfMemory>
     ensures { IfOk result (λ name. name ≡ option_map nodes.class_name class.now) }
@@ -25,13 +23,13 @@ fn class_name(alloc: Global, class: &Option<TestClass>) -> Result<Option<Text>, 
 }
 
 /// The names of an item with this number.
-fn names_of(alloc: Global, number: usize, item: &Item) -> Result<ItemNames, OutOfMemory>
-    ensures { IfOk result (λ names. names ≡ nodes.names_of number item.now) }
+fn names_of(alloc: Global, number: usize, test: &FoundTest) -> Result<ItemNames, OutOfMemory>
+    ensures { IfOk result (λ names. names ≡ nodes.names_of number test.now) }
 {
     Ok(ItemNames {
         number,
-        class: class_name(alloc, &item.test.class)?,
-        function: encoded(alloc, item.test.name.chars())?,
+        class: class_name(alloc, &test.test.class)?,
+        function: encoded(alloc, test.test.name.chars())?,
         id: None,
     })
 }
@@ -40,11 +38,11 @@ fn push_names(
     alloc: Global,
     names: &mut Seq<ItemNames>,
     number: usize,
-    item: &Item,
+    test: &FoundTest,
 ) -> Result<(), OutOfMemory>
-    ensures { OnOk result (names.new ≡ names.old ++ nodes.names_of number item.now ∷ []) }
+    ensures { OnOk result (names.new ≡ names.old ++ nodes.names_of number test.now ∷ []) }
 {
-    let one = names_of(alloc, number, item)?;
+    let one = names_of(alloc, number, test)?;
     names.push(one)
 }
 
@@ -59,35 +57,35 @@ fn next(number: usize) -> Result<usize, OutOfMemory>
     }
 }
 
-/// The names of items that are numbered from this one on.
-fn numbered(alloc: Global, first: usize, items: &[Item]) -> Result<Seq<ItemNames>, OutOfMemory>
-    ensures { IfOk result (λ names. names ≡ nodes.numbered first items.now) }
+/// The names of the items of tests that are numbered from this one on.
+fn numbered(alloc: Global, first: usize, tests: &[FoundTest]) -> Result<Seq<ItemNames>, OutOfMemory>
+    ensures { IfOk result (λ names. names ≡ nodes.numbered first tests.now) }
 {
     let mut names = Seq::new(alloc);
     let mut number = first;
-    for item in items {
-        push_names(alloc, &mut names, number, item)?;
+    for test in tests {
+        push_names(alloc, &mut names, number, test)?;
         let more = next(number)?;
         number = more;
     }
     Ok(names)
 }
 
-/// What words can name of a file whose items have numbers from this one on.
+/// What words can name of a file with these tests, whose numbers go from this one on.
 pub fn file_nodes(
     alloc: Global,
     heap: &Heap,
     first: usize,
     file: TestFile,
-    items: &[Item],
+    tests: &[FoundTest],
 ) -> Result<FileNodes, OutOfMemory>
-    ensures { IfOk result (λ n. n ≡ nodes.nodes_of heap.now first file items.now) }
+    ensures { IfOk result (λ n. n ≡ nodes.nodes_of heap.now first file tests.now) }
 {
-    let classes = classes_in(alloc, heap, file.object)?;
+    let classes = classes_in(alloc, heap, file)?;
     Ok(FileNodes {
         failed: file.object.is_none(),
         classes,
-        items: numbered(alloc, first, items)?,
+        items: numbered(alloc, first, tests)?,
     })
 }
 

@@ -3,71 +3,45 @@
 ghost use Rattle.std.specs.Prelude.{◌≡◌, IfOk, codes, option_copied};
 ghost use Rattle.std.specs.List.{list_any};
 ghost use Rattle.py_values.specs.Names.{name_eq};
-ghost use Rattle.collect_names.specs.Found.{is_class_node};
+ghost use Rattle.collect_names.specs.Objects.{object_in, class_at, names_of_class};
 ghost use Rattle.collect_items.specs.Unbuilt as unbuilt;
 
-use crate::arguments::takes_request;
-use crate::item::module_names;
-use crate::test_file::TestFile;
+use collect_fixtures::{TestFile, fixture_in, is_class_node, names_of_file};
 use collect_marks::given::mark_in;
-use collect_names::objects::{class_at, function_at, holds_tests, object_in};
+use collect_names::objects::{class_at, object_in};
 use py_text::{OutOfMemory, PyText};
 use py_values::heap::Heap;
 use py_values::names::Names;
-use py_values::object::Obj;
+use py_values::object::FixtureObj;
 use py_values::value::Value;
-use runtest_rules::Item;
 use std::alloc::Global;
+use test_suite::Item;
 
-/// Whether an object is the definition of a fixture.
-fn defines_fixture(obj: Option<&Obj>) -> bool
-    ensures { result ≡ unbuilt.defines_fixture (option_copied obj.entry) }
+/// Whether a fixture was applied to a function, and has parameters.
+fn has_params(fixture: Option<&FixtureObj>) -> bool
+    ensures { result ≡ unbuilt.has_params (option_copied fixture.entry) }
 {
-    match obj {
-        Some(Obj::Fixture(fixture)) => fixture.function.is_some(),
-        Some(
-            Obj::Text(_)
-            | Obj::List(_)
-            | Obj::Tuple(_)
-            | Obj::Dict(_)
-            | Obj::Range(_)
-            | Obj::Function(_)
-            | Obj::Method(_)
-            | Obj::Builtin(_)
-            | Obj::Class(_)
-            | Obj::Instance(_)
-            | Obj::Exception(_)
-            | Obj::Module(_)
-            | Obj::MarkMaker
-            | Obj::Mark(_)
-            | Obj::Hook(_)
-            | Obj::Param(_)
-            | Obj::Request(_)
-            | Obj::Raises(_)
-            | Obj::Info(_)
-            | Obj::Item(_),
-        )
-        | None => false,
+    match fixture {
+        Some(fixture) => fixture.function.is_some() && fixture.params.is_some(),
+        None => false,
     }
 }
 
-/// Whether a name is bound to the definition of a fixture.
-fn is_fixture_name(heap: &Heap, _name: &PyText, v: Value) -> bool
-    ensures { result ≡ unbuilt.is_fixture_name heap.now (_name.now, v) }
+/// Whether a name is bound to such a fixture.
+fn binds_params(heap: &Heap, _name: &PyText, v: Value) -> bool
+    ensures { result ≡ unbuilt.binds_params heap.now (_name.now, v) }
 {
-    defines_fixture(object_in(heap, v))
+    has_params(fixture_in(object_in(heap, v)))
 }
 
-ghost use Rattle.collect_names.specs.Objects.{object_in, class_at, names_of_class};
-
-fn any_fixture(heap: &Heap, names: &Names) -> Result<bool, OutOfMemory>
-    ensures { IfOk result (λ b. b ≡ list_any (unbuilt.is_fixture_name heap.now) names.now) }
+fn any_params(heap: &Heap, names: &Names) -> Result<bool, OutOfMemory>
+    ensures { IfOk result (λ b. b ≡ list_any (unbuilt.binds_params heap.now) names.now) }
 {
     for at in 0..usize::MAX {
         let Some((name, v)) = names.entry(at) else {
             return Ok(false);
         };
-        if is_fixture_name(heap, name.text(), *v) {
+        if binds_params(heap, name.text(), *v) {
             return Ok(true);
         }
     }
@@ -75,57 +49,42 @@ fn any_fixture(heap: &Heap, names: &Names) -> Result<bool, OutOfMemory>
     Err(OutOfMemory)
 }
 
-/// Whether the class that a value is has a fixture of its own.
-fn has_fixture(heap: &Heap, v: Value) -> Result<bool, OutOfMemory>
-    ensures { IfOk result (λ b. b ≡ list_any (unbuilt.is_fixture_name heap.now) (names_of_class (class_at (object_in heap.now v)))) }
+/// Whether the class that a value is has such a fixture of its own.
+fn class_has_params(heap: &Heap, v: Value) -> Result<bool, OutOfMemory>
+    ensures { IfOk result (λ b. b ≡ list_any (unbuilt.binds_params heap.now) (names_of_class (class_at (object_in heap.now v)))) }
 {
     match class_at(object_in(heap, v)) {
-        Some(class) => any_fixture(heap, &class.names),
+        Some(class) => any_params(heap, &class.names),
         None => Ok(false),
     }
 }
 
-/// Whether a name is bound to a class of tests.
-fn is_class_node(alloc: Global, heap: &Heap, name: &PyText, v: Value) -> Result<bool, OutOfMemory>
-    ensures { IfOk result (λ b. b ≡ is_class_node heap.now (name.now, v)) }
-{
-    if !name.chars().starts_with(&['T', 'e', 's', 't']) {
-        return Ok(false);
-    }
-    holds_tests(alloc, heap, v, class_at(object_in(heap, v)))
-}
-
-fn is_fixture_class(
-    alloc: Global,
-    heap: &Heap,
-    name: &PyText,
-    v: Value,
-) -> Result<bool, OutOfMemory>
-    ensures { IfOk result (λ b. b ≡ unbuilt.is_fixture_class heap.now (name.now, v)) }
+fn is_params_class(alloc: Global, heap: &Heap, name: &PyText, v: Value) -> Result<bool, OutOfMemory>
+    ensures { IfOk result (λ b. b ≡ unbuilt.is_params_class heap.now (name.now, v)) }
 {
     if !is_class_node(alloc, heap, name, v)? {
         return Ok(false);
     }
-    has_fixture(heap, v)
+    class_has_params(heap, v)
 }
 
-fn binds_fixture(alloc: Global, heap: &Heap, name: &PyText, v: Value) -> Result<bool, OutOfMemory>
-    ensures { IfOk result (λ b. b ≡ unbuilt.binds_fixture heap.now (name.now, v)) }
+fn binds_unbuilt(alloc: Global, heap: &Heap, name: &PyText, v: Value) -> Result<bool, OutOfMemory>
+    ensures { IfOk result (λ b. b ≡ unbuilt.binds_unbuilt heap.now (name.now, v)) }
 {
-    if is_fixture_name(heap, name, v) {
+    if binds_params(heap, name, v) {
         return Ok(true);
     }
-    is_fixture_class(alloc, heap, name, v)
+    is_params_class(alloc, heap, name, v)
 }
 
-fn any_binds_fixture(alloc: Global, heap: &Heap, names: &Names) -> Result<bool, OutOfMemory>
-    ensures { IfOk result (λ b. b ≡ list_any (unbuilt.binds_fixture heap.now) names.now) }
+fn any_binds_unbuilt(alloc: Global, heap: &Heap, names: &Names) -> Result<bool, OutOfMemory>
+    ensures { IfOk result (λ b. b ≡ list_any (unbuilt.binds_unbuilt heap.now) names.now) }
 {
     for at in 0..usize::MAX {
         let Some((name, v)) = names.entry(at) else {
             return Ok(false);
         };
-        let binds = binds_fixture(alloc, heap, name.text(), *v)?;
+        let binds = binds_unbuilt(alloc, heap, name.text(), *v)?;
         if binds {
             return Ok(true);
         }
@@ -134,15 +93,12 @@ fn any_binds_fixture(alloc: Global, heap: &Heap, names: &Names) -> Result<bool, 
     Err(OutOfMemory)
 }
 
-/// Whether a test file's module binds a fixture, or a class of tests that has one.
+/// Whether a test file's module binds a fixture with parameters, or a class of tests that has one.
 pub fn wants_unbuilt_file(alloc: Global, heap: &Heap, file: TestFile) -> Result<bool, OutOfMemory>
-    ensures { IfOk result (λ b. b ≡ unbuilt.wants_unbuilt_test heap.now file.object) }
+    ensures { IfOk result (λ b. b ≡ unbuilt.wants_unbuilt_test heap.now file) }
 {
-    let Some(v) = file.object else {
-        return Ok(false);
-    };
-    match module_names(heap, v) {
-        Some(names) => any_binds_fixture(alloc, heap, names),
+    match names_of_file(heap, file) {
+        Some(names) => any_binds_unbuilt(alloc, heap, names),
         None => Ok(false),
     }
 }
@@ -150,7 +106,7 @@ pub fn wants_unbuilt_file(alloc: Global, heap: &Heap, file: TestFile) -> Result<
 fn binds_plugin(heap: &Heap, name: &PyText, v: Value) -> bool
     ensures { result ≡ unbuilt.binds_plugin heap.now (name.now, v) }
 {
-    is_fixture_name(heap, name, v)
+    binds_params(heap, name, v)
         || name
             .chars()
             .starts_with(&['p', 'y', 't', 'e', 's', 't', '_'])
@@ -171,11 +127,11 @@ fn any_binds_plugin(heap: &Heap, names: &Names) -> Result<bool, OutOfMemory>
     Err(OutOfMemory)
 }
 
-/// Whether a conftest's module binds a fixture, or a name that hooks have.
-pub fn wants_unbuilt_conftest(heap: &Heap, v: Value) -> Result<bool, OutOfMemory>
-    ensures { IfOk result (λ b. b ≡ unbuilt.wants_unbuilt_conftest heap.now v) }
+/// Whether a conftest's module binds a fixture with parameters, or a name that hooks have.
+pub fn wants_unbuilt_conftest(heap: &Heap, file: TestFile) -> Result<bool, OutOfMemory>
+    ensures { IfOk result (λ b. b ≡ unbuilt.wants_unbuilt_conftest heap.now file) }
 {
-    match module_names(heap, v) {
+    match names_of_file(heap, file) {
         Some(names) => any_binds_plugin(heap, names),
         None => Ok(false),
     }
@@ -187,13 +143,10 @@ fn is_spelled(letters: &[char], name: &PyText) -> bool
     letters == name.chars()
 }
 
-fn is_unbuilt_name(name: &PyText) -> bool
-    ensures { result ≡ unbuilt.is_unbuilt_name name.now }
+fn is_parametrize(name: &PyText) -> bool
+    ensures { result ≡ name_eq (codes "parametrize") name.now }
 {
     is_spelled(
-        &['u', 's', 'e', 'f', 'i', 'x', 't', 'u', 'r', 'e', 's'],
-        name,
-    ) || is_spelled(
         &['p', 'a', 'r', 'a', 'm', 'e', 't', 'r', 'i', 'z', 'e'],
         name,
     )
@@ -203,7 +156,7 @@ fn is_unbuilt_mark(heap: &Heap, v: Value) -> bool
     ensures { result ≡ unbuilt.is_unbuilt_mark heap.now v }
 {
     match mark_in(heap, v) {
-        Some(mark) => is_unbuilt_name(&mark.name),
+        Some(mark) => is_parametrize(&mark.name),
         None => false,
     }
 }
@@ -214,13 +167,9 @@ fn any_unbuilt_mark(heap: &Heap, marks: &[Value]) -> bool
     marks.iter().any(|mark| is_unbuilt_mark(heap, *mark))
 }
 
-/// Whether an item asks for fixtures or parameters by a mark, or has the argument `request`.
+/// Whether an item has a mark that gives parameters.
 pub fn wants_unbuilt(heap: &Heap, item: &Item) -> bool
     ensures { result ≡ unbuilt.wants_unbuilt heap.now item.now }
 {
     any_unbuilt_mark(heap, item.marks.items())
-        || takes_request(
-            &item.test.class,
-            function_at(object_in(heap, item.test.function)),
-        )
 }

@@ -2,5 +2,8 @@ pub mod Walks
 pub mod Turns
 pub mod ReadPaths
 pub mod Once
+pub mod Made
+pub mod Runnable
 pub mod Fits
 pub mod Ends
+pub mod Conftests

@@ -1,5 +1,5 @@
 -- The paths of files that are read.
-use Rattle.std.proofs.Common.{◌≡◌, ℕ, List, [], ◌∷◌, map, refl}
+use Rattle.std.proofs.Common.{◌≡◌, List, [], ◌∷◌, map, refl}
 use Rattle.edge_io.specs.Files.{File, paths_of}
 use Rattle.py_load.specs.Reading.{AreRead, ReadFile}
 use Rattle.collect_tree.specs.Collection.{read_path}

@@ -1,42 +1,42 @@
 -- THE COLLECTION: what the words of a command line collect from the files of a tree (pytest's how-to guide, "Specifying which tests to
--- run", and its "Conventions for Python test discovery"). The first of these refuses: a word whose path names no file or folder; a file
--- with a form that isn't built yet; a conftest that fails; more items than a session may have; a word whose part behind `::` names
--- nothing of its file; and what isn't built yet of fixtures and hooks.
-use Rattle.std.specs.Prelude.{ℕ, ◌-◌, Bool, ◌||◌, List, Result, Ok, Err, codes, length, map, slice_index_or, if◌then◌else◌}
-use Rattle.std.specs.List.{list_all, list_any}
+-- run", and its "Conventions for Python test discovery"). The first of these refuses: a word whose path names no file or folder; a
+-- conftest that fails; more items than a session may have; a word whose part behind `::` names nothing of its file; and what isn't built
+-- yet of parameters and hooks.
+use Rattle.std.specs.Prelude.{ℕ, ◌+◌, ◌-◌, Bool, ◌||◌, List, [], ◌∷◌, Option, Some, None, Result, Ok, Err, codes, length, map, slice_get, slice_index_or, if◌then◌else◌}
+use Rattle.std.specs.List.{list_any}
 use Rattle.cli_words.specs.declared.options.Options.{Options}
+use Rattle.collect_fixtures.specs.declared.test_file.TestFile.{TestFile}
 use Rattle.collect_items.specs.Chosen.{chosen}
-use Rattle.collect_items.specs.Nodes.{all_items, item_places, nodes_by_place}
+use Rattle.collect_items.specs.Items.{found_suite}
+use Rattle.collect_items.specs.Nodes.{item_places, nodes_by_place}
 use Rattle.collect_items.specs.Unbuilt.{wants_unbuilt, wants_unbuilt_conftest, wants_unbuilt_test}
-use Rattle.collect_items.specs.declared.test_file.TestFile.{TestFile}
-use Rattle.collect_words.specs.Files.{conftests, test_files, walked}
+use Rattle.collect_items.specs.declared.found.FoundSuite.{FoundSuite}
+use Rattle.collect_words.specs.Files.{conftests, named_files, test_files, walked}
 use Rattle.collect_words.specs.Nodes.{selected}
 use Rattle.collect_words.specs.Walks.{path_at}
 use Rattle.collect_words.specs.Words.{fault_text, named_words}
 use Rattle.collect_words.specs.declared.fault.WordFault.{WordFault}
 use Rattle.collect_words.specs.declared.named.NamedWord.{NamedWord}
 use Rattle.collect_words.specs.declared.nodes.FileNodes.{FileNodes}
+use Rattle.fixture_world.specs.Items.{selected_item}
 use Rattle.py_load.specs.InTurn.{ConftestsEnd, conftest_loads}
 use Rattle.py_load.specs.Prepared.{with_reads}
-use Rattle.py_load.specs.Reading.{ReadFile, is_built_read}
+use Rattle.py_load.specs.Reading.{ReadFile}
 use Rattle.py_machine.specs.Worlds.{empty}
 use Rattle.py_values.specs.declared.object.Obj.{Obj}
 use Rattle.py_values.specs.declared.value.Value.{Value}
 use Rattle.report_parts.specs.Limits.{most_items}
 use Rattle.report_rules.specs.Collected.{Collected, Collection, ConftestFault, Refused, SelectedItem, Whole}
-use Rattle.runtest_rules.specs.Items.{numbered_item, selected_item}
 use Rattle.runtest_rules.specs.Language.{python}
-use Rattle.runtest_rules.specs.declared.item.Item.{Item}
 use Rattle.source_meaning.specs.Meaning.{SourceWorld}
+use Rattle.test_suite.specs.Suites.{no_item}
+use Rattle.test_suite.specs.declared.item.Item.{Item}
+use Rattle.test_suite.specs.declared.suite.Suite.{Suite}
 use Rattle.collect_tree.specs.Loads.{Loaded, load_told, test_loads}
 use Rattle.collect_tree.specs.Walk.{walk_of}
 
--- the items, by number
-abbrev pub Table : Type 0
-Table = List Item
-
 abbrev pub End : Type 0
-End = Collection python Table
+End = Collection python Suite
 
 abbrev pub read_path : ReadFile → List ℕ
 read_path file = file.0
@@ -44,59 +44,77 @@ read_path file = file.0
 abbrev pub paths_at : List (List ℕ) → List ℕ → List (List ℕ)
 paths_at walk places = map (path_at walk) places
 
+-- the conftests that were loaded, with their modules
+abbrev pub conftest_file : ℕ → Value → TestFile
+conftest_file place v = record { place = place; object = Some v }
+
+abbrev pub conftest_files : List ℕ → List Value → List TestFile
+conftest_files [] modules = []
+conftest_files (place ∷ places) [] = []
+conftest_files (place ∷ places) (v ∷ modules) = conftest_file place v ∷ conftest_files places modules
+
+-- the item with a number; any other number names an item without names, at the node that it would have
+abbrev pub item_or_none : ℕ → Option Item → Item
+item_or_none node (Some i) = i
+item_or_none node None = record no_item { node = node }
+
+abbrev pub item_numbered : Suite → ℕ → Item
+item_numbered suite number = item_or_none (suite.outer + number) (slice_get suite.items number)
+
 -- the item with a number, selected, with the place of its file
-abbrev pub selected_by : List Item → List ℕ → ℕ → SelectedItem
-selected_by items places number = selected_item number (slice_index_or places number 0) (numbered_item items number)
+abbrev pub selected_by : FoundSuite → List ℕ → ℕ → SelectedItem
+selected_by found places number = selected_item found.table (slice_index_or places number 0) (item_numbered found.suite number)
 
 -- whether anything that was loaded wants what isn't built yet
-unfoldable pub wants_more : List Obj → List Value → List TestFile → List Item → Bool
+unfoldable pub wants_more : List Obj → List TestFile → List TestFile → List Item → Bool
 wants_more heap conftests files items =
-    list_any (wants_unbuilt_conftest heap) conftests || (list_any (λ file. wants_unbuilt_test heap file.object) files || list_any (wants_unbuilt heap) items)
+    list_any (wants_unbuilt_conftest heap) conftests || (list_any (wants_unbuilt_test heap) files || list_any (wants_unbuilt heap) items)
+
+-- the paths of the files that words name: their asserts are explained, as those of test files and conftests are
+abbrev pub named_paths : List (List ℕ) → List NamedWord → List (List ℕ)
+named_paths walk words = paths_at walk (named_files words)
 
 module _ (options : Options) where
   -- of the items that the words name, those that `-k` and `-m` accept, in the order of the words
-  abbrev pub collected_with : List Item → List ℕ → List ℕ → Loaded → Collected python Table
-  collected_with items places numbers loaded =
-      let accepted = chosen options loaded.world.heap items numbers in
+  abbrev pub collected_with : FoundSuite → List ℕ → List ℕ → Loaded → Collected python Suite
+  collected_with found places numbers loaded =
+      let accepted = chosen options loaded.world.heap found.suite.items numbers in
       record {
-        table = items;
+        table = found.suite;
         world = loaded.world;
-        selected = map (selected_by items places) accepted;
+        selected = map (selected_by found places) accepted;
         deselected = length numbers - length accepted;
         errors = loaded.errors;
       }
 
   -- the items that the words name, or why they are refused
-  abbrev pub ended_with : List Value → List Item → List ℕ → Loaded → Result (List ℕ) WordFault → End
-  ended_with modules items places loaded (Err fault) = Refused (fault_text fault)
-  ended_with modules items places loaded (Ok numbers) =
-      if wants_more loaded.world.heap modules loaded.files items then Refused (codes "not built") else Whole (collected_with items places numbers loaded)
+  abbrev pub ended_with : List TestFile → FoundSuite → List ℕ → Loaded → Result (List ℕ) WordFault → End
+  ended_with above found places loaded (Err fault) = Refused (fault_text fault)
+  ended_with above found places loaded (Ok numbers) =
+      if wants_more loaded.world.heap above loaded.files found.suite.items then Refused (codes "not built") else Whole (collected_with found places numbers loaded)
 
   -- the items that the words name, by number
   abbrev pub nodes_selected : List (List ℕ) → List FileNodes → List NamedWord → Result (List ℕ) WordFault
   nodes_selected walk nodes words = selected most_items walk (walked walk options.ignore) nodes words
 
   -- the items of the loaded files, selected by the words
-  abbrev pub of_loaded : List (List ℕ) → List NamedWord → List Value → Loaded → End
-  of_loaded walk words modules loaded =
-      ended_with modules (all_items loaded.world.heap walk loaded.files) (item_places loaded.world.heap walk loaded.files) loaded
+  abbrev pub of_loaded : List (List ℕ) → List NamedWord → List TestFile → Loaded → End
+  of_loaded walk words above loaded =
+      ended_with above (found_suite loaded.world.heap walk above loaded.files) (item_places loaded.world.heap walk loaded.files) loaded
       (nodes_selected walk (nodes_by_place loaded.world.heap walk loaded.files) words)
 
   -- conftests, then test files
   abbrev pub with_conftests : List (List ℕ) → List NamedWord → List ℕ → ConftestsEnd × SourceWorld → End
   with_conftests walk words files (Err (path, error, printed), w) = ConftestFault path (load_told options.step_limit path error w)
-  with_conftests walk words files (Ok modules, w) = of_loaded walk words modules (test_loads options.step_limit walk files w)
+  with_conftests walk words files (Ok modules, w) = of_loaded walk words (conftest_files (conftests walk files) modules) (test_loads options.step_limit walk files w)
 
   abbrev pub of_files : List (List ℕ) → List NamedWord → List ℕ → SourceWorld → End
   of_files walk words files w = with_conftests walk words files (conftest_loads options.step_limit (paths_at walk (conftests walk files)) w)
 
-  -- words that name files, in files whose forms are built
+  -- words that name files
   abbrev pub of_words : List ReadFile → List (List ℕ) → Result (List NamedWord) WordFault → End
   of_words sources walk (Err fault) = Refused (fault_text fault)
-  of_words sources walk (Ok words) =
-      if list_all is_built_read sources
-      then of_files walk words (test_files walk (walked walk options.ignore) words) (with_reads sources empty)
-      else Refused (codes "not built")
+  of_words sources walk (Ok words) = of_files walk words (test_files walk (walked walk options.ignore) words) (with_reads (named_paths walk words) sources empty)
 
   -- THE COLLECTION
   unfoldable pub collect : List ReadFile → End

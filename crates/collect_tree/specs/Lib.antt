@@ -1,4 +1,5 @@
 pub mod Walk
 pub mod Loads
 pub mod Collection
+pub mod Runnable
 pub mod Told

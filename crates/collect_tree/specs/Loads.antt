@@ -1,8 +1,8 @@
 -- HOW FILES ARE LOADED: conftests first, then the test files (pytest's reference, "conftest.py files"). An exception is told in the
 -- world right behind the load that it ended.
-use Rattle.std.specs.Prelude.{ℕ, List, [], ◌∷◌, ◌++◌, Option, Some, None, Result, Ok, Err, chars, codes}
+use Rattle.std.specs.Prelude.{ℕ, List, [], ◌∷◌, ◌++◌, Option, Some, None, Ok, Err, chars, codes}
 use Rattle.std.specs.Str.Lossy.{utf8_lossy}
-use Rattle.collect_items.specs.declared.test_file.TestFile.{TestFile}
+use Rattle.collect_fixtures.specs.declared.test_file.TestFile.{TestFile}
 use Rattle.collect_words.specs.Walks.{path_at}
 use Rattle.py_load.specs.InTurn.{FileEnd, file_load}
 use Rattle.py_load.specs.declared.error.LoadError.{LoadError}

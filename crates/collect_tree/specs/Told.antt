@@ -7,8 +7,10 @@ use Rattle.report_parts.specs.Limits.{most_items}
 use Rattle.report_rules.specs.Collected.{Collected as Collection, ConftestFault, Refused, Whole}
 use Rattle.runtest_rules.specs.Language.{python}
 use Rattle.source_meaning.specs.Meaning.{SourceWorld}
-use Rattle.collect_tree.specs.Collection.{End, Table, selected_by}
+use Rattle.test_suite.specs.declared.suite.Suite.{Suite}
+use Rattle.collect_tree.specs.Collection.{End, selected_by}
 use Rattle.collect_tree.specs.Loads.{Loaded, loaded_before}
+use Rattle.collect_tree.specs.Runnable.{IsRunnable}
 use Rattle.collect_tree.specs.declared.collected.Collected.{Collected}
 use Rattle.collect_tree.specs.declared.fault.CollectFault.{CollectFault}
 use Rattle.collect_tree.specs.declared.fault.CollectFault.TheVariants.{NotBuilt, NotFound, TooManyItems, Conftest, OutOfMemory}
@@ -18,11 +20,11 @@ use Rattle.collect_tree.specs.declared.loads.LoadedTests.{LoadedTests}
 abbrev pub loaded_told : LoadedTests → SourceWorld → Loaded
 loaded_told loaded w = record { files = loaded.files.items; errors = loaded.errors.items; world = w }
 
-abbrev pub collected_told : Collected → SourceWorld → Collection python Table
+abbrev pub collected_told : Collected → SourceWorld → Collection python Suite
 collected_told c w = record {
-  table = c.items.items;
+  table = c.found.suite;
   world = w;
-  selected = map (selected_by c.items.items c.places.items) c.selected.items;
+  selected = map (selected_by c.found c.places.items) c.selected;
   deselected = c.deselected;
   errors = c.errors.items;
 }
@@ -42,11 +44,12 @@ end_told (Err TooManyItems) w = Some (Refused (fault_text word.TooManyItems))
 end_told (Err (Conftest path told)) w = Some (ConftestFault path told)
 end_told (Err OutOfMemory) w = None
 
--- the numbers of what was collected are within the limits
+-- what was collected can run, and its numbers are within the limits
 pub record IsWithin (c : Collected) : Type 0 where
-  pub numbers : All (λ number. number < length c.items.items) c.selected.items
-  pub few : length c.selected.items + c.deselected ≤ most_items
+  pub numbers : All (λ number. number < length c.found.suite.items) c.selected
+  pub few : length c.selected + c.deselected ≤ most_items
   pub errors : length c.errors.items ≤ most_items
+  pub suite : IsRunnable c.found
 
 -- loads behind those that are done
 abbrev pub after : LoadedTests → Loaded → Loaded

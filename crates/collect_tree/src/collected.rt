@@ -1,15 +1,16 @@
+use collect_items::FoundSuite;
 use report_parts::CollectReport;
-use runtest_rules::Item;
+use seq::Seq;
 
 /// What was collected.
 #[derive(Drop)]
 pub struct Collected {
-    /// All items of all test files; an item's number is its place.
-    pub items: Vec<Item>,
+    /// All items and fixtures of all test files, with the table of the fixtures; an item's number is its place.
+    pub found: FoundSuite,
     /// The place of the file of each item in the walk.
     pub places: Vec<usize>,
     /// The numbers of the items that the words select and `-k` and `-m` accept, in order.
-    pub selected: Vec<usize>,
+    pub selected: Seq<u32>,
     /// How many items the words select and `-k` or `-m` doesn't accept.
     pub deselected: u32,
     /// The files that could not be collected.

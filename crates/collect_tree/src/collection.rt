@@ -8,6 +8,7 @@ ghost use Rattle.selection.specs.Exprs.{AreExprs};
 ghost use Rattle.collect_words.specs.Files as files;
 ghost use Rattle.collect_tree.specs.Collection as collection;
 ghost use Rattle.collect_tree.specs.Loads.{test_loads};
+ghost use Rattle.collect_tree.specs.Runnable.{IsRunnable};
 ghost use Rattle.collect_tree.specs.Told.{IsWithin, end_told, loaded_told};
 ghost use Rattle.collect_tree.specs.Walk.{walk_of};
 
@@ -17,10 +18,13 @@ use crate::loads::{LoadedTests, load_tests, load_told};
 use crate::unbuilt::wants_more;
 use crate::walk::{paths_at, walk_of_files};
 use cli_words::Options;
-use collect_items::{FoundItems, chosen, found_items};
-use collect_words::{NamedWord, Walk, conftests, named_words, selected, test_files, walked};
+use collect_fixtures::TestFile;
+use collect_items::{FoundItems, FoundSuite, chosen, found_items};
+use collect_words::{
+    NamedWord, Walk, conftests, named_files, named_words, selected, test_files, walked,
+};
 use edge_io::Files;
-use py_load::{FailedFile, Prepared, has_reading, load_conftests, prepare};
+use py_load::{FailedFile, has_reading, load_conftests, prepare};
 use py_machine::{World, heap};
 use py_values::value::Value;
 use report_parts::{CollectReport, MOST_ITEMS, OutOfMemory};
@@ -39,7 +43,7 @@ fn counted(count: usize) -> Result<u32, OutOfMemory>
 }
 
 /// How many of the numbers are not accepted.
-fn left_out(numbers: &[usize], accepted: &[usize]) -> Result<u32, OutOfMemory>
+fn left_out(numbers: &[usize], accepted: &[u32]) -> Result<u32, OutOfMemory>
     ensures { IfOk result (λ n. n ≡ length numbers.now - length accepted.now) }
 {
     counted(numbers.len().saturating_sub(accepted.len()))
@@ -65,21 +69,23 @@ fn accepted(
     options: &Options,
     exprs: &Exprs,
     loaded: LoadedTests,
-    found: FoundItems,
+    found: FoundSuite,
+    places: Vec<usize>,
     numbers: &[usize],
 ) -> Result<Collected, OutOfMemory>
     requires exprs { AreExprs options.now exprs.now }
     requires few { length numbers.now ≤ most_items }
-    ensures told { IfOk result (λ c. collected_told c world.now ≡ collection.collected_with options.now found.items.items found.places.items numbers.now (loaded_told loaded world.now)) }
+    requires runnable { IsRunnable found }
+    ensures told { IfOk result (λ c. collected_told c world.now ≡ collection.collected_with options.now found places.items numbers.now (loaded_told loaded world.now)) }
     ensures within { IfOk result IsWithin }
 {
     let LoadedTests { errors, .. } = loaded;
-    let FoundItems { items, places, .. } = found;
     limited(&errors)?;
-    let selected = chosen(alloc, options, exprs, heap(world), &items, numbers)?;
-    let deselected = left_out(numbers, &selected)?;
+    let items = found.suite.items.items();
+    let selected = chosen(alloc, options, exprs, heap(world), items, numbers)?;
+    let deselected = left_out(numbers, selected.items())?;
     Ok(Collected {
-        items,
+        found,
         places,
         selected,
         deselected,
@@ -95,20 +101,23 @@ fn ended(
     world: &World,
     options: &Options,
     exprs: &Exprs,
-    modules: &[Value],
+    above: &[TestFile],
     loaded: LoadedTests,
-    found: FoundItems,
+    found: FoundSuite,
+    places: Vec<usize>,
     numbers: &[usize],
 ) -> Result<Collected, CollectFault>
     requires exprs { AreExprs options.now exprs.now }
     requires few { length numbers.now ≤ most_items }
-    ensures told { IfSome (end_told result world.now) (λ e. e ≡ collection.ended_with options.now modules.now found.items.items found.places.items (loaded_told loaded world.now) (Meant numbers.now)) }
+    requires runnable { IsRunnable found }
+    ensures told { IfSome (end_told result world.now) (λ e. e ≡ collection.ended_with options.now above.now found places.items (loaded_told loaded world.now) (Meant numbers.now)) }
     ensures within { IfOk result IsWithin }
 {
-    if wants_more(alloc, heap(world), modules, &loaded.files, &found.items)? {
+    let items = found.suite.items.items();
+    if wants_more(alloc, heap(world), above, &loaded.files, items)? {
         return Err(CollectFault::NotBuilt);
     }
-    let collected = accepted(alloc, world, options, exprs, loaded, found, numbers)?;
+    let collected = accepted(alloc, world, options, exprs, loaded, found, places, numbers)?;
     Ok(collected)
 }
 
@@ -153,27 +162,33 @@ fn of_loaded(
     exprs: &Exprs,
     walk: &Walk,
     words: &[NamedWord],
-    modules: &[Value],
+    above: &[TestFile],
     loaded: LoadedTests,
 ) -> Result<Collected, CollectFault>
     requires { AreExprs options.now exprs.now }
-    ensures told { IfSome (end_told result world.now) (λ e. e ≡ collection.of_loaded options.now walk.now words.now modules.now (loaded_told loaded world.now)) }
+    ensures told { IfSome (end_told result world.now) (λ e. e ≡ collection.of_loaded options.now walk.now words.now above.now (loaded_told loaded world.now)) }
     ensures within { IfOk result IsWithin }
 {
-    let found = found_items(alloc, heap(world), walk, &loaded.files)?;
-    match named_items(alloc, walk, options, words, &found.nodes) {
+    let FoundItems {
+        found,
+        places,
+        nodes,
+    } = found_items(alloc, heap(world), walk, above, &loaded.files)?;
+    match named_items(alloc, walk, options, words, &nodes) {
         Ok(numbers) => ended(
             alloc,
             world,
             options,
             exprs,
-            modules,
+            above,
             loaded,
             found,
+            places,
             numbers.items(),
         ),
         Err(fault) => {
             drop(found);
+            drop(places);
             drop(loaded);
             Err(fault)
         }
@@ -189,14 +204,55 @@ fn with_tests(
     walk: &Walk,
     words: &[NamedWord],
     places: &[usize],
-    modules: &[Value],
+    above: &[TestFile],
 ) -> Result<Collected, CollectFault>
     requires { AreExprs options.now exprs.now }
-    ensures told { IfSome (end_told result world.new) (λ e. e ≡ collection.of_loaded options.now walk.now words.now modules.now (test_loads options.now.step_limit walk.now places.now world.old)) }
+    ensures told { IfSome (end_told result world.new) (λ e. e ≡ collection.of_loaded options.now walk.now words.now above.now (test_loads options.now.step_limit walk.now places.now world.old)) }
     ensures within { IfOk result IsWithin }
 {
     let loaded = load_tests(alloc, world, options.step_limit, walk, places)?;
-    of_loaded(alloc, world, options, exprs, walk, words, modules, loaded)
+    of_loaded(alloc, world, options, exprs, walk, words, above, loaded)
+}
+
+/// The conftests that were loaded, with their modules.
+fn conftest_files(
+    alloc: Global,
+    places: &[usize],
+    modules: &[Value],
+) -> Result<Vec<TestFile>, OutOfMemory>
+    ensures { IfOk result (λ files. files.items ≡ collection.conftest_files places.now modules.now) }
+{
+    let mut files = Vec::new(alloc);
+    for at in 0..places.len() {
+        let Some(v) = modules.get(at) else {
+            return Ok(files);
+        };
+        files.push(TestFile {
+            place: places[at],
+            object: Some(*v),
+        })?;
+    }
+    Ok(files)
+}
+
+/// The collection behind the conftests, whose modules these are.
+fn with_modules(
+    alloc: Global,
+    world: &mut World,
+    options: &Options,
+    exprs: &Exprs,
+    walk: &Walk,
+    words: &[NamedWord],
+    places: &[usize],
+    above: &[usize],
+    modules: &[Value],
+) -> Result<Collected, CollectFault>
+    requires { AreExprs options.now exprs.now }
+    ensures told { IfSome (end_told result world.new) (λ e. e ≡ collection.of_loaded options.now walk.now words.now (collection.conftest_files above.now modules.now) (test_loads options.now.step_limit walk.now places.now world.old)) }
+    ensures within { IfOk result IsWithin }
+{
+    let files = conftest_files(alloc, above, modules)?;
+    with_tests(alloc, world, options, exprs, walk, words, places, &files)
 }
 
 /// The refusal that a failed conftest is.
@@ -233,7 +289,17 @@ fn of_files(
     let above = conftests(alloc, walk, places)?;
     let paths = paths_at(alloc, walk, above.items())?;
     match load_conftests(alloc, world, paths.items(), options.step_limit)? {
-        Ok(modules) => with_tests(alloc, world, options, exprs, walk, words, places, &modules),
+        Ok(modules) => with_modules(
+            alloc,
+            world,
+            options,
+            exprs,
+            walk,
+            words,
+            places,
+            above.items(),
+            &modules,
+        ),
         Err(failed) => {
             let fault = conftest_fault(alloc, world, options.step_limit, failed)?;
             Err(fault)
@@ -259,7 +325,27 @@ fn of_words(
     of_files(alloc, world, options, exprs, walk, words, places.items())
 }
 
-/// The collection of files, where all their forms are built.
+/// Gives the world the sources of the files; the asserts of those that the words name are explained too.
+fn prepared(
+    alloc: Global,
+    world: &mut World,
+    files: &Files,
+    walk: &Walk,
+    words: &[NamedWord],
+) -> Result<(), OutOfMemory>
+    requires none { world.old.sources ≡ [] }
+    requires order { InOrder (paths_of files.now) }
+    ensures { OnOk result (IsPrepared (named_paths walk.now words.now) files.now world.old world.new) }
+{
+    let places = named_files(alloc, words)?;
+    let named = paths_at(alloc, walk, places.items())?;
+    prepare(alloc, world, files, named.items())
+}
+
+ghost use Rattle.collect_tree.specs.Collection.{named_paths};
+ghost use Rattle.py_load.specs.Prepared.{IsPrepared};
+
+/// The collection of files.
 fn of_sources(
     alloc: Global,
     world: &mut World,
@@ -276,13 +362,10 @@ fn of_sources(
     ensures within { IfOk result IsWithin }
 {
     has_reading();
-    let Ok(prepared) = prepare(alloc, world, files) else {
+    let Ok(()) = prepared(alloc, world, files, walk, words) else {
         return Err(CollectFault::OutOfMemory);
     };
-    match prepared {
-        Prepared::Ready => of_words(alloc, world, options, exprs, walk, words),
-        Prepared::NotBuilt => Err(CollectFault::NotBuilt),
-    }
+    of_words(alloc, world, options, exprs, walk, words)
 }
 
 ghost use Rattle.std.specs.Prelude.{List};
@@ -314,7 +397,7 @@ ghost use Rattle.collect_words.specs.Words.{named_words};
 /// Collects what the words of these options name among the files of a tree, and `-k` and `-m` accept. The world is a new one; behind the
 /// call it has all modules that were loaded.
 ///
-/// Fails with the first refusal: `NotFound` for a path, `NotBuilt` for a form, `Conftest`, `TooManyItems`, `NotFound` behind `::`, and
+/// Fails with the first refusal: `NotFound` for a path, `Conftest`, `TooManyItems`, `NotFound` behind `::`, and
 /// `NotBuilt` for what the loaded names ask.
 pub fn collect(
     alloc: Global,

@@ -6,7 +6,7 @@ use report_parts::{OutOfMemory, Text, Told};
 /// Why nothing is collected.
 #[derive(Drop)]
 pub enum CollectFault {
-    /// The tree has a form that isn't built yet, or the tests want what isn't built yet of fixtures and hooks.
+    /// The tests want what isn't built yet of fixtures and hooks.
     NotBuilt,
     /// The word names nothing of the tree, or nothing of its file.
     NotFound(Text),

@@ -9,11 +9,13 @@
 //!
 //! - [`collect`]: what it gives is the collection of the files' sources (`told`, by `collect options sources`): the items that the words
 //!   select and `-k` and `-m` accept, in the order of the words, the number of the others, the errors of collection and the world behind
-//!   all loads; or the first refusal: a word whose path names nothing, a file with a form that isn't built, a conftest that fails, more
-//!   than 65,536 items, a word whose part behind `::` names nothing, or what isn't built of fixtures and hooks. `few`, `errors`: no more
-//!   than 65,536 items are selected before `-k` and `-m`, and no more errors.
-//! - [`what_is_collected_fits`]: the closures of the items fit the rules of `runtest_rules`, and no two selected items have one number:
-//!   what a report's laws ask of a collection.
+//!   all loads; or the first refusal: a word whose path names nothing, a conftest that fails, more
+//!   than 65,536 items, a word whose part behind `::` names nothing, or what isn't built of parameters and hooks.
+//! - [`collect`]: what was collected can run (`within`, by `IsWithin`): the nodes of the table are a tree, its definitions are the
+//!   fixtures of the suite with their scopes, and each item is found by its node, which the table has, and its closure fits the rules of
+//!   the suite; the selected numbers are those of items, no more than 65,536 are selected before `-k` and `-m`, and no more errors.
+//! - [`what_is_collected_fits`]: the closures of the items fit any rules that have the suite's fixtures and their scopes, as those of
+//!   `runtest_rules` do, and no two selected items have one node: what a report's laws ask of a collection.
 //!
 //! Behind want of memory a world is spent.
 //!

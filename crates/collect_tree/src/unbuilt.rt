@@ -3,21 +3,20 @@
 ghost use Rattle.std.specs.Prelude.{◌≡◌, IfOk};
 ghost use Rattle.std.specs.List.{list_any};
 ghost use Rattle.collect_items.specs.Unbuilt as unbuilt;
-ghost use Rattle.collect_items.specs.declared.test_file.TestFile.{TestFile as File};
 ghost use Rattle.collect_tree.specs.Collection.{wants_more};
 
-use collect_items::{TestFile, wants_unbuilt, wants_unbuilt_conftest, wants_unbuilt_file};
+use collect_fixtures::TestFile;
+use collect_items::{wants_unbuilt, wants_unbuilt_conftest, wants_unbuilt_file};
 use py_values::heap::Heap;
-use py_values::value::Value;
 use report_parts::OutOfMemory;
-use runtest_rules::Item;
 use std::alloc::Global;
+use test_suite::Item;
 
-fn any_conftest(heap: &Heap, modules: &[Value]) -> Result<bool, OutOfMemory>
-    ensures { IfOk result (λ b. b ≡ list_any (unbuilt.wants_unbuilt_conftest heap.now) modules.now) }
+fn any_conftest(heap: &Heap, conftests: &[TestFile]) -> Result<bool, OutOfMemory>
+    ensures { IfOk result (λ b. b ≡ list_any (unbuilt.wants_unbuilt_conftest heap.now) conftests.now) }
 {
-    for v in modules {
-        if wants_unbuilt_conftest(heap, *v)? {
+    for file in conftests {
+        if wants_unbuilt_conftest(heap, *file)? {
             return Ok(true);
         }
     }
@@ -25,7 +24,7 @@ fn any_conftest(heap: &Heap, modules: &[Value]) -> Result<bool, OutOfMemory>
 }
 
 fn any_file(alloc: Global, heap: &Heap, files: &[TestFile]) -> Result<bool, OutOfMemory>
-    ensures { IfOk result (λ b. b ≡ list_any (λ (file : File). unbuilt.wants_unbuilt_test heap.now file.object) files.now) }
+    ensures { IfOk result (λ b. b ≡ list_any (unbuilt.wants_unbuilt_test heap.now) files.now) }
 {
     for file in files {
         if wants_unbuilt_file(alloc, heap, *file)? {
@@ -51,13 +50,13 @@ fn any_item(heap: &Heap, items: &[Item]) -> bool
 pub fn wants_more(
     alloc: Global,
     heap: &Heap,
-    modules: &[Value],
+    conftests: &[TestFile],
     files: &[TestFile],
     items: &[Item],
 ) -> Result<bool, OutOfMemory>
-    ensures { IfOk result (λ b. b ≡ wants_more heap.now modules.now files.now items.now) }
+    ensures { IfOk result (λ b. b ≡ wants_more heap.now conftests.now files.now items.now) }
 {
-    if any_conftest(heap, modules)? {
+    if any_conftest(heap, conftests)? {
         return Ok(true);
     }
     if any_file(alloc, heap, files)? {

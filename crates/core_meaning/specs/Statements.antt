@@ -18,6 +18,8 @@ use Rattle.py_core.specs.declared.stmt.CoreSingleKind.{CoreSingleKind}
 use Rattle.py_core.specs.declared.stmt.CoreSingleKind.TheVariants as single
 use Rattle.py_core.specs.declared.stmt.CoreTarget.{CoreTarget}
 use Rattle.py_core.specs.declared.stmt.CoreTarget.TheVariants as target
+use Rattle.py_core.specs.declared.stmt.CoreUse.{CoreUse}
+use Rattle.py_core.specs.declared.stmt.CoreUse.TheVariants as taken
 use Rattle.py_core.specs.declared.stmt.Template.{Template}
 use Rattle.py_core.specs.declared.stmt.Template.TheVariants.{Plain, Explain}
 use Rattle.py_core.specs.declared.stmt.CoreStmt.{CoreStmt}
@@ -27,13 +29,13 @@ use Rattle.py_core.specs.declared.stmt.CoreStmtKind.TheVariants as v
 use Rattle.py_tree.specs.declared.op.BinOp.{BinOp}
 use Rattle.py_tree.specs.Trees.{tree}
 use Rattle.core_meaning.specs.Expressions.{CorePart, eval, parts_of}
-use Rattle.core_meaning.specs.Requests.{core_kinds, Layer, Statements, Guard, Turn, StatementOf, TurnOf, ForOf}
+use Rattle.core_meaning.specs.Requests.{core_kinds, Layer, Statements, Guard, Receives, Turn, StatementOf, TurnOf, ForOf}
 use Rattle.py_world.specs.Site.{site}
 use Rattle.py_world.specs.Outcome.{Body, After, Next, on_next}
-use Rattle.py_world.specs.Statements.{Choice, asked, expression_statement, return_value, yield_value, pass, leave_loop, next_turn, fail, fail_explained, choose, loop, turn_of}
+use Rattle.py_world.specs.Statements.{Choice, asked, expression_statement, return_value, yield_value, received, no_use, return_sent, pass, leave_loop, next_turn, fail, fail_explained, choose, loop, turn_of}
 use Rattle.py_world.specs.Definitions.{Written, define, class_statement}
 use Rattle.py_world.specs.Names.{delete_name}
-use Rattle.py_world.specs.Targets.{Store, store_name, store_attribute, store_item, unpack, assign, augment_name, augment_attribute, augment_item, delete_attribute, delete_item}
+use Rattle.py_world.specs.Targets.{Store, store_name, store_attribute, store_item, store_all, unpack, assign, augment_name, augment_attribute, augment_item, delete_attribute, delete_item}
 use Rattle.py_world.specs.Exceptions.{Handling, guarded, try_statement}
 use Rattle.py_world.specs.Contexts.{with_statement}
 use Rattle.py_world.specs.Raising.{raise_value}
@@ -70,6 +72,12 @@ abbrev pub stores : List CoreTarget → List CoreStore
 stores [] = []
 stores (t ∷ ts) = store t ∷ stores ts
 
+-- what is done with the value that a `yield` is given
+abbrev pub use_of : CoreUse → CoreStore
+use_of taken.NoUse = no_use
+use_of (taken.Targets source ts) = store_all (stores ts.value.items)
+use_of taken.Return = return_sent
+
 abbrev pub augment_at : CoreSingleKind → BinOp → CorePart → CorePart
 augment_at (single.Name name) op e = augment_name name op e
 augment_at (single.Attribute a name) op e = augment_attribute (eval a.value) name op e
@@ -101,7 +109,7 @@ begun_at v.Pass ls st = asked (StatementOf ls st)
 begun_at v.Break ls st = asked (StatementOf ls st)
 begun_at v.Continue ls st = asked (StatementOf ls st)
 begun_at (f.If' p n branches q other) ls st = asked (StatementOf ls st)
-begun_at (v.Yield e) ls st = asked (StatementOf ls st)
+begun_at (v.Yield e u) ls st = asked (StatementOf ls st)
 begun_at (f.While' e p body) ls st = asked (StatementOf ls st)
 begun_at (f.Def' ds es p fn) ls st = asked (StatementOf ls st)
 begun_at (v.Raise e) ls st = asked (StatementOf ls st)
@@ -142,6 +150,7 @@ abbrev pub remains : List Layer → After core_kinds
 remains [] p o k = k o
 remains (Statements b at ∷ ls) p o k = on_next o (λ o. remains ls p o k) (λ s. block_from ls b at (drop at (stmts_in b)) p.scene s (λ o. remains ls p o k))
 remains (Guard g line ∷ ls) p o k = guard ls g (site p.scene line) o (λ o. remains ls p o k)
+remains (Receives u ∷ ls) p o k = received (use_of u) p o (λ o. remains ls p o k)
 
 abbrev pub choice : List Layer → branch.CoreBranch → CoreChoice
 choice ls (branch.CoreBranch' at condition p body) = (at.line, (eval condition.value, block ls body))
@@ -179,7 +188,7 @@ statement_at ls (v.AugAssign t op e) = augment_at t.kind op (eval e.value)
 statement_at ls (v.Return e) = return_value (some_part e)
 statement_at ls (v.FailWith template message) = failure template message
 statement_at ls (v.Global names) = pass
-statement_at ls (v.Yield e) = yield_value (some_part e) ls
+statement_at ls (v.Yield e u) = yield_value (some_part e) (Receives u.value ∷ ls)
 statement_at ls v.Pass = pass
 statement_at ls v.Break = leave_loop
 statement_at ls v.Continue = next_turn

@@ -26,15 +26,17 @@ use Rattle.py_core.specs.declared.stmt.CoreStmtKind as c
 use Rattle.py_core.specs.declared.stmt.CoreStmtKind.{CoreStmtKind, items-the_row-CoreBranch}
 use Rattle.py_core.specs.declared.stmt.CoreBlock.{CoreBlock}
 use Rattle.py_core.specs.declared.stmt.CoreGuard.{CoreGuard}
+use Rattle.py_core.specs.declared.stmt.CoreUse.{CoreUse}
+use Rattle.py_core.specs.declared.stmt.CoreUse.TheVariants as taken
 use Rattle.py_core.specs.declared.stmt.CoreHandler as handler
 use Rattle.py_core.specs.declared.stmt.CoreSingle.{CoreSingle}
 use Rattle.py_core.specs.Blocks.{stmts_in, handlers_in, other_in, last_in}
 use Rattle.py_core.specs.declared.stmt.CoreStmtKind.TheVariants as k
 use Rattle.py_tree.specs.Trees as Rattle_tree
-use Rattle.core_meaning.specs.Requests.{core_kinds, Layer, Statements, Guard, Turn, StatementOf, TurnOf, ForOf}
+use Rattle.core_meaning.specs.Requests.{core_kinds, Layer, Statements, Guard, Receives, Turn, StatementOf, TurnOf, ForOf}
 use Rattle.core_meaning.specs.Meaning.{core}
 use Rattle.core_meaning.specs.Expressions.{CorePart, eval_at, eval, parts, parts_of, held}
-use Rattle.core_meaning.specs.Statements.{remains, store_at, store_singles, store, stores, augment_at, delete_at, some_part, failure, begun_at, block_from, block, handlings, guard, choices, core_body, written, define_fn, define_class, try_at, statement_at, statement, act, entry}
+use Rattle.core_meaning.specs.Statements.{remains, store_at, store_singles, store, stores, use_of, augment_at, delete_at, some_part, failure, begun_at, block_from, block, handlings, guard, choices, core_body, written, define_fn, define_class, try_at, statement_at, statement, act, entry}
 use Rattle.py_world.specs.World.{State}
 use Rattle.py_world.specs.Site.{Around, Scene, Site, site}
 use Rattle.py_world.specs.Arguments.{Arguments, arguments_of}
@@ -100,6 +102,11 @@ stores_linear : (ts : List CoreTarget) → flow.LinearStores (stores ts)
 stores_linear [] = flow.nil
 stores_linear (t ∷ ts) = flow.cons (store_linear t) (stores_linear ts)
 
+use_linear : (u : CoreUse) → flow.LinearStore (use_of u)
+use_linear taken.NoUse = flow.no_use_linear
+use_linear (taken.Targets source ts) = flow.all_stored_linear (stores_linear ts.value.items)
+use_linear taken.Return = flow.return_sent_linear
+
 augment_linear : (x : CoreSingleKind) (op : BinOp) {e : CorePart} → Linear e → Linear (augment_at x op e)
 augment_linear (single.Name name) op e = flow.augment_linear name op e
 augment_linear (single.Attribute a name) op e = flow.augment_attribute_linear name op (eval_linear a.value.at a.value.kind) e
@@ -121,7 +128,7 @@ begun_linear (k.AugAssign t op e) ls st = line.asked_linear (StatementOf ls st)
 begun_linear (k.Return e) ls st = line.asked_linear (StatementOf ls st)
 begun_linear (k.FailWith template message) ls st = failure_linear template message
 begun_linear (k.Global names) ls st = line.asked_linear (StatementOf ls st)
-begun_linear (k.Yield e) ls st = line.asked_linear (StatementOf ls st)
+begun_linear (k.Yield e u) ls st = line.asked_linear (StatementOf ls st)
 begun_linear k.Pass ls st = line.asked_linear (StatementOf ls st)
 begun_linear k.Break ls st = line.asked_linear (StatementOf ls st)
 begun_linear k.Continue ls st = line.asked_linear (StatementOf ls st)
@@ -156,6 +163,7 @@ remains_linear [] = record { does = λ p o k l. refl }
 remains_linear (Statements b at ∷ ls) =
     record { does = λ p o k l. flow.next_then (λ o. remains ls p o k) (λ o. remains ls p o (line.Behind l k)) l _ _ (λ o. (remains_linear ls).does p o k l) (λ s. line.body_then (from_linear ls b at (drop at (stmts_in b))) p.scene s _ _ l (λ o. (remains_linear ls).does p o k l)) o }
 remains_linear (Guard g n ∷ ls) = record { does = λ p o k l. flow.after_then (guard_linear ls g) (site p.scene n) o _ _ l (λ o. (remains_linear ls).does p o k l) }
+remains_linear (Receives u ∷ ls) = record { does = λ p o k l. flow.after_then (flow.received_linear (use_linear u)) p o _ _ l (λ o. (remains_linear ls).does p o k l) }
 
 try_linear : (ls : List Layer) (body : CoreBlock) (g : CoreGuard) → Linear (try_at ls body g)
 try_linear ls body g = record { does = λ p s k l. (flow.try_linear (block_linear (Guard g p.line ∷ ls) body) (handlings_linear ls (handlers_in g)) (block_linear ls (other_in g)) (block_linear ls (last_in g))).does p s k l }
@@ -184,7 +192,7 @@ statement_linear ls (k.AugAssign t op e) = augment_linear t.kind op (eval_linear
 statement_linear ls (k.Return e) = line.return_linear (some_linear e)
 statement_linear ls (k.FailWith template message) = failure_linear template message
 statement_linear ls (k.Global names) = line.pass_linear
-statement_linear ls (k.Yield e) = line.yield_linear (some_linear e) ls
+statement_linear ls (k.Yield e u) = line.yield_linear (some_linear e) (Receives u.value ∷ ls)
 statement_linear ls k.Pass = line.pass_linear
 statement_linear ls k.Break = line.leave_linear
 statement_linear ls k.Continue = line.again_linear

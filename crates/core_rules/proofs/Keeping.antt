@@ -350,7 +350,7 @@ module _ {K : Kinds} (Good : World K → Type 0) (Fresh : List ℕ → Type 0) (
 
   -- calls of functions whose bodies keep what is good
   module _ (entry : K.code → Entry K) (bodies : (c : K.code) → BodyKept (entry c).body) where
-    entered_kept : (st : Stored K.code) (names : Result Locals Raise) (a : Around) (s : State K) → GoodState s → (k : Then K) → Behind k → Kept (entered entry st names a s k)
+    pub entered_kept : (st : Stored K.code) (names : Result Locals Raise) (a : Around) (s : State K) → GoodState s → (k : Then K) → Behind k → Kept (entered entry st names a s k)
     entered_kept st (Ok names) a s g k h = cond_kept (nat_lt a.depth most_open) _ _ ((bodies st.code).does _ _ g k h) (h _ (raised_kept too_deep a.trace s g))
     entered_kept st (Err r) a s g k h = h _ (raised_kept r a.trace s g)
 

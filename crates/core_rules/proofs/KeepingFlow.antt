@@ -36,6 +36,7 @@ use Rattle.py_world.specs.Expressions.{arguments}
 use Rattle.py_world.specs.Displays.{displayed, dict_displayed, in_pairs, bound_given, collected, list_part, tuple_part, dict_part, subscript_part, slice_bound, sliced_at, slice_by, slice_to, slice_on, slice_part}
 use Rattle.py_world.specs.Attributes.{takes_names, with_attribute, without_attribute, changed_or, attribute_end, attribute_part, set_attribute, unset_attribute}
 use Rattle.py_world.specs.Targets.{Store, wrong_count, element_and, elements_from, store_name, store_attribute, set_item, store_item, store_all, store_each, unpack_by, unpack, assign, augmented, augment_on, augment_name, augment_attribute_of, augment_attribute, augment_item_of, augment_item, delete_attribute, unset_item, delete_item}
+use Rattle.py_world.specs.Statements.{received, no_use, return_sent}
 use Rattle.py_world.specs.Exceptions.{Handling, Raisable, Exception_of, Class_of, Neither, no_exception, nothing_raised, first_trace, raised_by, raised_again, takes_exception, handler_block, if_taken, handlers_on, guarded_by, then_again, finally_on, guarded, try_statement}
 use Rattle.py_world.specs.Contexts.{bad_context, context_of, info_named, with_info, info_taken, searched, swallowed, taken_or, not_raised, context_left, context_entered, with_statement}
 use Rattle.py_world.specs.Loops.{turn_begun, for_from, iterated, for_statement, behind_target, turn_with, for_turn}
@@ -201,6 +202,19 @@ module _ {K : Kinds} (Good : World K → Type 0) (Fresh : List ℕ → Type 0) (
 
   pub assign_kept : {ts : List (Store K)} {e : Part K} → StoresKept ts → PartKept e → PartKept (assign ts e)
   assign_kept ts e = record { does = λ p s g k h. e.does p s g _ (value_kept k h _ (λ v s g. (store_all_kept ts v).does p s g k h)) }
+
+  -- what is done with the value that a `yield` is given
+  pub all_stored_kept : {ts : List (Store K)} → StoresKept ts → StoreKept (store_all ts)
+  all_stored_kept ts = record { stores = λ v. store_all_kept ts v }
+
+  pub no_use_kept : StoreKept no_use
+  no_use_kept = record { stores = λ v. record { does = λ p s g k h. h _ g } }
+
+  pub return_sent_kept : StoreKept return_sent
+  return_sent_kept = record { stores = λ v. record { does = λ p s g k h. h _ g } }
+
+  pub received_kept : {t : Store K} → StoreKept t → AfterKept (received t)
+  received_kept t = record { does = λ p o g k h. value_kept k h _ (λ v s g. (t.stores v).does p s g k h) o g }
 
   augmented_kept : (x : Value) (op : BinOp) (y : Value) {t : Store K} → StoreKept t → PartKept (augmented x op y t)
   augmented_kept x op y {t = target} t = record { does = λ p s g k h. operated_kept (augmented_of op (heap_of s) x y) p s g (λ o. on_value o k (λ v s. target v p s k)) (value_kept k h (λ v s. target v p s k) (λ v s g. (t.stores v).does p s g k h)) }

@@ -28,6 +28,7 @@ use Rattle.py_world.specs.Expressions.{arguments}
 use Rattle.py_world.specs.Displays.{displayed, dict_displayed, in_pairs, bound_given, collected, list_part, tuple_part, dict_part, subscript_part, slice_bound, sliced_at, slice_by, slice_to, slice_on, slice_part}
 use Rattle.py_world.specs.Attributes.{attribute_end, attribute_part, set_attribute}
 use Rattle.py_world.specs.Targets.{Store, elements_from, store_name, store_attribute, set_item, store_item, store_all, store_each, unpack_by, unpack, assign, augment_on, augment_name, augment_attribute_of, augment_attribute, augment_item_of, augment_item, delete_attribute, delete_item}
+use Rattle.py_world.specs.Statements.{received, no_use, return_sent}
 use Rattle.py_world.specs.Exceptions.{Handling, takes_exception, handler_block, if_taken, handlers_on, guarded_by, then_again, finally_on, guarded, try_statement}
 use Rattle.py_world.specs.Contexts.{context_of, with_info, searched, swallowed, taken_or, context_left, context_entered, with_statement}
 use Rattle.py_world.specs.Loops.{turn_begun, for_from, iterated, for_statement, behind_target, turn_with, for_turn}
@@ -126,6 +127,19 @@ module _ {K : Kinds} where
 
   pub assign_linear : {ts : List (Store K)} {e : Part K} → LinearStores ts → Linear e → Linear (assign ts e)
   assign_linear ts e = record { does = λ p s k l. line.then_linear e p s _ _ l (line.value_bind k l _ _ (λ v s. (store_all_linear ts v).does p s k l)) }
+
+  -- what is done with the value that a `yield` is given
+  pub all_stored_linear : {ts : List (Store K)} → LinearStores ts → LinearStore (store_all ts)
+  all_stored_linear ts = record { stores = λ v. store_all_linear ts v }
+
+  pub no_use_linear : LinearStore no_use
+  no_use_linear = record { stores = λ v. record { does = λ p s k l. refl } }
+
+  pub return_sent_linear : LinearStore return_sent
+  return_sent_linear = record { stores = λ v. record { does = λ p s k l. refl } }
+
+  pub received_linear : {t : Store K} → LinearStore t → LinearAfter (received t)
+  received_linear t = record { does = λ p o k l. line.value_bind k l _ _ (λ v s. (t.stores v).does p s k l) o }
 
   augment_on_linear : (x : Value) (op : BinOp) {e : Part K} {t : Store K} → Linear e → LinearStore t → Linear (augment_on x op e t)
   augment_on_linear x op e t = record { does = λ p s k l. line.then_linear e p s _ _ l (line.value_bind k l _ _ (λ y s. line.operated_bind (augmented_of op (heap_of s) x y) p s _ _ l (line.value_bind k l _ _ (λ v s. (t.stores v).does p s k l)))) }

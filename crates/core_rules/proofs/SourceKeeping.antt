@@ -7,11 +7,11 @@ use Rattle.py_tree.specs.Statements as st
 use Rattle.py_tree.specs.Statements.{Statement, Block, Branches, Handlers, Place, NamePlace, AttributePlace, SubscriptPlace, Taker, One, Unpack, Parameter, Parameter_at}
 use Rattle.py_values.specs.declared.value.Value.TheVariants as val
 use Rattle.py_kinds.specs.Truth.{truth}
-use Rattle.source_meaning.specs.Requests.{source_kinds, Layer, Statements, Guard, Turn, StatementOf, TurnOf, ForOf, Function, Script}
+use Rattle.source_meaning.specs.Requests.{source_kinds, Use, NoUse, Targets, ReturnIt, Layer, Statements, Guard, Receives, Turn, StatementOf, TurnOf, ForOf, Function, Script}
 use Rattle.source_meaning.specs.Meaning.{source}
 use Rattle.source_meaning.specs.Watched.{watch, watch_all}
-use Rattle.source_meaning.specs.Expressions.{SourcePart, missing, eval, parts, some_part}
-use Rattle.source_meaning.specs.Statements.{SourceBody, SourceChoice, SourceHandling, position, store_place, store_places, store, stores, augment, delete, assert, assert_as, handlings, guard, remains, listed, sequence, choices, script_body, written, with_part, default_parts, try_at, statement, act, entry}
+use Rattle.source_meaning.specs.Expressions.{SourcePart, eval, parts, some_part}
+use Rattle.source_meaning.specs.Statements.{SourceBody, SourceChoice, SourceHandling, position, store_place, store_places, store, stores, use_of, augment, delete, assert, assert_as, handlings, guard, remains, listed, sequence, choices, script_body, written, with_part, default_parts, try_at, statement, act, entry}
 use Rattle.py_world.specs.World.{World, heap_of, unset}
 use Rattle.py_world.specs.Site.{site}
 use Rattle.py_world.specs.Arguments.{arguments_of}
@@ -33,9 +33,6 @@ module _ (Good : World source_kinds → Type 0) (Fresh : List ℕ → Type 0) (c
 
   abbrev BodyKept : SourceBody → Type 0
   BodyKept = keep.BodyKept Good Fresh closed
-
-  missing_kept : PartKept missing
-  missing_kept = record { does = λ p s g k h. h _ g }
 
   all_more : {es : List SourcePart} {e : SourcePart} → PartsKept es → PartKept e → PartsKept (es ++ e ∷ [])
   all_more keep.nil e = keep.cons e keep.nil
@@ -89,6 +86,11 @@ module _ (Good : World source_kinds → Type 0) (Fresh : List ℕ → Type 0) (c
   stores_kept : (xs : List Taker) → flow.StoresKept Good Fresh closed (stores xs)
   stores_kept [] = flow.nil
   stores_kept (x ∷ xs) = flow.cons (store_kept x) (stores_kept xs)
+
+  use_kept : (u : Use) → flow.StoreKept Good Fresh closed (use_of u)
+  use_kept NoUse = flow.no_use_kept Good Fresh closed
+  use_kept (Targets ts) = flow.all_stored_kept Good Fresh closed (stores_kept ts)
+  use_kept ReturnIt = flow.return_sent_kept Good Fresh closed
 
   augment_kept : (p : Place) (op : BinOp) {e : SourcePart} → PartKept e → PartKept (augment p op e)
   augment_kept (NamePlace at name) op e = flow.augment_kept Good Fresh closed name op e
@@ -155,6 +157,7 @@ module _ (Good : World source_kinds → Type 0) (Fresh : List ℕ → Type 0) (c
   remains_kept (Statements x ss ∷ ls) =
       record { does = λ p o g k h. keep.next_kept Good Fresh closed (λ o. remains ls p o k) (λ o g. (remains_kept ls).does p o g k h) (λ s. sequence x ls ss p.scene s (λ o. remains ls p o k)) (λ s g. (sequence_kept x ls ss).does p.scene s g (λ o. remains ls p o k) (λ o g. (remains_kept ls).does p o g k h)) o g }
   remains_kept (Guard x n hs other last ∷ ls) = record { does = λ p o g k h. (guard_kept x ls hs other last).does (site p.scene n) o g (λ o. remains ls p o k) (λ o g. (remains_kept ls).does p o g k h) }
+  remains_kept (Receives u ∷ ls) = record { does = λ p o g k h. (flow.received_kept Good Fresh closed (use_kept u)).does p o g (λ o. remains ls p o k) (λ o g. (remains_kept ls).does p o g k h) }
 
   try_at_kept : (x : Bool) (ls : List Layer) (body : Block) (hs : Handlers) (other last : List Statement) → PartKept (try_at x ls body hs other last)
   try_at_kept x ls body hs other last =
@@ -195,11 +198,11 @@ module _ (Good : World source_kinds → Type 0) (Fresh : List ℕ → Type 0) (c
   statement_kept z ls (st.If at bs other) = keep.choose_kept Good Fresh closed (choices_kept z ls bs) (sequence_kept z ls (listed other))
   statement_kept z ls (st.While at e body) = keep.loop_kept Good Fresh closed _ (eval_kept e)
   statement_kept z ls (st.Def at ds word name params returns body) = more.define_kept Good Fresh closed (parts_kept ds) (defaults_kept params) (written params) name word.line _ _
-  statement_kept z ls (st.AssignYield at ts word e) = missing_kept
-  statement_kept z ls (st.ReturnYield at word e) = missing_kept
+  statement_kept z ls (st.AssignYield at ts word e) = keep.yield_kept Good Fresh closed (some_kept e) (Receives (Targets ts) ∷ ls)
+  statement_kept z ls (st.ReturnYield at word e) = keep.yield_kept Good Fresh closed (some_kept e) (Receives ReturnIt ∷ ls)
   statement_kept z ls (st.Raise at e) = more.raise_kept Good Fresh closed entry entry_kept (some_kept e)
   statement_kept z ls (st.Del at p) = delete_kept p
-  statement_kept z ls (st.YieldOf at word e) = keep.yield_kept Good Fresh closed (some_kept e) ls
+  statement_kept z ls (st.YieldOf at word e) = keep.yield_kept Good Fresh closed (some_kept e) (Receives NoUse ∷ ls)
   statement_kept z ls (st.Import at names alias) = more.import_kept Good Fresh closed script_body script_kept names alias
   statement_kept z ls (st.ImportFrom at names all) = more.from_kept Good Fresh closed script_body script_kept names all
   statement_kept z ls (st.For at x e body) = flow.for_kept Good Fresh closed (ForOf z x body) (eval_kept e)

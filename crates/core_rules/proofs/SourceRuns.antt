@@ -29,13 +29,13 @@ use Rattle.core_rules.proofs.Keeping.{Closed}
 use Rattle.core_rules.proofs.SourceKeeping.{entry_kept as source_entries, script_kept as source_scripts, source_kept}
 use Rattle.core_rules.proofs.Worlds.{IsRunFrom, Fresh, run_from, run_from-refl, run_kept_in, spent_kept_in, known_closed, known_spent, put_here}
 
-abbrev SourceEnding : Type 0
+abbrev pub SourceEnding : Type 0
 SourceEnding = tree.Ending Pos (Spent source_kinds) (Request source_kinds) (Outcome source_kinds) (Paused source_kinds)
 
 -- what holds where a run ends, and so of the world that is told
 module _ (Good Told : SourceWorld → Type 0) (Free : List ℕ → Type 0) (closed : Closed Good Free) (over : (x : SourceWorld) → Good x → Told x)
     (out : (budget : ℕ) (x : Spent source_kinds) → Good x.state.world → Told (told_by budget (tree.Spent x)).1) where
-  ended_kept : (o : Outcome source_kinds) (steps : ℕ) → keep.GoodEnd Good Free closed o → Told (ended_by o steps).1
+  pub ended_kept : (o : Outcome source_kinds) (steps : ℕ) → keep.GoodEnd Good Free closed o → Told (ended_by o steps).1
   ended_kept (Gave v s) steps g = over s.world g
   ended_kept (Next s) steps g = over s.world g
   ended_kept (Returned v s) steps g = over s.world g
@@ -66,7 +66,7 @@ module _ (Good Told : SourceWorld → Type 0) (Free : List ℕ → Type 0) (clos
   object_kept (Some x) f args w g = function_kept (slice_get w.codes x.0.code) x.0 x.1 f args w g
   object_kept None f args w g = call_begun f args w g
 
-  begun_kept : (f : Value) (args : List Value) (w : SourceWorld) → Good w → keep.Kept Good Free closed (begun_by_runner source f args (start w))
+  pub begun_kept : (f : Value) (args : List Value) (w : SourceWorld) → Good w → keep.Kept Good Free closed (begun_by_runner source f args (start w))
   begun_kept (val.Ref id) args w g = object_kept (function_and w.heap args (slice_get w.heap id.at)) (val.Ref id) args w g
   begun_kept val.None args w g = call_begun val.None args w g
   begun_kept (val.Bool b) args w g = call_begun (val.Bool b) args w g

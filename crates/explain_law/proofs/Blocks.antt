@@ -16,7 +16,7 @@ use Rattle.py_values.specs.declared.object.Obj.TheVariants as obj
 use Rattle.py_values.specs.declared.value.ObjId.{ObjId}
 use Rattle.py_values.specs.declared.value.Value.{Value}
 use Rattle.py_values.specs.declared.value.Value.TheVariants as val
-use Rattle.py_values.specs.Ends.{cost_of, id_at}
+use Rattle.py_values.specs.Ends.{cost_of}
 use Rattle.py_kinds.specs.Classes.{is_exc_class}
 use Rattle.py_kinds.specs.Kinds.{kind_name}
 use Rattle.call_products.specs.declared.product.Product.{Product}
@@ -228,7 +228,7 @@ module _ (R : Choices) where
     entered_as : (path : List ℕ) (c d : Function) → CodesAt R path c d → (scene : Scene) → scene.path ≡ path → (names : Locals) → CallSame (λ s k. (entry c).body scene (state names [] s.world) k) (λ s k. (other d).body scene (state names [] s.world) k)
     entered_as path c d x scene is names = record { does = λ ss k l h. (same path c d x).body.does scene is (entered_same names ss) k l h }
 
-    entered_by : {c d : Function} (path : List ℕ) → CodesAt R path c d → (home : ℕ) (names : Result Locals Raise) (a : Around) → CallSame (entered entry (stored_with path home c) names a) (entered other (stored_with path home d) names a)
+    pub entered_by : {c d : Function} (path : List ℕ) → CodesAt R path c d → (home : ℕ) (names : Result Locals Raise) (a : Around) → CallSame (entered entry (stored_with path home c) names a) (entered other (stored_with path home d) names a)
     entered_by {c = c} {d = d} path x home (Ok names) a =
         record {
           does = λ ss k l h. rw ((same path c d x).name, (same path c d x).own)

@@ -10,9 +10,8 @@ use Rattle.py_values.specs.Names.{unbind_name}
 use Rattle.py_values.specs.declared.end.Made.{Made}
 use Rattle.py_values.specs.declared.end.Made.TheVariants.{Give, New, Put, Fail}
 use Rattle.py_values.specs.declared.end.Raise.{Raise}
-use Rattle.py_values.specs.declared.index.Index.TheVariants.{At, Slice}
+use Rattle.py_values.specs.declared.index.Index.TheVariants.{At}
 use Rattle.py_values.specs.declared.object.Obj.{Obj}
-use Rattle.py_values.specs.declared.object.Obj.TheVariants as obj
 use Rattle.py_values.specs.declared.object.RaisesObj.{RaisesObj}
 use Rattle.py_values.specs.declared.value.ObjId.{ObjId}
 use Rattle.py_values.specs.declared.value.Value.{Value}
@@ -22,7 +21,7 @@ use Rattle.py_ops.specs.Binary.{augmented_of}
 use Rattle.py_items.specs.Items.{subscript_of, store_of, delete_of, object_at}
 use Rattle.py_items.specs.Turns.{turn_of as element_of, next_by, iterate}
 use Rattle.py_items.specs.declared.iter.IterAt.{IterAt}
-use Rattle.py_attributes.specs.Attributes.{attribute_of, own_value, no_attribute}
+use Rattle.py_attributes.specs.Attributes.{own_value, no_attribute}
 use Rattle.pytest_calls.specs.Swallowing.{did_not_raise, pattern_end}
 use Rattle.py_kinds.specs.Classes.{is_a}
 use Rattle.py_world.specs.declared.ended.Thrown.{Thrown}
@@ -31,10 +30,9 @@ use Rattle.py_world.specs.World.{Kinds, State, heap_of, with_trace}
 use Rattle.py_world.specs.Site.{Scene, Site, Own, InModule, InFunction, InClass, trace_of, site_handling, scene_handling}
 use Rattle.py_world.specs.Names.{bound_value, not_bound, unbound, unbound_by, unbound_global, unbound_here, unbound_class, deleted, delete_name}
 use Rattle.py_world.specs.Outcome.{Outcome, Gave, Next, Returned, Broke, Continued, Raised, Rest, Then, Part, After, Body, route, onward, changing, costing, operated, on_value, on_next, raised_at}
-use Rattle.py_world.specs.Expressions.{arguments}
-use Rattle.py_world.specs.Displays.{displayed, dict_displayed, in_pairs, bound_given, collected, list_part, tuple_part, dict_part, subscript_part, slice_bound, sliced_at, slice_by, slice_to, slice_on, slice_part}
-use Rattle.py_world.specs.Attributes.{takes_names, with_attribute, without_attribute, changed_or, attribute_end, attribute_part, set_attribute, unset_attribute}
+use Rattle.py_world.specs.Attributes.{takes_names, with_attribute, without_attribute, changed_or, attribute_end, set_attribute, unset_attribute}
 use Rattle.py_world.specs.Targets.{Store, wrong_count, elements_from, store_name, store_attribute, set_item, store_item, store_all, store_each, store_elements, unpack_by, unpack, assign, augmented, augment_on, augment_name, augment_attribute_of, augment_attribute, augment_item_of, augment_item, delete_attribute, unset_item, delete_item}
+use Rattle.py_world.specs.Statements.{received, no_use, return_sent}
 use Rattle.py_world.specs.Exceptions.{Handling, Raisable, Exception_of, Class_of, Neither, no_exception, nothing_raised, raisable, raised_by, raised_again, takes_exception, handler_block, if_taken, handlers_on, guarded_by, then_again, finally_on, guarded, try_statement}
 use Rattle.py_world.specs.Contexts.{bad_context, context_of, info_named, with_info, info_taken, searched, taken_or, not_raised, context_left, context_entered, with_statement}
 use Rattle.py_world.specs.Loops.{turn_begun, for_from, iterated, for_statement, behind_target, turn_with, for_turn}
@@ -191,6 +189,19 @@ module _ (R : Choices) where
 
   pub assign_same : {es : List (Store K)} {fs : List (Store J)} {e : Part K} {f : Part J} → StoresSame es fs → PartSame e f → PartSame (assign es e) (assign fs f)
   assign_same xs x = record { does = λ p ss k l h. x.does p ss _ _ (λ o q n. value_same n k l h _ _ (λ v s r ss. (store_all_same xs v).does p ss k l h)) }
+
+  -- what is done with the value that a `yield` is given
+  pub all_stored_same : {es : List (Store K)} {fs : List (Store J)} → StoresSame es fs → StoreSame (store_all es) (store_all fs)
+  all_stored_same xs = record { stores = λ v. store_all_same xs v }
+
+  pub no_use_same : StoreSame no_use no_use
+  no_use_same = record { stores = λ v. record { does = λ p ss k l h. h _ _ (next ss) } }
+
+  pub return_sent_same : StoreSame return_sent return_sent
+  return_sent_same = record { stores = λ v. record { does = λ p ss k l h. h _ _ (returned v ss) } }
+
+  pub received_same : {path : List ℕ} {t : Store K} {u : Store J} → StoreSame t u → AfterSame path (received t) (received u)
+  received_same h = record { does = λ p is n k l g. value_same n k l g _ _ (λ v s r ss. (h.stores v).does p ss k l g) }
 
   -- augmented assignments
   augmented_same : (x : Value) (op : BinOp) (y : Value) {t : Store K} {u : Store J} → StoreSame t u → PartSame (augmented x op y t) (augmented x op y u)

@@ -15,15 +15,15 @@ use Rattle.py_world.specs.World.{State, Temps, heap_of, state, unset}
 use Rattle.py_world.specs.Site.{Site, site, trace_of}
 use Rattle.py_world.specs.Arguments.{arguments_of}
 use Rattle.py_world.specs.Explained.{kept_count, kept_count_all, explanation}
-use Rattle.py_world.specs.Outcome.{Outcome, Part, Body, Then}
+use Rattle.py_world.specs.Outcome.{Part, Then}
 use Rattle.py_world.specs.Statements.{assertion, fail, fail_explained, failed_with}
-use Rattle.source_meaning.specs.Requests.{Layer, Turn, Script, Function, Statements}
+use Rattle.source_meaning.specs.Requests.{Use, NoUse, Targets, ReturnIt, Layer, Turn, Script, Function}
 use Rattle.source_meaning.specs.Expressions.{eval, parts, some_part}
 use Rattle.source_meaning.specs.Watched.{watch, watch_all}
-use Rattle.source_meaning.specs.Statements.{position, store_place, store_places, store, stores, augment, delete, assert, assert_as, listed, sequence, block as block_of, handlings, choices, entry, script_body, written, with_part, default_parts, statement, act}
+use Rattle.source_meaning.specs.Statements.{position, store_place, store_places, store, stores, use_of, augment, delete, assert, assert_as, listed, sequence, block as block_of, handlings, remains, choices, entry, script_body, written, with_part, default_parts, statement, act}
 use Rattle.source_meaning.specs.Meaning.{source}
 use Rattle.explain_law.specs.Until as until
-use Rattle.explain_law.specs.Choices.{Choices, K, J, worlds, world_with, StatesAlike, states, EndsAlike, next, LayersAt, no_layer, statements_at, guard_at, TurnsAt, statement_at, turn_at, for_at, CodesAt, code_at, ScriptsAt, script_at, plain_first, explained_first}
+use Rattle.explain_law.specs.Choices.{Choices, K, J, worlds, world_with, StatesAlike, states, EndsAlike, next, LayersAt, no_layer, statements_at, guard_at, receives_at, TurnsAt, statement_at, turn_at, for_at, CodesAt, code_at, ScriptsAt, script_at, plain_first, explained_first}
 use Rattle.explain_law.proofs.Parts as part
 use Rattle.explain_law.proofs.Displays as displays
 use Rattle.explain_law.proofs.Blocks as block
@@ -249,6 +249,21 @@ module _ (R : Choices) where
   handlings_same hl NoHandler = flow.none
   handlings_same hl (st.Handler before at class name body) = flow.handlers_push R (handlings_same hl before) name (some_same false class) (block_same hl body)
 
+  use_same : (u : Use) → flow.StoreSame R (use_of u) (use_of u)
+  use_same NoUse = flow.no_use_same R
+  use_same (Targets ts) = flow.all_stored_same R (takers_same ts)
+  use_same ReturnIt = flow.return_sent_same R
+
+  -- what remains of a body
+  pub remains_same : {path : List ℕ} {ls ks : List Layer} → LayersAt R path ls ks → block.AfterSame R path (remains ls) (remains ks)
+  remains_same no_layer = record { does = λ p is n k l h. h _ _ n }
+  remains_same (statements_at ss {ls = ls} {ks = ks} hl) =
+      record { does = λ p is n k l h. block.next_same R n (λ o. remains ls p o k) (λ o. remains ks p o l) (λ o q m. (remains_same hl).does p is m k l h) _ _ (λ s r us. (sequence_same hl ss).does p.scene is us (λ o. remains ls p o k) (λ o. remains ks p o l) (λ o q m. (remains_same hl).does p is m k l h)) }
+  remains_same (guard_at line hs other last {ls = ls} {ks = ks} hl) =
+      record { does = λ p is n k l h. (flow.guarded_same R (handlings_same hl hs) (sequence_same hl other) (sequence_same hl last)).does (site p.scene line) is n (λ o. remains ls p o k) (λ o. remains ks p o l) (λ o q m. (remains_same hl).does p is m k l h) }
+  remains_same (receives_at u {ls = ls} {ks = ks} hl) =
+      record { does = λ p is n k l h. (flow.received_same R (use_same u)).does p is n (λ o. remains ls p o k) (λ o. remains ks p o l) (λ o q m. (remains_same hl).does p is m k l h) }
+
   choices_same : {path : List ℕ} {ls ks : List Layer} → LayersAt R path ls ks → (bs : Branches) → block.ChoicesSame R path (choices (R.first path) ls bs) (choices (R.second path) ks bs)
   choices_same hl NoBranch = block.none
   choices_same hl (st.Branch before at condition body) = block.choices_push R (choices_same hl before) at.line (eval_same false condition) (block_same hl body)
@@ -274,9 +289,9 @@ module _ (R : Choices) where
   statement_same hl (st.If at bs other) = block.choose_same R (choices_same hl bs) (block_same hl other)
   statement_same hl (st.While at e body) = block.loop_same R (turn_at e body) (eval_same false e)
   statement_same hl (st.Def at ds word name params returns body) = classes.define_same R (parts_same false ds) (defaults_same params) (written params) name word.line (yields_in body) (code_at name params body)
-  statement_same hl (st.YieldOf at word e) = block.yield_same R (some_same false e) hl
-  statement_same hl (st.AssignYield at ts word e) = record { does = λ p is ss k l h. h _ _ (next ss) }
-  statement_same hl (st.ReturnYield at word e) = record { does = λ p is ss k l h. h _ _ (next ss) }
+  statement_same hl (st.YieldOf at word e) = block.yield_same R (some_same false e) (receives_at NoUse hl)
+  statement_same hl (st.AssignYield at ts word e) = block.yield_same R (some_same false e) (receives_at (Targets ts) hl)
+  statement_same hl (st.ReturnYield at word e) = block.yield_same R (some_same false e) (receives_at ReturnIt hl)
   statement_same hl (st.Raise at e) = block.at_each R (classes.raise_same R entry entry entries_same (some_same false e))
   statement_same hl (st.Del at p) = block.at_each R (delete_same p)
   statement_same hl (st.Import at names alias) = block.at_each R (loads.import_same R script_body script_body bodies_same names alias)

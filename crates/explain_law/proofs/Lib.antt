@@ -7,3 +7,4 @@ pub mod Classes
 pub mod Loads
 pub mod Forms
 pub mod Whole
+pub mod Resumes

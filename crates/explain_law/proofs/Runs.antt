@@ -1,7 +1,6 @@
 -- Trees that are the same up to where they part run to the same end, or to where they part.
-use Rattle.std.proofs.Common.{◌≡◌, ℕ, zero, suc, [], ◌∷◌, List, refl, ap}
-use Rattle.run_tree.specs.Todo.{Todo, Done, Note, Spend, Ask, Freeze, Run, noted, run, spend_all}
-use Rattle.run_tree.specs.Same.{SameRun}
+use Rattle.std.proofs.Common.{ℕ, zero, suc, [], ◌∷◌, refl, ap}
+use Rattle.run_tree.specs.Todo.{Todo, Run, noted, run, spend_all}
 use Rattle.explain_law.specs.Until as until
 use Rattle.explain_law.specs.Until.{Until, UntilBodies, SameUntil}
 

@@ -4,7 +4,7 @@ use Rattle.std.specs.Prelude.{slice_get, cond, Result, Ok, Err}
 use Rattle.std.specs.List.{list_any}
 use Rattle.run_tree.specs.Todo as tree
 use Rattle.run_tree.specs.Todo.{Done}
-use Rattle.run_tree.specs.Same.{SameEnding, SameRun}
+use Rattle.run_tree.specs.Same.{SameEnding}
 use Rattle.py_source.specs.declared.pos.Pos.{Pos}
 use Rattle.py_values.specs.declared.end.Raise.{Raise}
 use Rattle.py_values.specs.declared.object.FunctionObj.{FunctionObj}
@@ -32,7 +32,7 @@ use Rattle.explain_law.proofs.Blocks as block
 use Rattle.explain_law.proofs.Loads as loads
 use Rattle.explain_law.proofs.Forms.{meanings_same, bodies_same}
 
-abbrev SourceEnding : Type 0
+abbrev pub SourceEnding : Type 0
 SourceEnding = tree.Ending Pos (Spent K) (Request K) (Outcome K) (Paused K)
 
 module _ (R : Choices) where
@@ -44,7 +44,7 @@ module _ (R : Choices) where
   ended_with (continued (states a t ws)) n = (refl, ws)
   ended_with (alike.raised e trace (states a t ws)) n = (refl, ws)
 
-  ended_same : {o : Outcome K} {q : Outcome J} → EndsAlike R false o q → (budget m n : ℕ) → m ≡ n → SameTold R (ended_by o (budget - m)) (ended_by q (budget - n))
+  pub ended_same : {o : Outcome K} {q : Outcome J} → EndsAlike R false o q → (budget m n : ℕ) → m ≡ n → SameTold R (ended_by o (budget - m)) (ended_by q (budget - n))
   ended_same {o = o} {q = q} e budget m n is = subst (λ k. SameTold R (ended_by o (budget - m)) (ended_by q (budget - k))) is (ended_with e (budget - m))
 
   world_cond : (b : Bool) (w w' : World K) (z z' : World J) → WorldsAlike R w z → WorldsAlike R w' z' → WorldsAlike R (cond b w w') (cond b z z')
@@ -54,7 +54,7 @@ module _ (R : Choices) where
   spent_world : (budget : ℕ) (trace : List TraceFrame) {w : World K} {z : World J} → WorldsAlike R w z → WorldsAlike R (out_of_steps budget trace w) (out_of_steps budget trace z)
   spent_world budget trace (worlds xs ys zs modules heap printed traces) = world_cond (list_any is_running modules) _ _ _ _ (worlds xs ys zs _ _ printed traces) (worlds xs ys zs modules heap printed traces)
 
-  spent_told : (budget : ℕ) {x : Spent K} {y : Spent J} → SpentAlike R x y → SameTold R (ended_spent budget x) (ended_spent budget y)
+  pub spent_told : (budget : ℕ) {x : Spent K} {y : Spent J} → SpentAlike R x y → SameTold R (ended_spent budget x) (ended_spent budget y)
   spent_told budget (out trace (states a t ws)) = (refl, spent_world budget trace ws)
 
   stopped_with : {f : Paused K} {g : Paused J} → PausedAlike R f g → (n : ℕ) → SameTold R (ended_value f.value n f.state.world) (ended_value g.value n g.state.world)
@@ -75,7 +75,7 @@ module _ (R : Choices) where
   told_same budget (tree.Frozen o m) (tree.Spent y) h = elim h [ ]
 
   -- runs of what is left to do
-  runs_alike : (budget : ℕ) (x : Rest K) (y : Rest J) → Follow R x y → RunsAlike R (tree.run (body_of source) budget x) (tree.run (body_of source) budget y)
+  pub runs_alike : (budget : ℕ) (x : Rest K) (y : Rest J) → Follow R x y → RunsAlike R (tree.run (body_of source) budget x) (tree.run (body_of source) budget y)
   runs_alike budget x y h = run_until _ _ _ _ _ (body_of source) (body_of source) (block.body_same R source source (meanings_same R)) budget h
 
   told_until : (budget : ℕ) (x : Rest K) (y : Rest J) → RunsAlike R (tree.run (body_of source) budget x) (tree.run (body_of source) budget y) → ToldUntil R (run_of source budget x) (run_of source budget y)
@@ -104,7 +104,7 @@ module _ (R : Choices) where
   object_begun_same (Some x) f args (worlds xs ys zs modules heap printed traces) = function_begun_same (block.found R ys x.0.code) x.0 x.1 f args _ _ (worlds xs ys zs modules heap printed traces)
   object_begun_same None f args ws = invoked f args _ _ ws
 
-  begun_by_runner_same : (f : Value) (args : List Value) {w z : SourceWorld} → WorldsAlike R w z → Follow R (begun_by_runner source f args (start w)) (begun_by_runner source f args (start z))
+  pub begun_by_runner_same : (f : Value) (args : List Value) {w z : SourceWorld} → WorldsAlike R w z → Follow R (begun_by_runner source f args (start w)) (begun_by_runner source f args (start z))
   begun_by_runner_same (val.Ref id) args (worlds xs ys zs modules heap printed traces) = object_begun_same (function_and heap args (slice_get heap id.at)) (val.Ref id) args (worlds xs ys zs modules heap printed traces)
   begun_by_runner_same val.None args ws = invoked val.None args _ _ ws
   begun_by_runner_same (val.Bool b) args ws = invoked (val.Bool b) args _ _ ws

@@ -15,7 +15,7 @@ use Rattle.py_world.specs.Arguments.{Arguments}
 use Rattle.py_world.specs.Explained.{explanation}
 use Rattle.py_world.specs.Outcome.{Outcome, Gave, Next, Returned, Broke, Continued, Raised, Spent, spent, Paused, paused, Request, CallOf, DoOf, raised_at}
 use Rattle.py_world.specs.Statements.{assertion, failed_with}
-use Rattle.source_meaning.specs.Requests.{source_kinds, Script, Function, Layer, Statements, Guard, Turn, StatementOf, TurnOf, ForOf}
+use Rattle.source_meaning.specs.Requests.{source_kinds, Script, Function, Use, Layer, Statements, Guard, Receives, Turn, StatementOf, TurnOf, ForOf}
 use Rattle.source_meaning.specs.Statements.{function, script}
 
 -- two choices of modules, by their paths
@@ -65,6 +65,7 @@ module _ (R : Choices) where
     no_layer : LayersAt path [] []
     statements_at : (ss : List Statement) {ls ks : List Layer} → LayersAt path ls ks → LayersAt path (Statements (R.first path) ss ∷ ls) (Statements (R.second path) ss ∷ ks)
     guard_at : (line : ℕ) (hs : Handlers) (other last : List Statement) {ls ks : List Layer} → LayersAt path ls ks → LayersAt path (Guard (R.first path) line hs other last ∷ ls) (Guard (R.second path) line hs other last ∷ ks)
+    receives_at : (u : Use) {ls ks : List Layer} → LayersAt path ls ks → LayersAt path (Receives u ∷ ls) (Receives u ∷ ks)
 
   -- a statement of a module, or a turn of a loop
   pub data TurnsAt (path : List ℕ) : Turn → Turn → Type 0 where

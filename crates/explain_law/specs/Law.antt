@@ -1,10 +1,11 @@
 -- The law of two choices of the modules whose asserts are explained.
-use Rattle.std.specs.Prelude.{ℕ, ◌≡◌, List, false}
+use Rattle.std.specs.Prelude.{ℕ, ◌≡◌, false}
 use Rattle.py_source.specs.declared.pos.Pos.{Pos}
 use Rattle.run_tree.specs.Todo.{run, Run}
 use Rattle.py_world.specs.Calls.{body_of}
 use Rattle.py_world.specs.Outcome.{Outcome, Rest, Request, Spent, Paused}
 use Rattle.py_world.specs.Runs.{Told, run_of}
+use Rattle.py_world.specs.Resuming.{ToldBegun, begun_of}
 use Rattle.source_meaning.specs.Meaning.{source}
 use Rattle.explain_law.specs.Choices.{Choices, K, J, WorldsAlike, SpentAlike, RequestsAlike, EndsAlike, PausedAlike, FailedApart}
 use Rattle.explain_law.specs.Until.{Until, Apart, SameUntil}
@@ -33,3 +34,11 @@ module _ (R : Choices) where
   pub data ToldUntil : Told K → Told J → Type 0 where
     told : {a : Told K} {b : Told J} → SameTold a b → ToldUntil a b
     parted : (budget : ℕ) (t : Rest K) (u : Rest J) → RunsApart (run (body_of source) budget t) (run (body_of source) budget u) → ToldUntil (run_of source budget t) (run_of source budget u)
+
+  -- the same of begins and resumptions of bodies that yield
+  abbrev pub SameBegun : ToldBegun K → ToldBegun J → Type 0
+  SameBegun a b = (a.0 ≡ b.0) × WorldsAlike R a.1 b.1
+
+  pub data BegunUntil : ToldBegun K → ToldBegun J → Type 0 where
+    begun : {a : ToldBegun K} {b : ToldBegun J} → SameBegun a b → BegunUntil a b
+    begun_apart : (budget : ℕ) (t : Rest K) (u : Rest J) → RunsApart (run (body_of source) budget t) (run (body_of source) budget u) → BegunUntil (begun_of source budget t) (begun_of source budget u)

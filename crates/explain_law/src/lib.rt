@@ -11,7 +11,8 @@
 //!   trace and steps, and worlds that are alike again; or both runs have come to a failed assert at the same place of a module that
 //!   one choice explains and the other doesn't, with the same positions noted and as much of the budget left, from states that are
 //!   alike. There both raise an `AssertionError` with the same trace, and its argument alone differs: it is the message, where there is
-//!   one, or the explanation. What would follow two other ends that are alike is the same (`calls`, `loads`; `ToldUntil`).
+//!   one, or the explanation. What would follow two other ends that are alike is the same (`calls`, `loads`; `ToldUntil`). The same holds
+//!   of the begin of a body that yields, and of its resumption (`begins`, `resumes`; `BegunUntil`).
 //! - What is kept of a condition (temporaries) is no part of a world, and no other code reads it.
 //!
 //! # What neither proofs nor tests say
@@ -21,14 +22,17 @@
 
 ghost use Rattle.std.specs.Prelude.{ℕ, List};
 ghost use Rattle.py_values.specs.declared.value.Value.{Value as PyValue};
-ghost use Rattle.source_meaning.specs.Meaning.{SourceWorld, source_call, source_module};
+ghost use Rattle.source_meaning.specs.Meaning.{SourceWorld, source_call, source_module, source_begin, source_resume};
 ghost use Rattle.explain_law.specs.Choices.{Choices, WorldsAlike};
-ghost use Rattle.explain_law.specs.Law.{ToldUntil};
+ghost use Rattle.explain_law.specs.Law.{ToldUntil, BegunUntil};
+ghost use Rattle.py_world.specs.Resuming.{Sent};
 
-/// Under two choices of the modules whose asserts are explained, a call and a load of a module tell the same, with every budget, up to
+/// Under two choices of the modules whose asserts are explained, a call, a load of a module, a begin and a resumption tell the same, with every budget, up to
 /// the raise of the first failed assert of a module for which the choices differ; and that raise differs in its exception's argument
 /// alone (pytest, assertion rewriting).
 pub fn a_choice_changes_failed_asserts_alone()
     ensures calls { (choices : Choices) (w x : SourceWorld) → WorldsAlike choices w x → (f : PyValue) (args : List PyValue) (budget : ℕ) → ToldUntil choices (source_call f args budget w) (source_call f args budget x) }
     ensures loads { (choices : Choices) (w x : SourceWorld) → WorldsAlike choices w x → (path : List ℕ) (budget : ℕ) → ToldUntil choices (source_module path budget w) (source_module path budget x) }
+    ensures begins { (choices : Choices) (w x : SourceWorld) → WorldsAlike choices w x → (f : PyValue) (args : List PyValue) (budget : ℕ) → BegunUntil choices (source_begin f args budget w) (source_begin f args budget x) }
+    ensures resumes { (choices : Choices) (w x : SourceWorld) → WorldsAlike choices w x → (n : ℕ) (sent : Sent) (budget : ℕ) → BegunUntil choices (source_resume n sent budget w) (source_resume n sent budget x) }
 {}

@@ -31,6 +31,7 @@ use Rattle.py_world.specs.World.{Kinds, State, heap_of, with_trace}
 use Rattle.py_world.specs.Site.{Scene, Site, Own, InModule, InFunction, InClass, trace_of, site_handling, scene_handling}
 use Rattle.py_world.specs.Names.{bound_value, not_bound, unbound, unbound_by, unbound_global, unbound_here, unbound_class, deleted, delete_name}
 use Rattle.py_world.specs.Outcome.{Outcome, Gave, Next, Returned, Broke, Continued, Raised, Rest, Then, Part, After, Body, route, onward, changing, costing, operated, on_value, on_next, raised_at}
+use Rattle.py_world.specs.Statements.{received, no_use, return_sent}
 use Rattle.py_world.specs.Expressions.{arguments}
 use Rattle.py_world.specs.Displays.{displayed, dict_displayed, in_pairs, bound_given, collected, list_part, tuple_part, dict_part, subscript_part, slice_bound, sliced_at, slice_by, slice_to, slice_on, slice_part}
 use Rattle.py_world.specs.Attributes.{takes_names, with_attribute, without_attribute, changed_or, attribute_end, attribute_part, set_attribute, unset_attribute}
@@ -199,7 +200,7 @@ module _ {K J : Kinds} (R : Likeness K J) where
   pub store_item_same : {a i : Part K} {b j : Part J} → PartSame a b → PartSame i j → StoreSame (store_item a i) (store_item b j)
   store_item_same a i = record { stores = λ v. record { does = λ p ss k l h. a.does p ss _ _ (λ o q n. value_same n k l h _ _ (λ x s r ss. i.does p ss _ _ (λ o q n. value_same n k l h _ _ (λ y s r ss. (set_item_same x y v).does p ss k l h)))) } }
 
-  store_all_same : {es : List (Store K)} {fs : List (Store J)} → StoresSame es fs → (v : Value) → PartSame (store_all es v) (store_all fs v)
+  pub store_all_same : {es : List (Store K)} {fs : List (Store J)} → StoresSame es fs → (v : Value) → PartSame (store_all es v) (store_all fs v)
   store_all_same none v = record { does = λ p ss k l h. h _ _ (next ss) }
   store_all_same (more x xs) v = record { does = λ p ss k l h. (x.stores v).does p ss _ _ (λ o q n. next_same n k l h _ _ (λ s r ss. (store_all_same xs v).does p ss k l h)) }
 
@@ -234,6 +235,19 @@ module _ {K J : Kinds} (R : Likeness K J) where
 
   pub assign_same : {es : List (Store K)} {fs : List (Store J)} {e : Part K} {f : Part J} → StoresSame es fs → PartSame e f → PartSame (assign es e) (assign fs f)
   assign_same xs x = record { does = λ p ss k l h. x.does p ss _ _ (λ o q n. value_same n k l h _ _ (λ v s r ss. (store_all_same xs v).does p ss k l h)) }
+
+  -- what is done with the value that a `yield` is given
+  pub all_stored_same : {es : List (Store K)} {fs : List (Store J)} → StoresSame es fs → StoreSame (store_all es) (store_all fs)
+  all_stored_same xs = record { stores = λ v. store_all_same xs v }
+
+  pub no_use_same : StoreSame no_use no_use
+  no_use_same = record { stores = λ v. record { does = λ p ss k l h. h _ _ (next ss) } }
+
+  pub return_sent_same : StoreSame return_sent return_sent
+  return_sent_same = record { stores = λ v. record { does = λ p ss k l h. h _ _ (returned v ss) } }
+
+  pub received_same : {t : Store K} {u : Store J} → StoreSame t u → AfterSame (received t) (received u)
+  received_same h = record { does = λ p n k l g. value_same n k l g _ _ (λ v s r ss. (h.stores v).does p ss k l g) }
 
   -- augmented assignments
   augmented_same : (x : Value) (op : BinOp) (y : Value) {t : Store K} {u : Store J} → StoreSame t u → PartSame (augmented x op y t) (augmented x op y u)

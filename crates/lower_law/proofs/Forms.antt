@@ -23,6 +23,7 @@ use Rattle.py_core.specs.declared.stmt.CoreBlock.{CoreBlock}
 use Rattle.py_core.specs.declared.stmt.CoreBranch as branch
 use Rattle.py_core.specs.declared.stmt.CoreFn.{CoreFn}
 use Rattle.py_core.specs.declared.stmt.CoreTarget.{CoreTarget}
+use Rattle.py_core.specs.declared.stmt.CoreUse.{CoreUse}
 use Rattle.py_core.specs.declared.stmt.CoreStmt.{CoreStmt}
 use Rattle.py_core.specs.declared.stmt.Template.TheVariants.{Plain, Explain}
 use Rattle.py_core.specs.declared.stmt.CoreStmtKind.TheVariants as kind
@@ -57,7 +58,7 @@ use Rattle.py_core.specs.declared.stmt.Core.{Core}
 use Rattle.lower_law.specs.Alike as alike
 use Rattle.lower_law.specs.Alike.{StatesAlike, EndsAlike, gave, next, returned, broke, continued}
 use Rattle.lower_law.specs.Lowered as low
-use Rattle.lower_law.specs.Lowered.{Watched, WatchedEach, IsLeaf, Lowered, LoweredEach, LoweredExpr, LoweredHeld, LoweredSome, LoweredPlace, LoweredPlaces, LoweredTarget, LoweredTargets, LoweredHandlers, LoweredGuard, LoweredStatement, LoweredBlock, LoweredBody, LoweredLayers, LoweredRest, LoweredBranches, LoweredFunction, LoweredModule, trees_listed, defaults_listed, branches_listed, choice_at, handlers_listed, catch_at, core_at}
+use Rattle.lower_law.specs.Lowered.{Watched, WatchedEach, IsLeaf, Lowered, LoweredEach, LoweredExpr, LoweredHeld, LoweredSome, LoweredPlace, LoweredPlaces, LoweredTarget, LoweredTargets, LoweredUse, LoweredHandlers, LoweredGuard, LoweredStatement, LoweredBlock, LoweredBody, LoweredLayers, LoweredRest, LoweredBranches, LoweredFunction, LoweredModule, trees_listed, defaults_listed, branches_listed, choice_at, handlers_listed, catch_at, core_at}
 use Rattle.lower_law.specs.Law.{LoweredCode, LoweredTurn, statement, turn, for_turn, Lowering}
 use Rattle.lower_law.specs.Sourced.{sources_in, module_of}
 use Rattle.lower_law.proofs.Parts as part
@@ -219,6 +220,12 @@ targets_same : {ts : List Taker} {xs : List CoreTarget} → LoweredTargets ts xs
 targets_same low.LoweredTargets.none = flow.none
 targets_same (low.LoweredTargets.more x xs) = flow.more (target_same x) (targets_same xs)
 
+-- what is done with the value that a `yield` is given
+use_same : {u : s.Use} {x : CoreUse} → LoweredUse u x → flow.StoreSame Lowering (src.use_of u) (cor.use_of x)
+use_same low.LoweredUse.no_use = flow.no_use_same _
+use_same (low.LoweredUse.targets from xs) = flow.all_stored_same _ (targets_same xs)
+use_same low.LoweredUse.return_it = flow.return_sent_same _
+
 augment_same : {p : Place} {x : CoreSingle} → LoweredPlace p x → (op : BinOp) {e : source.SourcePart} {f : core.CorePart} → PartSame e f → PartSame (src.augment p op e) (cor.augment_at x.kind op f)
 augment_same (low.LoweredPlace.name at n) op e = flow.augment_same _ n op e
 augment_same (low.LoweredPlace.attribute at n x) op e = flow.augment_attribute_same _ n op (eval_same x) e
@@ -238,7 +245,9 @@ position_of (low.return_it at x) = refl
 position_of (low.assert_it at x m bs body other) = refl
 position_of (low.assert_explained at c x m bs body other) = refl
 position_of (low.globals at is) = refl
-position_of (low.yields at word x) = refl
+position_of (low.yields at word u x) = refl
+position_of (low.assign_yield at word u x) = refl
+position_of (low.return_yield at word u x) = refl
 position_of (low.pass at) = refl
 position_of (low.leave at) = refl
 position_of (low.again at) = refl
@@ -263,7 +272,9 @@ begun_of (low.return_it at x) ls st = refl
 begun_of (low.assert_it at x m bs body other) ls st = refl
 begun_of (low.assert_explained at c x m bs body other) ls st = refl
 begun_of (low.globals at is) ls st = refl
-begun_of (low.yields at word x) ls st = refl
+begun_of (low.yields at word u x) ls st = refl
+begun_of (low.assign_yield at word u x) ls st = refl
+begun_of (low.return_yield at word u x) ls st = refl
 begun_of (low.pass at) ls st = refl
 begun_of (low.leave at) ls st = refl
 begun_of (low.again at) ls st = refl
@@ -330,6 +341,7 @@ layers_same low.LoweredLayers.none = record { does = λ p n k l h. h _ _ n }
 layers_same (low.LoweredLayers.more {ss = ss} {ls = ls} {ks = ks} b at flag from h hl) =
     record { does = λ p n k l g. next_then n (λ o. src.remains ls p o k) (λ o. cor.remains ks p o l) (λ o q m. (layers_same hl).does p m k l g) _ _ (λ u r us. (from_same hl b at flag from refl h).does p.scene us (λ o. src.remains ls p o k) (λ o. cor.remains ks p o l) (λ o q m. (layers_same hl).does p m k l g)) }
 layers_same (low.LoweredLayers.guarded {ls = ls} {ks = ks} g line h hl) = record { does = λ p n k l b. (guard_same hl h).does (site p.scene line) n (λ o. src.remains ls p o k) (λ o. cor.remains ks p o l) (λ o q m. (layers_same hl).does p m k l b) }
+layers_same (low.LoweredLayers.receives {ls = ls} {ks = ks} h hl) = record { does = λ p n k l b. (flow.received_same _ (use_same h)).does p n (λ o. src.remains ls p o k) (λ o. cor.remains ks p o l) (λ o q m. (layers_same hl).does p m k l b) }
 
 remains_same : (ls : List s.Layer) (ks : List c.Layer) → LoweredRest ls ks → AfterSame (src.remains ls) (cor.remains ks)
 remains_same ls ks h = layers_same h.1
@@ -422,7 +434,9 @@ statement_same hl (low.return_it at x) scene = (block.return_same _ (some_same x
 statement_same {ks = ks} hl (low.assert_it at {x = c} {y = m} {p = p} {n = n} {q = q} {r = r} {branches = branches} {other = other} {body = body} x y bs bb ob) scene = assert_at at ks c Plain m p n q r branches other body (eval_same x) (block.fail_same _ (some_same y)) bs bb ob scene
 statement_same {ks = ks} hl (low.assert_explained at {e = e} {x = c} {d = d} {y = m} {p = p} {n = n} {q = q} {r = r} {branches = branches} {other = other} {body = body} is x y bs bb ob) scene = assert_at at ks c (Explain d) m p n q r branches other body (watch_same x) (explained_as d e m is (some_same y)) bs bb ob scene
 statement_same hl (low.globals at is) scene = (block.pass_same _).does (site scene at.line)
-statement_same hl (low.yields at word x) scene = (block.yield_same _ (some_same x) (_, hl)).does (site scene at.line)
+statement_same hl (low.yields at word u x) scene = (block.yield_same _ (some_same x) (_, low.LoweredLayers.receives u hl)).does (site scene at.line)
+statement_same hl (low.assign_yield at word u x) scene = (block.yield_same _ (some_same x) (_, low.LoweredLayers.receives u hl)).does (site scene at.line)
+statement_same hl (low.return_yield at word u x) scene = (block.yield_same _ (some_same x) (_, low.LoweredLayers.receives u hl)).does (site scene at.line)
 statement_same hl (low.pass at) scene = (block.pass_same _).does (site scene at.line)
 statement_same hl (low.leave at) scene = (block.leave_same _).does (site scene at.line)
 statement_same hl (low.again at) scene = (block.again_same _).does (site scene at.line)

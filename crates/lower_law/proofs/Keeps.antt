@@ -35,16 +35,16 @@ use Rattle.lower_law.proofs.Blocks as block
 use Rattle.lower_law.proofs.Loads as loads
 use Rattle.lower_law.proofs.Forms.{Follow, meanings_same}
 
-abbrev Ends : Outcome source_kinds → Outcome core_kinds → Type 0
+abbrev pub Ends : Outcome source_kinds → Outcome core_kinds → Type 0
 Ends = EndsAlike Lowering
 
-abbrev SourceEnding : Type 0
+abbrev pub SourceEnding : Type 0
 SourceEnding = tree.Ending Pos (Spent source_kinds) (Request source_kinds) (Outcome source_kinds) (Paused source_kinds)
 
-abbrev CoreEnding : Type 0
+abbrev pub CoreEnding : Type 0
 CoreEnding = tree.Ending Pos (Spent core_kinds) (Request core_kinds) (Outcome core_kinds) (Paused core_kinds)
 
-abbrev SameEnd : SourceEnding → CoreEnding → Type 0
+abbrev pub SameEnd : SourceEnding → CoreEnding → Type 0
 SameEnd = SameEnding (SpentAlike Lowering) (RequestsAlike Lowering) Ends (PausedAlike Lowering)
 
 ended_with : {o : Outcome source_kinds} {q : Outcome core_kinds} → Ends o q → (n : ℕ) → SameTold (ended_by o n) (ended_by q n)
@@ -55,7 +55,7 @@ ended_with (broke (states a t ws)) n = (refl, ws)
 ended_with (continued (states a t ws)) n = (refl, ws)
 ended_with (alike.raised e trace (states a t ws)) n = (refl, ws)
 
-ended_same : {o : Outcome source_kinds} {q : Outcome core_kinds} → Ends o q → (budget m n : ℕ) → m ≡ n → SameTold (ended_by o (budget - m)) (ended_by q (budget - n))
+pub ended_same : {o : Outcome source_kinds} {q : Outcome core_kinds} → Ends o q → (budget m n : ℕ) → m ≡ n → SameTold (ended_by o (budget - m)) (ended_by q (budget - n))
 ended_same {o = o} {q = q} e budget m n is = subst (λ k. SameTold (ended_by o (budget - m)) (ended_by q (budget - k))) is (ended_with e (budget - m))
 
 world_cond : (b : Bool) (w w' : SourceWorld) (z z' : CoreWorld) → LoweredWorld w z → LoweredWorld w' z' → LoweredWorld (cond b w w') (cond b z z')
@@ -65,7 +65,7 @@ world_cond false w w' z z' h g = g
 spent_world : (budget : ℕ) (trace : List TraceFrame) {w : SourceWorld} {z : CoreWorld} → LoweredWorld w z → LoweredWorld (out_of_steps budget trace w) (out_of_steps budget trace z)
 spent_world budget trace (worlds xs ys zs modules heap printed traces) = world_cond (list_any is_running modules) _ _ _ _ (worlds xs ys zs _ _ printed traces) (worlds xs ys zs modules heap printed traces)
 
-spent_told : (budget : ℕ) {x : Spent source_kinds} {y : Spent core_kinds} → SpentAlike Lowering x y → SameTold (ended_spent budget x) (ended_spent budget y)
+pub spent_told : (budget : ℕ) {x : Spent source_kinds} {y : Spent core_kinds} → SpentAlike Lowering x y → SameTold (ended_spent budget x) (ended_spent budget y)
 spent_told budget (out trace (states a t ws)) = (refl, spent_world budget trace ws)
 
 stopped_with : {f : Paused source_kinds} {g : Paused core_kinds} → PausedAlike Lowering f g → (n : ℕ) → SameTold (ended_value f.value n f.state.world) (ended_value g.value n g.state.world)
@@ -92,7 +92,7 @@ runs_same budget x y h = run_same _ _ _ _ (body_of source) (body_of core) (block
 run_told : (budget : ℕ) (x : Rest source_kinds) (y : Rest core_kinds) → Follow x y → SameTold (run_of source budget x) (run_of core budget y)
 run_told budget x y h = told_same budget _ _ (runs_same budget x y h).1
 
-follow_cond : (b : Bool) (x y : Rest source_kinds) (x' y' : Rest core_kinds) → Follow x x' → Follow y y' → Follow (cond b x y) (cond b x' y')
+pub follow_cond : (b : Bool) (x y : Rest source_kinds) (x' y' : Rest core_kinds) → Follow x x' → Follow y y' → Follow (cond b x y) (cond b x' y')
 follow_cond true x y x' y' h g = h
 follow_cond false x y x' y' h g = g
 
@@ -114,7 +114,7 @@ object_begun_same : (o : Option (FunctionObj × List Value)) (f : Value) (args :
 object_begun_same (Some x) f args (worlds xs ys zs modules heap printed traces) = function_begun_same (block.found _ ys x.0.code) x.0 x.1 f args _ _ (worlds xs ys zs modules heap printed traces)
 object_begun_same None f args ws = invoked f args _ _ ws
 
-begun_by_runner_same : (f : Value) (args : List Value) {w : SourceWorld} {z : CoreWorld} → LoweredWorld w z → Follow (begun_by_runner source f args (start w)) (begun_by_runner core f args (start z))
+pub begun_by_runner_same : (f : Value) (args : List Value) {w : SourceWorld} {z : CoreWorld} → LoweredWorld w z → Follow (begun_by_runner source f args (start w)) (begun_by_runner core f args (start z))
 begun_by_runner_same (val.Ref id) args (worlds xs ys zs modules heap printed traces) = object_begun_same (function_and heap args (slice_get heap id.at)) (val.Ref id) args (worlds xs ys zs modules heap printed traces)
 begun_by_runner_same val.None args ws = invoked val.None args _ _ ws
 begun_by_runner_same (val.Bool b) args ws = invoked (val.Bool b) args _ _ ws

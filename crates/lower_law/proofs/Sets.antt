@@ -4,6 +4,7 @@ use Rattle.std.specs.Coded.{Coded-set, codes}
 use Rattle.std.proofs.Props.{props}
 use Rattle.py_source.specs.declared.pos.Pos.{Pos}
 use Rattle.py_world.specs.Runs.{Told}
+use Rattle.py_world.specs.Resuming.{ToldBegun}
 use Rattle.source_meaning.specs.Requests.{source_kinds}
 use Rattle.source_meaning.specs.Meaning.{SourceWorld}
 use Rattle.lower_law.proofs.Codes.{pos_code, world_code}
@@ -16,6 +17,9 @@ pos-set = Coded-set pos_code
 
 pub told-set : IsSet (Told source_kinds)
 told-set = hlevel (codes, props, world-set)
+
+pub begun-set : IsSet (ToldBegun source_kinds)
+begun-set = hlevel (codes, props, world-set)
 
 pub tape-set : IsSet (List Pos)
 tape-set = hlevel (pos-set, props)

@@ -11,9 +11,10 @@ use Rattle.py_tree.specs.declared.op.CmpOp.{CmpOp}
 use Rattle.py_tree.specs.Trees as t
 use Rattle.py_tree.specs.Trees.{Tree, Trees, Empty, More, Maybe, Absent, Present}
 use Rattle.py_tree.specs.Statements as st
-use Rattle.py_tree.specs.Statements.{Statement, Block, Branches, NoBranch, Branch, Handlers, NoHandler, Place, NamePlace, AttributePlace, SubscriptPlace, Taker, One, Unpack, Parameter, handlers}
+use Rattle.py_tree.specs.Statements.{Statement, Block, Branches, NoBranch, Branch, Handlers, NoHandler, Place, NamePlace, AttributePlace, SubscriptPlace, Taker, One, Unpack, Parameter, handlers, takers}
 use Rattle.py_tree.specs.Names.{locals_of, yields_in}
 use Rattle.py_tree.specs.declared.stmt.Alias.{Alias}
+use Rattle.py_tree.specs.declared.stmt.Target.{Target}
 use Rattle.py_tree.specs.declared.expr.Expr.{Expr}
 use Rattle.py_tree.specs.Trees.{tree}
 use Rattle.py_world.specs.Explained.{kept_count}
@@ -33,6 +34,8 @@ use Rattle.py_core.specs.declared.stmt.CoreGuard.{CoreGuard}
 use Rattle.py_core.specs.declared.stmt.CoreHandler as handler
 use Rattle.py_core.specs.declared.stmt.CoreTarget.{CoreTarget}
 use Rattle.py_core.specs.declared.stmt.CoreTarget.TheVariants as target
+use Rattle.py_core.specs.declared.stmt.CoreUse.{CoreUse}
+use Rattle.py_core.specs.declared.stmt.CoreUse.TheVariants as taken
 use Rattle.py_core.specs.declared.stmt.Template.TheVariants.{Plain, Explain}
 use Rattle.py_core.specs.declared.stmt.CoreStmt.{CoreStmt}
 use Rattle.py_core.specs.declared.stmt.CoreStmtKind as c
@@ -151,6 +154,12 @@ pub data LoweredTargets : List Taker → List CoreTarget → Type 0 where
   none : LoweredTargets [] []
   more : {t : Taker} {ts : List Taker} {x : CoreTarget} {xs : List CoreTarget} → LoweredTarget t x → LoweredTargets ts xs → LoweredTargets (t ∷ ts) (x ∷ xs)
 
+-- what is done with the value that a `yield` is given; targets carry those of their source
+pub data LoweredUse : s.Use → CoreUse → Type 0 where
+  no_use : LoweredUse s.NoUse taken.NoUse
+  targets : {ts : List Taker} {source : Rc (Vec Target Global) Global} {xs : Rc (Vec CoreTarget Global) Global} → takers source.value.items ≡ ts → LoweredTargets ts xs.value.items → LoweredUse (s.Targets ts) (taken.Targets source xs)
+  return_it : LoweredUse s.ReturnIt taken.Return
+
 abbrev pub core_at : Pos → CoreStmtKind → CoreStmt
 core_at at kind = record { at = at; kind = kind }
 
@@ -179,7 +188,9 @@ mutual
     assert_it : (at : Pos) {e : Tree} {m : Maybe} {x : Rc CoreExpr Global} {y : Option (Rc CoreExpr Global)} {p n q r : _} {branches : Row_of-CoreBranch _} {other body : CoreBlock} → LoweredExpr e x.value → LoweredSome m y → items-the_row-CoreBranch _ branches ≡ branch.CoreBranch' at x r body ∷ [] → stmts_in body ≡ [] → stmts_in other ≡ core_at at (k.FailWith Plain y) ∷ [] → LoweredStatement plain (st.Assert at e m) at (c.If' p n branches q other)
     assert_explained : (at : Pos) {e : Tree} {m : Maybe} {x : Rc CoreExpr Global} {d : Rc Expr Global} {y : Option (Rc CoreExpr Global)} {p n q r : _} {branches : Row_of-CoreBranch _} {other body : CoreBlock} → tree d.value ≡ e → Watched 0 e x.value.at x.value.kind → LoweredSome m y → items-the_row-CoreBranch _ branches ≡ branch.CoreBranch' at x r body ∷ [] → stmts_in body ≡ [] → stmts_in other ≡ core_at at (k.FailWith (Explain d) y) ∷ [] → LoweredStatement explained (st.Assert at e m) at (c.If' p n branches q other)
     globals : {z : Bool} (at : Pos) {names : List (List ℕ)} {xs : Rc (Vec (List ℕ) Global) Global} → xs.value.items ≡ names → LoweredStatement z (st.GlobalOf at names) at (k.Global xs)
-    yields : {z : Bool} (at word : Pos) {e : Maybe} {x : Option (Rc CoreExpr Global)} → LoweredSome e x → LoweredStatement z (st.YieldOf at word e) at (k.Yield x)
+    yields : {z : Bool} (at word : Pos) {e : Maybe} {x : Option (Rc CoreExpr Global)} {u : Rc CoreUse Global} → LoweredUse s.NoUse u.value → LoweredSome e x → LoweredStatement z (st.YieldOf at word e) at (k.Yield x u)
+    assign_yield : {z : Bool} (at word : Pos) {ts : List Taker} {e : Maybe} {x : Option (Rc CoreExpr Global)} {u : Rc CoreUse Global} → LoweredUse (s.Targets ts) u.value → LoweredSome e x → LoweredStatement z (st.AssignYield at ts word e) at (k.Yield x u)
+    return_yield : {z : Bool} (at word : Pos) {e : Maybe} {x : Option (Rc CoreExpr Global)} {u : Rc CoreUse Global} → LoweredUse s.ReturnIt u.value → LoweredSome e x → LoweredStatement z (st.ReturnYield at word e) at (k.Yield x u)
     pass : {z : Bool} (at : Pos) → LoweredStatement z (st.Pass at) at k.Pass
     leave : {z : Bool} (at : Pos) → LoweredStatement z (st.Break at) at k.Break
     again : {z : Bool} (at : Pos) → LoweredStatement z (st.Continue at) at k.Continue
@@ -228,6 +239,7 @@ pub data LoweredLayers (z : Bool) : List s.Layer → List r.Layer → Type 0 whe
   none : LoweredLayers z [] []
   more : {ss : List Statement} {ls : List s.Layer} {ks : List r.Layer} (b : CoreBlock) (at : ℕ) → explains_in b ≡ z → drop at (sources_in b) ≡ ss → LoweredBlock z ss (drop at (stmts_in b)) → LoweredLayers z ls ks → LoweredLayers z (s.Statements z ss ∷ ls) (r.Statements b at ∷ ks)
   guarded : {hs : Handlers} {other last : List Statement} {ls : List s.Layer} {ks : List r.Layer} (g : CoreGuard) (line : ℕ) → LoweredGuard z hs other last g → LoweredLayers z ls ks → LoweredLayers z (s.Guard z line hs other last ∷ ls) (r.Guard g line ∷ ks)
+  receives : {u : s.Use} {t : CoreUse} {ls : List s.Layer} {ks : List r.Layer} → LoweredUse u t → LoweredLayers z ls ks → LoweredLayers z (s.Receives u ∷ ls) (r.Receives t ∷ ks)
 
 -- what remains of a body
 abbrev pub LoweredRest : List s.Layer → List r.Layer → Type 0

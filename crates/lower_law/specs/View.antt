@@ -1,9 +1,11 @@
 -- THE VIEW of a world of core code: the world of the sources that its code carries. And which worlds are sound.
 use Rattle.std.specs.Prelude.{List, map, drop, Option, Some, None}
 use Rattle.py_core.specs.Blocks.{explains_in, other_in, last_in, handlers_source}
-use Rattle.py_tree.specs.Statements.{handlers}
+use Rattle.py_tree.specs.Statements.{handlers, takers}
 use Rattle.py_core.specs.declared.stmt.Core.{Core}
 use Rattle.py_core.specs.declared.stmt.CoreFn.{CoreFn}
+use Rattle.py_core.specs.declared.stmt.CoreUse.{CoreUse}
+use Rattle.py_core.specs.declared.stmt.CoreUse.TheVariants as taken
 use Rattle.source_meaning.specs.Requests as s
 use Rattle.source_meaning.specs.Requests.{source_kinds, Script, Function}
 use Rattle.source_meaning.specs.Meaning.{SourceWorld}
@@ -12,6 +14,7 @@ use Rattle.core_meaning.specs.Requests.{core_kinds}
 use Rattle.core_meaning.specs.Meaning.{CoreWorld}
 use Rattle.py_world.specs.World.{Source, Coded, Code, Fault, Stored, Frozen}
 use Rattle.py_world.specs.Runs.{Told}
+use Rattle.py_world.specs.Resuming.{ToldBegun}
 use Rattle.lower_law.specs.Law.{LoweredWorld}
 use Rattle.lower_law.specs.Sourced.{source_of, module_of, sources_in}
 
@@ -25,10 +28,17 @@ coded_view (Fault f) = Fault f
 abbrev pub file_view : Source Core → Source Script
 file_view x = record { path = x.path; bytes = x.bytes; code = coded_view x.code }
 
--- what remains of a block, and what guards one
+-- the use of what a `yield` is given
+abbrev pub use_view : CoreUse → s.Use
+use_view taken.NoUse = s.NoUse
+use_view (taken.Targets source xs) = s.Targets (takers source.value.items)
+use_view taken.Return = s.ReturnIt
+
+-- what remains of a block, what guards one, and what a `yield` is given
 abbrev pub layer_view : c.Layer → s.Layer
 layer_view (c.Statements b at) = s.Statements (explains_in b) (drop at (sources_in b))
 layer_view (c.Guard g line) = s.Guard (explains_in (other_in g)) line (handlers (handlers_source g)) (sources_in (other_in g)) (sources_in (last_in g))
+layer_view (c.Receives u) = s.Receives (use_view u)
 
 abbrev pub frozen_view : Option (Frozen (List c.Layer)) → Option (Frozen (List s.Layer))
 frozen_view (Some f) = Some (record { rest = map layer_view f.rest; site = f.site; locals = f.locals })
@@ -40,6 +50,9 @@ source_view w = record { sources = map file_view w.sources; modules = w.modules;
 
 abbrev pub view_told : Told core_kinds → Told source_kinds
 view_told t = (t.0, source_view t.1)
+
+abbrev pub view_begun : ToldBegun core_kinds → ToldBegun source_kinds
+view_begun t = (t.0, source_view t.1)
 
 -- each code is a core code of the source that it carries
 abbrev pub Sound : CoreWorld → Type 0

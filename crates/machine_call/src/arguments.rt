@@ -92,6 +92,21 @@ fn raise_yields(alloc: Global, name: &PyText) -> Result<Raise, OutOfMemory>
     Raise::from_chars(alloc, ExcClass::TypeError, &text)
 }
 
+/// The local names with which the body of a function begins, or the raise where the arguments don't fit it.
+pub fn fitting(
+    alloc: Global,
+    function: &FunctionObj,
+    args: &[Value],
+    named: &Locals,
+) -> Result<Result<Locals, Raise>, OutOfMemory>
+    ensures { IfOk result (λ names. names ≡ world.fitted_or function.now.name (fitted function.now.params args.now named.now [])) }
+{
+    match fit(alloc, function.params.items(), args, named)? {
+        Some(names) => Ok(Ok(names)),
+        None => Ok(Err(raise_misfit(alloc, &function.name)?)),
+    }
+}
+
 /// The local names with which a function begins, or the raise where it yields or the arguments don't fit it.
 pub fn arguments_for(
     alloc: Global,
@@ -103,10 +118,7 @@ pub fn arguments_for(
     if function.yields {
         return Ok(Err(raise_yields(alloc, &function.name)?));
     }
-    match fit(alloc, function.params.items(), &args.plain, &args.named)? {
-        Some(names) => Ok(Ok(names)),
-        None => Ok(Err(raise_misfit(alloc, &function.name)?)),
-    }
+    fitting(alloc, function, &args.plain, &args.named)
 }
 
 /// Values with one before them.

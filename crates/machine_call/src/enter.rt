@@ -132,8 +132,8 @@ fn too_deep(alloc: Global) -> Result<Raise, OutOfMemory>
     Ok(raise)
 }
 
-/// Calls a function of the sources whose arguments fit, where one more may be open.
-fn call_fitting(
+/// Enters a function of the sources whose arguments fit, where one more may be open.
+pub fn call_fitting(
     m: &mut Machine,
     code: Code,
     names: Locals,

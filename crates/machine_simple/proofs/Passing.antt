@@ -6,7 +6,7 @@ use Rattle.py_world.specs.Site.{Site}
 use Rattle.py_world.specs.Outcome.{Returned, Broke, Continued, Raised}
 use Rattle.core_meaning.specs.Requests.{Layer}
 use Rattle.machine_state.specs.declared.frame.SimpleFrame.{SimpleFrame}
-use Rattle.machine_state.specs.declared.frame.SimpleFrame.TheVariants.{Forget, Assign, Targets, Augment, Store, Raise, Throw, Return, Fail, Explain, Yield}
+use Rattle.machine_state.specs.declared.frame.SimpleFrame.TheVariants.{Forget, Assign, Targets, Augment, Store, Raise, Throw, Return, Fail, Explain, Yield, Receive}
 use Rattle.machine_state.specs.Places.{CoreState, CoreThen}
 use Rattle.machine_state.specs.Frames.{on_simple}
 
@@ -21,7 +21,8 @@ simple_returned Throw ls p r s k = refl
 simple_returned Return ls p r s k = refl
 simple_returned Fail ls p r s k = refl
 simple_returned (Explain shown) ls p r s k = refl
-simple_returned Yield ls p r s k = refl
+simple_returned (Yield given) ls p r s k = refl
+simple_returned (Receive given line) ls p r s k = refl
 
 pub simple_broke : (f : SimpleFrame) (ls : List Layer) (p : Site) (s : CoreState) (k : CoreThen) → on_simple f ls p (Broke s) k ≡ k (Broke s)
 simple_broke Forget ls p s k = refl
@@ -34,7 +35,8 @@ simple_broke Throw ls p s k = refl
 simple_broke Return ls p s k = refl
 simple_broke Fail ls p s k = refl
 simple_broke (Explain shown) ls p s k = refl
-simple_broke Yield ls p s k = refl
+simple_broke (Yield given) ls p s k = refl
+simple_broke (Receive given line) ls p s k = refl
 
 pub simple_continued : (f : SimpleFrame) (ls : List Layer) (p : Site) (s : CoreState) (k : CoreThen) → on_simple f ls p (Continued s) k ≡ k (Continued s)
 simple_continued Forget ls p s k = refl
@@ -47,7 +49,8 @@ simple_continued Throw ls p s k = refl
 simple_continued Return ls p s k = refl
 simple_continued Fail ls p s k = refl
 simple_continued (Explain shown) ls p s k = refl
-simple_continued Yield ls p s k = refl
+simple_continued (Yield given) ls p s k = refl
+simple_continued (Receive given line) ls p s k = refl
 
 pub simple_raised : (f : SimpleFrame) (ls : List Layer) (p : Site) (e : Value) (trace : List TraceFrame) (s : CoreState) (k : CoreThen) → on_simple f ls p (Raised e trace s) k ≡ k (Raised e trace s)
 simple_raised Forget ls p e trace s k = refl
@@ -60,4 +63,5 @@ simple_raised Throw ls p e trace s k = refl
 simple_raised Return ls p e trace s k = refl
 simple_raised Fail ls p e trace s k = refl
 simple_raised (Explain shown) ls p e trace s k = refl
-simple_raised Yield ls p e trace s k = refl
+simple_raised (Yield given) ls p e trace s k = refl
+simple_raised (Receive given line) ls p e trace s k = refl

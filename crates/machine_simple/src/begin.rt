@@ -1,18 +1,19 @@
 // Simple statements begin.
 
-ghost use Rattle.std.specs.Prelude.{◌≡◌, ◌≤◌, IfOk, true};
+ghost use Rattle.std.specs.Prelude.{◌≡◌, ◌≤◌, ◌∷◌, IfOk, true};
 ghost use Rattle.py_world.specs.Raising as raising;
 ghost use Rattle.py_world.specs.Outcome.{Gave, Next};
 ghost use Rattle.py_world.specs.Statements as world;
 ghost use Rattle.py_world.specs.Targets as targets;
 ghost use Rattle.core_meaning.specs.Expressions.{eval};
+ghost use Rattle.core_meaning.specs.Requests.{Receives};
 ghost use Rattle.core_meaning.specs.Statements as meaning;
 ghost use Rattle.machine_state.specs.Places.{ends};
 ghost use Rattle.machine_state.specs.Frames.{layers_of, rest_of, site_now, state_of, todo};
 ghost use Rattle.machine_simple.specs.Simple as kinds;
 
 use crate::failure::begin_failure;
-use crate::simple::store_next;
+use crate::simple::{stop, store_next};
 use machine_expr::evaluate::descend;
 use machine_expr::immediate::at_once;
 use machine_state::frame::{End, Frame, SimpleFrame};
@@ -20,7 +21,7 @@ use machine_state::machine::{Doing, Machine};
 use machine_store::augment::begin_augment;
 use machine_store::delete::begin_delete;
 use machine_unwind::raise::raise_again;
-use py_core::{CoreExpr, CoreSingle, CoreStmtKind, CoreTarget};
+use py_core::{CoreExpr, CoreSingle, CoreStmtKind, CoreTarget, CoreUse};
 use py_text::OutOfMemory;
 use py_values::value::Value;
 use std::rc::Rc;
@@ -84,13 +85,18 @@ fn begin_some_return(m: &mut Machine, e: &Option<Rc<CoreExpr>>) -> Result<Doing,
 }
 
 /// Begins a `yield`.
-fn begin_yield(m: &mut Machine, e: &Option<Rc<CoreExpr>>) -> Result<Doing, OutOfMemory>
-    ensures next { IfOk result (λ d. todo d m.new ≡ world.yield_value (meaning.some_part e.now) (layers_of m.old.stack) (site_now m.old) (state_of m.old) (rest_of m.old)) }
+fn begin_yield(
+    m: &mut Machine,
+    e: &Option<Rc<CoreExpr>>,
+    given: &Rc<CoreUse>,
+) -> Result<Doing, OutOfMemory>
+    ensures next { IfOk result (λ d. todo d m.new ≡ world.yield_value (meaning.some_part e.now) (Receives given.now.value ∷ layers_of m.old.stack) (site_now m.old) (state_of m.old) (rest_of m.old)) }
     ensures left { m.new.left ≡ m.old.left }
 {
+    let given = given.clone()?;
     match e {
-        Some(e) => descend(m, Frame::Simple(SimpleFrame::Yield), e),
-        None => Ok(Doing::Freeze(Value::None)),
+        Some(e) => descend(m, Frame::Simple(SimpleFrame::Yield(given)), e),
+        None => stop(m, given, Value::None),
     }
 }
 
@@ -116,7 +122,7 @@ pub fn is_simple(kind: &CoreStmtKind) -> bool
         | CoreStmtKind::Return(_)
         | CoreStmtKind::FailWith(_, _)
         | CoreStmtKind::Global(_)
-        | CoreStmtKind::Yield(_)
+        | CoreStmtKind::Yield(_, _)
         | CoreStmtKind::Raise(_)
         | CoreStmtKind::Del(_) => true,
         CoreStmtKind::Pass
@@ -147,7 +153,7 @@ pub fn begin_simple(m: &mut Machine, kind: &CoreStmtKind) -> Result<Doing, OutOf
         CoreStmtKind::Return(e) => begin_some_return(m, e),
         CoreStmtKind::FailWith(template, message) => begin_failure(m, template, message),
         CoreStmtKind::Global(_) => Ok(Doing::Back(End::Next)),
-        CoreStmtKind::Yield(e) => begin_yield(m, e),
+        CoreStmtKind::Yield(e, given) => begin_yield(m, e, given),
         CoreStmtKind::Raise(e) => begin_raise(m, e),
         CoreStmtKind::Del(target) => begin_delete(m, target),
         _ => unreachable!(),

@@ -3,7 +3,8 @@
 //! # What it is for
 //!
 //! `begin_simple` begins a simple statement whose step is taken; `begin_failure` the failure of an assert, which costs no step;
-//! `take_simple` goes on behind a part of one. `Pass`, `Break` and `Continue` only end, and stand with the compound statements.
+//! `take_simple` goes on behind a part of one; `stop` stops a body at a `yield`, and `receive` goes on there with what it is given. `Pass`,
+//! `Break` and `Continue` only end, and stand with the compound statements.
 //!
 //! # What is proved
 //!
@@ -11,6 +12,8 @@
 //!   gained (`left`). `is_simple` is true for exactly these statements.
 //! - `take_simple`, for each frame of a simple statement: the run of what is left stays the same (`next`), and a turn spends a step or
 //!   leaves less to do (`work`).
+//! - `stop`: what remains of a body that stops is its blocks with the use of what it is given before them; `receive`: a value that is given
+//!   is used as the meaning says.
 //! - `begin_failure`: the failure of an assert is the meaning's, and it leaves less to do.
 //!
 //! # What tests alone show

@@ -1,13 +1,15 @@
 // The turns behind parts of simple statements.
 
-ghost use Rattle.std.specs.Prelude.{◌≡◌, ◌+◌, ◌<◌, IfOk, drop};
+ghost use Rattle.std.specs.Prelude.{◌≡◌, ◌+◌, ◌<◌, ◌∷◌, IfOk, drop};
 ghost use Rattle.std.specs.List.{sum_by};
-ghost use Rattle.py_world.specs.Outcome.{Gave, Next};
+ghost use Rattle.run_tree.specs.Todo.{Freeze};
+ghost use Rattle.py_world.specs.Outcome.{paused, Gave, Next};
 ghost use Rattle.py_world.specs.Targets.{store_all};
+ghost use Rattle.core_meaning.specs.Requests.{Receives};
 ghost use Rattle.core_meaning.specs.Statements as meaning;
-ghost use Rattle.machine_state.specs.Places.{outcome};
-ghost use Rattle.machine_state.specs.Frames.{layers_of, on_simple, rest_of, site_now, state_of, todo, Follows};
-ghost use Rattle.machine_state.specs.Work.{doing_work, simple_work, stack_work, taker_work, Falls};
+ghost use Rattle.machine_state.specs.Places.{outcome, site_of};
+ghost use Rattle.machine_state.specs.Frames.{after, handling_of, here_simple, layers_of, on_simple, outer_of, rest_of, site_now, state_of, todo, Follows};
+ghost use Rattle.machine_state.specs.Work.{doing_work, simple_work, stack_work, taker_work, use_work, Falls};
 
 use crate::failure::{explain, fail};
 use machine_state::frame::{End, Frame, SimpleFrame};
@@ -16,7 +18,7 @@ use machine_store::assign::store_target;
 use machine_store::operate::augment;
 use machine_store::spot::store_spot;
 use machine_unwind::raise::{raise_it, raise_value};
-use py_core::CoreTarget;
+use py_core::{CoreTarget, CoreUse};
 use py_text::OutOfMemory;
 use py_values::value::Value;
 use std::rc::Rc;
@@ -45,6 +47,33 @@ pub fn store_next(
     store_target(m, &ts[at], v)
 }
 
+/// Stops the body with a value.
+pub fn stop(m: &mut Machine, given: Rc<CoreUse>, v: Value) -> Result<Doing, OutOfMemory>
+    ensures next { IfOk result (λ d. todo d m.new ≡ Freeze (paused v (Receives given.value ∷ layers_of m.old.stack) (site_now m.old) (state_of m.old))) }
+    ensures left { m.new.left ≡ m.old.left }
+    ensures work { IfOk result (λ d. doing_work d + stack_work m.new ≡ use_work given.value + stack_work m.old) }
+{
+    let frame = SimpleFrame::Receive(given, m.here.line);
+    m.stack.push(Frame::Simple(frame))?;
+    Ok(Doing::Freeze(v))
+}
+
+/// Goes on at a `yield` with what it is given.
+pub fn receive(m: &mut Machine, given: &CoreUse, v: Value) -> Result<Doing, OutOfMemory>
+    ensures next { IfOk result (λ d. todo d m.new ≡ meaning.use_of given.now v (site_now m.old) (state_of m.old) (rest_of m.old)) }
+    ensures left { m.new.left ≡ m.old.left }
+    ensures work { IfOk result (λ d. doing_work d + stack_work m.new < use_work given.now + stack_work m.old) }
+{
+    match given {
+        CoreUse::NoUse => Ok(Doing::Back(End::Next)),
+        CoreUse::Targets(_, ts) => {
+            let targets = ts.clone()?;
+            store_next(m, targets, 0, v)
+        }
+        CoreUse::Return => Ok(Doing::Back(End::Returned(v))),
+    }
+}
+
 /// Goes on with a value.
 fn take_value(m: &mut Machine, frame: SimpleFrame, v: Value) -> Result<TurnEnd, OutOfMemory>
     ensures next { IfOk result (λ t. Follows t m.new m.old.left (on_simple frame (layers_of m.old.stack) (site_now m.old) (Gave v (state_of m.old)) (rest_of m.old))) }
@@ -64,7 +93,8 @@ fn take_value(m: &mut Machine, frame: SimpleFrame, v: Value) -> Result<TurnEnd, 
         SimpleFrame::Return => Ok(TurnEnd::Go(Doing::Back(End::Returned(v)))),
         SimpleFrame::Fail => Ok(TurnEnd::Go(fail(m, Some(v))?)),
         SimpleFrame::Explain(shown) => Ok(TurnEnd::Go(explain(m, &shown, Some(v))?)),
-        SimpleFrame::Yield => Ok(TurnEnd::Go(Doing::Freeze(v))),
+        SimpleFrame::Yield(given) => Ok(TurnEnd::Go(stop(m, given, v)?)),
+        SimpleFrame::Receive(given, _) => Ok(TurnEnd::Go(receive(m, &given, v)?)),
     }
 }
 
@@ -79,9 +109,9 @@ fn take_next(m: &mut Machine, frame: SimpleFrame) -> Result<TurnEnd, OutOfMemory
     }
 }
 
-/// Goes on behind a part of a simple statement.
+/// Goes on behind a part of a simple statement, on its line.
 #[tactic(auto, using(crate::proofs::Passing::simple_returned, crate::proofs::Passing::simple_broke, crate::proofs::Passing::simple_continued, crate::proofs::Passing::simple_raised))]
-pub fn take_simple(m: &mut Machine, frame: SimpleFrame, end: End) -> Result<TurnEnd, OutOfMemory>
+fn take_part(m: &mut Machine, frame: SimpleFrame, end: End) -> Result<TurnEnd, OutOfMemory>
     ensures next { IfOk result (λ t. Follows t m.new m.old.left (on_simple frame (layers_of m.old.stack) (site_now m.old) (outcome end (state_of m.old)) (rest_of m.old))) }
     ensures work { IfOk result (λ t. Falls t m.new m.old.left (simple_work frame + stack_work m.old)) }
 {
@@ -93,4 +123,34 @@ pub fn take_simple(m: &mut Machine, frame: SimpleFrame, end: End) -> Result<Turn
         End::Continued => Ok(TurnEnd::Go(Doing::Back(End::Continued))),
         End::Raised(e, trace) => Ok(TurnEnd::Go(Doing::Back(End::Raised(e, trace)))),
     }
+}
+
+/// Leaves a frame for what stands below it.
+fn leave(m: &mut Machine, frame: &SimpleFrame)
+    ensures { m.new ≡ record m.old { here = here_simple frame.now m.old.here } }
+{
+    match frame {
+        SimpleFrame::Receive(_, line) => m.here.line = *line,
+        SimpleFrame::Forget => {}
+        SimpleFrame::Assign(_) => {}
+        SimpleFrame::Targets(_, _, _) => {}
+        SimpleFrame::Augment(_, _, _) => {}
+        SimpleFrame::Store(_) => {}
+        SimpleFrame::Raise => {}
+        SimpleFrame::Throw => {}
+        SimpleFrame::Return => {}
+        SimpleFrame::Fail => {}
+        SimpleFrame::Explain(_) => {}
+        SimpleFrame::Yield(_) => {}
+    }
+}
+
+/// Goes on behind a part of a simple statement.
+pub fn take_simple(m: &mut Machine, frame: SimpleFrame, end: End) -> Result<TurnEnd, OutOfMemory>
+    ensures next { IfOk result (λ t. Follows t m.new m.old.left
+        (on_simple frame (layers_of m.old.stack) (site_of (here_simple frame m.old.here) (outer_of m.old.stack) (handling_of m.old.stack)) (outcome end (state_of m.old)) (after m.old.stack (here_simple frame m.old.here)))) }
+    ensures work { IfOk result (λ t. Falls t m.new m.old.left (simple_work frame + stack_work m.old)) }
+{
+    leave(m, &frame);
+    take_part(m, frame, end)
 }

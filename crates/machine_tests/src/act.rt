@@ -1,8 +1,9 @@
 // What is done in a world, and what is told of it.
 
+use crate::frames::{abandon_told, begin_told, send_told, throw_told};
 use crate::told::{Tried, copied, ended_told, repr_told, string};
 use crate::world::{letters_of, load};
-use py_machine::{ModuleId, World, call, fault, heap, line, names, take_printed};
+use py_machine::{Frozen, ModuleId, World, call, fault, heap, line, names, take_printed};
 use py_source::{Pos, SourceFault};
 use py_values::heap::Heap;
 use py_values::names::Name;
@@ -50,13 +51,21 @@ fn values_of(alloc: Global, heap: &Heap, id: ModuleId, spelled: &str) -> Tried<V
     Ok(all)
 }
 
-/// What is told of a call that is spelled as a path, a name and arguments.
-fn call_told(alloc: Global, world: &mut World, spelled: &str, budget: u64) -> Tried<String> {
+/// The values that are spelled behind the path of a module; none where it wasn't loaded.
+pub fn values_at(alloc: Global, world: &mut World, spelled: &str) -> Tried<Option<Vec<Value>>> {
     let (path, spelled) = spelled.split_once(' ').unwrap_or((spelled, ""));
     let Some(id) = module_at(world, path)? else {
-        return copied(alloc, "no module");
+        return Ok(None);
     };
     let values = values_of(alloc, heap(world), id, spelled)?;
+    Ok(Some(values))
+}
+
+/// What is told of a call that is spelled as a path, a name and arguments.
+fn call_told(alloc: Global, world: &mut World, spelled: &str, budget: u64) -> Tried<String> {
+    let Some(values) = values_at(alloc, world, spelled)? else {
+        return copied(alloc, "no module");
+    };
     let Some((f, args)) = values.split_first() else {
         return copied(alloc, "no name");
     };
@@ -109,11 +118,21 @@ fn line_told(alloc: Global, world: &World, spelled: &str) -> Tried<String> {
     }
 }
 
-fn act_told(alloc: Global, world: &mut World, what: &str, budget: u64) -> Tried<String> {
+fn act_told(
+    alloc: Global,
+    world: &mut World,
+    frame: &mut Option<Frozen>,
+    what: &str,
+    budget: u64,
+) -> Tried<String> {
     let (word, rest) = what.split_once(' ').unwrap_or((what, ""));
     match word {
         "load" => load_told(alloc, world, rest, budget),
         "call" => call_told(alloc, world, rest, budget),
+        "begin" => begin_told(alloc, world, frame, rest, budget),
+        "send" => send_told(alloc, world, frame, rest, budget),
+        "throw" => throw_told(alloc, world, frame, rest, budget),
+        "abandon" => abandon_told(alloc, world, frame),
         "names" => names_told(alloc, world, rest),
         "fault" => fault_told(alloc, world, rest),
         "line" => line_told(alloc, world, rest),
@@ -121,9 +140,15 @@ fn act_told(alloc: Global, world: &mut World, what: &str, budget: u64) -> Tried<
     }
 }
 
-/// Does an act within a budget: what is told of its end, and what it printed.
-pub fn done(alloc: Global, world: &mut World, what: &str, budget: u64) -> Tried<String> {
-    let told = act_told(alloc, world, what, budget)?;
+/// Does an act within a budget: what is told of its end, and what it printed. A body that stops at a `yield` has its frame kept.
+pub fn done(
+    alloc: Global,
+    world: &mut World,
+    frame: &mut Option<Frozen>,
+    what: &str,
+    budget: u64,
+) -> Tried<String> {
+    let told = act_told(alloc, world, frame, what, budget)?;
     let printed = take_printed(world);
     let shown = String::from_utf8_lossy(alloc, &printed)?;
     Ok(format!(in alloc; "{told}\n{shown}")?)

@@ -1,21 +1,20 @@
 // The code of texts.
 
-ghost use Rattle.std.specs.Prelude.{IfOk, IfSome};
+ghost use Rattle.std.specs.Prelude.{IfOk};
 ghost use Rattle.lower_law.specs.Lowered.{LoweredModule};
 ghost use Rattle.lower_law.specs.Sourced.{module_of};
 ghost use Rattle.py_machine.specs.Worlds.{IsLowered};
 ghost use Rattle.py_tokens.specs.Layout.{EndsText};
 
 use crate::told::Tried;
-use assert_rewrite::lower_plain;
-use py_built::is_built;
+use assert_rewrite::lower;
 use py_core::Core;
 use py_parse::{SyntaxFault, parse};
 use py_source::{Pos, SourceFault, SyntaxKind};
 use py_text::OutOfMemory;
 use py_tokens::{LexFault, Token, tokens};
 use py_tree::Module;
-use read_law::what_is_built_has_a_meaning;
+use read_law::every_tree_has_a_meaning;
 use std::alloc::Global;
 
 type Judged = Result<Module, SourceFault>;
@@ -46,27 +45,21 @@ fn source_of(alloc: Global, text: &str) -> Tried<Judged> {
     }
 }
 
-/// The code of a tree; none where a form of it isn't built.
-fn lowered(alloc: Global, module: &Module) -> Tried<Option<Core>>
-    ensures { IfOk result (λ c. IfSome c (λ core. LoweredModule (module_of core) core)) }
+/// The code of a tree.
+fn lowered(alloc: Global, explains: bool, module: &Module) -> Tried<Core>
+    ensures { IfOk result (λ core. LoweredModule (module_of core) core) }
 {
-    what_is_built_has_a_meaning();
-    if !is_built(module) {
-        return Ok(None);
-    }
-    let core = lower_plain(alloc, module)?;
-    Ok(Some(core))
+    every_tree_has_a_meaning();
+    let core = lower(alloc, explains, module)?;
+    Ok(core)
 }
 
-/// The code of a text, or its fault; none where a form of it isn't built.
-pub fn code_of(alloc: Global, text: &str) -> Tried<Option<Result<Core, SourceFault>>>
-    ensures { IfOk result (λ c. IfSome c IsLowered) }
+/// The code of a text, whose asserts are explained or not, or its fault.
+pub fn code_of(alloc: Global, explains: bool, text: &str) -> Tried<Result<Core, SourceFault>>
+    ensures { IfOk result (λ c. IsLowered c) }
 {
     match source_of(alloc, text)? {
-        Ok(module) => match lowered(alloc, &module)? {
-            Some(core) => Ok(Some(Ok(core))),
-            None => Ok(None),
-        },
-        Err(fault) => Ok(Some(Err(fault))),
+        Ok(module) => Ok(Ok(lowered(alloc, explains, &module)?)),
+        Err(fault) => Ok(Err(fault)),
     }
 }

@@ -1,9 +1,11 @@
 // What comes of a row's acts, and where it isn't what the row wants.
 
 use crate::act::done;
+use crate::frames::give_up;
 use crate::row::{Act, Row};
 use crate::told::Tried;
 use crate::world::world_of;
+use py_machine::{Frozen, World};
 use std::alloc::Global;
 
 fn first_budget(act: &Act) -> u64 {
@@ -13,18 +15,35 @@ fn first_budget(act: &Act) -> u64 {
     }
 }
 
-/// What comes of the act at a place within a budget, behind those before it.
-fn comes_of(alloc: Global, row: &Row, at: usize, budget: u64) -> Tried<String> {
-    let mut world = world_of(alloc, &row.sources)?;
+/// What comes of the act at a place within a budget, behind those before it, in a world; the frame is that of the last body that
+/// stopped.
+fn acts_done(
+    alloc: Global,
+    world: &mut World,
+    frame: &mut Option<Frozen>,
+    row: &Row,
+    at: usize,
+    budget: u64,
+) -> Tried<String> {
     let mut came = String::new(alloc);
     for (place, act) in row.acts.iter().enumerate() {
+        let what = act.what.as_str();
         if place < at {
-            drop(done(alloc, &mut world, act.what.as_str(), first_budget(act))?);
+            drop(done(alloc, world, frame, what, first_budget(act))?);
         } else if place == at {
-            came = done(alloc, &mut world, act.what.as_str(), budget)?;
+            came = done(alloc, world, frame, what, budget)?;
         }
     }
     Ok(came)
+}
+
+/// What comes of the act at a place within a budget, behind those before it. A frame that is out then is given up.
+fn comes_of(alloc: Global, row: &Row, at: usize, budget: u64) -> Tried<String> {
+    let mut world = world_of(alloc, &row.sources)?;
+    let mut frame = None;
+    let came = acts_done(alloc, &mut world, &mut frame, row, at, budget);
+    give_up(&mut world, frame);
+    came
 }
 
 /// Where the act at a place does something else than it wants.

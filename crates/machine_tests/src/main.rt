@@ -7,11 +7,17 @@
 //! that are this language's own are those of a plain model of it. Rows whose names begin with `wrong` want what doesn't come, and
 //! must be told, so that a check that passes everything is seen.
 //!
-//! A row is a line `>>> row NAME`, its sources, each a line `>>> file PATH` and its text, and then its acts in order, each a line:
+//! A row is a line `>>> row NAME`, its sources, each a line `>>> file PATH`, or `>>> explained PATH` where its asserts are explained,
+//! and its text, and then its acts in order, each a line:
 //!
 //! - `>>> load PATH`: the module is loaded.
 //! - `>>> call PATH NAME ARGUMENT ..`: the value of a name of a loaded module is called. An argument is a whole number or a name of the
 //!   module.
+//! - `>>> begin PATH NAME ARGUMENT ..`: likewise the body of a function that yields begins, and its frame is kept where it stops. A frame
+//!   before is given up.
+//! - `>>> send PATH ARGUMENT`: the body goes on, with a value, or without one with `None`.
+//! - `>>> throw PATH NAME ARGUMENT ..`: the body goes on with the exception that a call raises.
+//! - `>>> abandon`: the frame is given up.
 //! - `>>> names PATH`: the names of a loaded module with their values.
 //! - `>>> fault PATH`, `>>> line PATH NUMBER`: the fault of a source, and one of its lines.
 //!
@@ -28,6 +34,7 @@
 mod act;
 mod code;
 mod comes;
+mod frames;
 mod row;
 mod told;
 mod world;

@@ -2,11 +2,12 @@
 
 use std::alloc::{AllocError, Global};
 
-/// The path of a source and its text.
+/// The path of a source, its text, and whether its asserts are explained.
 #[derive(Drop)]
 pub struct Source {
     pub path: String,
     pub text: String,
+    pub explains: bool,
 }
 
 /// What comes of an act within a budget.
@@ -68,10 +69,21 @@ impl Row {
         })
     }
 
-    fn begin_source(&mut self, alloc: Global, path: &str) -> Result<(), AllocError> {
+    fn begin_source(
+        &mut self,
+        alloc: Global,
+        path: &str,
+        explains: bool,
+    ) -> Result<(), AllocError> {
         let path = String::from_str(alloc, path)?;
         let text = String::new(alloc);
-        Ok(self.sources.push(Source { path, text })?)
+        Ok(
+            self.sources.push(Source {
+                path,
+                text,
+                explains,
+            })?,
+        )
     }
 
     fn begin_act(&mut self, alloc: Global, what: &str) -> Result<(), AllocError> {
@@ -82,7 +94,10 @@ impl Row {
 
     fn take_heading(&mut self, alloc: Global, heading: &str) -> Result<(), AllocError> {
         if let Some(path) = heading.strip_prefix("file ") {
-            return self.begin_source(alloc, path);
+            return self.begin_source(alloc, path, false);
+        }
+        if let Some(path) = heading.strip_prefix("explained ") {
+            return self.begin_source(alloc, path, true);
         }
         let Some(budget) = heading.strip_prefix("within ") else {
             return self.begin_act(alloc, heading);

@@ -29,9 +29,9 @@ pub fn repr_told(alloc: Global, heap: &Heap, v: Value) -> Tried<String> {
     string(alloc, &shown.text)
 }
 
-/// The class of an exception and its message, up to 200 characters.
+/// The class of an exception and its message, up to 4,000 characters.
 fn exception_told(alloc: Global, heap: &Heap, exc: Value) -> Tried<String> {
-    let shown = message(alloc, heap, exc, 200)?;
+    let shown = message(alloc, heap, exc, 4000)?;
     let class = kind_name(alloc, heap, exc)?;
     let mut all = string(alloc, &class)?;
     if !shown.text.chars().is_empty() {

@@ -40,7 +40,7 @@ fn is_among(paths: &[PyText], path: &PyText) -> bool
     paths.iter().any(|other| is_same(path, other))
 }
 
-/// Adds a source, unless its path has one or a form of it isn't built.
+/// Adds a source, unless its path has one.
 #[tactic(auto, using(crate::proofs::Sources::absent_of, crate::proofs::Sources::paths_behind))]
 fn add(alloc: Global, world: &mut World, paths: &mut Vec<PyText>, source: &Source) -> Tried<()>
     requires { paths_of world.old.sources ≡ paths.old.items }
@@ -51,10 +51,9 @@ fn add(alloc: Global, world: &mut World, paths: &mut Vec<PyText>, source: &Sourc
         return Ok(());
     }
     let text = source.text.as_str();
-    if let Some(code) = code_of(alloc, text)? {
-        add_source(world, source.path.as_str(), text.as_bytes(), code)?;
-        paths.push(path)?;
-    }
+    let code = code_of(alloc, source.explains, text)?;
+    add_source(world, source.path.as_str(), text.as_bytes(), code)?;
+    paths.push(path)?;
     Ok(())
 }
 

@@ -27,14 +27,14 @@ test_a.py F.F
 ____________________________________ test_x ____________________________________
 test_a.py:4: in test_x
     assert 2 == 3
-E   AssertionError
+E   assert 2 == 3
 ____________________________________ test_z ____________________________________
 test_a.py:10: in test_z
     assert 0 == 10
-E   AssertionError
+E   assert 0 == 10
 =========================== short test summary info ============================
-FAILED test_a.py::test_x - AssertionError
-FAILED test_a.py::test_z - AssertionError
+FAILED test_a.py::test_x - assert 2 == 3
+FAILED test_a.py::test_z - assert 0 == 10
 ============================== 2 failed, 1 passed ==============================
 ";
 
@@ -116,7 +116,35 @@ test_a.py s
 ================================== 1 skipped ===================================
 ";
 
-const FIXTURE: &str = "import pytest\n\n@pytest.fixture\ndef a():\n    return 1\n";
+const FIXTURE: &str = "import pytest\n\n@pytest.fixture\ndef a():\n    yield 1\n    assert 0\n\n\
+        def test_x(a):\n    assert a == 2\n";
+
+const SET_UP: &str = "\
+============================= test session starts ==============================
+collected 1 item
+
+        SETUP    F a
+        test_a.py::test_x (fixtures used: a) F
+        TEARDOWN F a
+        test_a.py::test_x E
+
+==================================== ERRORS ====================================
+_________________________ ERROR at teardown of test_x __________________________
+test_a.py:6: in a
+    assert 0
+E   assert 0
+=================================== FAILURES ===================================
+____________________________________ test_x ____________________________________
+test_a.py:9: in test_x
+    assert a == 2
+E   assert 1 == 2
+=========================== short test summary info ============================
+FAILED test_a.py::test_x - assert 1 == 2
+ERROR test_a.py::test_x - assert 0
+============================== 1 failed, 1 error ===============================
+";
+
+const PARAMS: &str = "import pytest\n\n@pytest.fixture(params=[1])\ndef a():\n    return 1\n";
 
 const FACTORIAL: &str =
     "def fact(n):\n    r = 1\n    while n > 0:\n        r = r * n\n        n = n - 1\n    return r\n\n\
@@ -192,11 +220,11 @@ test_a.py .
 ______________________________ TestStore.test_get ______________________________
 a/test_b.py:6: in test_get
     assert 1 == 2
-E   AssertionError
+E   assert 1 == 2
 ----------------------------- Captured stdout call -----------------------------
 got
 =========================== short test summary info ============================
-FAILED a/test_b.py::TestStore::test_get - AssertionError
+FAILED a/test_b.py::TestStore::test_get - assert 1 == 2
 =================== 1 failed, 1 passed, 1 skipped, 1 xfailed ===================
 ";
 
@@ -219,11 +247,11 @@ a/test_b.py F
 ______________________________ TestStore.test_get ______________________________
 a/test_b.py:6: in test_get
     assert 1 == 2
-E   AssertionError
+E   assert 1 == 2
 ----------------------------- Captured stdout call -----------------------------
 got
 =========================== short test summary info ============================
-FAILED a/test_b.py::TestStore::test_get - AssertionError
+FAILED a/test_b.py::TestStore::test_get - assert 1 == 2
 !!!!!!!!!!!!!!!!!!!!!!!!!! stopping after 1 failures !!!!!!!!!!!!!!!!!!!!!!!!!!!
 =================================== 1 failed ===================================
 ";
@@ -273,7 +301,7 @@ fn writes_the_report_and_answers_its_status(rt: HostRuntime) -> Result<(), Fail>
             4,
         ),
         ("-n 2 test_a.py", PASSES, "ERROR: not built\n", 4),
-        ("--setup-show test_a.py", PASSES, "ERROR: not built\n", 4),
+        ("--setup-show test_a.py", FIXTURE, SET_UP, 1),
         ("--version --tb=long", PASSES, VERSION, 0),
         (
             "--tb=long x",
@@ -289,7 +317,7 @@ fn writes_the_report_and_answers_its_status(rt: HostRuntime) -> Result<(), Fail>
         ("--tb=line test_a.py", "x = = 1\n", UNREAD, 2),
         ("test_a.py", "def test_x(a):\n    pass\n", NO_FIXTURE, 1),
         ("test_a.py", SKIPS, SKIPPED, 0),
-        ("test_a.py", FIXTURE, "ERROR: not built\n", 4),
+        ("test_a.py", PARAMS, "ERROR: not built\n", 4),
         ("conftest.py", PASSES, "ERROR: not found: conftest.py\n", 4),
         ("-- -a.py", PASSES, "ERROR: not found: -a.py\n", 4),
         ("test_a.py::test_one", PASSES, PASSED, 0),

@@ -5,7 +5,7 @@ ghost use Rattle.py_core.specs.Blocks.{stmts_in, handlers_in};
 
 use crate::expr::CoreExpr;
 use py_source::{Pos, SrcText};
-use py_tree::{Alias, BinOp, Expr, Function, Handler, Names, Stmt};
+use py_tree::{Alias, BinOp, Expr, Function, Handler, Names, Stmt, Target};
 use std::rc::Rc;
 
 /// The core code of a source.
@@ -65,8 +65,8 @@ pub enum CoreStmtKind {
     Continue,
     /// The branches `if` and `elif`, and the block behind `else`.
     If(Rc<Vec<CoreBranch>>, Rc<CoreBlock>),
-    /// A `yield`, and what it gives.
-    Yield(Option<Rc<CoreExpr>>),
+    /// A `yield`: what it gives, and what is done with what it is given.
+    Yield(Option<Rc<CoreExpr>>, Rc<CoreUse>),
     While(Rc<CoreExpr>, Rc<CoreBlock>),
     /// The decorators from top to bottom, the defaults of the parameters that have one, and the function.
     Def(Rc<Vec<Rc<CoreExpr>>>, Rc<Vec<Rc<CoreExpr>>>, Rc<CoreFn>),
@@ -188,6 +188,17 @@ pub enum CoreSingleKind {
     Name(SrcText),
     Attribute(Rc<CoreExpr>, SrcText),
     Subscript(Rc<CoreExpr>, Rc<CoreExpr>),
+}
+
+/// What is done with the value that a `yield` is given when its body goes on (Language Reference, yield expressions).
+#[derive(Drop)]
+pub enum CoreUse {
+    /// Nothing.
+    NoUse,
+    /// It is assigned: the targets of the source, and those that stand for them.
+    Targets(Rc<Vec<Target>>, Rc<Vec<CoreTarget>>),
+    /// It is returned.
+    Return,
 }
 
 /// What the failure of an assert shows beside its message.

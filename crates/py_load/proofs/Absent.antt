@@ -45,16 +45,16 @@ passed : (b : Bool) (x : Source Script) (o : Option (Source Script)) → b ≡ f
 passed b x o e h = rw (e, h) refl
 
 -- no file in front of a path has it
-pub front_absent : (front : List Pair) (rest : List (List ℕ)) (path : List ℕ) (reads : List ReadFile) → IsUtf8 path → InOrder (paths_of (files_of front) ++ path ∷ rest) → AreRead (files_of front) reads
-    → source_at (chars path) (map source_of_read reads) ≡ None
-front_absent [] rest path [] u order h = refl
-front_absent [] rest path (r ∷ rs) u order h = elim h [ ]
-front_absent (p ∷ ps) rest path [] u order h = elim h [ ]
-front_absent (p ∷ ps) rest path (r ∷ rs) u order h =
+pub front_absent : (named : List (List ℕ)) (front : List Pair) (rest : List (List ℕ)) (path : List ℕ) (reads : List ReadFile) → IsUtf8 path → InOrder (paths_of (files_of front) ++ path ∷ rest) → AreRead (files_of front) reads
+    → source_at (chars path) (map (source_of_read named) reads) ≡ None
+front_absent named [] rest path [] u order h = refl
+front_absent named [] rest path (r ∷ rs) u order h = elim h [ ]
+front_absent named (p ∷ ps) rest path [] u order h = elim h [ ]
+front_absent named (p ∷ ps) rest path (r ∷ rs) u order h =
     let first = string_bytes p.0 in
     let same : r.0 ≡ first = h.0 in
     let less = behind_all (λ q. slice_cmp nat_cmp first q ≡ Less) (paths_of (files_of ps)) path rest (sorted_head (slice_cmp nat_cmp) first (paths_of (files_of ps) ++ path ∷ rest) order) in
     let other : chars path ≡ chars r.0 → ⊥ = λ e. not_before first path less (same_text path first u (IsUtf8-string_bytes p.0) (e ∙ ap chars same)) in
-    passed (name_eq (chars path) (chars r.0)) (source_of_read r) (source_at (chars path) (map source_of_read rs))
+    passed (name_eq (chars path) (chars r.0)) (source_of_read named r) (source_at (chars path) (map (source_of_read named) rs))
     (other_name (name_eq (chars path) (chars r.0)) (chars path) (chars r.0) refl other)
-    (front_absent ps rest path rs u (sorted_tail (slice_cmp nat_cmp) first (paths_of (files_of ps) ++ path ∷ rest) order) h.2)
+    (front_absent named ps rest path rs u (sorted_tail (slice_cmp nat_cmp) first (paths_of (files_of ps) ++ path ∷ rest) order) h.2)

@@ -53,6 +53,3 @@ both_read (f ∷ fs) gs (r ∷ rs) ts h k = (h.0, h.1, both_read fs gs rs ts h.2
 -- one file, read
 pub one_of : (path bytes : List ℕ) (said : Said) → IsSource bytes said → AreRead ((path, bytes) ∷ []) (read_as path bytes said ∷ [])
 one_of path bytes said h = (refl, (refl, h), tt)
-
-pub first_of : (path bytes : List ℕ) (said : Said) (files : List File) (reads : List ReadFile) → IsSource bytes said → AreRead files reads → AreRead ((path, bytes) ∷ files) (read_as path bytes said ∷ reads)
-first_of path bytes said files reads h k = (refl, (refl, h), k)

@@ -8,9 +8,9 @@
 //! # What is proved
 //!
 //! - [`prepare`]: each file is read by itself (`AreRead`), and the world has the source of every file behind its own, in their order: the
-//!   code of its tree, or its fault (`IsPrepared`); nothing else of the world changes. It answers `NotBuilt` exactly where a file has a
-//!   form that isn't built yet, whether anything imports it or not; of the world nothing is said then. It asks for a world without
-//!   sources and for paths in order, each once.
+//!   code of its tree, or its fault (`IsPrepared`); nothing else of the world changes. The asserts of test files, of conftests and of the
+//!   files whose paths are given are explained, those of others are not (`is_explained`). It asks for a world without sources and for
+//!   paths in order, each once.
 //! - [`one_reading`], [`has_reading`], laws: files are read in one way and no other.
 //! - [`load_module`]: `Syntax` and `NotUtf8` come exactly where the source has that fault, and the world stays as it is; else the answer
 //!   is the end of the meaning of the source (`source_module`): its module, the exception with its trace, or the trace of the statement at
@@ -45,4 +45,4 @@ pub use error::LoadError;
 pub use file::{LoadedFile, load_file};
 pub use laws::{has_reading, loaded_once, one_reading};
 pub use load::load_module;
-pub use sources::{Prepared, prepare};
+pub use sources::prepare;

@@ -11,14 +11,15 @@ use Rattle.py_world.specs.declared.ended.Ended.{Ended}
 use Rattle.py_world.specs.declared.load.Load.{Load}
 use Rattle.py_world.specs.World.{Kinds, World, Source, Coded, Code, Fault, Stored, Frozen, Traces, world_with_heap, world_with_printed}
 use Rattle.py_world.specs.Runs.{source_at}
+use Rattle.py_world.specs.Resuming.{Begun, Sent, abandon_of}
 use Rattle.core_meaning.specs.Requests.{Layer}
-use Rattle.core_meaning.specs.Meaning.{CoreWorld, core_call, core_module}
-use Rattle.source_meaning.specs.Meaning.{SourceWorld, source_call, source_module}
+use Rattle.core_meaning.specs.Meaning.{CoreWorld, core_begin, core_call, core_module, core_resume}
+use Rattle.source_meaning.specs.Meaning.{SourceWorld, source_begin, source_call, source_module, source_resume}
 use Rattle.lower_law.specs.Alike as alike
 use Rattle.lower_law.specs.Alike.{CodedAlike, SourcesAlike, worlds, source_with, world_with}
 use Rattle.lower_law.specs.Law.{Lowering, LoweredWorld}
-use Rattle.lower_law.specs.View.{coded_view, file_view, frozen_view, stored_view, source_view, view_told, Sound}
-use Rattle.lower_law.proofs.Viewed.{call_viewed, call_sound, module_viewed, module_sound}
+use Rattle.lower_law.specs.View.{coded_view, file_view, frozen_view, stored_view, source_view, view_begun, view_told, Sound}
+use Rattle.lower_law.proofs.Viewed.{abandon_sound, abandon_viewed, begin_sound, begin_viewed, call_viewed, call_sound, module_viewed, module_sound, resume_sound, resume_viewed}
 use Rattle.py_machine.specs.Lines.{line_in, line_at}
 use Rattle.py_machine.specs.Worlds.{fault_in, fault_of, Stands}
 
@@ -34,6 +35,19 @@ load_told w w' path budget e sound h = sym (ap view_told h) ∙ module_viewed w 
 
 pub load_kept : (w w' : CoreWorld) (path : List ℕ) (budget : ℕ) (e : Ended) → Sound w → core_module path budget w ≡ (e, w') → Sound w'
 load_kept w w' path budget e sound h = subst (λ t. Sound t.1) h (module_sound w sound path budget)
+
+-- begins and resumptions
+pub begin_told : (w w' : CoreWorld) (f : Value) (args : List Value) (budget : ℕ) (b : Begun) → Sound w → core_begin f args budget w ≡ (b, w') → (b, source_view w') ≡ source_begin f args budget (source_view w)
+begin_told w w' f args budget b sound h = sym (ap view_begun h) ∙ begin_viewed w sound f args budget
+
+pub begin_kept : (w w' : CoreWorld) (f : Value) (args : List Value) (budget : ℕ) (b : Begun) → Sound w → core_begin f args budget w ≡ (b, w') → Sound w'
+begin_kept w w' f args budget b sound h = subst (λ t. Sound t.1) h (begin_sound w sound f args budget)
+
+pub resume_told : (w w' : CoreWorld) (n : ℕ) (sent : Sent) (budget : ℕ) (b : Begun) → Sound w → core_resume n sent budget w ≡ (b, w') → (b, source_view w') ≡ source_resume n sent budget (source_view w)
+resume_told w w' n sent budget b sound h = sym (ap view_begun h) ∙ resume_viewed w sound n sent budget
+
+pub resume_kept : (w w' : CoreWorld) (n : ℕ) (sent : Sent) (budget : ℕ) (b : Begun) → Sound w → core_resume n sent budget w ≡ (b, w') → Sound w'
+resume_kept w w' n sent budget b sound h = subst (λ t. Sound t.1) h (resume_sound w sound n sent budget)
 
 merely : {P : Type 0} → P → ∥ P ∥₁
 merely p = ∣ p ∣₁
@@ -55,6 +69,13 @@ heap_alike heap (worlds xs ys zs modules h printed traces) = worlds xs ys zs mod
 
 pub heap_sound : (heap : List Obj) (w : CoreWorld) → Sound w → Sound (world_with_heap heap w)
 heap_sound heap w sound = ∥∥₁_map sound (λ h. heap_alike heap h)
+
+-- a frozen frame that is given up, as the machine tells it
+pub abandon_told : (n : ℕ) (z z' : CoreWorld) → z' ≡ abandon_of n z → source_view z' ≡ abandon_of n (source_view z)
+abandon_told n z z' h = ap source_view h ∙ abandon_viewed z n
+
+pub abandon_kept : (n : ℕ) (z z' : CoreWorld) → z' ≡ abandon_of n z → Sound z → Sound z'
+abandon_kept n z z' h sound = rw h (abandon_sound z sound n)
 
 -- one source more
 map_more : (xs : List (Source Core)) (x : Source Core) → map file_view (xs ++ x ∷ []) ≡ map file_view xs ++ file_view x ∷ []

@@ -4,11 +4,13 @@ ghost use Rattle.std.specs.Prelude.{◌≡◌, [], None, IfOk, OnOk, chars, leng
 ghost use Rattle.py_world.specs.Names.{names_in};
 ghost use Rattle.py_world.specs.Runs.{source_at};
 ghost use Rattle.py_world.specs.World as seen;
-ghost use Rattle.source_meaning.specs.Meaning.{source_call, source_module};
+ghost use Rattle.source_meaning.specs.Meaning.{source_begin, source_call, source_module, source_resume};
 ghost use Rattle.py_machine.specs.Worlds.{empty, fault_of, given, with_source, IsLowered};
 
+use crate::resuming::{Begun, Frozen, Sent};
 use crate::sources::text_of;
-use crate::{begin, lines, load, sources};
+use crate::{calls, lines, load, sources, yields};
+use machine_frames::frozen;
 use machine_state::locals::Locals;
 use machine_state::machine::Machine;
 use machine_state::place::{Here, Place};
@@ -23,6 +25,7 @@ use py_values::heap::Heap;
 use py_values::object::Obj;
 use py_values::value::{ObjId, Value};
 use py_world::Ended;
+use runner_values as objects;
 use runner_values::{New, add};
 use std::alloc::Global;
 use std::marker::Model;
@@ -190,7 +193,7 @@ ghost use Rattle.py_machine.specs.Worlds.{IsModule, told_name};
 pub fn call(world: &mut World, f: Value, args: &[Value], budget: u64) -> Result<Ended, OutOfMemory>
     ensures { IfOk result (λ e. (e, world.new) ≡ source_call f args.now budget world.old) }
 {
-    match begin::call(&mut world.machine, f, args, budget) {
+    match calls::call(&mut world.machine, f, args, budget) {
         Ok(ended) => Ok(ended),
         Err(fault) => {
             forget_code(&mut world.machine);
@@ -198,6 +201,51 @@ pub fn call(world: &mut World, f: Value, args: &[Value], budget: u64) -> Result<
         }
     }
 }
+
+/// Begins a value with arguments, within a budget of steps: the body of a yield function, or of a method that is one, runs until it stops
+/// at a `yield` or is over; another value is called.
+pub fn begin(world: &mut World, f: Value, args: &[Value], budget: u64) -> Result<Begun, OutOfMemory>
+    ensures { IfOk result (λ b. (told_begun b, world.new) ≡ source_begin f args.now budget world.old) }
+{
+    match yields::begin(&mut world.machine, f, args, budget) {
+        Ok(begun) => Ok(begun),
+        Err(fault) => {
+            forget_code(&mut world.machine);
+            Err(fault)
+        }
+    }
+}
+
+/// Goes on with a body that has stopped at a `yield`, with what it is given there, within a new budget of steps. A frame that isn't out in
+/// this world gives `None` at no step.
+pub fn resume(
+    world: &mut World,
+    frozen: Frozen,
+    sent: Sent,
+    budget: u64,
+) -> Result<Begun, OutOfMemory>
+    ensures { IfOk result (λ b. (told_begun b, world.new) ≡ source_resume frozen (sent_of sent) budget world.old) }
+{
+    let number = frozen.spend();
+    match yields::resume(&mut world.machine, number, sent, budget) {
+        Ok(begun) => Ok(begun),
+        Err(fault) => {
+            forget_code(&mut world.machine);
+            Err(fault)
+        }
+    }
+}
+
+/// Gives up a body that has stopped at a `yield`: nothing of it runs any more.
+pub fn abandon(world: &mut World, frozen: Frozen)
+    ensures { world.new ≡ abandon_of frozen world.old }
+{
+    let number = frozen.spend();
+    frozen::abandon(&mut world.machine, number);
+}
+
+ghost use Rattle.py_world.specs.Resuming.{abandon_of};
+ghost use Rattle.py_machine.specs.Yields.{sent_of, told_begun};
 
 /// Gives up all code, in a machine that want of memory stopped.
 fn forget_code(m: &mut Machine)
@@ -233,3 +281,20 @@ pub fn make(world: &mut World, new: &New) -> Result<Value, OutOfMemory>
 }
 
 ghost use Rattle.runner_values.specs.Given.{ClassIsThere, IsGiven};
+
+/// Closes a `request`: every later `addfinalizer` on it raises. Another value is left as it is.
+pub fn close_request(world: &mut World, request: Value)
+    ensures { world.new ≡ seen.world_with_heap (request_closed request world.old.heap) world.old }
+{
+    objects::close_request(&mut world.machine.heap, request);
+}
+
+/// Gives and removes the latest finalizer of a `request`, where it has one. Another value has none, and is left as it is.
+pub fn take_finalizer(world: &mut World, request: Value) -> Option<Value>
+    ensures taken { (result, world.new.heap) ≡ finalizer_taken request world.old.heap }
+    ensures same { world.new ≡ seen.world_with_heap world.new.heap world.old }
+{
+    objects::take_finalizer(&mut world.machine.heap, request)
+}
+
+ghost use Rattle.runner_values.specs.Requests.{finalizer_taken, request_closed};

@@ -1,5 +1,5 @@
 -- What a node with rows of parts is, and where it begins.
-use Rattle.std.proofs.Common.{◌≡◌, refl, ap, ◌∙◌, Vec, Global, Option, Some, None}
+use Rattle.std.proofs.Common.{◌≡◌, refl, ap, Vec, Global, Option}
 use Rattle.std.specs.declared.rc.Rc.{Rc}
 use Rattle.py_source.specs.declared.pos.Pos.{Pos}
 use Rattle.py_tree.specs.declared.expr.Expr.{Expr}
@@ -8,7 +8,7 @@ use Rattle.py_tree.specs.declared.expr.ExprKind.{ExprKind}
 use Rattle.py_tree.specs.declared.expr.ExprKind.TheVariants as v
 use Rattle.py_tree.specs.declared.expr.ArgName.{ArgName}
 use Rattle.py_tree.specs.declared.op.CmpOp.{CmpOp}
-use Rattle.py_tree.specs.Trees.{Tuple, Listed, Dict, Call, Compare, And, Or, Trees, tree_at, tree, trees, trees_on, Empty}
+use Rattle.py_tree.specs.Trees.{Tuple, Listed, Dict, Call, Compare, And, Or, Trees, tree_at, tree, trees}
 use Rattle.py_tree.proofs.Rows.{trees_hidden}
 use Rattle.py_expressions.specs.Values.{at_of}
 

@@ -1,5 +1,5 @@
 -- The parts of nodes, without where they lie in memory.
-use Rattle.std.specs.Prelude.{ℕ, List, Option, Some, None, true, false}
+use Rattle.std.specs.Prelude.{ℕ, Option, Some, None, true, false}
 use Rattle.py_source.specs.declared.pos.Pos.{Pos}
 use Rattle.py_tree.specs.declared.op.CmpOp.{CmpOp}
 use Rattle.py_tree.specs.Trees.{Tree, Maybe, Absent, Present, Empty, More, tree, trees}

@@ -1,6 +1,6 @@
 ghost use Rattle.std.specs.Prelude.{◌≡◌, ◌<◌, ◌+◌, max, IfOk};
 ghost use Rattle.py_tree.specs.Trees.{tree, trees, some_tree, tree_at, Paren, Tuple, Listed, Dict, Attribute, Call, Subscript, Slice, Unary, Binary, Compare, Not, And, Or, IfElse};
-ghost use Rattle.py_expressions.specs.Values.{height, at_of, call, name_in};
+ghost use Rattle.py_expressions.specs.Values.{height as height_of, high, at_of, call, name_in};
 ghost use Rattle.py_nodes.specs.Parts.{args_of, maybe_of, high_of};
 
 use crate::node::Node;
@@ -10,14 +10,32 @@ use py_tree::{ArgName, BinOp, CmpOp, Expr, ExprKind, UnOp};
 use std::alloc::{AllocError, Global};
 use std::rc::Rc;
 
+/// The node of an expression, which has so many levels.
+fn made(alloc: Global, expr: Expr, height: u32) -> Result<Node, AllocError>
+    requires is_height { height ≡ height_of (tree expr) }
+    requires some { 0 < height }
+    ensures tree { IfOk result (λ node. tree node.expr.value ≡ tree expr) }
+    ensures height { IfOk result (λ node. node.height ≡ height) }
+{
+    let expr = Rc::new(alloc, expr)?;
+    Ok(Node { expr, height })
+}
+
+/// Where an expression begins.
+#[tactic(auto, using(crate::proofs::Forms::place_is))]
+fn place_of(node: &Node) -> Pos
+    ensures { result ≡ at_of (tree node.now.expr.value) }
+{
+    node.expr.at
+}
+
 /// A name, a number, a text or a constant.
 pub fn leaf_node(alloc: Global, at: Pos, kind: ExprKind) -> Result<Node, AllocError>
-    requires { height (tree_at at kind) ≡ 1 }
+    requires { height_of (tree_at at kind) ≡ 1 }
     ensures tree { IfOk result (λ node. tree node.expr.value ≡ tree_at at kind) }
     ensures height { IfOk result (λ node. node.height ≡ 1) }
 {
-    let expr = Rc::new(alloc, Expr { at, kind })?;
-    Ok(Node { expr, height: 1 })
+    made(alloc, Expr { at, kind }, 1)
 }
 
 pub fn paren_node(alloc: Global, at: Pos, inner: Node) -> Result<Node, AllocError>
@@ -27,8 +45,7 @@ pub fn paren_node(alloc: Global, at: Pos, inner: Node) -> Result<Node, AllocErro
 {
     let height = 1 + inner.height;
     let kind = ExprKind::Paren(inner.expr);
-    let expr = Rc::new(alloc, Expr { at, kind })?;
-    Ok(Node { expr, height })
+    made(alloc, Expr { at, kind }, height)
 }
 
 pub fn unary_node(alloc: Global, at: Pos, op: UnOp, operand: Node) -> Result<Node, AllocError>
@@ -38,8 +55,7 @@ pub fn unary_node(alloc: Global, at: Pos, op: UnOp, operand: Node) -> Result<Nod
 {
     let height = 1 + operand.height;
     let kind = ExprKind::Unary(op, operand.expr);
-    let expr = Rc::new(alloc, Expr { at, kind })?;
-    Ok(Node { expr, height })
+    made(alloc, Expr { at, kind }, height)
 }
 
 pub fn not_node(alloc: Global, at: Pos, operand: Node) -> Result<Node, AllocError>
@@ -49,8 +65,7 @@ pub fn not_node(alloc: Global, at: Pos, operand: Node) -> Result<Node, AllocErro
 {
     let height = 1 + operand.height;
     let kind = ExprKind::Not(operand.expr);
-    let expr = Rc::new(alloc, Expr { at, kind })?;
-    Ok(Node { expr, height })
+    made(alloc, Expr { at, kind }, height)
 }
 
 /// An operator between two operands, at the first token of the left one.
@@ -62,10 +77,9 @@ pub fn binary_node(alloc: Global, left: Node, op: BinOp, right: Node) -> Result<
     ensures height { IfOk result (λ node. node.height ≡ 1 + max left.height right.height) }
 {
     let height = 1 + left.height.max(right.height);
-    let at = left.expr.at;
+    let at = place_of(&left);
     let kind = ExprKind::Binary(left.expr, op, right.expr);
-    let expr = Rc::new(alloc, Expr { at, kind })?;
-    Ok(Node { expr, height })
+    made(alloc, Expr { at, kind }, height)
 }
 
 /// `value if condition else other`
@@ -83,10 +97,9 @@ pub fn if_else_node(
     ensures height { IfOk result (λ node. node.height ≡ 1 + max (max value.height condition.height) other.height) }
 {
     let height = 1 + value.height.max(condition.height).max(other.height);
-    let at = value.expr.at;
+    let at = place_of(&value);
     let kind = ExprKind::IfElse(value.expr, condition.expr, other.expr);
-    let expr = Rc::new(alloc, Expr { at, kind })?;
-    Ok(Node { expr, height })
+    made(alloc, Expr { at, kind }, height)
 }
 
 /// The name that an expression is, which may name an argument.
@@ -119,8 +132,7 @@ pub fn tuple_node(alloc: Global, row: Row) -> Result<Node, AllocError>
 {
     let height = 1 + row.all.height;
     let all = Rc::new(alloc, row.all.items)?;
-    let expr = Rc::new(alloc, tuple_form(row.at, all))?;
-    Ok(Node { expr, height })
+    made(alloc, tuple_form(row.at, all), height)
 }
 
 fn list_form(at: Pos, all: Rc<Vec<Rc<Expr>>>) -> Expr
@@ -140,8 +152,7 @@ pub fn list_node(alloc: Global, row: Row) -> Result<Node, AllocError>
 {
     let height = 1 + row.all.height;
     let all = Rc::new(alloc, row.all.items)?;
-    let expr = Rc::new(alloc, list_form(row.at, all))?;
-    Ok(Node { expr, height })
+    made(alloc, list_form(row.at, all), height)
 }
 
 fn dict_form(at: Pos, names: Rc<Vec<Rc<Expr>>>, values: Rc<Vec<Rc<Expr>>>) -> Expr
@@ -163,8 +174,7 @@ pub fn dict_node(alloc: Global, pairs: Pairs) -> Result<Node, AllocError>
     let height = 1 + pairs.names.height.max(pairs.values.height);
     let names = Rc::new(alloc, pairs.names.items)?;
     let values = Rc::new(alloc, pairs.values.items)?;
-    let expr = Rc::new(alloc, dict_form(pairs.at, names, values))?;
-    Ok(Node { expr, height })
+    made(alloc, dict_form(pairs.at, names, values), height)
 }
 
 /// `of.name`, at the first token of what it is an attribute of.
@@ -175,10 +185,9 @@ pub fn attribute_node(alloc: Global, of: Node, name: SrcText) -> Result<Node, Al
     ensures height { IfOk result (λ node. node.height ≡ 1 + of.height) }
 {
     let height = 1 + of.height;
-    let at = of.expr.at;
+    let at = place_of(&of);
     let kind = ExprKind::Attribute(of.expr, name);
-    let expr = Rc::new(alloc, Expr { at, kind })?;
-    Ok(Node { expr, height })
+    made(alloc, Expr { at, kind }, height)
 }
 
 /// `of[index]`, at the first token of what it is a part of.
@@ -190,15 +199,15 @@ pub fn subscript_node(alloc: Global, of: Node, index: Node) -> Result<Node, Allo
     ensures height { IfOk result (λ node. node.height ≡ 1 + max of.height index.height) }
 {
     let height = 1 + of.height.max(index.height);
-    let at = of.expr.at;
+    let at = place_of(&of);
     let kind = ExprKind::Subscript(of.expr, index.expr);
-    let expr = Rc::new(alloc, Expr { at, kind })?;
-    Ok(Node { expr, height })
+    made(alloc, Expr { at, kind }, height)
 }
 
 /// The height of a part that may be absent.
 fn height_of(part: &Option<Node>) -> u32
-    ensures { result ≡ high_of part.now }
+    ensures part { result ≡ high_of part.now }
+    ensures tree { result ≡ high (maybe_of part.now) }
 {
     match part {
         Some(node) => node.height,
@@ -247,7 +256,7 @@ pub fn slice_node(
 {
     let ends = height_of(&bounds.to).max(height_of(&bounds.by));
     let height = 1 + of.height.max(height_of(&from)).max(ends);
-    let at = of.expr.at;
+    let at = place_of(&of);
     let form = slice_form(
         at,
         of.expr,
@@ -255,8 +264,7 @@ pub fn slice_node(
         expr_of(bounds.to),
         expr_of(bounds.by),
     );
-    let expr = Rc::new(alloc, form)?;
-    Ok(Node { expr, height })
+    made(alloc, form, height)
 }
 
 fn call_form(
@@ -282,11 +290,10 @@ pub fn call_node(alloc: Global, function: Node, arguments: Arguments) -> Result<
     ensures height { IfOk result (λ node. node.height ≡ 1 + max function.height arguments.all.height) }
 {
     let height = 1 + function.height.max(arguments.all.height);
-    let at = function.expr.at;
+    let at = place_of(&function);
     let names = Rc::new(alloc, arguments.names)?;
     let all = Rc::new(alloc, arguments.all.items)?;
-    let expr = Rc::new(alloc, call_form(at, function.expr, all, names))?;
-    Ok(Node { expr, height })
+    made(alloc, call_form(at, function.expr, all, names), height)
 }
 
 fn compare_form(at: Pos, head: Rc<Expr>, ops: Rc<Vec<CmpOp>>, more: Rc<Vec<Rc<Expr>>>) -> Expr
@@ -307,11 +314,10 @@ pub fn compare_node(alloc: Global, chain: Chain) -> Result<Node, AllocError>
     ensures height { IfOk result (λ node. node.height ≡ 1 + max chain.head.height chain.more.height) }
 {
     let height = 1 + chain.head.height.max(chain.more.height);
-    let at = chain.head.expr.at;
+    let at = place_of(&chain.head);
     let ops = Rc::new(alloc, chain.ops)?;
     let more = Rc::new(alloc, chain.more.items)?;
-    let expr = Rc::new(alloc, compare_form(at, chain.head.expr, ops, more))?;
-    Ok(Node { expr, height })
+    made(alloc, compare_form(at, chain.head.expr, ops, more), height)
 }
 
 fn and_form(at: Pos, head: Rc<Expr>, more: Rc<Vec<Rc<Expr>>>) -> Expr
@@ -332,10 +338,9 @@ pub fn and_node(alloc: Global, chain: Chain) -> Result<Node, AllocError>
     ensures height { IfOk result (λ node. node.height ≡ 1 + max chain.head.height chain.more.height) }
 {
     let height = 1 + chain.head.height.max(chain.more.height);
-    let at = chain.head.expr.at;
+    let at = place_of(&chain.head);
     let more = Rc::new(alloc, chain.more.items)?;
-    let expr = Rc::new(alloc, and_form(at, chain.head.expr, more))?;
-    Ok(Node { expr, height })
+    made(alloc, and_form(at, chain.head.expr, more), height)
 }
 
 fn or_form(at: Pos, head: Rc<Expr>, more: Rc<Vec<Rc<Expr>>>) -> Expr
@@ -356,8 +361,7 @@ pub fn or_node(alloc: Global, chain: Chain) -> Result<Node, AllocError>
     ensures height { IfOk result (λ node. node.height ≡ 1 + max chain.head.height chain.more.height) }
 {
     let height = 1 + chain.head.height.max(chain.more.height);
-    let at = chain.head.expr.at;
+    let at = place_of(&chain.head);
     let more = Rc::new(alloc, chain.more.items)?;
-    let expr = Rc::new(alloc, or_form(at, chain.head.expr, more))?;
-    Ok(Node { expr, height })
+    made(alloc, or_form(at, chain.head.expr, more), height)
 }

@@ -16,6 +16,7 @@ pub mod Loops
 pub mod Calls
 pub mod ModuleNames
 pub mod Runs
+pub mod Resuming
 pub mod Raising
 pub mod Definitions
 pub mod Imports

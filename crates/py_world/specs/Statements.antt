@@ -12,7 +12,8 @@ use Rattle.py_world.specs.World.{Kinds, State, heap_of, unset, with_object}
 use Rattle.py_world.specs.Site.{Site, site}
 use Rattle.py_world.specs.Explained.{explanation}
 use Rattle.py_tree.specs.Trees.{Tree}
-use Rattle.py_world.specs.Outcome.{Outcome, paused, Next, Returned, Broke, Continued, Part, Body, DoOf, on_value, on_turn, if_true, raised_at, spent_at}
+use Rattle.py_world.specs.Targets.{Store}
+use Rattle.py_world.specs.Outcome.{Outcome, paused, Next, Returned, Broke, Continued, Part, After, Body, DoOf, on_value, on_turn, if_true, raised_at, spent_at}
 
 -- a condition on its line, and its block
 abbrev pub Choice : (K : Kinds) → Type 0
@@ -43,6 +44,18 @@ module _ {K : Kinds} where
   abbrev pub yield_value : Option (Part K) → K.rest → Part K
   yield_value None rest p s k = Freeze (paused val.None rest p s)
   yield_value (Some e) rest p s k = e p s (λ o. on_value o k (λ v s. Freeze (paused v rest p s)))
+
+  -- A BODY GOES ON AT A `yield`: an exception that is thrown there is raised, and a value that is sent is used (Language Reference,
+  -- yield expressions)
+  abbrev pub received : Store K → After K
+  received take p o k = on_value o k (λ v s. take v p s k)
+
+  -- uses of what is sent: none, and it is returned
+  abbrev pub no_use : Store K
+  no_use v p s k = k (Next s)
+
+  abbrev pub return_sent : Store K
+  return_sent v p s k = k (Returned v s)
 
   abbrev pub pass : Part K
   pass p s k = k (Next s)

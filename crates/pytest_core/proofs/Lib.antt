@@ -1,6 +1,9 @@
 pub mod Asked
+pub mod Chosen
+pub mod First
 pub mod Kept
 pub mod NoWorkers
 pub mod Ran
+pub mod Refiled
 pub mod Reports
 pub mod Said

@@ -11,31 +11,22 @@ use Rattle.report_rules.specs.Report as rules
 use Rattle.report_rules.specs.Rows.{Row, ran, row, rows_of}
 use Rattle.runtest_rules.specs.Language.{python}
 use Rattle.runtest_rules.specs.Rules.{rules as tests}
-use Rattle.runtest_rules.specs.declared.item.Item.{Item}
+use Rattle.test_suite.specs.declared.suite.Suite.{Suite}
 use Rattle.session_rules.specs.Session.{has_stopped}
 use Rattle.share_files.specs.Deal.{Share}
 use Rattle.selection.specs.Unbuilt.{asks_for_unbuilt}
 use Rattle.pytest_core.specs.Profile.{profile, refused_text}
 use Rattle.pytest_core.proofs.Said.{built_by}
 
--- the parts of what isn't built, in their order: the lines of set-ups, workers, generated files
-pub no_setup_show : (options : Options) → asks_for_unbuilt options ≡ false → options.setup_show ≡ false
-unfolding asks_for_unbuilt
-no_setup_show options e = first_false options.setup_show _ e
-  where
-    first_false : (a b : Bool) → (a || b) ≡ false → a ≡ false
-    first_false false b e = refl
-    first_false true b e = absurd (cc)
-
-idle : (a some shared rest runs : Bool) → (a || ((some && shared) || rest)) ≡ false → (some && (shared && runs)) ≡ false
-idle a false shared rest runs e = refl
-idle a true false rest runs e = refl
-idle false true true rest runs e = absurd (cc)
-idle true true true rest runs e = absurd (cc)
+-- the parts of what isn't built, in their order: workers, generated files
+idle : (some shared rest runs : Bool) → ((some && shared) || rest) ≡ false → (some && (shared && runs)) ≡ false
+idle false shared rest runs e = refl
+idle true false rest runs e = refl
+idle true true rest runs e = absurd (cc)
 
 pub no_workers : (options : Options) → asks_for_unbuilt options ≡ false → asks_for_workers options ≡ false
 unfolding asks_for_unbuilt
-no_workers options e = idle options.setup_show (nat_lt 0 options.workers) (not (is_no options.dist)) (is_some options.generated) (not options.collect_only) e
+no_workers options e = idle (nat_lt 0 options.workers) (not (is_no options.dist)) (is_some options.generated) (not options.collect_only) e
 
 picked : {X : Type 0} (b : Bool) (x y : X) → b ≡ true → cond b x y ≡ x
 picked b x y e = ap (λ (c : Bool). cond c x y) e
@@ -46,7 +37,7 @@ passed_over b x y e = ap (λ (c : Bool). cond c x y) e
 abbrev NoGroups : List (List ℕ)
 NoGroups = []
 
-module _ (options : Options) (c : Collected python (List Item)) (built : asks_for_unbuilt options ≡ false) where
+module _ (options : Options) (c : Collected python Suite) (built : asks_for_unbuilt options ≡ false) where
   pub no_worker : rules.workers_of options c ≡ 0
   no_worker = passed_over (asks_for_workers options && rules.runs options c) (min options.workers (length (groups c.selected))) 0 (ap (λ (b : Bool). b && rules.runs options c) (no_workers options built))
 

@@ -1,100 +1,123 @@
 -- What is reported of collected items, from what their run gave.
-use Rattle.std.proofs.Common.{◌≡◌, ℕ, List, [], Bool, true, false, Option, None, Some, length, map, refl, sym, ap, ap₂, subst, ◌∙◌}
-use Rattle.std.specs.Prelude.{IfSome, IsSomeAnd, option_map, slice_index_or}
+use Rattle.std.proofs.Common.{◌≡◌, ◌<◌, ◌+◌, ℕ, List, [], ◌∷◌, All, Bool, true, false, Option, None, Some, length, map, refl, sym, ap, ap₂, subst, ◌∙◌}
+use Rattle.std.specs.Prelude.{IfSome, IsSomeAnd, option_map, slice_get, slice_index_or}
 use Rattle.std.proofs.lemmas.List.{length-map}
 use Rattle.cli_words.specs.declared.options.Options.{Options}
-use Rattle.collect_tree.specs.Collection.{collect}
+use Rattle.collect_items.specs.declared.found.FoundSuite.{FoundSuite}
+use Rattle.collect_tree.specs.Collection.{collect, item_numbered, item_or_none, selected_by}
 use Rattle.collect_tree.specs.Told.{collected_told}
 use Rattle.collect_tree.specs.declared.collected.Collected.{Collected}
 use Rattle.edge_io.specs.Files.{File, tree_limit}
 use Rattle.file_source.specs.Sources.{HoldsSource}
+use Rattle.fixture_world.specs.Items.{item_of, selected_item}
 use Rattle.py_load.specs.Reading.{AreRead, ReadFile}
 use Rattle.report_parts.specs.Outcomes.{not_empty}
 use Rattle.report_parts.specs.declared.report.CollectReport.{CollectReport}
 use Rattle.report_parts.specs.declared.report.ItemReport.{ItemReport}
 use Rattle.report_rules.proofs.Placed.{no_place}
 use Rattle.report_rules.specs.Answer as answers
-use Rattle.report_rules.specs.Collected.{Collected as Found, Collection, ConftestFault, Refused, Whole}
-use Rattle.report_rules.specs.Fits.{IsFit}
+use Rattle.report_rules.specs.Collected.{Collected as Found, Collection, ConftestFault, Refused, SelectedItem, Whole}
+use Rattle.report_rules.specs.Fits.{IsFit, chosen_item}
 use Rattle.report_rules.specs.Report as rules
-use Rattle.run_items.specs.Run.{AreNotRun, IsRun}
-use Rattle.run_items.specs.declared.run_end.RunEnd.{RunEnd}
+use Rattle.report_rules.specs.Rows.{row, task}
+use Rattle.run_items.specs.NotRun.{AreNotRun, selected_items}
+use Rattle.run_items.specs.Texts.{fixture_texts}
 use Rattle.runtest_rules.specs.Language.{python}
 use Rattle.runtest_rules.specs.Rules.{rules as tests}
-use Rattle.runtest_rules.specs.declared.item.Item.{Item}
 use Rattle.selection.specs.Unbuilt.{asks_for_unbuilt}
+use Rattle.session_rules.specs.Fits.{Distinct}
+use Rattle.session_rules.specs.World.{Item as SessionItem}
+use Rattle.share_files.specs.Deal.{Every}
 use Rattle.source_meaning.specs.Meaning.{SourceWorld}
-use Rattle.pytest_core.specs.Profile.{no_fixture, profile}
+use Rattle.test_suite.specs.Suites.{item_or}
+use Rattle.test_suite.specs.declared.item.Item.{Item}
+use Rattle.test_suite.specs.declared.suite.Suite.{Suite}
+use Rattle.pytest_core.specs.Profile.{profile}
 use Rattle.pytest_core.specs.Report.{AreDistinct, end_answer}
+use Rattle.pytest_core.specs.Run.{AreApart, IsRunAnswer, collected_of, items_known}
 use Rattle.pytest_core.specs.Status.{status_seen}
 use Rattle.pytest_core.specs.Written.{IsResponseBy, Response, response_of}
+use Rattle.pytest_core.specs.declared.session.RunAnswer.{RunAnswer}
 use Rattle.pytest_core.specs.declared.status.Status.{Status}
-use Rattle.pytest_core.proofs.NoWorkers.{no_setup_show, no_worker, none_taken, rows_failed, rows_listed, rows_ran, stopped_failed, stopped_listed, stopped_ran}
+use Rattle.pytest_core.proofs.Chosen.{below_none, every}
+use Rattle.pytest_core.proofs.NoWorkers.{no_worker, none_taken, rows_failed, rows_listed, stopped_failed, stopped_listed}
 use Rattle.pytest_core.proofs.Said.{response_as, says_collected}
 
--- slices of what was collected
-pub not_run_as : (items held : List Item) (numbers kept : List ℕ) (reports : List ItemReport) → items ≡ held → numbers ≡ kept → AreNotRun items numbers reports → AreNotRun held kept reports
-not_run_as items held numbers kept reports e f h = subst (λ is. AreNotRun is kept reports) e (subst (λ ns. AreNotRun items ns reports) f h)
+-- what a session knows of items does not depend on the places of their files
+pub apart_as : (found : FoundSuite) (places ns : List ℕ) → map chosen_item (map (selected_by found places) ns) ≡ items_known found ns
+apart_as found places [] = refl
+apart_as found places (n ∷ ns) = ap (λ (is : List SessionItem). item_of found.table (item_numbered found.suite n) ∷ is) (apart_as found places ns)
 
-pub run_as : (options : Options) (items held : List Item) (numbers kept : List ℕ) (w : SourceWorld) (end : RunEnd) → items ≡ held → numbers ≡ kept → IsRun options items numbers w end → IsRun options held kept w end
-run_as options items held numbers kept w end e f h = subst (λ is. IsRun options is kept w end) e (subst (λ ns. IsRun options items ns w end) f h)
+pub are_apart : (x : Collected) (w : SourceWorld) → AreDistinct (collected_told x w) → AreApart x.found x.selected
+are_apart x w d = subst (λ (is : List SessionItem). Distinct is) (apart_as x.found x.places.items x.selected) d
 
-module _ (options : Options) (x : Collected) (w : SourceWorld) (built : asks_for_unbuilt options ≡ false) where
-  abbrev Rows : Type 0
-  Rows = List ItemReport
+-- items that do not run
+there_as : (node : ℕ) (o : Option Item) → (o ≡ None → ⊥) → item_or_none node o ≡ item_or o
+there_as node None some = absurd (some refl)
+there_as node (Some i) some = refl
 
-  abbrev place_at : ℕ → ℕ
-  place_at n = slice_index_or x.places.items n 0
+numbered_as : (found : FoundSuite) (places ns : List ℕ) → Every (λ n. n < length found.suite.items) ns → map (selected_by found places) ns ≡ selected_items found.table (λ n. slice_index_or places n 0) found.suite.items ns
+numbered_as found places [] h = refl
+numbered_as found places (n ∷ ns) (l, h) =
+    ap₂ (λ (c : SelectedItem) cs. c ∷ cs)
+    (ap (selected_item found.table (slice_index_or places n 0)) (there_as (found.suite.outer + n) (slice_get found.suite.items n) (below_none found.suite.items n l)))
+    (numbered_as found places ns h)
 
-  pub reports_listed : (reports : Rows) → options.collect_only ≡ true → AreNotRun x.items.items x.selected.items reports → reports ≡ rules.reports_told HoldsSource profile options (collected_told x w) []
-  unfolding AreNotRun
-  reports_listed reports e h =
-      sym (ap (map (rules.report_of HoldsSource profile options x.items.items)) (rows_listed options (collected_told x w) built e)
-      ∙ h place_at options (no_setup_show options built) (tests options x.items.items).scope (no_fixture x.items.items))
+pub answer_listed : (options : Options) (found : FoundSuite) (ns : List ℕ) (errors : List CollectReport) (w : SourceWorld) (answer : RunAnswer) → asks_for_unbuilt options ≡ false → options.collect_only ≡ true
+    → All (λ n. n < length found.suite.items) ns → AreNotRun found.suite.items ns answer.reports.items → answer.stopped ≡ false → IsRunAnswer options found ns errors w answer
+unfolding AreNotRun
+answer_listed options found ns errors w answer built listing within h quiet =
+    record {
+      reports = λ places deselected.
+          let c = collected_of found places ns deselected errors w in
+          sym (ap (map (rules.report_of HoldsSource profile options found.suite)) (rows_listed options c built listing)
+          ∙ (ap (λ cs. map (rules.report_of HoldsSource profile options found.suite) (map (λ t. row t [] []) (map (task None) cs))) (numbered_as found places ns (every _ ns within))
+          ∙ h found.table (λ n. slice_index_or places n 0) options (tests options found.suite).scope (fixture_texts found.suite)));
+      stopped = λ places deselected. quiet ∙ sym (stopped_listed options (collected_of found places ns deselected errors w) built listing);
+    }
 
-  pub reports_failed : (reports : Rows) → reports ≡ [] → options.collect_only ≡ false → not_empty x.errors.items ≡ true → reports ≡ rules.reports_told HoldsSource profile options (collected_told x w) []
-  reports_failed reports none e f = none ∙ sym (ap (map (rules.report_of HoldsSource profile options x.items.items)) (rows_failed options (collected_told x w) built e f))
+-- where a file could not be collected
+pub answer_failed : (options : Options) (found : FoundSuite) (ns : List ℕ) (errors : List CollectReport) (w : SourceWorld) (answer : RunAnswer) → asks_for_unbuilt options ≡ false → options.collect_only ≡ false
+    → not_empty errors ≡ true → answer.reports.items ≡ [] → answer.stopped ≡ false → IsRunAnswer options found ns errors w answer
+answer_failed options found ns errors w answer built running failed none quiet =
+    record {
+      reports = λ places deselected. none ∙ sym (ap (map (rules.report_of HoldsSource profile options found.suite)) (rows_failed options (collected_of found places ns deselected errors w) built running failed));
+      stopped = λ places deselected. quiet ∙ sym (stopped_failed options (collected_of found places ns deselected errors w) built running failed);
+    }
 
-  pub reports_ran : (end : RunEnd) → AreDistinct (collected_told x w) → options.collect_only ≡ false → not_empty x.errors.items ≡ false → IsRun options x.items.items x.selected.items w end
-      → end.reports.items ≡ rules.reports_told HoldsSource profile options (collected_told x w) []
-  unfolding IsRun
-  reports_ran end distinct e f h =
-      sym (ap (map (rules.report_of HoldsSource profile options x.items.items)) (rows_ran options (collected_told x w) built e f)
-      ∙ (h place_at (no_setup_show options built) distinct).0 (tests options x.items.items).scope (no_fixture x.items.items))
+-- the whole report
+pub response_of_run : (options : Options) (x : Collected) (w : SourceWorld) (answer : RunAnswer) → asks_for_unbuilt options ≡ false → IsRunAnswer options x.found x.selected x.errors.items w answer
+    → (bytes : List ℕ) (status : Status) (count : ℕ) → count ≡ length x.selected
+    → bytes ≡ answers.report_bytes options count x.deselected x.errors.items 0 answer.reports.items [] answer.stopped
+    → status ≡ status_seen (answers.status_of count x.errors.items answer.reports.items)
+    → (bytes, status) ≡ response_of (rules.report HoldsSource profile options (collected_told x w) [])
+response_of_run options x w answer built h bytes status count counted is said =
+    let c = collected_told x w in
+    let none : rules.workers_of options c ≡ 0 = no_worker options c built in
+    let many : length c.selected ≡ length x.selected = length-map x.selected _ in
+    let told : answer.reports.items ≡ rules.reports_told HoldsSource profile options c [] = h.reports x.places.items x.deselected in
+    let stops : answer.stopped ≡ rules.stopped (tests options c.table) options c = h.stopped x.places.items x.deselected in
+    let places : rules.places_told HoldsSource profile options c [] ≡ [] = no_place HoldsSource profile options c [] none in
+    let all : answers.report_bytes options (length c.selected) c.deselected c.errors (rules.workers_of options c) (rules.reports_told HoldsSource profile options c []) (rules.places_told HoldsSource profile options c []) (rules.stopped (tests options c.table) options c) ≡ bytes = cc in
+    let ends : status_seen (answers.status_of (length c.selected) c.errors (rules.reports_told HoldsSource profile options c [])) ≡ status = cc in
+    sym (ap₂ (λ (b : List ℕ) (s : Status). (b, s)) all ends)
 
-  pub quiet_listed : options.collect_only ≡ true → false ≡ rules.stopped (tests options x.items.items) options (collected_told x w)
-  quiet_listed e = sym (stopped_listed options (collected_told x w) built e)
-
-  pub quiet_failed : options.collect_only ≡ false → not_empty x.errors.items ≡ true → false ≡ rules.stopped (tests options x.items.items) options (collected_told x w)
-  quiet_failed e f = sym (stopped_failed options (collected_told x w) built e f)
-
-  pub stop_ran : (end : RunEnd) → AreDistinct (collected_told x w) → options.collect_only ≡ false → not_empty x.errors.items ≡ false → IsRun options x.items.items x.selected.items w end
-      → end.stopped ≡ rules.stopped (tests options x.items.items) options (collected_told x w)
-  unfolding IsRun
-  stop_ran end distinct e f h = sym (stopped_ran options (collected_told x w) built e f ∙ (h place_at (no_setup_show options built) distinct).1)
-
-  -- the whole report
-  pub response_of_run : (bytes : List ℕ) (status : Status) (reports : Rows) (stopped : Bool) (count : ℕ) (errors : List CollectReport) (lent : Rows)
-      → count ≡ length x.selected.items → errors ≡ x.errors.items → lent ≡ reports
-      → reports ≡ rules.reports_told HoldsSource profile options (collected_told x w) [] → stopped ≡ rules.stopped (tests options x.items.items) options (collected_told x w)
-      → bytes ≡ answers.report_bytes options count x.deselected errors 0 lent [] stopped
-      → status ≡ status_seen (answers.status_of count errors lent)
-      → (bytes, status) ≡ response_of (rules.report HoldsSource profile options (collected_told x w) [])
-  response_of_run bytes status reports stopped count errors lent counted failed same told stops is said =
-      let c = collected_told x w in
-      let none : rules.workers_of options c ≡ 0 = no_worker options c built in
-      let many : length c.selected ≡ length x.selected.items = length-map x.selected.items _ in
-      let places : rules.places_told HoldsSource profile options c [] ≡ [] = no_place HoldsSource profile options c [] none in
-      let all : answers.report_bytes options (length c.selected) c.deselected c.errors (rules.workers_of options c) (rules.reports_told HoldsSource profile options c []) (rules.places_told HoldsSource profile options c []) (rules.stopped (tests options c.table) options c) ≡ bytes = cc in
-      let ends : status_seen (answers.status_of (length c.selected) c.errors (rules.reports_told HoldsSource profile options c [])) ≡ status = cc in
-      sym (ap₂ (λ (b : List ℕ) (s : Status). (b, s)) all ends)
+-- from the lists as the code lends them
+pub response_of_slices : (options : Options) (x : Collected) (w : SourceWorld) (answer : RunAnswer) → asks_for_unbuilt options ≡ false → (errors : List CollectReport) (reports : List ItemReport) → errors ≡ x.errors.items
+    → reports ≡ answer.reports.items → IsRunAnswer options x.found x.selected errors w answer
+    → (bytes : List ℕ) (status : Status) (count : ℕ) → count ≡ length x.selected → bytes ≡ answers.report_bytes options count x.deselected errors 0 reports [] answer.stopped
+    → status ≡ status_seen (answers.status_of count errors reports) → (bytes, status) ≡ response_of (rules.report HoldsSource profile options (collected_told x w) [])
+response_of_slices options x w answer built errors reports es rs h bytes status count counted is said =
+    response_of_run options x w answer built (subst (λ (e : List CollectReport). IsRunAnswer options x.found x.selected e w answer) es h) bytes status count counted
+    (is ∙ ap₂ (λ (e : List CollectReport) (r : List ItemReport). answers.report_bytes options count x.deselected e 0 r [] answer.stopped) es rs)
+    (said ∙ ap₂ (λ (e : List CollectReport) (r : List ItemReport). status_seen (answers.status_of count e r)) es rs)
 
 -- WHERE COLLECTION ENDED
 some_same : {X : Type 0} (a b : X) → Some a ≡ Some b → a ≡ b
 some_same a b e = cc
 
 abbrev End : Type 0
-End = Collection python (List Item)
+End = Collection python Suite
 
 pub says_end : (options : Options) (end : End) (r : Response) → option_map response_of (end_answer end) ≡ Some r → IsResponseBy (rules.SaysOfCollection HoldsSource profile options [] end) r
 says_end options (Refused text) r e = record { answer = answers.refusal text; is = (refl, refl); same = sym (some_same (response_of (answers.refusal text)) r e) }
@@ -118,5 +141,5 @@ faulty_said options files reads None r fits read is said = absurd said
 faulty_said options files reads (Some end) r fits read is said = of_collected options files reads end r fits read is (says_end options end r said)
 
 pub are_distinct : (options : Options) (reads : List ReadFile) (x : Collected) (w : SourceWorld) → Whole (collected_told x w) ≡ collect options reads
-    → ((o : Options) (sources : List ReadFile) (c : Found python (List Item)) → collect o sources ≡ Whole c → IsFit (tests o c.table) c.selected) → AreDistinct (collected_told x w)
+    → ((o : Options) (sources : List ReadFile) (c : Found python Suite) → collect o sources ≡ Whole c → IsFit (tests o c.table) c.selected) → AreDistinct (collected_told x w)
 are_distinct options reads x w e fits = (fits options reads (collected_told x w) (sym e)).distinct

@@ -19,7 +19,7 @@ use Rattle.report_rules.specs.Collected.{Collection, ConftestFault, Refused, Who
 use Rattle.report_rules.specs.Headline.{Headline, IsSound}
 use Rattle.report_rules.specs.Report as rules
 use Rattle.runtest_rules.specs.Language.{python}
-use Rattle.runtest_rules.specs.declared.item.Item.{Item}
+use Rattle.test_suite.specs.declared.suite.Suite.{Suite}
 use Rattle.pytest_core.specs.Profile.{profile, refused_text}
 use Rattle.pytest_core.specs.Report.{IsReport}
 use Rattle.pytest_core.proofs.Kept.{kept_files}
@@ -35,7 +35,7 @@ says_some bytes = let said = has_source bytes in ((bytes, said.0), (refl, said.1
 
 -- NO GROUPS ARE SHARED
 module _ (taken : List (List ℕ)) (files : List File) (answer : Answer) where
-  of_collection : (options : Options) (x : Collection python (List Item)) → refused_text options ≡ None → rules.SaysOfCollection HoldsSource profile options taken x answer → taken ≡ []
+  of_collection : (options : Options) (x : Collection python Suite) → refused_text options ≡ None → rules.SaysOfCollection HoldsSource profile options taken x answer → taken ≡ []
   of_collection options (Refused text) e said = said.0
   of_collection options (ConftestFault path told) e said = said.0
   of_collection options (Whole c) e said = only_none options c (built_by options e) taken said.0

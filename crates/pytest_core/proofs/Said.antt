@@ -17,7 +17,7 @@ use Rattle.report_rules.specs.Answer as ends
 use Rattle.report_rules.specs.Collected.{Collection}
 use Rattle.report_rules.specs.Report as rules
 use Rattle.runtest_rules.specs.Language.{python}
-use Rattle.runtest_rules.specs.declared.item.Item.{Item}
+use Rattle.test_suite.specs.declared.suite.Suite.{Suite}
 use Rattle.selection.specs.Exprs.{refused_expression}
 use Rattle.selection.specs.Unbuilt.{asks_for_unbuilt}
 use Rattle.pytest_core.specs.Profile.{first_text, profile, refused_text}
@@ -126,14 +126,13 @@ none_asked : (x : Option (ℕ × ℕ)) → is_some x ≡ false → x ≡ None
 none_asked None e = refl
 none_asked (Some asked) e = absurd (cc)
 
-none_in : (a b c : Bool) → (a || (b || c)) ≡ false → c ≡ false
-none_in false false c e = e
-none_in false true c e = absurd (cc)
-none_in true b c e = absurd (cc)
+none_in : (a b : Bool) → (a || b) ≡ false → b ≡ false
+none_in false b e = e
+none_in true b e = absurd (cc)
 
 pub none_generated : (options : Options) → asks_for_unbuilt options ≡ false → options.generated ≡ None
 unfolding asks_for_unbuilt
-none_generated options e = none_asked options.generated (none_in _ _ (is_some options.generated) e)
+none_generated options e = none_asked options.generated (none_in _ (is_some options.generated) e)
 
 pub says_run : (options : Options) → refused_text options ≡ None → (files : List File) (answer : Answer) → rules.SaysOfFiles HoldsSource profile options [] files answer → rules.SaysOfOptions HoldsSource profile options [] files answer
 says_run options e files answer said =

@@ -4,12 +4,13 @@ use Rattle.cli_words.specs.declared.options.Options.{Options}
 use Rattle.collect_tree.specs.Collection.{collect}
 use Rattle.edge_io.specs.Files.{File}
 use Rattle.file_source.specs.Sources.{ReadSource}
-use Rattle.report_rules.specs.Collected.{FixtureTexts, Profile}
+use Rattle.report_rules.specs.Collected.{Profile}
+use Rattle.run_items.specs.Texts.{fixture_texts}
 use Rattle.runtest_rules.specs.Language.{python}
 use Rattle.runtest_rules.specs.Rules.{rules}
-use Rattle.runtest_rules.specs.declared.item.Item.{Item}
 use Rattle.selection.specs.Exprs.{refused_expression}
 use Rattle.selection.specs.Unbuilt.{asks_for_unbuilt}
+use Rattle.test_suite.specs.declared.suite.Suite.{Suite}
 
 -- the first of two texts
 abbrev pub first_text : Option (List ℕ) → Option (List ℕ) → Option (List ℕ)
@@ -28,16 +29,12 @@ refused_text options = first_text (refused_expression options) (unbuilt_text opt
 abbrev pub no_files : ℕ → ℕ → List File
 no_files seed count = []
 
--- no test has a fixture
-abbrev pub no_fixture : List Item → ℕ → FixtureTexts
-no_fixture items definition = record { name = []; arguments = [] }
-
 -- pytest over our language: the words that it refuses, its collection, and what its tests do
-abbrev pub profile : Profile python ReadSource (List Item)
+abbrev pub profile : Profile python ReadSource Suite
 profile = record {
   refused = refused_text;
   generated = no_files;
   collect = collect;
   rules = rules;
-  fixture = no_fixture;
+  fixture = fixture_texts;
 }

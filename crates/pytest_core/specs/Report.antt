@@ -10,8 +10,8 @@ use Rattle.report_rules.specs.Collected.{Collected, Collection, ConftestFault, R
 use Rattle.report_rules.specs.Fits.{chosen_item}
 use Rattle.report_rules.specs.Report as rules
 use Rattle.runtest_rules.specs.Language.{python}
-use Rattle.runtest_rules.specs.declared.item.Item.{Item}
 use Rattle.session_rules.specs.Fits.{Distinct}
+use Rattle.test_suite.specs.declared.suite.Suite.{Suite}
 use Rattle.pytest_core.specs.Profile.{profile, refused_text}
 
 -- what is said of a tree: that of its kept files, in the order of their paths
@@ -23,13 +23,13 @@ abbrev pub IsReport : List (List ℕ) → List File → Answer → Type 0
 IsReport words tree answer = OfKept (rules.IsReport HoldsSource profile words) tree answer
 
 -- what is said where collection ended without items
-abbrev pub end_answer : Collection python (List Item) → Option Answer
+abbrev pub end_answer : Collection python Suite → Option Answer
 end_answer (Refused text) = Some (refusal text)
 end_answer (ConftestFault path told) = Some (conftest_fault path told)
 end_answer (Whole c) = None
 
 -- no two selected items are one
-abbrev pub AreDistinct : Collected python (List Item) → Type 0
+abbrev pub AreDistinct : Collected python Suite → Type 0
 AreDistinct c = Distinct (map chosen_item c.selected)
 
 -- words that ask for a run: they ask for no information, and are not refused

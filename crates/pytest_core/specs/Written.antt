@@ -3,7 +3,7 @@ use Rattle.edge_io.specs.Told.{Appends, AppendsPrefix}
 use Rattle.report_rules.specs.Answer.{Answer}
 use Rattle.pytest_core.specs.Status.{status_seen}
 use Rattle.pytest_core.specs.declared.status.Status.{Status}
-use Rattle.pytest_core.specs.declared.status.Status.TheVariants.{OutOfMemory, TreeFault, SinkFault}
+use Rattle.pytest_core.specs.declared.status.Status.TheVariants.{Passed, Failed, Interrupted, Usage, NoTests, OutOfMemory, TreeFault, SinkFault}
 
 -- bytes and a status
 abbrev pub Response : Type 0
@@ -29,7 +29,11 @@ WroteAll report old new status = (answer : Answer) × report answer × Appends o
 
 -- what was written, by the status
 abbrev pub Wrote : (Answer → Type 0) → Option (List ℕ) → Option (List ℕ) → Status → Type 0
+Wrote report old new Passed = WroteAll report old new Passed
+Wrote report old new Failed = WroteAll report old new Failed
+Wrote report old new Interrupted = WroteAll report old new Interrupted
+Wrote report old new Usage = WroteAll report old new Usage
+Wrote report old new NoTests = WroteAll report old new NoTests
+Wrote report old new OutOfMemory = WrotePrefix report old new
 Wrote report old new TreeFault = new ≡ old
 Wrote report old new SinkFault = WrotePrefix report old new
-Wrote report old new OutOfMemory = WrotePrefix report old new
-Wrote report old new status = WroteAll report old new status

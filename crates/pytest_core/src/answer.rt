@@ -39,8 +39,11 @@ fn files_answer(
     what_is_collected_fits();
     let mut world = World::new(alloc)?;
     match collect(alloc, &mut world, files, options, exprs) {
-        Ok(collected) => collected_response(alloc, options, &mut world, &collected),
-        Err(fault) => fault_response(alloc, &fault),
+        Ok(collected) => collected_response(alloc, options, world, collected),
+        Err(fault) => {
+            drop(world);
+            fault_response(alloc, &fault)
+        }
     }
 }
 

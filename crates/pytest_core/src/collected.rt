@@ -1,128 +1,133 @@
 // The report of what was collected, and what is said where collection ended before.
 
-ghost use Rattle.std.specs.Prelude.{◌≡◌, [], true, false, IfOk, IsSomeAnd, IsTrue, Err as Fails, Some, option_map};
+ghost use Rattle.std.specs.Prelude.{◌≡◌, ◌<◌, ◌≤◌, ℕ, [], All, List, true, false, IfOk, IsSomeAnd, IsTrue, Err as Fails, Some, length, option_map};
 ghost use Rattle.source_meaning.specs.Meaning.{SourceWorld};
+ghost use Rattle.report_parts.specs.Limits.{most_items};
 ghost use Rattle.report_parts.specs.Outcomes.{not_empty};
+ghost use Rattle.report_parts.specs.declared.report.CollectReport.{CollectReport as ReportOfFile};
+ghost use Rattle.collect_items.specs.declared.found.FoundSuite.{FoundSuite as Found};
+ghost use Rattle.collect_tree.specs.Runnable.{IsRunnable};
 ghost use Rattle.collect_tree.specs.Told.{IsWithin, collected_told, end_told};
 ghost use Rattle.file_source.specs.Sources.{HoldsSource};
 ghost use Rattle.pytest_core.specs.Profile.{profile};
 ghost use Rattle.pytest_core.specs.Report.{AreDistinct, end_answer};
+ghost use Rattle.pytest_core.specs.Run.{AreApart, IsRunAnswer};
 ghost use Rattle.pytest_core.specs.Status.{is_said};
 ghost use Rattle.pytest_core.specs.Written.{response_of};
 ghost use Rattle.report_rules.specs.Report as rules;
-ghost use Rattle.runtest_rules.specs.Rules.{rules as tests};
 ghost use Rattle.selection.specs.Unbuilt.{asks_for_unbuilt};
 
 use crate::refusal::{Response, refuse, refuse_word, tell_conftest};
 use crate::report::{report_bytes, status_of};
+use crate::session::{RunAnswer, run_selected};
 use cli_words::Options;
+use collect_items::FoundSuite;
 use collect_tree::{CollectFault, Collected};
 use py_machine::World;
+use report_parts::CollectReport;
 use report_text::OutOfMemory;
-use run_items::{RunEnd, not_run, run};
+use run_items::not_run;
+use seq::Seq;
 use std::alloc::Global;
 
 /// With `--collect-only` each selected item is reported, and none runs.
 fn listed(
     alloc: Global,
     options: &Options,
-    world: &World,
-    collected: &Collected,
-) -> Result<RunEnd, OutOfMemory>
-    requires within { IsWithin collected.now }
+    found: &FoundSuite,
+    selected: &[u32],
+) -> Result<RunAnswer, OutOfMemory>
+    requires numbers { All (λ n. n < length found.now.suite.items) selected.now }
     requires built { asks_for_unbuilt options.now ≡ false }
     requires listing { options.now.collect_only ≡ true }
-    ensures reports { IfOk result (λ end. end.reports.items ≡ rules.reports_told HoldsSource profile options.now (collected_told collected.now world.now) []) }
-    ensures stopped { IfOk result (λ end. end.stopped ≡ rules.stopped (tests options.now collected.now.items.items) options.now (collected_told collected.now world.now)) }
+    ensures { IfOk result (λ answer. (errors : List ReportOfFile) (w : SourceWorld) → IsRunAnswer options.now found.now selected.now errors w answer) }
 {
-    let reports = not_run(alloc, &collected.items, &collected.selected)?;
-    Ok(RunEnd {
+    let reports = not_run(alloc, found.suite.items.items(), selected)?;
+    Ok(RunAnswer {
         reports,
         stopped: false,
     })
 }
 
 /// Where a file could not be collected, no item is reported.
-fn interrupted(alloc: Global, options: &Options, world: &World, collected: &Collected) -> RunEnd
+fn interrupted(alloc: Global, options: &Options) -> RunAnswer
     requires built { asks_for_unbuilt options.now ≡ false }
     requires running { options.now.collect_only ≡ false }
-    requires failed { not_empty collected.now.errors.items ≡ true }
-    ensures reports { result.reports.items ≡ rules.reports_told HoldsSource profile options.now (collected_told collected.now world.now) [] }
-    ensures stopped { result.stopped ≡ rules.stopped (tests options.now collected.now.items.items) options.now (collected_told collected.now world.now) }
+    ensures { (found : Found) (numbers : List ℕ) (errors : List ReportOfFile) (w : SourceWorld) → not_empty errors ≡ true → IsRunAnswer options.now found numbers errors w result }
 {
-    RunEnd {
+    RunAnswer {
         reports: Vec::new(alloc),
         stopped: false,
     }
 }
 
-/// Else the items run.
-fn ran(
-    alloc: Global,
-    options: &Options,
-    world: &mut World,
-    collected: &Collected,
-) -> Result<RunEnd, OutOfMemory>
-    requires within { IsWithin collected.now }
-    requires distinct { AreDistinct (collected_told collected.now world.old) }
-    requires built { asks_for_unbuilt options.now ≡ false }
-    requires running { options.now.collect_only ≡ false }
-    requires whole { not_empty collected.now.errors.items ≡ false }
-    ensures reports { IfOk result (λ end. end.reports.items ≡ rules.reports_told HoldsSource profile options.now (collected_told collected.now world.old) []) }
-    ensures stopped { IfOk result (λ end. end.stopped ≡ rules.stopped (tests options.now collected.now.items.items) options.now (collected_told collected.now world.old)) }
-{
-    run(alloc, world, &collected.items, &collected.selected, options)
-}
-
-/// The reports of collected items, and whether the run stopped early.
+/// What is reported of collected items, and whether their run stopped early.
 fn run_of(
     alloc: Global,
     options: &Options,
-    world: &mut World,
-    collected: &Collected,
-) -> Result<RunEnd, OutOfMemory>
-    requires within { IsWithin collected.now }
-    requires distinct { AreDistinct (collected_told collected.now world.old) }
+    world: World,
+    found: FoundSuite,
+    selected: Seq<u32>,
+    errors: &[CollectReport],
+) -> Result<RunAnswer, OutOfMemory>
+    requires runnable { IsRunnable found }
+    requires numbers { All (λ n. n < length found.suite.items) selected }
+    requires few { length selected ≤ most_items }
+    requires apart { AreApart found selected }
     requires built { asks_for_unbuilt options.now ≡ false }
-    ensures reports { IfOk result (λ end. end.reports.items ≡ rules.reports_told HoldsSource profile options.now (collected_told collected.now world.old) []) }
-    ensures stopped { IfOk result (λ end. end.stopped ≡ rules.stopped (tests options.now collected.now.items.items) options.now (collected_told collected.now world.old)) }
+    ensures { IfOk result (λ answer. IsRunAnswer options.now found selected errors.now world answer) }
 {
     if options.collect_only {
-        return listed(alloc, options, world, collected);
+        drop(world);
+        let answer = listed(alloc, options, &found, selected.items());
+        drop(found);
+        drop(selected);
+        return answer;
     }
-    if !collected.errors.is_empty() {
-        return Ok(interrupted(alloc, options, world, collected));
+    if !errors.is_empty() {
+        drop(world);
+        drop(found);
+        drop(selected);
+        return Ok(interrupted(alloc, options));
     }
-    ran(alloc, options, world, collected)
+    run_selected(alloc, options, world, found, selected)
 }
 
 /// The report of collected items, which run in this world.
 pub fn collected_response(
     alloc: Global,
     options: &Options,
-    world: &mut World,
-    collected: &Collected,
+    world: World,
+    collected: Collected,
 ) -> Result<Response, OutOfMemory>
-    requires within { IsWithin collected.now }
-    requires distinct { AreDistinct (collected_told collected.now world.old) }
+    requires within { IsWithin collected }
+    requires distinct { AreDistinct (collected_told collected world) }
     requires built { asks_for_unbuilt options.now ≡ false }
-    ensures response { IfOk result (λ r. (r.0.items, r.1) ≡ response_of (rules.report HoldsSource profile options.now (collected_told collected.now world.old) [])) }
+    ensures response { IfOk result (λ r. (r.0.items, r.1) ≡ response_of (rules.report HoldsSource profile options.now (collected_told collected world) [])) }
     ensures said { IfOk result (λ r. IsTrue (is_said r.1)) }
 {
-    let end = run_of(alloc, options, world, collected)?;
-    let selected = collected.selected.len() as u32;
-    let errors = collected.errors.as_slice();
-    let reports = end.reports.as_slice();
+    let Collected {
+        found,
+        places,
+        selected,
+        deselected,
+        errors,
+    } = collected;
+    drop(places);
+    let count = selected.items().len() as u32;
+    let errors = errors.as_slice();
+    let answer = run_of(alloc, options, world, found, selected, errors)?;
+    let reports = answer.reports.as_slice();
     let bytes = report_bytes(
         alloc,
         options,
-        selected,
-        collected.deselected,
+        count,
+        deselected,
         errors,
         reports,
-        end.stopped,
+        answer.stopped,
     )?;
-    Ok((bytes, status_of(selected, errors, reports)))
+    Ok((bytes, status_of(count, errors, reports)))
 }
 
 /// What is said where nothing was collected.

@@ -25,7 +25,7 @@ pub fn has_report()
 
 /// A law, the headline: the report of words over a tree is a text that the words ask for, a refusal, that of a conftest that failed, or
 /// the report of what was collected. There, the selected items are reported, each once, in the stated order; the journal of each session
-/// is lawful; no frozen frame is left out. No groups are shared among workers.
+/// is lawful; and where the rules keep a count of the frozen frames, none is left out. No groups are shared among workers.
 pub fn what_a_report_tells()
     ensures { (words : List (List ℕ)) (tree : List File) (answer : Answer) → IsReport words tree answer → Headline HoldsSource profile [] words answer }
 {

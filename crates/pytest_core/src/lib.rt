@@ -10,12 +10,14 @@
 //! - `report`: where the tree tells its files, the bytes that the sink tells grew by exactly the report's bytes, and the status is the
 //!   report's; where the status is `SinkFault` or `OutOfMemory`, by a prefix of them; where it is `TreeFault`, by nothing. The report
 //!   (`IsReport`) is that of `report_rules` for the language of this program (`profile`: the words that it refuses, the collection of
-//!   `collect_tree`, the rules of `runtest_rules`), over the tree's kept files in the order of their paths.
+//!   `collect_tree`, what fixtures and tests do by the rules of `runtest_rules`, and the names of fixtures), over the tree's kept files in
+//!   the order of their paths.
 //! - [`one_report`], [`has_report`], laws: words and files have one report and no other. So the clause above names it.
 //! - [`what_a_report_tells`], a law, is the headline. A report is a text that the words ask for, a refusal, that of a conftest that failed,
 //!   or the report of what was collected. There, the selected items are reported, each once, in the stated order, all or up to where
-//!   `--maxfail` was reached; with `--collect-only` all, and where a file could not be collected none; each session's journal is lawful,
-//!   and no frozen frame is left out.
+//!   `--maxfail` was reached; with `--collect-only` all, and where a file could not be collected none; each session's journal is lawful
+//!   (`Lawful`: what is set up goes down once, those that rest on it first); and where the rules keep a count of the frozen frames
+//!   (`Tidy`), none is left out.
 //! - `tree`, `read`, `untouched`, `sink`: `TreeFault` comes only where the tree's count of faults rose in this call and the words ask for
 //!   a run (`AskForRun`: for no help or version, and they are not refused), and nothing was written then, whatever the tree is;
 //!   `SinkFault` comes only where the sink's count rose.
@@ -33,11 +35,14 @@
 
 mod answer;
 mod collected;
+mod gathered;
 mod laws;
+mod one_group;
 mod refusal;
 mod report;
 mod request;
 mod run;
+mod session;
 mod status;
 
 pub use laws::{has_report, one_report, what_a_report_tells};

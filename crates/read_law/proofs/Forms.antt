@@ -1,18 +1,10 @@
--- The forms that are built have a meaning.
-use Rattle.std.proofs.Common.{◌≡◌, Bool, true, false, ◌&&◌, List, [], ◌∷◌, refl}
+-- Every form has a meaning.
+use Rattle.std.proofs.Common.{List, [], ◌∷◌}
 use Rattle.py_tree.specs.Trees as t
 use Rattle.py_tree.specs.Trees.{Tree, Trees, Empty, More, Maybe, Absent, Present}
 use Rattle.py_tree.specs.Statements as s
 use Rattle.py_tree.specs.Statements.{Statement, Block, NoStatement, Next, Branches, NoBranch, Branch, Handlers, NoHandler, Handler, Place, NamePlace, AttributePlace, SubscriptPlace, Taker, One, Unpack, Parameter, Parameter_at}
-use Rattle.py_built.specs.Built.{statement_built, block_built, branches_built, handlers_built}
 use Rattle.lower_law.specs.Built.{Built, BuiltAll, BuiltSome, BuiltPlace, BuiltPlaces, BuiltTaker, BuiltTakers, BuiltParameters, BuiltStatement, BuiltBlock, BuiltBranches, BuiltHandlers}
-
-no : {P : Type 0} → false ≡ true → P
-no e = absurd (cc)
-
-both : (a b : Bool) → (a && b) ≡ true → (a ≡ true) × (b ≡ true)
-both true b e = (refl, e)
-both false b e = no e
 
 -- every expression has a meaning
 mutual
@@ -68,43 +60,41 @@ params_is : (params : List Parameter) → BuiltParameters params
 params_is [] = tt
 params_is (Parameter_at at name annotation default ∷ rest) = (some_is default, params_is rest)
 
--- so has every statement but a `yield`
+-- so has every statement
 mutual
-  statement_is : (x : Statement) → statement_built x ≡ true → BuiltStatement x
-  statement_is (s.Do at x) e = built_is x
-  statement_is (s.Assign at us x) e = (takers_is us, built_is x)
-  statement_is (s.AssignYield at us w x) e = no e
-  statement_is (s.AugAssign at p op x) e = (place_is p, built_is x)
-  statement_is (s.Return at x) e = some_is x
-  statement_is (s.ReturnYield at w x) e = no e
-  statement_is (s.Raise at x) e = some_is x
-  statement_is (s.Assert at x m) e = (built_is x, some_is m)
-  statement_is (s.Del at p) e = place_is p
-  statement_is (s.GlobalOf at names) e = tt
-  statement_is (s.Pass at) e = tt
-  statement_is (s.Break at) e = tt
-  statement_is (s.Continue at) e = tt
-  statement_is (s.YieldOf at w x) e = no e
-  statement_is (s.Import at names alias) e = tt
-  statement_is (s.ImportFrom at names all) e = tt
-  statement_is (s.If at bs other) e = let a = both (branches_built bs) (block_built other) e in (branches_is bs a.0, block_is other a.1)
-  statement_is (s.While at x body) e = (built_is x, block_is body e)
-  statement_is (s.For at u x body) e = (taker_is u, built_is x, block_is body e)
-  statement_is (s.Try at body hs other last) e =
-      let a = both (block_built body) (handlers_built hs && (block_built other && block_built last)) e in let b = both (handlers_built hs) (block_built other && block_built last) a.1 in
-      let c = both (block_built other) (block_built last) b.1 in (block_is body a.0, handlers_is hs b.0, block_is other c.0, block_is last c.1)
-  statement_is (s.With at x name body) e = (built_is x, block_is body e)
-  statement_is (s.Def at ds word name params returns body) e = (all_is ds, params_is params, block_is body e)
-  statement_is (s.Class at ds word name base body) e = (all_is ds, some_is base, block_is body e)
+  statement_is : (x : Statement) → BuiltStatement x
+  statement_is (s.Do at x) = built_is x
+  statement_is (s.Assign at us x) = (takers_is us, built_is x)
+  statement_is (s.AssignYield at us w x) = (takers_is us, some_is x)
+  statement_is (s.AugAssign at p op x) = (place_is p, built_is x)
+  statement_is (s.Return at x) = some_is x
+  statement_is (s.ReturnYield at w x) = some_is x
+  statement_is (s.Raise at x) = some_is x
+  statement_is (s.Assert at x m) = (built_is x, some_is m)
+  statement_is (s.Del at p) = place_is p
+  statement_is (s.GlobalOf at names) = tt
+  statement_is (s.Pass at) = tt
+  statement_is (s.Break at) = tt
+  statement_is (s.Continue at) = tt
+  statement_is (s.YieldOf at w x) = some_is x
+  statement_is (s.Import at names alias) = tt
+  statement_is (s.ImportFrom at names all) = tt
+  statement_is (s.If at bs other) = (branches_is bs, block_is other)
+  statement_is (s.While at x body) = (built_is x, block_is body)
+  statement_is (s.For at u x body) = (taker_is u, built_is x, block_is body)
+  statement_is (s.Try at body hs other last) = (block_is body, handlers_is hs, block_is other, block_is last)
+  statement_is (s.With at x name body) = (built_is x, block_is body)
+  statement_is (s.Def at ds word name params returns body) = (all_is ds, params_is params, block_is body)
+  statement_is (s.Class at ds word name base body) = (all_is ds, some_is base, block_is body)
 
-  pub block_is : (b : Block) → block_built b ≡ true → BuiltBlock b
-  block_is NoStatement e = tt
-  block_is (Next before x) e = let a = both (block_built before) (statement_built x) e in (block_is before a.0, statement_is x a.1)
+  pub block_is : (b : Block) → BuiltBlock b
+  block_is NoStatement = tt
+  block_is (Next before x) = (block_is before, statement_is x)
 
-  branches_is : (bs : Branches) → branches_built bs ≡ true → BuiltBranches bs
-  branches_is NoBranch e = tt
-  branches_is (Branch before at x body) e = let a = both (branches_built before) (block_built body) e in (branches_is before a.0, built_is x, block_is body a.1)
+  branches_is : (bs : Branches) → BuiltBranches bs
+  branches_is NoBranch = tt
+  branches_is (Branch before at x body) = (branches_is before, built_is x, block_is body)
 
-  handlers_is : (hs : Handlers) → handlers_built hs ≡ true → BuiltHandlers hs
-  handlers_is NoHandler e = tt
-  handlers_is (Handler before at class name body) e = let a = both (handlers_built before) (block_built body) e in (handlers_is before a.0, some_is class, block_is body a.1)
+  handlers_is : (hs : Handlers) → BuiltHandlers hs
+  handlers_is NoHandler = tt
+  handlers_is (Handler before at class name body) = (handlers_is before, some_is class, block_is body)

@@ -1,71 +1,80 @@
--- What a run gives, by the law of plain sessions.
-use Rattle.std.proofs.Common.{◌≡◌, ℕ, ◌⊎◌, false, List, [], ◌∷◌, inl, inr, map, refl, sym, ap, ap₂, ◌∙◌, subst, Option, None, Some}
+-- What a run of a plan gives.
+use Rattle.std.proofs.Common.{◌≡◌, ℕ, List, [], ◌∷◌, inl, inr, map, refl, sym, ap₂, subst, Option, None, Some, option_to_list, option_map}
+use Rattle.std.specs.Prelude.{slice_get}
 use Rattle.cli_words.specs.declared.options.Options.{Options}
+use Rattle.fixture_calls.specs.declared.failure.Failure.{Failure}
+use Rattle.fixture_instances.specs.Resting.{AreSpent}
+use Rattle.fixture_instances.specs.declared.ends.Held.{Held}
+use Rattle.fixture_sessions.specs.BuiltIn.{HasBuiltInHooks, built_in_impls}
+use Rattle.item_stack.specs.States.{IsNew, instance_kept}
+use Rattle.py_values.specs.declared.value.Value.{Value}
 use Rattle.report_parts.specs.declared.report.ItemReport.{ItemReport}
-use Rattle.plain_sessions.proofs.Rows.{reports_same as plain_reports_same, stopped_same}
-use Rattle.plain_sessions.specs.Plain.{AreBare, IsBare, IsPlain, built_in_impls}
-use Rattle.plain_sessions.specs.PlainReports.{reports_with}
-use Rattle.plain_sessions.specs.PlainSession.{plain_session}
-use Rattle.report_rules.specs.Collected.{FixtureTexts, SelectedItem}
-use Rattle.report_rules.specs.Fits.{chosen_item}
-use Rattle.report_rules.specs.Items.{item_report}
-use Rattle.report_rules.specs.Rows.{row, task}
-use Rattle.run_items.proofs.Same.{items_same, reports_same, stops_same}
-use Rattle.run_items.specs.Course.{reports_left, stops_in}
-use Rattle.run_items.specs.Ran.{unrun_report}
-use Rattle.run_items.specs.Run.{AreNotRun, IsRun}
-use Rattle.run_items.specs.Selected.{session_item, selected_items}
-use Rattle.run_items.specs.declared.run_end.RunEnd.{RunEnd}
-use Rattle.runtest_rules.specs.Items.{closure_of, item_texts, numbered_item, selected_item}
+use Rattle.report_rules.specs.Collected.{SelectedItem}
+use Rattle.run_items.specs.Runs.{RunsPlan}
+use Rattle.run_items.specs.Stands.{IsPlannedItem, plan_fixture, plan_rules, planned, stand_state}
+use Rattle.run_items.specs.declared.plan.Plan.{Plan}
+use Rattle.run_items.specs.declared.stand.Stand.{Stand}
+use Rattle.runtest_loop.specs.Course.{chosen_at, chosen_in}
+use Rattle.runtest_loop.specs.Fed.{AreKnown}
+use Rattle.runtest_loop.specs.Run.{Runs}
+use Rattle.runtest_loop.specs.declared.run_end.RunEnd.{RunEnd}
 use Rattle.runtest_rules.specs.Language.{python}
-use Rattle.runtest_rules.specs.Rules.{rules}
-use Rattle.runtest_rules.specs.declared.item.Item.{Item}
-use Rattle.session_rules.specs.Session.{reaches}
-use Rattle.session_rules.specs.World as session
-use Rattle.session_rules.specs.World.{Call, Phase, SetUp, Teardown}
+use Rattle.runtest_rules.specs.Rules.{hooks_of}
+use Rattle.session_rules.specs.Fits.{Fits}
+use Rattle.session_rules.specs.Session.{start}
+use Rattle.session_rules.specs.World.{Call, Language, Phase, SetUp, Teardown}
+use Rattle.session_types.proofs.Lists.{In-append}
 use Rattle.session_types.specs.Members.{In}
-use Rattle.session_types.specs.declared.scope.Scope.{Scope}
+use Rattle.session_types.specs.declared.instance.Instance.{Instance}
+use Rattle.setup_stack.specs.declared.stack.FixtureStack.{FixtureStack}
 use Rattle.source_meaning.specs.Meaning.{SourceWorld}
+use Rattle.test_suite.specs.declared.item.Item.{Item}
 
-plain : (options : Options) (items : List Item) → IsPlain (rules options items)
-plain options items =
-    record {
-      hooks = λ phase n. elim phase as (λ p. (rules options items).hooks p n ≡ built_in_impls p) [ SetUp ↦ refl | Call ↦ refl | Teardown ↦ refl ];
-      unread = λ n arguments w. refl;
-      unasked = λ n w. refl;
-    }
+-- where nothing is set up, a session begins
+pub starts : (s : Stand) → IsNew s.stack → stand_state s ≡ start s.world
+starts s n =
+    ap₂ (λ (k : FixtureStack Value Failure ℕ) (r : Option Value). stand_state (record s { stack = record { stack = k; request = r } })) n.stack n.request
 
-bare_item : (missing : Option (List ℕ)) → (closure_of missing ≡ None) ⊎ (closure_of missing ≡ Some [])
-bare_item None = inr refl
-bare_item (Some name) = inl refl
+-- where none lives, none is frozen
+none_spent : (L : Language) (is : List (Instance (Held L.Value L.Thrown L.Rest))) → map (instance_kept L) is ≡ [] → AreSpent is
+none_spent L [] e = tt
+none_spent L (i ∷ is) e = cc
 
-all_bare : (files : ℕ → ℕ) (items : List Item) (ns : List ℕ) → AreBare (map chosen_item (selected_items files items ns))
-all_bare files items [] i m = absurd m
-all_bare files items (n ∷ ns) i (inl e) = subst (λ (i : session.Item). IsBare i) (sym e) (refl, bare_item (numbered_item items n).missing)
-all_bare files items (n ∷ ns) i (inr m) = all_bare files items ns i m
+pub all_spent : (s : Stand) → (stand_state s).live ≡ [] → AreSpent s.stack.stack.live.live
+all_spent s e = none_spent python s.stack.stack.live.live e
 
-pub is_run : (options : Options) (items : List Item) (ns : List ℕ) (w : SourceWorld) (end : RunEnd) → end.reports.items ≡ reports_left options items false ns 0 w → end.stopped ≡ stops_in options items false ns 0 w → IsRun options items ns w end
-unfolding IsRun
-is_run options items ns w end r s =
-    λ files u d. (
-      (λ scope fixture. plain_reports_same (rules options items) (plain options items) options u scope fixture w options.maxfail (selected_items files items ns) (all_bare files items ns) d
-          ∙ (ap (λ (l : List session.Item). reports_with (selected_items files items ns) (plain_session (rules options items) options.maxfail l w).ends) (items_same options items files ns)
-          ∙ (reports_same options items files false ns 0 w ∙ sym r))),
-      stopped_same (rules options items) (plain options items) w options.maxfail (selected_items files items ns) (all_bare files items ns) d
-          ∙ (ap (λ (l : List session.Item). reaches options.maxfail (plain_session (rules options items) options.maxfail l w).bad) (items_same options items files ns)
-          ∙ (stops_same options items false ns 0 w ∙ sym s)),
-    )
+hooks_same : (phase : Phase) → hooks_of phase ≡ built_in_impls phase
+hooks_same SetUp = refl
+hooks_same Call = refl
+hooks_same Teardown = refl
 
-unrun_same : (options : Options) (scope : ℕ → Scope) (fixture : ℕ → FixtureTexts) → options.setup_show ≡ false → (c : SelectedItem) (i : Item) → c.texts ≡ item_texts i → item_report options scope fixture (row {L = python} (task None c) [] []) ≡ unrun_report i
-unrun_same options scope fixture u c i e = rw (u, e)
+pub built_in : (plan : Plan) → HasBuiltInHooks (plan_rules plan)
+built_in plan = record { hooks = λ phase n. hooks_same phase; unread = λ n arguments w. refl }
 
-all_unrun : (items : List Item) (files : ℕ → ℕ) (options : Options) (scope : ℕ → Scope) (fixture : ℕ → FixtureTexts) → options.setup_show ≡ false → (ns : List ℕ)
-    → map (item_report options scope fixture) (map (λ t. row {L = python} t [] []) (map (task None) (selected_items files items ns))) ≡ map (λ n. unrun_report (numbered_item items n)) ns
-all_unrun items files options scope fixture u [] = refl
-all_unrun items files options scope fixture u (n ∷ ns) =
-    ap₂ (λ (r : ItemReport) (l : List ItemReport). r ∷ l) (unrun_same options scope fixture u (selected_item n (files n) (numbered_item items n)) (numbered_item items n) refl) (all_unrun items files options scope fixture u ns)
+module _ (plan : Plan) (items : List Item) (known : AreKnown (IsPlannedItem plan) items) where
+  one_fits : (n : ℕ) (o : Option Item) → slice_get items n ≡ o → (c : SelectedItem) → In c (option_to_list (option_map (planned plan) o)) → Fits (plan_rules plan) c.item
+  one_fits n None e c m = absurd m
+  one_fits n (Some x) e c (inl q) = subst (λ (s : SelectedItem). Fits (plan_rules plan) s.item) (sym q) (known n x e).fits
+  one_fits n (Some x) e c (inr m) = absurd m
 
-pub are_not_run : (items : List Item) (ns : List ℕ) (reports : List ItemReport) → reports ≡ map (λ n. unrun_report (numbered_item items n)) ns → AreNotRun items ns reports
-unfolding AreNotRun
-are_not_run items ns reports e =
-    λ files options u scope fixture. all_unrun items files options scope fixture u ns ∙ sym e
+  all_fit : (numbers : List ℕ) (c : SelectedItem) → In c (chosen_in (planned plan) items numbers) → Fits (plan_rules plan) c.item
+  all_fit [] c m = absurd m
+  all_fit (n ∷ numbers) c m =
+      elim (In-append c (chosen_at (planned plan) items n) (chosen_in (planned plan) items numbers) m) [
+        | inl l ↦ one_fits n (slice_get items n) refl c l
+        | inr r ↦ all_fit numbers c r
+      ]
+
+  runs_plan : (options : Options) (numbers : List ℕ) (first : SourceWorld) (told : List ItemReport) (end : RunEnd) (stand : Stand)
+      → Runs (plan_rules plan) (plan_fixture plan) options (chosen_in (planned plan) items numbers) first told end (stand_state stand)
+      → RunsPlan plan options (chosen_in (planned plan) items numbers) first told end stand
+  unfolding Runs RunsPlan
+  runs_plan options numbers first told end stand r = λ d. (let i = r (built_in plan) d in (i, i.lawful (λ c m. all_fit numbers c m)))
+
+  -- the items that were lent are those of the plan
+  pub lent_run : (lent : List Item) → lent ≡ items → (options : Options) (numbers : List ℕ) (first : SourceWorld) (told : List ItemReport) (end : RunEnd) (stand : Stand)
+      → Runs (plan_rules plan) (plan_fixture plan) options (chosen_in (planned plan) lent numbers) first told end (stand_state stand)
+      → RunsPlan plan options (chosen_in (planned plan) items numbers) first told end stand
+  lent_run lent same options numbers first told end stand r =
+      runs_plan options numbers first told end stand
+      (subst (λ (is : List Item). Runs (plan_rules plan) (plan_fixture plan) options (chosen_in (planned plan) is numbers) first told end (stand_state stand)) same r)

@@ -1,3 +1,4 @@
-pub mod Same
-pub mod Loop
+pub mod Doings
+pub mod Ready
 pub mod Given
+pub mod Unrun

@@ -1,5 +1,4 @@
-pub mod Selected
-pub mod Phases
-pub mod Ran
-pub mod Course
-pub mod Run
+pub mod Texts
+pub mod Stands
+pub mod Runs
+pub mod NotRun

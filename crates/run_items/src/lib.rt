@@ -1,19 +1,17 @@
-//! Runs the selected items of a collection in a world, one after another.
+//! Runs the selected items of a collection in a world of sources, one after another.
 //!
 //! # What it is for
 //!
-//! Without fixtures and hooks of sources a session is a loop over the items: the instance of the class, the objects that hooks get, the
-//! skip, the set-up, the call, the teardown, each with what it tells. Here is that loop, over the rules of `runtest_rules`, and the report
-//! of each item as `report_parts` wants it.
+//! `runtest_loop` runs items on a stage; here is the stage of a world of sources ([`Stand`]): the world, and what is set up in it
+//! (`item_stack`). What the items and their fixtures do are the rules of `runtest_rules` for the suite of a [`Plan`].
 //!
 //! # What is proved
 //!
-//! - [`run`]: the reports are those of the session of one thread that `session_rules` and `report_rules` define over the rules of the
-//!   items, from the given world, as far as maxfail lets it; and it is told whether maxfail was reached (`IsRun`). Premises of the clause:
-//!   no two items have one number, and `--setup-show` isn't asked for.
+//! - [`run`]: the reports, the journal, the world and the end are those of the session of one thread that `session_rules` and
+//!   `report_rules` define over the rules of sources, where no two of the items have one node; the journal is lawful (`RunsPlan`, clause
+//!   `run`). It ends `Done` only where the feed has ended (`done`), and blames the receiver only where the receiver's count of faults rose
+//!   (`blamed`). Behind it no fixture stands at its `yield`, whatever it gives (`spent`).
 //! - [`not_run`]: the reports of items that do not run, as with `--collect-only` (`AreNotRun`).
-//!
-//! By the law of `plain_sessions` the loop need not know of demands, teardown orders and hook calls.
 //!
 //! # What tests alone show
 //!
@@ -24,11 +22,19 @@
 //! Time. Behind want of memory nothing is said of the world.
 #![tactic(auto)]
 
-mod course;
-mod phases;
-mod reports;
-mod run_end;
+mod acts;
+mod calling;
+mod ending;
+mod leaving;
+mod naming;
+mod opening;
+mod plan;
+mod raised;
 mod running;
+mod setting_up;
+mod staging;
+mod stand;
 
-pub use run_end::RunEnd;
+pub use plan::Plan;
 pub use running::{not_run, run};
+pub use stand::Stand;

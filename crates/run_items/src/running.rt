@@ -1,116 +1,109 @@
 // The run of the selected items.
 
-ghost use Rattle.std.specs.Prelude.{◌≡◌, ◌<◌, ◌≤◌, ◌+◌, ◌*◌, [], IfOk, All, length, map, false};
-ghost use Rattle.report_parts.specs.Limits.{most_items};
-ghost use Rattle.run_items.specs.Course as course;
-ghost use Rattle.run_items.specs.Ran.{unrun_report};
-ghost use Rattle.run_items.specs.Run.{AreNotRun, IsRun};
-ghost use Rattle.runtest_rules.specs.Items.{numbered_item};
+ghost use Rattle.std.specs.Prelude.{◌≡◌, ◌<◌, ◌≤◌, ◌++◌, [], All, List, IfErr, IfOk, false, length, map};
+ghost use Rattle.item_stack.specs.States.{IsNew};
+ghost use Rattle.fixture_instances.specs.Resting.{AreSpent};
+ghost use Rattle.report_parts.specs.declared.report.ItemReport.{ItemReport};
+ghost use Rattle.run_items.specs.NotRun.{AreNotRun, unrun_report};
+ghost use Rattle.run_items.specs.Runs.{RunsPlan};
+ghost use Rattle.run_items.specs.Stands.{IsPlan, IsPlannedItem, planned};
+ghost use Rattle.runtest_loop.specs.Course.{chosen_in};
+ghost use Rattle.runtest_loop.specs.Fed.{AreKnown, numbers_fed, numbers_in_range, unfed};
+ghost use Rattle.runtest_loop.specs.Run.{is_stopped};
+ghost use Rattle.runtest_loop.specs.RunFaults.{IsBlamed};
+ghost use Rattle.test_suite.specs.Suites.{numbered_item};
 
-use crate::course::{item_at, reaches, run_item};
-use crate::reports::{item_told, unrun};
-use crate::run_end::RunEnd;
+use crate::plan::Plan;
+use crate::stand::Stand;
 use cli_words::Options;
-use py_machine::World;
-use py_text::OutOfMemory;
-use report_parts::ItemReport;
-use runtest_rules::Item;
+use report_parts::{ItemReport, Lines, PhaseEnd, Text};
+use runtest_loop::{Receiver, RunEnd, RunFault};
+use seq::{OutOfMemory, Seq};
+use share_files::Feed;
 use std::alloc::Global;
+use test_suite::Item;
 
-/// An item that ran: its report, and the failures and errors so far.
-#[derive(Drop)]
-struct Told {
-    report: ItemReport,
-    bad: u32,
+/// Gives up what remains of each fixture.
+fn give_up(stand: &mut Stand, plan: &Plan)
+    ensures { AreSpent stand.new.stack.stack.live.live }
+{
+    stand.stack.stack.abandon_all(&mut stand.world, &plan.run);
 }
 
-/// Runs an item, and reports it.
-fn tell_item(
+/// Runs the items of the groups that the feed gives, in order, as far as maxfail lets them, and gives the receiver their reports: those of
+/// the session of one thread over the rules of sources. `groups` has the numbers of items, each at most once.
+///
+/// # Errors
+///
+/// [`RunFault::Receiver`] where the receiver failed, and want of memory. The world is spent then. No fixture stands at its `yield`
+/// behind the run, whatever it gives.
+pub fn run<F: Feed, P: Receiver>(
     alloc: Global,
-    world: &mut World,
+    stand: &mut Stand,
+    plan: &Plan,
     options: &Options,
-    items: &[Item],
-    number: usize,
-    behind: &[usize],
-    has_object: bool,
-    bad: u32,
-) -> Result<Told, OutOfMemory>
-    requires in_range { All (λ n. n < length items.now) behind.now }
-    requires item { number < length items.now }
-    requires few { bad ≤ 200000 }
-    ensures report { IfOk result (λ t. t.report ≡ course.item_told options.now items.now number (course.item_run options.now items.now has_object number behind.now bad world.old)) }
-    ensures bad { IfOk result (λ t. t.bad ≡ (course.item_run options.now items.now has_object number behind.now bad world.old).bad) }
-    ensures world { IfOk result (λ t. world.new ≡ (course.item_run options.now items.now has_object number behind.now bad world.old).world) }
-    ensures more { IfOk result (λ t. t.bad ≤ bad + 3) }
+    groups: &[Seq<u32>],
+    feed: &mut F,
+    to: &mut P,
+) -> Result<RunEnd, RunFault>
+    requires plan { IsPlan plan.now }
+    requires start { IsNew stand.old.stack }
+    requires known { AreKnown (IsPlannedItem plan.now) plan.now.run.suite.items }
+    requires limit { F.limit feed.old ≤ length groups.now }
+    requires in_range { numbers_in_range (length plan.now.run.suite.items) groups.now }
+    requires few { unfed groups.now (F.given feed.old) ≤ 131072 }
+    requires fresh { F.given feed.old ≡ [] }
+    ensures run { IfOk result (λ end. (reports : List ItemReport) × (P.taken to.new ≡ P.taken to.old ++ reports)
+        × RunsPlan plan.now options.now (chosen_in (planned plan.now) plan.now.run.suite.items (numbers_fed groups.now (F.given feed.new))) stand.old.world reports end stand.new) }
+    ensures done { IfOk result (λ end. is_stopped end ≡ false → F.ended feed.new ≡ true) }
+    ensures blamed { IfErr result (λ fault. IsBlamed (P.faults to.old) (P.faults to.new) fault) }
+    ensures spent { AreSpent stand.new.stack.stack.live.live }
 {
-    let phases = run_item(
-        alloc, world, options, items, number, behind, has_object, bad,
-    )?;
-    let bad = phases.bad;
-    let report = item_told(alloc, item_at(items, number), phases)?;
-    Ok(Told { report, bad })
-}
-
-/// The reports, and whether maxfail was reached.
-fn run_all(
-    alloc: Global,
-    world: &mut World,
-    options: &Options,
-    items: &[Item],
-    selected: &[usize],
-) -> Result<RunEnd, OutOfMemory>
-    requires in_range { All (λ n. n < length items.now) selected.now }
-    requires few { length selected.now ≤ most_items }
-    ensures reports { IfOk result (λ end. end.reports.items ≡ course.reports_left options.now items.now false selected.now 0 world.old) }
-    ensures stopped { IfOk result (λ end. end.stopped ≡ course.stops_in options.now items.now false selected.now 0 world.old) }
-{
-    let mut reports = Vec::new(alloc);
-    let mut bad = 0u32;
-    let mut has_object = false;
-    let mut rest = selected;
-    while let Some((number, behind)) = rest.split_first() {
-        let told = tell_item(
-            alloc, world, options, items, *number, behind, has_object, bad,
-        )?;
-        bad = told.bad;
-        reports.push(told.report)?;
-        if reaches(options.maxfail, bad) {
-            return Ok(RunEnd {
-                reports,
-                stopped: true,
-            });
+    let items = plan.run.suite.items.items();
+    match runtest_loop::run(alloc, stand, plan, options, items, groups, feed, to) {
+        Ok(end) => Ok(end),
+        Err(fault) => {
+            give_up(stand, plan);
+            Err(fault)
         }
-        has_object = true;
-        rest = behind;
     }
-    Ok(RunEnd {
-        reports,
-        stopped: reaches(options.maxfail, bad),
-    })
 }
 
-/// Runs the selected items in order on one thread, as far as maxfail lets it, each under the step limit of the options: the report of each
-/// item that ran, and whether maxfail was reached. Behind want of memory the world is spent.
-#[tactic(auto, using(crate::proofs::Given::is_run))]
-pub fn run(
-    alloc: Global,
-    world: &mut World,
-    items: &[Item],
-    selected: &[usize],
-    options: &Options,
-) -> Result<RunEnd, OutOfMemory>
-    requires in_range { All (λ n. n < length items.now) selected.now }
-    requires few { length selected.now ≤ most_items }
-    ensures { IfOk result (λ end. IsRun options.now items.now selected.now world.old end) }
+ghost use Rattle.std.specs.Prelude.{true};
+
+fn no_text(alloc: Global) -> Text
+    ensures { result ≡ [] }
 {
-    let end = run_all(alloc, world, options, items, selected)?;
-    Ok(end)
+    Text::from_string(String::new(alloc))
+}
+
+fn item_at<'a>(items: &'a [Item], number: u32) -> &'a Item
+    requires { number < length items.now }
+    ensures { result.now ≡ numbered_item items.now number }
+{
+    &items[number as usize]
+}
+
+/// The report of an item that did not run.
+fn unrun(alloc: Global, item: &Item) -> Result<ItemReport, OutOfMemory>
+    ensures { IfOk result (λ r. r ≡ unrun_report item.now) }
+{
+    Ok(ItemReport {
+        node_id: Text::from_str(alloc, item.node_id.text())?,
+        title: Text::from_str(alloc, item.title.text())?,
+        file: Text::from_str(alloc, item.file.text())?,
+        setup: PhaseEnd::NotRun,
+        call: PhaseEnd::NotRun,
+        teardown: PhaseEnd::NotRun,
+        shown_lines: Lines::from_vec(Vec::new(alloc)),
+        captured: (no_text(alloc), no_text(alloc), no_text(alloc)),
+    })
 }
 
 fn unrun_all(
     alloc: Global,
     items: &[Item],
-    selected: &[usize],
+    selected: &[u32],
 ) -> Result<Vec<ItemReport>, OutOfMemory>
     requires in_range { All (λ n. n < length items.now) selected.now }
     ensures { IfOk result (λ reports. reports.items ≡ map (λ n. unrun_report (numbered_item items.now n)) selected.now) }
@@ -123,11 +116,10 @@ fn unrun_all(
 }
 
 /// The reports of the selected items where they do not run, as with `--collect-only`.
-#[tactic(auto, using(crate::proofs::Given::are_not_run))]
 pub fn not_run(
     alloc: Global,
     items: &[Item],
-    selected: &[usize],
+    selected: &[u32],
 ) -> Result<Vec<ItemReport>, OutOfMemory>
     requires in_range { All (λ n. n < length items.now) selected.now }
     ensures { IfOk result (λ reports. AreNotRun items.now selected.now reports.items) }

@@ -8,6 +8,8 @@
 //!
 //! # What is proved
 //!
+//! - [`close_request`] and [`take_finalizer`], for every value: a request is closed, and its latest finalizer is given and removed; the heap
+//!   changes in nothing else, and not at all for a value that is no request.
 //! - [`add`]: the value and the heap behind it are those of the definition `given`; an instance is one of the class described, without
 //!   names, and nothing else of the heap changes (`exact`, `instance`).
 //!
@@ -22,6 +24,8 @@
 
 mod new;
 mod objects;
+mod requests;
 
 pub use new::New;
 pub use objects::add;
+pub use requests::{close_request, take_finalizer};

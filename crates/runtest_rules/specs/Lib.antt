@@ -1,4 +1,3 @@
-pub mod Items
 pub mod Language
 pub mod Objects
 pub mod Failures

@@ -1,26 +1,18 @@
--- What the runner makes for an item: the instance of its class, what hooks get, and exceptions.
-use Rattle.std.specs.Prelude.{ℕ, Bool, true, false, ◌&&◌, not, is_some, List, [], ◌∷◌, Option, Some, None, chars, slice_get}
+-- What the runner makes for an item: the instance of its class, and what hooks get.
+use Rattle.std.specs.Prelude.{Bool, true, false, ◌&&◌, not, is_some, List, Option, Some, None, chars, slice_get}
 use Rattle.collect_names.specs.Objects.{class_at, is_source}
 use Rattle.collect_names.specs.declared.found.TestClass.{TestClass}
 use Rattle.py_kinds.specs.Classes.{root_of}
-use Rattle.py_values.specs.Raises.{raise, thrown}
 use Rattle.py_values.specs.declared.class.ClassRef.TheVariants as ref
-use Rattle.py_values.specs.declared.class.ExcClass.{ExcClass}
 use Rattle.py_values.specs.declared.object.ClassObj.{ClassObj}
 use Rattle.py_values.specs.declared.object.Obj.{Obj}
 use Rattle.py_values.specs.declared.value.ObjId.{ObjId}
 use Rattle.py_values.specs.declared.value.Value.{Value}
 use Rattle.py_values.specs.declared.value.Value.TheVariants as val
-use Rattle.py_world.specs.World.{world_with_heap}
-use Rattle.py_world.specs.declared.ended.Thrown.{Thrown}
-use Rattle.py_world.specs.declared.trace.TraceFrame.{TraceFrame}
 use Rattle.runner_values.specs.Given.{instance, test_item, with_object}
 use Rattle.source_meaning.specs.Meaning.{SourceWorld}
-use Rattle.runtest_rules.specs.declared.item.Item.{Item}
-
--- a value, and the world with the heap behind it
-abbrev pub in_heap : Value × List Obj → SourceWorld → Value × SourceWorld
-in_heap made w = (made.0, world_with_heap made.1 w)
+use Rattle.fixture_calls.specs.Failing.{in_heap}
+use Rattle.test_suite.specs.declared.item.Item.{Item}
 
 -- THE OBJECT that hooks get for an item
 unfoldable pub object_made : Item → SourceWorld → Value × SourceWorld
@@ -54,14 +46,3 @@ instance_of_class None w = (None, w)
 -- A NEW INSTANCE of an item's class, where it has one (pytest's "Group multiple tests in a class": each test has an instance of its own)
 unfoldable pub instance_made : Item → SourceWorld → Option Value × SourceWorld
 instance_made i w = instance_of_class i.test.class w
-
--- an exception with these open calls, and the world with the heap behind it
-abbrev pub thrown_at : List TraceFrame → Value × SourceWorld → Thrown × SourceWorld
-thrown_at trace made = (record { exc = made.0; trace = trace }, made.1)
-
-abbrev pub made_at : List TraceFrame → ExcClass → List ℕ → SourceWorld → Thrown × SourceWorld
-made_at trace class text w = thrown_at trace (in_heap (thrown (raise class text) w.heap) w)
-
--- an exception that the runner makes for an item has the place of its test's `def`
-abbrev pub made_for : Item → ExcClass → List ℕ → SourceWorld → Thrown × SourceWorld
-made_for i class text w = made_at (i.defined ∷ []) class text w

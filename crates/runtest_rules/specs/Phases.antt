@@ -1,5 +1,5 @@
 -- How the phases of an item end (pytest's "How to use skip and xfail to deal with tests that cannot succeed").
-use Rattle.std.specs.Prelude.{ℕ, List, [], map, Option, Some, None}
+use Rattle.std.specs.Prelude.{ℕ, Bool, true, false, List, [], map, Option, Some, None}
 use Rattle.std.specs.Str.Lossy.{utf8_lossy}
 use Rattle.collect_marks.specs.Names.{marks_in}
 use Rattle.collect_marks.specs.Says.{xfail_of}
@@ -18,10 +18,10 @@ use Rattle.report_rules.specs.Collected.{Ending}
 use Rattle.session_rules.specs.World.{Phase, SetUp, Call, Teardown}
 use Rattle.source_meaning.specs.Meaning.{SourceWorld}
 use Rattle.tracebacks.specs.Frames.{frame_told}
-use Rattle.runtest_rules.specs.Failures.{exception_of, failure_told}
-use Rattle.runtest_rules.specs.declared.ending.Ending.{Ending as Ended}
-use Rattle.runtest_rules.specs.declared.failure.Failure.{Failure}
-use Rattle.runtest_rules.specs.declared.item.Item.{Item}
+use Rattle.fixture_calls.specs.Failing.{exception_of}
+use Rattle.fixture_calls.specs.declared.failure.Failure.{Failure}
+use Rattle.runtest_rules.specs.Failures.{failure_told}
+use Rattle.test_suite.specs.declared.item.Item.{Item}
 
 -- the phase of a session that a report names so
 abbrev pub phase_of : ShownPhase → Phase
@@ -53,13 +53,18 @@ end_under xfail phase i raised w = end_by (verdict_of phase w.heap xfail (map ex
 abbrev pub end_of_phase : Phase → Item → List Failure → SourceWorld → PhaseEnd
 end_of_phase phase i raised w = end_under (xfail_of w.heap (marks_in w.heap i.marks)) phase i raised w
 
+-- whether a phase with this verdict is told with its exceptions
+abbrev pub verdict_raises : Verdict → Bool
+verdict_raises verdict.Passed = false
+verdict_raises verdict.Skipped = false
+verdict_raises verdict.Xfailed = false
+verdict_raises verdict.Xpassed = false
+verdict_raises verdict.StrictXpassed = false
+verdict_raises verdict.Raised = true
+
 abbrev pub ending_with : PhaseEnd → List ℕ → Ending
 ending_with end captured = record { end = end; captured = captured }
 
 -- THE END OF A PHASE that raised these: its outcome, and what was printed in it, which is taken
 unfoldable pub phase_ended : Phase → Item → List Failure → SourceWorld → Ending × SourceWorld
 phase_ended phase i raised w = (ending_with (end_of_phase phase i raised w) (utf8_lossy w.printed), world_with_printed [] w)
-
--- an ending as a report has it
-abbrev pub ending_told : Ended → Ending
-ending_told e = ending_with e.end e.captured

@@ -1,6 +1,6 @@
--- THE RULES of items without fixtures: what set-up, call and teardown of one do to a world (pytest's reference, "Test running (runtest)
+-- THE RULES of a session over sources: what fixtures and tests do to a world (pytest's reference, "Fixtures", "Test running (runtest)
 -- hooks"; `_pytest/runner.py`, "basic collect and runtest protocol implementations").
-use Rattle.std.specs.Prelude.{ℕ, ◌==◌, Bool, true, false, List, [], ◌∷◌, ◌++◌, Option, Some, None, codes, nat_eq, if◌then◌else◌}
+use Rattle.std.specs.Prelude.{ℕ, ◌==◌, Bool, true, false, List, [], ◌∷◌, length, Option, Some, None, codes, nat_eq, if◌then◌else◌}
 use Rattle.cli_words.specs.declared.options.Options.{Options}
 use Rattle.hook_order.specs.declared.implementation.Impl.{Impl}
 use Rattle.py_values.specs.declared.class.ExcClass.TheVariants as class
@@ -8,16 +8,22 @@ use Rattle.py_values.specs.declared.value.Value.{Value}
 use Rattle.py_values.specs.declared.value.Value.TheVariants as val
 use Rattle.report_rules.specs.Collected.{Ending}
 use Rattle.session_rules.specs.Hooks.{HookAnswer, HookGave, HookRaised}
-use Rattle.session_rules.specs.World.{Rules, Phase, SetUp, Call, Teardown, WorldAnswer, Account, After, NewException, NewRequest, ClosedRequest, Outcome, Returned}
-use Rattle.session_types.specs.declared.scope.Scope.TheVariants.{Function}
+use Rattle.session_rules.specs.World.{Rules, Phase, SetUp, Call, Teardown, WorldAnswer, Account, After, BodyEnd, NewException, NewRequest, ClosedRequest, Outcome, Returned, Yielded, Raised}
 use Rattle.source_meaning.specs.Meaning.{SourceWorld}
-use Rattle.runtest_rules.specs.Failures.{as_failure, exception_of, fixture_fault, skipped, test_called}
-use Rattle.runtest_rules.specs.Items.{numbered_item}
-use Rattle.runtest_rules.specs.Language.{NoRest, python}
-use Rattle.runtest_rules.specs.Objects.{instance_made, made_for, object_made}
+use Rattle.fixture_calls.specs.Asking.{finalizers_taken, fixture_request, test_request}
+use Rattle.fixture_calls.specs.Calls.{finalizer_called, test_called}
+use Rattle.fixture_calls.specs.Failing.{as_failure, exception_of, made_at}
+use Rattle.fixture_calls.specs.Yields.{did_not_yield, fixture_abandoned, fixture_begun, fixture_resumed, yielded_again}
+use Rattle.fixture_calls.specs.declared.failure.Failure.{Failure}
+use Rattle.fixture_calls.specs.declared.yields.FixtureEnd.{FixtureEnd}
+use Rattle.fixture_calls.specs.declared.yields.FixtureEnd.TheVariants as end
+use Rattle.test_suite.specs.Suites.{fixture_at, item_at}
+use Rattle.test_suite.specs.declared.item.Item.{Item}
+use Rattle.test_suite.specs.declared.suite.Suite.{Suite}
+use Rattle.runtest_rules.specs.Failures.{fixture_fault, skipped, wrong_arguments}
+use Rattle.runtest_rules.specs.Language.{python}
+use Rattle.runtest_rules.specs.Objects.{instance_made, object_made}
 use Rattle.runtest_rules.specs.Phases.{phase_ended}
-use Rattle.runtest_rules.specs.declared.failure.Failure.{Failure}
-use Rattle.runtest_rules.specs.declared.item.Item.{Item}
 
 abbrev pub world_answer : {A : Type 0} → A × SourceWorld → WorldAnswer python A
 world_answer x = record { answer = x.0; world = x.1 }
@@ -25,32 +31,33 @@ world_answer x = record { answer = x.0; world = x.1 }
 abbrev pub new_exception : Failure × SourceWorld → NewException python
 new_exception x = record { thrown = x.0; world = x.1 }
 
+abbrev pub request_answer : Option Value × SourceWorld → NewRequest python
+request_answer x = record { request = x.0; world = x.1 }
+
+abbrev pub closed_answer : List Value × SourceWorld → ClosedRequest python
+closed_answer x = record { finalizers = x.0; world = x.1 }
+
 abbrev pub after_call : Option Failure × SourceWorld → After python
 after_call x = record { raised = x.0; world = x.1 }
 
 abbrev pub account : Ending × SourceWorld → Account python
 account x = record { told = x.0; world = x.1 }
 
--- without fixtures and hooks of sources nothing is asked for, and no body runs or stops
-abbrev pub no_request : SourceWorld → NewRequest python
-no_request w = record { request = None; world = w }
+abbrev pub body_end_of : FixtureEnd → BodyEnd python
+body_end_of (end.Returned v) = Returned v
+body_end_of (end.Yielded v n) = Yielded v n
+body_end_of (end.Raised f) = Raised f
 
-abbrev pub no_finalizers : SourceWorld → ClosedRequest python
-no_finalizers w = record { finalizers = []; world = w }
+abbrev pub outcome : FixtureEnd × SourceWorld → Outcome python
+outcome x = record { how = body_end_of x.0; world = x.1 }
 
+-- without hooks of sources no wrapper begins or goes on
 abbrev pub no_body : SourceWorld → Outcome python
 no_body w = record { how = Returned val.None; world = w }
 
-abbrev pub no_failure : SourceWorld → After python
-no_failure w = record { raised = None; world = w }
-
--- an exception that is never asked for: `fixture function` and `hook wrapper` have no body here
-abbrev pub internal : List ℕ → Item → SourceWorld → NewException python
-internal text i w = new_exception (as_failure (made_for i class.Failed text w))
-
--- a failure of an item's test that the session finds: `wrong arguments for NAME`
-abbrev pub wrong_arguments_for : Item → SourceWorld → NewException python
-wrong_arguments_for i w = new_exception (as_failure (made_for i class.TypeError (codes "wrong arguments for " ++ i.defined.name) w))
+-- an exception that is never asked for
+abbrev pub no_wrapper : List ℕ → SourceWorld → NewException python
+no_wrapper text w = new_exception (as_failure (made_at [] class.RuntimeError text w))
 
 -- THE HOOKS of a phase are the built-in implementations alone, in hook order: for set-up a tryfirst one that skips, and one that sets up
 abbrev pub built_in_hook : ℕ → Bool → Impl
@@ -92,37 +99,38 @@ is_same_value val.None v = false
 is_same_value (val.Bool b) v = false
 is_same_value (val.Int n) v = false
 
-abbrev pub nothing_remains : {A : Type 0} → NoRest → A
-nothing_remains rest = absurd rest
-
--- THE RULES, of items by number
-abbrev pub rules : Options → List Item → Rules python
-rules options items =
+-- THE RULES within a limit of steps, of items by their nodes, and of fixtures by the numbers of their definitions
+abbrev pub rules_within : ℕ → Suite → Rules python
+rules_within limit suite =
     record {
-      depth = 0;
-      scope = λ d. Function;
-      yields = λ d. false;
-      make_instance = λ n w. world_answer (instance_made (numbered_item items n) w);
-      make_item = λ n w. world_answer (object_made (numbered_item items n) w);
-      ask = λ n d param w. no_request w;
-      begin = λ n d param own values request w. no_body w;
-      did_not_yield = λ d w. internal (codes "fixture function did not yield") (numbered_item items d) w;
-      resume = λ rest w. nothing_remains rest;
-      abandon = λ rest w. nothing_remains rest;
-      yielded_again = λ d w. internal (codes "fixture function has more than one 'yield'") (numbered_item items d) w;
-      close = λ request w. no_finalizers w;
-      finalize = λ f w. no_failure w;
-      fault = λ n w. new_exception (fixture_fault (numbered_item items n) w);
-      ask_test = λ n w. no_request w;
-      test = λ n own values request w. after_call (test_called options.step_limit (numbered_item items n) own values w);
-      wrong_arguments = λ n w. wrong_arguments_for (numbered_item items n) w;
+      depth = length suite.fixtures;
+      scope = λ d. (fixture_at suite d).scope;
+      yields = λ d. (fixture_at suite d).yields;
+      make_instance = λ n w. world_answer (instance_made (item_at suite n) w);
+      make_item = λ n w. world_answer (object_made (item_at suite n) w);
+      ask = λ n d param w. request_answer (fixture_request (fixture_at suite d) w);
+      begin = λ n d param own values request w. outcome (fixture_begun limit (fixture_at suite d) own values request w);
+      did_not_yield = λ d w. new_exception (did_not_yield (fixture_at suite d) w);
+      resume = λ rest w. outcome (fixture_resumed limit rest w);
+      abandon = λ rest w. fixture_abandoned rest w;
+      yielded_again = λ d w. new_exception (yielded_again (fixture_at suite d) w);
+      close = λ request w. closed_answer (finalizers_taken request w);
+      finalize = λ f w. after_call (finalizer_called limit f w);
+      fault = λ n w. new_exception (fixture_fault (item_at suite n) w);
+      ask_test = λ n w. request_answer (test_request (item_at suite n) w);
+      test = λ n own values request w. after_call (test_called limit (item_at suite n) own values request w);
+      wrong_arguments = λ n w. new_exception (wrong_arguments (item_at suite n) w);
       hooks = λ phase n. hooks_of phase;
-      implement = λ phase n arguments which w. implemented_for (numbered_item items n) which w;
+      implement = λ phase n arguments which w. implemented_for (item_at suite n) which w;
       open_wrapper = λ phase n arguments which w. no_body w;
-      wrapper_did_not_yield = λ which w. internal (codes "hook wrapper did not yield") (numbered_item items 0) w;
-      resume_wrapper = λ phase n rest sent w. nothing_remains rest;
-      wrapper_yielded_again = λ which w. internal (codes "hook wrapper yielded twice") (numbered_item items 0) w;
+      wrapper_did_not_yield = λ which w. no_wrapper (codes "hook wrapper did not yield") w;
+      resume_wrapper = λ phase n rest sent w. no_body (fixture_abandoned rest w);
+      wrapper_yielded_again = λ which w. no_wrapper (codes "hook wrapper yielded twice") w;
       unless_none = unless_none;
       is_same_object = λ e f. is_same_value (exception_of e) (exception_of f);
-      end_phase = λ phase n raised w. account (phase_ended phase (numbered_item items n) raised w);
+      end_phase = λ phase n raised w. account (phase_ended phase (item_at suite n) raised w);
     }
+
+-- THE RULES of a suite under these options
+abbrev pub rules : Options → Suite → Rules python
+rules options suite = rules_within options.step_limit suite

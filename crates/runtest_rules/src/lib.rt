@@ -2,9 +2,11 @@
 //!
 //! # What it is for
 //!
-//! The rules of a session (`session_rules`) ask of a language what its tests do. Here are those of the language of sources, for items
-//! without fixtures, parameters and hooks of sources: an item, the rules of its phases (pytest's reference, "Test running (runtest)
-//! hooks"), and a function for each of them. A session over these rules is defined by `session_rules`, its report by `report_rules`.
+//! The rules of a session (`session_rules`) ask of a language what its fixtures and tests do. Here are those of the language of sources
+//! for a suite that was collected (`rules`): fixtures with their scopes and arguments, yield fixtures, `request` with its finalizers
+//! (`fixture_calls` has what each of them does), and the phases of an item (pytest's reference, "Test running (runtest) hooks"), with a
+//! function for each. Fixtures and tests without parameters are spoken of, and no hooks of sources. A session over these rules is defined
+//! by `session_rules`, its report by `report_rules`.
 //!
 //! # What is proved
 //!
@@ -13,11 +15,11 @@
 //! - [`make_instance`]: a new instance of the item's class, where that is a class of the sources and no class of exceptions
 //!   (`instance_made`); [`make_item`]: the object that hooks get (`object_made`).
 //! - [`skip`]: `Skipped` with the reason of the marks, where they skip the item (`skipped`); [`fixture_fault`]: `Failed` with the text of
-//!   the first argument that no fixture defines (`fixture_fault`). Both have the place of the test's `def`.
-//! - [`call_test`]: the call of the test with the instance of its class by the meaning of sources, within the step limit; an exhausted one
-//!   has raised `StepLimit` (`test_called`).
+//!   the fault of its fixtures (`fixture_fault`); [`wrong_arguments`]: `TypeError` (`wrong_arguments`). All have the place of the test's
+//!   `def`.
 //! - [`end_phase`]: how a phase has ended that raised these, by the marks: passed, skipped, expected to fail or raised, with what is told
-//!   of each exception; and what was printed in it, which is taken (`phase_ended`).
+//!   of each exception; and what was printed in it, which is taken (`phase_ended`). [`fails_in_teardown`]: whether a teardown that raised
+//!   these is an error.
 //!
 //! Behind want of memory a world is spent: nothing is promised but the answer.
 //!
@@ -31,16 +33,11 @@
 #![tactic(auto)]
 
 mod ending;
-mod exceptions;
-mod failure;
 mod failures;
-mod item;
 mod objects;
 mod phases;
 
 pub use ending::Ending;
-pub use failure::Failure;
-pub use failures::{call_test, fixture_fault, skip};
-pub use item::Item;
+pub use failures::{fixture_fault, skip, wrong_arguments};
 pub use objects::{make_instance, make_item};
-pub use phases::end_phase;
+pub use phases::{end_phase, fails_in_teardown};

@@ -1,11 +1,11 @@
 // The objects of an item: the instance of its class, and what hooks get.
 
-ghost use Rattle.std.specs.Prelude.{◌≡◌, IfOk, chars, option_copied};
+ghost use Rattle.std.specs.Prelude.{◌≡◌, IfOk, option_copied};
 ghost use Rattle.py_values.specs.declared.value.Value.TheVariants as val;
 ghost use Rattle.runner_values.specs.Given as given;
+ghost use Rattle.fixture_calls.specs.Failing as failing;
 ghost use Rattle.runtest_rules.specs.Objects as objects;
 
-use crate::item::Item;
 use collect_names::found::TestClass;
 use collect_names::objects::class_at;
 use py_kinds::classes::root_of;
@@ -16,6 +16,7 @@ use py_values::heap::Heap;
 use py_values::object::ClassObj;
 use py_values::value::{ObjId, Value};
 use std::alloc::Global;
+use test_suite::Item;
 
 fn is_source_class(class: Option<&ClassObj>) -> bool
     ensures { result ≡ objects.is_source_class (option_copied class.entry) }
@@ -38,7 +39,7 @@ fn has_instances(heap: &Heap, id: ObjId) -> bool
 
 fn new_instance(world: &mut World, id: ObjId) -> Result<Value, OutOfMemory>
     requires { objects.has_instances world.old.heap id ≡ true }
-    ensures { IfOk result (λ v. (v, world.new) ≡ objects.in_heap (given.with_object (given.instance id) world.old.heap) world.old) }
+    ensures { IfOk result (λ v. (v, world.new) ≡ failing.in_heap (given.with_object (given.instance id) world.old.heap) world.old) }
 {
     make(world, &New::Instance(Value::Ref(id)))
 }
@@ -85,7 +86,7 @@ pub fn make_instance(world: &mut World, item: &Item) -> Result<Option<Value>, Ou
 }
 
 fn new_object(world: &mut World, name: PyText, node_id: PyText) -> Result<Value, OutOfMemory>
-    ensures { IfOk result (λ v. (v, world.new) ≡ objects.in_heap (given.with_object (given.test_item name node_id) world.old.heap) world.old) }
+    ensures { IfOk result (λ v. (v, world.new) ≡ failing.in_heap (given.with_object (given.test_item name node_id) world.old.heap) world.old) }
 {
     make(
         world,

@@ -3,15 +3,15 @@
 ghost use Rattle.std.specs.Prelude.{◌≡◌, IfOk, map, option_copied};
 ghost use Rattle.std.specs.Str.Lossy.{utf8_lossy};
 ghost use Rattle.py_world.specs.World.{world_with_printed};
+ghost use Rattle.fixture_calls.specs.Failing as failing;
 ghost use Rattle.runtest_rules.specs.Failures as failures;
 ghost use Rattle.runtest_rules.specs.Phases as phases;
 
 use crate::ending::Ending;
-use crate::failure::Failure;
-use crate::item::Item;
 use collect_marks::says::xfail_of;
 use collect_marks::verdict::{Verdict, call_verdict, set_up_verdict, teardown_verdict};
 use collect_marks::xfail::Xfail;
+use fixture_calls::Failure;
 use py_machine::{World, heap, take_printed};
 use py_text::{OutOfMemory, PyText};
 use py_values::heap::Heap;
@@ -19,10 +19,11 @@ use py_values::value::Value;
 use py_world::Trace;
 use report_parts::{Phase, PhaseEnd, Text, Told, Tolds};
 use std::alloc::Global;
+use test_suite::Item;
 use tracebacks::{exception_text, frame_told, told};
 
 fn exception_of(failure: &Failure) -> Value
-    ensures { result ≡ failures.exception_of failure.now }
+    ensures { result ≡ failing.exception_of failure.now }
 {
     match failure {
         Failure::Exception(thrown) => thrown.exc,
@@ -31,7 +32,7 @@ fn exception_of(failure: &Failure) -> Value
 }
 
 fn exceptions_of(alloc: Global, raised: &[Failure]) -> Result<Vec<Value>, OutOfMemory>
-    ensures { IfOk result (λ vs. vs.items ≡ map failures.exception_of raised.now) }
+    ensures { IfOk result (λ vs. vs.items ≡ map failing.exception_of raised.now) }
 {
     let mut values = Vec::new(alloc);
     for failure in raised {
@@ -61,7 +62,7 @@ fn failure_text(alloc: Global, heap: &Heap, failure: &Failure) -> Result<PyText,
 }
 
 fn trace_of<'a>(failure: &'a Failure) -> &'a Trace
-    ensures { result.now ≡ failures.failure_trace failure.now }
+    ensures { result.now ≡ failing.failure_trace failure.now }
 {
     match failure {
         Failure::Exception(thrown) => &thrown.trace,
@@ -183,7 +184,7 @@ pub fn end_phase(
     item: &Item,
     raised: &[Failure],
 ) -> Result<Ending, OutOfMemory>
-    ensures { IfOk result (λ e. (phases.ending_told e, world.new) ≡ phases.phase_ended (phases.phase_of phase) item.now raised.now world.old) }
+    ensures { IfOk result (λ e. (e, world.new) ≡ phases.phase_ended (phases.phase_of phase) item.now raised.now world.old) }
 {
     let end = end_of_phase(alloc, world, phase, item, raised)?;
     match captured(alloc, world) {
@@ -194,3 +195,33 @@ pub fn end_phase(
         }
     }
 }
+
+fn is_raised(verdict: Verdict) -> bool
+    ensures { result ≡ phases.verdict_raises verdict }
+{
+    match verdict {
+        Verdict::Raised => true,
+        Verdict::Passed
+        | Verdict::Skipped
+        | Verdict::Xfailed
+        | Verdict::Xpassed
+        | Verdict::StrictXpassed => false,
+    }
+}
+
+/// Whether a teardown that raised these is an error.
+#[tactic(auto, using(crate::proofs::Teardown::fails_by))]
+pub fn fails_in_teardown(
+    alloc: Global,
+    world: &World,
+    item: &Item,
+    raised: &[Failure],
+) -> Result<bool, OutOfMemory>
+    ensures { IfOk result (λ b. b ≡ ends_badly session.Teardown (phases.phase_ended session.Teardown item.now raised.now world.now).0) }
+{
+    let values = exceptions_of(alloc, raised)?;
+    Ok(is_raised(teardown_verdict(heap(world), &values)))
+}
+
+ghost use Rattle.report_rules.specs.Collected.{ends_badly};
+ghost use Rattle.session_rules.specs.World as session;

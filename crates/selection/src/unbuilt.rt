@@ -8,7 +8,5 @@ use cli_words::{Dist, Options};
 pub fn asks_for_unbuilt(options: &Options) -> bool
     ensures { result ≡ meant.asks_for_unbuilt options.now }
 {
-    options.setup_show
-        || (options.workers > 0 && options.dist != Dist::No)
-        || options.generated.is_some()
+    (options.workers > 0 && options.dist != Dist::No) || options.generated.is_some()
 }

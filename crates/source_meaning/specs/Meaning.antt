@@ -1,4 +1,5 @@
--- WHAT SOURCE CODE DOES, with any budget: a call by the runner, and the load of a module.
+-- WHAT SOURCE CODE DOES, with any budget: a call by the runner, the load of a module, and the begin and the resumption of a body that
+-- yields.
 use Rattle.std.specs.Prelude.{ℕ, List}
 use Rattle.py_values.specs.declared.value.Value.{Value}
 use Rattle.source_meaning.specs.Requests.{source_kinds}
@@ -6,6 +7,7 @@ use Rattle.source_meaning.specs.Statements.{entry, act, script_body, remains}
 use Rattle.py_world.specs.World.{World}
 use Rattle.py_world.specs.Calls.{Meaning}
 use Rattle.py_world.specs.Runs.{Told, call_of, module_of}
+use Rattle.py_world.specs.Resuming.{Sent, ToldBegun, begin_of, resume_of}
 
 abbrev pub SourceWorld : Type 0
 SourceWorld = World source_kinds
@@ -18,3 +20,10 @@ source_call f args budget w = call_of source f args budget w
 
 abbrev pub source_module : List ℕ → ℕ → SourceWorld → Told source_kinds
 source_module path budget w = module_of source path budget w
+
+abbrev pub source_begin : Value → List Value → ℕ → SourceWorld → ToldBegun source_kinds
+source_begin f args budget w = begin_of source f args budget w
+
+-- of the frozen frame of a number
+abbrev pub source_resume : ℕ → Sent → ℕ → SourceWorld → ToldBegun source_kinds
+source_resume n sent budget w = resume_of source n sent budget w

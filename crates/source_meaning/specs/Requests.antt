@@ -5,11 +5,19 @@ use Rattle.py_tree.specs.Statements.{Statement, Block, Handlers, Taker, Paramete
 use Rattle.py_items.specs.declared.iter.IterAt.{IterAt}
 use Rattle.py_world.specs.World.{Kinds}
 
+-- what is done with the value that a `yield` is given: nothing, it is assigned to targets, or it is returned
+pub data Use : Type 0 where
+  NoUse : Use
+  Targets : List Taker → Use
+  ReturnIt : Use
+
 -- what stands behind a statement in one of the blocks around it, in code whose asserts are explained or not: statements, or the
--- handlers of a `try` on a line, with the statements behind `else` and behind `finally`
+-- handlers of a `try` on a line, with the statements behind `else` and behind `finally`; and first, behind a `yield`, the use of what
+-- it is given
 pub data Layer : Type 0 where
   Statements : Bool → List Statement → Layer
   Guard : Bool → ℕ → Handlers → List Statement → List Statement → Layer
+  Receives : Use → Layer
 
 -- a statement with what stands behind it, the innermost block first, or a turn of a `while` or of a `for` at a place, in code whose
 -- asserts are explained or not

@@ -6,17 +6,17 @@ use Rattle.py_tree.specs.Statements as t
 use Rattle.py_tree.specs.Statements.{Statement, Block, Branches, Handlers, NoStatement, NoBranch, NoHandler, Place, NamePlace, AttributePlace, SubscriptPlace, Taker, One, Unpack, Parameter, Parameter_at}
 use Rattle.py_tree.specs.Names.{locals_of, yields_in}
 use Rattle.py_kinds.specs.Truth.{truth}
-use Rattle.source_meaning.specs.Expressions.{SourcePart, missing, eval, parts, some_part}
-use Rattle.source_meaning.specs.Requests.{source_kinds, Layer, Statements, Guard, Turn, StatementOf, TurnOf, ForOf, Script, Function}
+use Rattle.source_meaning.specs.Expressions.{SourcePart, eval, parts, some_part}
+use Rattle.source_meaning.specs.Requests.{source_kinds, Use, NoUse, Targets, ReturnIt, Layer, Statements, Guard, Receives, Turn, StatementOf, TurnOf, ForOf, Script, Function}
 use Rattle.source_meaning.specs.Watched.{watch}
 use Rattle.py_tree.specs.Trees.{Tree, Maybe, Absent, Present}
 use Rattle.py_world.specs.Site.{site}
 use Rattle.py_world.specs.World.{heap_of, unset}
 use Rattle.py_world.specs.Outcome.{Body, After, Next, on_next, on_value, if_true}
-use Rattle.py_world.specs.Statements.{Choice, asked, expression_statement, return_value, yield_value, pass, leave_loop, next_turn, fail, fail_explained, choose, loop, turn_of}
+use Rattle.py_world.specs.Statements.{Choice, asked, expression_statement, return_value, yield_value, received, no_use, return_sent, pass, leave_loop, next_turn, fail, fail_explained, choose, loop, turn_of}
 use Rattle.py_world.specs.Definitions.{Written, define, class_statement}
 use Rattle.py_world.specs.Names.{delete_name}
-use Rattle.py_world.specs.Targets.{Store, store_name, store_attribute, store_item, unpack, assign, augment_name, augment_attribute, augment_item, delete_attribute, delete_item}
+use Rattle.py_world.specs.Targets.{Store, store_name, store_attribute, store_item, store_all, unpack, assign, augment_name, augment_attribute, augment_item, delete_attribute, delete_item}
 use Rattle.py_world.specs.Exceptions.{Handling, guarded, try_statement}
 use Rattle.py_world.specs.Contexts.{with_statement}
 use Rattle.py_world.specs.Raising.{raise_value}
@@ -78,6 +78,12 @@ abbrev pub stores : List Taker → List SourceStore
 stores [] = []
 stores (x ∷ xs) = store x ∷ stores xs
 
+-- what is done with the value that a `yield` is given
+abbrev pub use_of : Use → SourceStore
+use_of NoUse = no_use
+use_of (Targets ts) = store_all (stores ts)
+use_of ReturnIt = return_sent
+
 abbrev pub augment : Place → BinOp → SourcePart → SourcePart
 augment (NamePlace at name) op e = augment_name name op e
 augment (AttributePlace at a name) op e = augment_attribute (eval a) name op e
@@ -128,6 +134,7 @@ abbrev pub remains : List Layer → After source_kinds
 remains [] p o k = k o
 remains (Statements x ss ∷ ls) p o k = on_next o (λ o. remains ls p o k) (λ s. sequence x ls ss p.scene s (λ o. remains ls p o k))
 remains (Guard x line handlers other last ∷ ls) p o k = guard x ls handlers other last (site p.scene line) o (λ o. remains ls p o k)
+remains (Receives u ∷ ls) p o k = received (use_of u) p o (λ o. remains ls p o k)
 
 abbrev pub choices : Bool → List Layer → Branches → List SourceChoice
 choices x ls NoBranch = []
@@ -181,9 +188,9 @@ statement x ls (t.Continue at) = next_turn
 statement x ls (t.If at branches other) = choose (choices x ls branches) (block x ls other)
 statement x ls (t.While at e body) = loop (TurnOf x e body) (eval e)
 statement x ls (t.Def at decorators word name params returns body) = define (parts decorators) (default_parts params) (written params) name word.line (yields_in body) (function x name params body)
-statement x ls (t.YieldOf at word e) = yield_value (some_part e) ls
-statement x ls (t.AssignYield at ts word e) = missing
-statement x ls (t.ReturnYield at word e) = missing
+statement x ls (t.YieldOf at word e) = yield_value (some_part e) (Receives NoUse ∷ ls)
+statement x ls (t.AssignYield at ts word e) = yield_value (some_part e) (Receives (Targets ts) ∷ ls)
+statement x ls (t.ReturnYield at word e) = yield_value (some_part e) (Receives ReturnIt ∷ ls)
 statement x ls (t.Raise at e) = raise_value entry (some_part e)
 statement x ls (t.Del at p) = delete p
 statement x ls (t.Import at names alias) = import_statement script_body names alias

@@ -114,7 +114,7 @@ fn what_is_not_built_is_told(rt: HostRuntime) -> Result<(), Fail> {
     let cases = [
         ("", false),
         ("-k|a|-m|b|-x|--tb=no|-v|--co|--ignore=c", false),
-        ("--setup-show", true),
+        ("--setup-show", false),
         ("-n2", true),
         ("-n0", false),
         ("-n2|--dist=no", false),

@@ -1,3 +1,4 @@
+use Rattle.core_rules.proofs.SourceResumes as resumes
 use Rattle.core_rules.proofs.SourceRuns as runs
 use Rattle.core_rules.proofs.source_code_keeps_its_world.Goals as goal
 
@@ -12,3 +13,9 @@ returns-clause-executed c = runs.loads_execute
 
 pub returns-clause-once : goal.returns-clause-once
 returns-clause-once c = runs.loads_again
+
+pub returns-clause-begins : goal.returns-clause-begins
+returns-clause-begins c = resumes.begins_keep
+
+pub returns-clause-resumes : goal.returns-clause-resumes
+returns-clause-resumes c = resumes.resumes_keep

@@ -1,6 +1,6 @@
 use Rattle.std.proofs.Common.{arith, ℕ}
 use Rattle.collect_items.specs.Chosen.{is_chosen}
-use Rattle.runtest_rules.specs.Items.{numbered_item}
+use Rattle.test_suite.specs.Suites.{numbered_item}
 use Rattle.collect_items.proofs.Steps.{kept_at}
 use Rattle.collect_items.proofs.choice.chosen.Goals as goal
 

@@ -1,4 +1,4 @@
-use Rattle.std.proofs.Common.{Ok, List, ℕ, refl, sym, ap, ◌∙◌}
+use Rattle.std.proofs.Common.{Ok, sym, ap, ◌∙◌}
 use Rattle.collect_words.specs.Words.{named_words}
 use Rattle.collect_tree.specs.Collection.{of_words}
 use Rattle.collect_tree.proofs.Ends.{is_same, refused_given}

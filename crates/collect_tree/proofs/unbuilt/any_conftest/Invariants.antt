@@ -3,5 +3,5 @@ use Rattle.std.specs.List.{list_any}
 use Rattle.collect_items.specs.Unbuilt.{wants_unbuilt_conftest}
 use Rattle.collect_tree.proofs.unbuilt.any_conftest.Given as goal
 
-abbrev pub invariant-loop-v : goal.invariant-loop-v
-invariant-loop-v l = list_any (wants_unbuilt_conftest l.heap) l.modules ≡ list_any (wants_unbuilt_conftest l.heap) (drop l.v-index l.modules)
+abbrev pub invariant-loop-file : goal.invariant-loop-file
+invariant-loop-file l = list_any (wants_unbuilt_conftest l.heap) l.conftests ≡ list_any (wants_unbuilt_conftest l.heap) (drop l.file-index l.conftests)

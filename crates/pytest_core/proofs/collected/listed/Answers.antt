@@ -1,11 +1,9 @@
-use Rattle.pytest_core.proofs.Ran.{not_run_as, quiet_listed, reports_listed}
+use Rattle.std.proofs.Common.{false, refl, subst}
+use Rattle.run_items.specs.NotRun.{AreNotRun}
+use Rattle.pytest_core.proofs.Ran.{answer_listed}
 use Rattle.pytest_core.proofs.collected.listed.Goals as goal
 
-pub returns-clause-reports : goal.returns-clause-reports
-returns-clause-reports c =
-    reports_listed c.args.options.now c.args.collected.now c.args.world.now c.requires.built c.in_ok-reports.reports.items c.requires.listing
-    (not_run_as c.deref.result.now c.args.collected.now.items.items c.deref-2.result.now c.args.collected.now.selected.items c.in_ok-reports.reports.items c.deref.ensures.value c.deref-2.ensures.value
-    c.in_ok-reports.ensures)
-
-pub returns-clause-stopped : goal.returns-clause-stopped
-returns-clause-stopped c = quiet_listed c.args.options.now c.args.collected.now c.args.world.now c.requires.built c.requires.listing
+pub returns : goal.returns
+returns c = λ errors w.
+    answer_listed c.args.options.now c.args.found.now c.args.selected.now errors w (record { reports = c.in_ok-reports.reports; stopped = false }) c.requires.built c.requires.listing c.requires.numbers
+    (subst (λ is. AreNotRun is c.args.selected.now c.in_ok-reports.reports.items) c.items.ensures c.in_ok-reports.ensures) refl

@@ -1,6 +1,7 @@
+use Rattle.std.proofs.Common.{refl}
 use Rattle.pytest_core.proofs.Reports.{tells}
 use Rattle.runtest_rules.specs.Rules.{rules}
 use Rattle.pytest_core.proofs.laws.what_a_report_tells.Goals as goal
 
 pub returns : goal.returns
-returns c = tells (λ options sources collected same. c.what_is_collected_fits.ensures options sources collected same (rules options collected.table))
+returns c = tells (λ options sources collected same. c.what_is_collected_fits.ensures options sources collected same (rules options collected.table) refl (λ d. refl))

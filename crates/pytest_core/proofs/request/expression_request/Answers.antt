@@ -1,4 +1,3 @@
-use Rattle.std.proofs.Common.{sym, ◌∙◌}
 use Rattle.pytest_core.proofs.Asked.{expression_said}
 use Rattle.pytest_core.proofs.request.expression_request.Goals as goal
 

@@ -1,7 +1,6 @@
-use Rattle.std.proofs.Common.{◌≡◌, ◌++◌, drop}
-use Rattle.std.specs.Prelude.{map}
-use Rattle.run_items.specs.Ran.{unrun_report}
-use Rattle.runtest_rules.specs.Items.{numbered_item}
+use Rattle.std.proofs.Common.{◌≡◌, ◌++◌, drop, map}
+use Rattle.run_items.specs.NotRun.{unrun_report}
+use Rattle.test_suite.specs.Suites.{numbered_item}
 use Rattle.run_items.proofs.running.unrun_all.Given as goal
 
 abbrev pub invariant-loop-number : goal.invariant-loop-number

@@ -1,6 +1,6 @@
 use Rattle.std.proofs.Common.{◌≡◌, ◌++◌, drop}
 use Rattle.std.specs.Prelude.{map}
-use Rattle.runtest_rules.specs.Failures.{exception_of}
+use Rattle.fixture_calls.specs.Failing.{exception_of}
 use Rattle.runtest_rules.proofs.phases.exceptions_of.Given as goal
 
 abbrev pub invariant-loop-failure : goal.invariant-loop-failure

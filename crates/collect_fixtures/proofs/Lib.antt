@@ -1,0 +1,5 @@
+pub mod Steps
+pub mod Needs
+pub mod Counts
+pub mod Known
+pub mod NoTests

@@ -1,0 +1,103 @@
+// Copies of what was found.
+
+ghost use Rattle.std.specs.Prelude.{◌≡◌, IfOk, map};
+ghost use Rattle.collect_items.specs.Items.{defined_fixture};
+
+use collect_fixtures::Definition;
+use collect_names::found::{TestClass, TestFunction};
+use py_text::{OutOfMemory, PyText};
+use py_values::rows::Values;
+use py_values::value::Value;
+use py_world::TraceFrame;
+use seq::Seq;
+use std::alloc::Global;
+use test_suite::Fixture;
+
+fn copied(alloc: Global, text: &PyText) -> Result<PyText, OutOfMemory>
+    ensures { IfOk result (λ t. t ≡ text.now) }
+{
+    PyText::from_chars(alloc, text.chars())
+}
+
+/// A copy of texts.
+pub fn copied_texts(alloc: Global, texts: &[PyText]) -> Result<Seq<PyText>, OutOfMemory>
+    ensures { IfOk result (λ copies. copies ≡ texts.now) }
+{
+    let mut copies = Seq::new(alloc);
+    for text in texts {
+        let one = copied(alloc, text)?;
+        copies.push(one)?;
+    }
+    Ok(copies)
+}
+
+/// A copy of values.
+pub fn copied_values(alloc: Global, values: &[Value]) -> Result<Values, OutOfMemory>
+    ensures { IfOk result (λ copies. copies ≡ values.now) }
+{
+    let copies = Vec::from_slice(alloc, values)?;
+    Ok(Values::from_vec(copies))
+}
+
+fn copied_class(alloc: Global, class: &Option<TestClass>) -> Result<Option<TestClass>, OutOfMemory>
+    ensures { IfOk result (λ c. c ≡ class.now) }
+{
+    match class {
+        Some(class) => Ok(Some(TestClass {
+            name: copied(alloc, &class.name)?,
+            object: class.object,
+        })),
+        None => Ok(None),
+    }
+}
+
+/// A copy of a test function.
+pub fn copied_test(alloc: Global, test: &TestFunction) -> Result<TestFunction, OutOfMemory>
+    ensures { IfOk result (λ t. t ≡ test.now) }
+{
+    let class = copied_class(alloc, &test.class)?;
+    Ok(TestFunction {
+        class,
+        name: copied(alloc, &test.name)?,
+        function: test.function,
+    })
+}
+
+fn copied_frame(alloc: Global, frame: &TraceFrame) -> Result<TraceFrame, OutOfMemory>
+    ensures { IfOk result (λ f. f ≡ frame.now) }
+{
+    let path = copied(alloc, &frame.path)?;
+    Ok(TraceFrame {
+        path,
+        line: frame.line,
+        name: copied(alloc, &frame.name)?,
+    })
+}
+
+fn copied_fixture(alloc: Global, fixture: &Fixture) -> Result<Fixture, OutOfMemory>
+    ensures { IfOk result (λ f. f ≡ fixture.now) }
+{
+    let name = copied(alloc, &fixture.name)?;
+    let arguments = copied_texts(alloc, fixture.arguments.items())?;
+    Ok(Fixture {
+        name,
+        function: fixture.function,
+        in_class: fixture.in_class,
+        arguments,
+        scope: fixture.scope,
+        yields: fixture.yields,
+        defined: copied_frame(alloc, &fixture.defined)?,
+    })
+}
+
+/// The fixtures of definitions.
+pub fn fixtures_of(alloc: Global, definitions: &[Definition]) -> Result<Seq<Fixture>, OutOfMemory>
+    ensures { IfOk result (λ fixtures. fixtures ≡ map defined_fixture definitions.now) }
+{
+    let mut fixtures = Seq::new(alloc);
+    for one in definitions {
+        let fixture = copied_fixture(alloc, &one.fixture)?;
+        fixtures.push(fixture)?;
+    }
+    Ok(fixtures)
+}

@@ -1,0 +1,168 @@
+-- A suite that was made of tests, and the closures of its items.
+use Rattle.std.proofs.Common.{◌≡◌, ◌≤◌, ◌+◌, ◌<◌, ℕ, zero, suc, true, List, [], ◌∷◌, ◌++◌, map, length, Some, refl, sym, ap, ◌∙◌, subst, arith}
+use Rattle.std.specs.Prelude.{slice_get}
+use Rattle.std.proofs.lemmas.List.{length-append, length-map}
+use Rattle.collect_fixtures.proofs.Counts.{defs_count}
+use Rattle.collect_fixtures.proofs.Known.{closure_low}
+use Rattle.collect_fixtures.proofs.Needs.{item_whole}
+use Rattle.collect_fixtures.specs.Arguments.{but_request}
+use Rattle.collect_fixtures.specs.Closures.{item_closure}
+use Rattle.collect_fixtures.specs.Definitions.{all_definitions}
+use Rattle.collect_fixtures.specs.Tables.{all_names, all_numbers, node_of_test, table_defs, table_of}
+use Rattle.collect_fixtures.specs.Tests.{all_tests}
+use Rattle.collect_fixtures.specs.Tree.{all_folders, outer_nodes}
+use Rattle.collect_fixtures.specs.declared.found.Definition.{Definition}
+use Rattle.collect_fixtures.specs.declared.found.FoundTest.{FoundTest}
+use Rattle.collect_fixtures.specs.declared.test_file.TestFile.{TestFile}
+use Rattle.collect_items.specs.Items.{FixtureTable, defined_fixture, fixtures_with, found_suite, item, items_from, placed_of, suite_behind}
+use Rattle.collect_items.specs.declared.found.FoundSuite.{FoundSuite}
+use Rattle.fixture_table.proofs.Settles.{settled}
+use Rattle.fixture_table.specs.Faults as table
+use Rattle.fixture_table.specs.Nearest.{def_at}
+use Rattle.fixture_table.specs.declared.types.CollectionNode.{CollectionNode}
+use Rattle.fixture_world.specs.Items.{closure_of, item_of}
+use Rattle.py_values.specs.declared.object.Obj.{Obj}
+use Rattle.runtest_rules.specs.Language.{python}
+use Rattle.session_rules.specs.Fits.{Directly, Fits, FitsClosure, Further, IsClosure, Reaches}
+use Rattle.session_rules.specs.World as session
+use Rattle.session_types.proofs.Lists.{In-among, among-In}
+use Rattle.session_types.specs.Numbers.{among}
+use Rattle.session_types.specs.Scopes.{rank}
+use Rattle.session_types.specs.declared.scope.Scope.{Scope}
+use Rattle.fixture_instances.specs.Items.{requests_in}
+use Rattle.test_suite.specs.Suites.{fixture_at, fixture_or}
+use Rattle.test_suite.specs.declared.item.Item.{Item}
+use Rattle.test_suite.specs.declared.item.ItemClosure.{ItemClosure}
+use Rattle.test_suite.specs.declared.item.ItemClosure.TheVariants as closure
+
+pub record IsMade (found : FoundSuite) : Type 0 where
+  pub heap : List Obj
+  pub walk : List (List ℕ)
+  pub outer : List CollectionNode
+  pub tests : List FoundTest
+  pub names : List (List ℕ)
+  pub definitions : List Definition
+  pub nodes : found.table.nodes ≡ outer ++ map node_of_test tests
+  pub defs : found.table.defs ≡ table_defs names 0 definitions
+  pub items : found.suite.items ≡ items_from heap walk (fixtures_with found.table names definitions) (length outer) tests
+  pub fixtures : found.suite.fixtures ≡ map defined_fixture definitions
+  pub behind : found.suite.outer ≡ length outer
+
+made_behind : (heap : List Obj) (walk : List (List ℕ)) (outer : List CollectionNode) (definitions : List Definition) (tests : List FoundTest) → IsMade (suite_behind heap walk outer definitions tests)
+unfolding suite_behind table_of
+made_behind heap walk outer definitions tests = record {
+  heap = heap;
+  walk = walk;
+  outer = outer;
+  tests = tests;
+  names = all_names definitions tests;
+  definitions = definitions;
+  nodes = refl;
+  defs = refl;
+  items = refl;
+  fixtures = refl;
+  behind = refl;
+}
+
+pub made : (heap : List Obj) (walk : List (List ℕ)) (above files : List TestFile) → IsMade (found_suite heap walk above files)
+unfolding found_suite
+made heap walk above files =
+    let folders = all_folders walk files in
+    let placed = placed_of heap walk files in
+    made_behind heap walk (outer_nodes heap walk folders placed) (all_definitions heap walk folders above placed) (all_tests heap placed)
+
+-- an item of a suite, and its place
+pub record IsItem (heap : List Obj) (walk : List (List ℕ)) (f : FixtureTable) (node : ℕ) (i : Item) : Type 0 where
+  pub test : FoundTest
+  pub is : i ≡ item heap walk f node test
+
+some_is : (x y : Item) → Some x ≡ Some y → x ≡ y
+some_is x y q = cc
+
+pub item_there : (heap : List Obj) (walk : List (List ℕ)) (f : FixtureTable) (node : ℕ) (tests : List FoundTest) (k : ℕ) (i : Item)
+    → slice_get (items_from heap walk f node tests) k ≡ Some i → IsItem heap walk f (node + k) i
+item_there heap walk f node [] zero i e = absurd (cc e)
+item_there heap walk f node [] (suc k) i e = absurd (cc e)
+item_there heap walk f node (t ∷ ts) zero i e =
+    let same : node ≡ node + 0 = omega arith in
+    record { test = t; is = subst (λ (n : ℕ). i ≡ item heap walk f n t) same (sym (some_is (item heap walk f node t) i e)) }
+item_there heap walk f node (t ∷ ts) (suc k) i e =
+    let same : node + 1 + k ≡ node + suc k = omega arith in
+    subst (λ (n : ℕ). IsItem heap walk f n i) same (item_there heap walk f (node + 1) ts k i e)
+
+pub item_within : (heap : List Obj) (walk : List (List ℕ)) (f : FixtureTable) (node : ℕ) (tests : List FoundTest) (k : ℕ) (i : Item)
+    → slice_get (items_from heap walk f node tests) k ≡ Some i → k < length tests
+item_within heap walk f node [] zero i e = absurd (cc e)
+item_within heap walk f node [] (suc k) i e = absurd (cc e)
+item_within heap walk f node (t ∷ ts) zero i e = omega arith
+item_within heap walk f node (t ∷ ts) (suc k) i e = let l = item_within heap walk f (node + 1) ts k i e in omega arith
+
+-- the scope of a definition is that of its fixture
+same_scope : (names : List (List ℕ)) (number : ℕ) (ds : List Definition) (d : ℕ) → (def_at (table_defs names number ds) d).scope ≡ (fixture_or (slice_get (map defined_fixture ds) d)).scope
+same_scope names number [] zero = refl
+same_scope names number [] (suc d) = refl
+same_scope names number (one ∷ ds) zero = refl
+same_scope names number (one ∷ ds) (suc d) = same_scope names (number + 1) ds d
+
+-- what is reached in a session is reached in the table
+reached_in : (requests : ℕ → List ℕ) (d e : ℕ) → Reaches requests d e → table.Reaches requests d e
+reached_in requests d _ (Directly e i) = table.Once d e (In-among e (requests d) i)
+reached_in requests d _ (Further e f r i) = behind d e f (reached_in requests d e r) (In-among f (requests e) i)
+  where
+    behind : (a b c : ℕ) → table.Reaches requests a b → among c (requests b) ≡ true → table.Reaches requests a c
+    behind _ _ c (table.Once a b h) g = table.Then a b c h (table.Once b c g)
+    behind _ _ c (table.Then a b z h r) g = table.Then a b c h (behind b z c r g)
+
+module _ (found : FoundSuite) (m : IsMade found) where
+  -- an item of the suite, with its number
+  pub item_made : (n : ℕ) (i : Item) → slice_get found.suite.items n ≡ Some i → IsItem m.heap m.walk (fixtures_with found.table m.names m.definitions) (length m.outer + n) i
+  item_made n i e = item_there m.heap m.walk (fixtures_with found.table m.names m.definitions) (length m.outer) m.tests n i (ap (λ (is : List Item). slice_get is n) (sym m.items) ∙ e)
+
+  pub node_is : (n : ℕ) (i : Item) → slice_get found.suite.items n ≡ Some i → i.node ≡ found.suite.outer + n
+  node_is n i e = ap (λ (x : Item). x.node) (item_made n i e).is ∙ ap (λ (k : ℕ). k + n) (sym m.behind)
+
+  many_nodes : length found.table.nodes ≡ length m.outer + length m.tests
+  many_nodes = ap (λ (ns : List CollectionNode). length ns) m.nodes ∙ (length-append m.outer (map node_of_test m.tests) ∙ ap (λ (k : ℕ). length m.outer + k) (length-map m.tests node_of_test))
+
+  pub node_there : (n : ℕ) (i : Item) → slice_get found.suite.items n ≡ Some i → i.node < length found.table.nodes
+  node_there n i e =
+      let l : n < length m.tests = item_within m.heap m.walk (fixtures_with found.table m.names m.definitions) (length m.outer) m.tests n i (ap (λ (is : List Item). slice_get is n) (sym m.items) ∙ e) in
+      omega (arith, node_is n i e, m.behind, many_nodes)
+
+module _ (rules : session.Rules python) (found : FoundSuite) (m : IsMade found) (depth : rules.depth ≡ length found.suite.fixtures) (scopes : (d : ℕ) → rules.scope d ≡ (fixture_at found.suite d).scope) where
+  pub count : length found.table.defs ≡ rules.depth
+  count = ap length m.defs ∙ (defs_count m.names 0 m.definitions ∙ (sym (length-map m.definitions defined_fixture) ∙ (ap length (sym m.fixtures) ∙ sym depth)))
+
+  pub scope_of : (d : ℕ) → (def_at found.table.defs d).scope ≡ rules.scope d
+  scope_of d =
+      ap (λ ds. (def_at ds d).scope) m.defs
+      ∙ (same_scope m.names 0 m.definitions d
+      ∙ (ap (λ fs. (fixture_or (slice_get fs d)).scope) (sym m.fixtures) ∙ sym (scopes d)))
+
+  ranked : (d e : ℕ) → rank (def_at found.table.defs e).scope ≤ rank (def_at found.table.defs d).scope → rank (rules.scope e) ≤ rank (rules.scope d)
+  ranked d e l =
+      subst (λ (s : Scope). rank s ≤ rank (rules.scope d)) (scope_of e)
+      (subst (λ (s : Scope). rank (def_at found.table.defs e).scope ≤ rank s) (scope_of d) l)
+
+  whole_fits : (i : Item) (node : ℕ) (t : FoundTest) (ds : List ℕ) → i.node ≡ node → item_closure found.table m.names m.definitions node t ≡ closure.Whole ds
+      → IsClosure rules (item_of found.table i) ds
+  unfolding requests_in
+  whole_fits i node t ds n e =
+      let at = subst (λ (k : ℕ). item_closure found.table m.names m.definitions k t ≡ closure.Whole ds) (sym n) e in
+      let c = item_whole found.table m.names m.definitions i.node t ds at in
+      let s = settled found.table.nodes found.table.defs i.node [] (all_numbers m.names t.uses) (all_numbers m.names (but_request t.arguments)) ds c in
+      record {
+        known = λ d there. subst (λ (k : ℕ). d < k) count (closure_low found.table.nodes found.table.defs i.node [] (all_numbers m.names t.uses) (all_numbers m.names (but_request t.arguments)) ds c d there);
+        whole = λ d e there asked. among-In e ds (s.within d e (In-among d ds there) (In-among e _ asked));
+        scopes = λ d e there asked. ranked d e (s.broader d e (In-among d ds there) (In-among e _ asked));
+        acyclic = λ d there r. s.apart d (In-among d ds there) (reached_in _ d d r);
+      }
+
+  closure_fits : (i : Item) (node : ℕ) (t : FoundTest) (c : ItemClosure) → i.node ≡ node → item_closure found.table m.names m.definitions node t ≡ c → FitsClosure rules (item_of found.table i) (closure_of c)
+  closure_fits i node t (closure.Whole ds) n e = whole_fits i node t ds n e
+  closure_fits i node t (closure.Fault text) n e = tt
+
+  pub fits_made : (node : ℕ) (i : Item) → IsItem m.heap m.walk (fixtures_with found.table m.names m.definitions) node i → Fits rules (item_of found.table i)
+  fits_made node i h =
+      subst (λ (x : Item). Fits rules (item_of found.table x)) (sym h.is)
+      (closure_fits (item m.heap m.walk (fixtures_with found.table m.names m.definitions) node h.test) node h.test (item_closure found.table m.names m.definitions node h.test) refl refl)

@@ -1,0 +1,23 @@
+-- What a run asks of a suite and its table.
+use Rattle.std.specs.Prelude.{◌≡◌, ℕ, ◌<◌, Some, length, slice_get}
+use Rattle.collect_items.specs.declared.found.FoundSuite.{FoundSuite}
+use Rattle.fixture_table.specs.Tree.{IsTree}
+use Rattle.fixture_world.specs.Items.{item_of}
+use Rattle.runtest_rules.specs.Rules.{rules_within}
+use Rattle.session_rules.specs.Fits.{Fits}
+use Rattle.setup_stack.specs.Scopes.{HasScopes}
+use Rattle.test_suite.specs.Suites.{item_at}
+use Rattle.test_suite.specs.declared.item.Item.{Item}
+
+-- an item of a suite is found by its node, which stands in the table, and its closure fits the rules of the suite
+pub record IsAtHome (found : FoundSuite) (i : Item) : Type 0 where
+  pub at : item_at found.suite i.node ≡ i
+  pub node : i.node < length found.table.nodes
+  pub fits : (limit : ℕ) → Fits (rules_within limit found.suite) (item_of found.table i)
+
+-- the nodes of the table are a tree, its definitions are the fixtures, with their scopes, and each item is at home
+pub record IsRunnable (found : FoundSuite) : Type 0 where
+  pub tree : IsTree found.table.nodes
+  pub many : length found.table.defs ≡ length found.suite.fixtures
+  pub scopes : (limit : ℕ) → HasScopes (rules_within limit found.suite) found.table
+  pub items : (n : ℕ) (i : Item) → slice_get found.suite.items n ≡ Some i → IsAtHome found i

@@ -1,0 +1,5 @@
+pub mod Failing
+pub mod Arguments
+pub mod Asking
+pub mod Calls
+pub mod Yields

@@ -1,0 +1,95 @@
+-- What remains of the live instances is given up, one after the other.
+use Rattle.std.proofs.Common.{◌≡◌, ℕ, ◌+◌, ◌<◌, List, [], ◌∷◌, ◌++◌, refl, sym, ap, ◌∙◌, arith, length, take, drop, set, get_or, map, subst, Option, Some, None}
+use Rattle.std.proofs.lemmas.List.{at_drop_more, drop-set-lt, get_or-map, map-set, map_push, set-get_or, take_more_set}
+use Rattle.session_types.specs.declared.instance.Instance.{Instance}
+use Rattle.session_rules.specs.World.{Language, Rules}
+use Rattle.fixture_instances.specs.declared.ends.Held.{Held}
+use Rattle.fixture_instances.specs.declared.live.Kept.{Kept}
+use Rattle.live_chains.specs.declared.id.LiveId.{LiveId}
+use Rattle.fixture_instances.specs.Joined.{LiveList, Pairs, joined, with_slot}
+use Rattle.fixture_instances.specs.Resting.{AreKeptSpent, AreSpent, abandoned, abandoned_kept, given_up, spent, spent_held, spent_kept}
+
+pub not_both : {R : Type 0} (o : Option R) (x : R) → o ≡ None → o ≡ Some x → ⊥
+not_both o x n s = (let z : None ≡ Some x = sym n ∙ s in cc)
+
+module _ {V E R : Type 0} where
+  last_spent : (ys : List (Kept V E R)) (k : Kept V E R) → AreKeptSpent (ys ++ k ∷ []) → AreKeptSpent ys × (k.held.rest ≡ None)
+  last_spent [] k h = (tt, h.0)
+  last_spent (y ∷ ys) k h = (let r = last_spent ys k h.1 in ((h.0, r.0), r.1))
+
+  pub popped : (xs ys : List (Kept V E R)) (k : Kept V E R) → xs ≡ ys ++ k ∷ [] → AreKeptSpent xs → AreKeptSpent ys × (k.held.rest ≡ None)
+  popped xs ys k e h = last_spent ys k (subst (λ (l : List (Kept V E R)). AreKeptSpent l) e h)
+
+  pub kept_spent : (is : List (Instance ℕ)) (ks : List (Kept V E R)) → Pairs is ks → AreSpent (joined is ks) → AreKeptSpent ks
+  kept_spent [] [] p s = tt
+  kept_spent [] (k ∷ ks) p s = absurd p
+  kept_spent (i ∷ is) [] p s = absurd p
+  kept_spent (i ∷ is) (k ∷ ks) p s = (s.0, kept_spent is ks p.1 s.1)
+
+  pub joined_spent : (is : List (Instance ℕ)) (ks : List (Kept V E R)) → joined is (map spent_kept ks) ≡ map spent (joined is ks)
+  joined_spent [] ks = refl
+  joined_spent (i ∷ is) [] = refl
+  joined_spent (i ∷ is) (k ∷ ks) = ap (λ (l : List (Instance (Held V E R))). with_slot (spent_held k.held) i ∷ l) (joined_spent is ks)
+
+  pub pairs_spent : (is : List (Instance ℕ)) (ks : List (Kept V E R)) → Pairs is ks → Pairs is (map spent_kept ks)
+  pairs_spent [] [] p = tt
+  pairs_spent [] (k ∷ ks) p = absurd p
+  pairs_spent (i ∷ is) [] p = absurd p
+  pairs_spent (i ∷ is) (k ∷ ks) p = (p.0, pairs_spent is ks p.1)
+
+  pub all_spent : (is : List (Instance (Held V E R))) → AreSpent (map spent is)
+  all_spent [] = tt
+  all_spent (i ∷ is) = (refl, all_spent is)
+
+  pub one_spent : (x : Kept V E R) (rest : Option R) → rest ≡ None → record { order = x.order; held = record { kept = x.held.kept; rest = rest; request = x.held.request } } ≡ spent_kept x
+  one_spent x rest e = (let build : Option R → Kept V E R = λ r. record { order = x.order; held = record { kept = x.held.kept; rest = r; request = x.held.request } } in ap build e)
+
+  -- one more of them is given up
+  pub spent_more : (xs ys : List (Kept V E R)) (i : ℕ) (d y : Kept V E R) → i < length xs → y ≡ spent_kept (get_or xs i d) → map spent_kept xs ≡ map spent_kept ys → map spent_kept (set xs i y) ≡ map spent_kept ys
+  spent_more xs ys i d y lt e h =
+      map-set spent_kept xs i y
+      ∙ (ap (λ (k : Kept V E R). set (map spent_kept xs) i k) (ap spent_kept e ∙ sym (get_or-map spent_kept xs i d y lt))
+      ∙ (set-get_or (map spent_kept xs) i y ∙ h))
+
+  pub front_more : (xs : List (Kept V E R)) (i : ℕ) (d y : Kept V E R) → i < length xs → y ≡ spent_kept (get_or xs i d) → map spent_kept (take i xs) ≡ take i xs → map spent_kept (take (i + 1) (set xs i y)) ≡ take (i + 1) (set xs i y)
+  front_more xs i d y lt e h =
+      let t = take_more_set xs i y lt in
+      ap (λ (l : List (Kept V E R)). map spent_kept l) t
+      ∙ (map_push spent_kept (take i xs) y
+      ∙ (ap (λ (l : List (Kept V E R)). l ++ spent_kept y ∷ []) h
+      ∙ (ap (λ (k : Kept V E R). take i xs ++ k ∷ []) (ap spent_kept e ∙ sym e) ∙ sym t)))
+
+pub abandoned_more : {L : Language} (rules : Rules L) (xs : List (Kept L.Value L.Thrown L.Rest)) (i : ℕ) (d y : Kept L.Value L.Thrown L.Rest) (rest : Option L.Rest) (w v a : L.World) → i < length xs → rest ≡ (get_or xs i d).held.rest → v ≡ given_up rules rest w → abandoned_kept rules (drop i xs) w ≡ a → abandoned_kept rules (drop (i + 1) (set xs i y)) v ≡ a
+abandoned_more {L} rules xs i d y rest w v a lt er ev h =
+    ap (λ (l : List (Kept L.Value L.Thrown L.Rest)). abandoned_kept rules l v) (drop-set-lt (i + 1) xs i y (omega arith))
+    ∙ (ap (λ (u : L.World). abandoned_kept rules (drop (i + 1) xs) u) (ev ∙ ap (λ (r : Option L.Rest). given_up rules r w) er)
+    ∙ (sym (at_drop_more (λ (l : List (Kept L.Value L.Thrown L.Rest)). abandoned_kept rules l w) xs i d lt) ∙ h))
+
+pub abandoned_joined : {L : Language} (rules : Rules L) (is : List (Instance ℕ)) (ks : List (Kept L.Value L.Thrown L.Rest)) (w : L.World) → Pairs is ks → abandoned rules (joined is ks) w ≡ abandoned_kept rules ks w
+abandoned_joined rules [] [] w p = refl
+abandoned_joined rules [] (k ∷ ks) w p = absurd p
+abandoned_joined rules (i ∷ is) [] w p = absurd p
+abandoned_joined rules (i ∷ is) (k ∷ ks) w p = abandoned_joined rules is ks (given_up rules k.held.rest w) p.1
+
+-- the list whose frames were given up
+pub pairs_given : {V E R : Type 0} (is : List (Instance ℕ)) (ks new : List (Kept V E R)) → new ≡ map spent_kept ks → Pairs is ks → Pairs is new
+pairs_given {V} {E} {R} is ks new e p = subst (λ (l : List (Kept V E R)). Pairs is l) (sym e) (pairs_spent is ks p)
+
+abbrev pub listed : {V E R : Type 0} → List LiveId → ℕ → ℕ → List (Instance (Held V E R)) → LiveList V E R
+listed ids spare next live = record { live = live; ids = ids; spare = spare; next = next }
+
+abbrev pub all_given : {V E R : Type 0} → LiveList V E R → LiveList V E R
+all_given v = record { live = map spent v.live; ids = v.ids; spare = v.spare; next = v.next }
+
+pub list_given : {V E R : Type 0} (is : List (Instance ℕ)) (ids : List LiveId) (ks new : List (Kept V E R)) (spare next : ℕ) (v : LiveList V E R) → new ≡ map spent_kept ks → listed ids spare next (joined is ks) ≡ v → listed ids spare next (joined is new) ≡ all_given v
+list_given {V} {E} {R} is ids ks new spare next v e view =
+    ap (λ (l : List (Instance (Held V E R))). listed ids spare next l) (ap (λ (l : List (Kept V E R)). joined is l) e ∙ joined_spent is ks)
+    ∙ ap (λ (u : LiveList V E R). all_given u) view
+
+pub world_given : {L : Language} (rules : Rules L) (is : List (Instance ℕ)) (ids : List LiveId) (ks lent : List (Kept L.Value L.Thrown L.Rest)) (spare next : ℕ) (v : LiveList L.Value L.Thrown L.Rest) (w : L.World) → lent ≡ ks → Pairs is ks → listed ids spare next (joined is ks) ≡ v → abandoned_kept rules lent w ≡ abandoned rules v.live w
+world_given {L} rules is ids ks lent spare next v w e p view =
+    ap (λ (l : List (Kept L.Value L.Thrown L.Rest)). abandoned_kept rules l w) e
+    ∙ (sym (abandoned_joined rules is ks w p) ∙ ap (λ (u : LiveList L.Value L.Thrown L.Rest). abandoned rules u.live w) view)
+
+pub spent_now : {V E R : Type 0} (is new : List (Instance (Held V E R))) → new ≡ map spent is → AreSpent new
+spent_now {V} {E} {R} is new e = subst (λ (l : List (Instance (Held V E R))). AreSpent l) (sym e) (all_spent is)

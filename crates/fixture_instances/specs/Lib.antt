@@ -1,0 +1,4 @@
+pub mod Joined
+pub mod Items
+pub mod Views
+pub mod Resting

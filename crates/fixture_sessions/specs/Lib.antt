@@ -1,0 +1,4 @@
+pub mod BuiltIn
+pub mod FixtureSession
+pub mod FixtureRows
+pub mod FixtureFrames

@@ -1,0 +1,40 @@
+-- Test items, as a session and a report see them.
+use Rattle.std.specs.Prelude.{ℕ, List, [], Option, Some, None}
+use Rattle.fixture_table.specs.Tables.{TableValue}
+use Rattle.fixture_table.specs.Tree.{chain_of}
+use Rattle.py_values.specs.declared.value.Value.{Value}
+use Rattle.report_rules.specs.Collected.{ItemTexts, SelectedItem}
+use Rattle.session_rules.specs.World as session
+use Rattle.fixture_instances.specs.Items.{place_in, requests_in}
+use Rattle.fixture_instances.specs.declared.items.ItemRef.{ItemRef}
+use Rattle.test_suite.specs.declared.item.Item.{Item}
+use Rattle.test_suite.specs.declared.item.ItemClosure.{ItemClosure}
+use Rattle.test_suite.specs.declared.item.ItemClosure.TheVariants.{Whole, Fault}
+
+-- the closure of an item, where it has no fault
+abbrev pub closure_of : ItemClosure → Option (List ℕ)
+closure_of (Whole ds) = Some ds
+closure_of (Fault text) = None
+
+-- an item as its set-up sees it: no row binds a value, and no definition has parameters
+abbrev pub demanding : Item → ItemRef Value
+demanding i = record { node = i.node; own = None; bound = []; params = [] }
+
+-- WHAT A SESSION KNOWS of an item: the nodes above it, what each definition asks for in it, and where an instance lives for it
+abbrev pub item_of : TableValue → Item → session.Item
+item_of table i = record {
+  node = i.node;
+  chain = chain_of table.nodes i.node;
+  requests = requests_in table (demanding i);
+  parameter = λ d. None;
+  place = place_in table (demanding i);
+  closure = closure_of i.closure;
+  arguments = i.asked;
+}
+
+abbrev pub item_texts : Item → ItemTexts
+item_texts i = record { node_id = i.node_id; title = i.title; file = i.file }
+
+-- THE ITEM in the file with a number, selected
+abbrev pub selected_item : TableValue → ℕ → Item → SelectedItem
+selected_item table file i = record { item = item_of table i; file = file; texts = item_texts i; ids = λ d. None }

@@ -1,0 +1,4 @@
+pub mod Same
+pub mod Asked
+pub mod Values
+pub mod Left

@@ -1,0 +1,4 @@
+pub mod States
+pub mod Plain
+pub mod Answers
+pub mod Leaving

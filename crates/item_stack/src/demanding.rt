@@ -1,0 +1,56 @@
+// The demands of an item's set-up.
+
+ghost use Rattle.std.specs.Prelude.{◌≡◌, ◌<◌, None, Option, IfOk, length};
+ghost use Rattle.fixture_instances.specs.Items.{item_of};
+ghost use Rattle.fixture_table.specs.Tree.{IsTree};
+ghost use Rattle.item_stack.specs.Plain.{plain_item};
+ghost use Rattle.item_stack.specs.States.{item_state};
+ghost use Rattle.session_rules.specs.Session.{demand_closure};
+ghost use Rattle.session_rules.specs.Teardown.{step};
+ghost use Rattle.session_rules.specs.World.{Item};
+ghost use Rattle.setup_stack.specs.Asking.{AreReady};
+ghost use Rattle.setup_stack.specs.Passing.{AreAsked};
+ghost use Rattle.setup_stack.specs.Scopes.{HasScopes};
+
+use crate::holding::ItemStack;
+use fixture_instances::{Executor, ItemRef};
+use fixture_table::Table;
+use seq::{OutOfMemory, Seq};
+use session_types::DefId;
+use std::alloc::Global;
+
+/// An item whose row binds nothing, with this instance of its class.
+pub fn plain_item<V>(alloc: Global, node: u32, own: Option<V>) -> ItemRef<V>
+    ensures { result ≡ plain_item node own }
+{
+    ItemRef {
+        node,
+        own,
+        bound: Seq::new(alloc),
+        params: Seq::new(alloc),
+    }
+}
+
+/// Demands the definitions of a closure in order, up to the first fault, whose exceptions are given.
+pub fn demand_all<W: Executor>(
+    alloc: Global,
+    held: &mut ItemStack<W::Value, W::Thrown, W::Rest>,
+    world: &mut W,
+    setting: &W::Setting,
+    table: &Table,
+    node: u32,
+    defs: &[DefId],
+) -> Result<Seq<W::Thrown>, OutOfMemory>
+    requires known { (own : Option W.Value) → W.knows setting.now table.now (plain_item node own) }
+    requires scopes { HasScopes (W.rules setting.now) table.now }
+    requires tree { IsTree table.now.nodes }
+    requires node { node < length table.now.nodes }
+    requires ready { AreReady (W.rules setting.now) (item_of table.now (plain_item {V = W.Value} node None)) (length table.now.defs) (W.rules setting.now).depth defs.now }
+    ensures { IfOk result (λ raised. (item : Item) → AreAsked item (item_of table.now (plain_item {V = W.Value} node None)) → step raised (item_state (W.rules setting.now) world.new held.new) ≡ demand_closure (W.rules setting.now) item defs.now (item_state (W.rules setting.now) world.old held.old)) }
+{
+    let at = plain_item(alloc, node, held.stack.own);
+    let raised = held
+        .stack
+        .demand_all(alloc, world, setting, table, &at, defs)?;
+    Ok(raised)
+}

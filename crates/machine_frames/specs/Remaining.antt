@@ -1,0 +1,97 @@
+-- Which frames of a body that has stopped go on.
+use Rattle.std.specs.Prelude.{◌≡◌, ℕ, List, [], ◌∷◌, None}
+use Rattle.run_tree.specs.Todo.{Done}
+use Rattle.py_world.specs.Outcome.{call_end}
+use Rattle.py_world.specs.Runs.{start}
+use Rattle.py_world.specs.Site.{site}
+use Rattle.core_meaning.specs.Meaning.{CoreWorld}
+use Rattle.core_meaning.specs.Statements.{remains}
+use Rattle.machine_state.specs.declared.place.Here.{Here}
+use Rattle.machine_state.specs.declared.frame.FlowFrame.{FlowFrame}
+use Rattle.machine_state.specs.declared.frame.FlowFrame.TheVariants as flow
+use Rattle.machine_state.specs.declared.frame.Frame.{Frame}
+use Rattle.machine_state.specs.declared.frame.Frame.TheVariants as on
+use Rattle.machine_state.specs.declared.frame.ModuleFrame.{ModuleFrame}
+use Rattle.machine_state.specs.declared.frame.ModuleFrame.TheVariants as loads
+use Rattle.machine_state.specs.declared.frame.SimpleFrame.{SimpleFrame}
+use Rattle.machine_state.specs.declared.frame.SimpleFrame.TheVariants as simple
+use Rattle.machine_state.specs.declared.frame.UnwindFrame.{UnwindFrame}
+use Rattle.machine_state.specs.declared.frame.UnwindFrame.TheVariants as unwind
+use Rattle.machine_state.specs.Places.{CoreOutcome, scene_in}
+use Rattle.machine_state.specs.Frames.{after, layers_of}
+use Rattle.machine_frames.specs.declared.remaining.Part.{Part}
+use Rattle.machine_frames.specs.declared.remaining.Part.TheVariants.{Kept, Passed, Ended}
+
+-- what stands behind a statement in one of the blocks around it is kept, and what has nothing around it ends the body
+abbrev pub simple_part : SimpleFrame → Part
+simple_part simple.Forget = Passed
+simple_part (simple.Assign ts) = Passed
+simple_part (simple.Targets ts at v) = Passed
+simple_part (simple.Augment x op place) = Passed
+simple_part (simple.Store place) = Passed
+simple_part simple.Raise = Passed
+simple_part simple.Throw = Passed
+simple_part simple.Return = Passed
+simple_part simple.Fail = Passed
+simple_part (simple.Explain e) = Passed
+simple_part (simple.Yield u) = Passed
+simple_part (simple.Receive u line) = Kept
+
+abbrev pub flow_part : FlowFrame → Part
+flow_part (flow.Branch body branches at other line) = Passed
+flow_part (flow.Block b at line) = Kept
+flow_part (flow.Test test body) = Passed
+flow_part (flow.Turn test body line) = Ended
+flow_part (flow.Iterable t body) = Passed
+flow_part (flow.Taken t body next) = Passed
+flow_part (flow.ForTurn t body next line) = Ended
+flow_part (flow.Context name body) = Passed
+flow_part (flow.Raises r info line) = Ended
+
+abbrev pub unwind_part : UnwindFrame → Part
+unwind_part (unwind.Guarded g line) = Kept
+unwind_part (unwind.Catch g at) = Passed
+unwind_part (unwind.Handling e trace) = Passed
+unwind_part (unwind.Named name) = Passed
+unwind_part (unwind.Last g) = Passed
+unwind_part (unwind.Again e) = Passed
+
+abbrev pub module_part : ModuleFrame → Part
+module_part (loads.Load path at) = Ended
+module_part (loads.Import dotted n name) = Passed
+module_part (loads.From dotted n all) = Passed
+module_part (loads.Each m dotted all i n) = Passed
+
+abbrev pub part_of : Frame → Part
+part_of (on.Operand f) = Passed
+part_of (on.Chain f) = Passed
+part_of (on.Call f) = Passed
+part_of (on.Item f) = Passed
+part_of (on.Simple f) = simple_part f
+part_of (on.Target f) = Passed
+part_of (on.Flow f) = flow_part f
+part_of (on.Unwind f) = unwind_part f
+part_of (on.Define f) = Passed
+part_of (on.Module f) = module_part f
+part_of (on.Caller c) = Ended
+part_of (on.New v) = Ended
+
+-- what a `yield` is given is used on the line on which the body stopped
+abbrev pub placed : ℕ → Frame → Frame
+placed n (on.Simple (simple.Receive u line)) = on.Simple (simple.Receive u n)
+placed n f = f
+
+abbrev pub kept_in : Part → ℕ → Frame → List Frame → List Frame
+kept_in Kept n f below = placed n f ∷ below
+kept_in Passed n f below = below
+kept_in Ended n f below = []
+
+-- THE FRAMES THAT GO ON of a body that stopped on a line, the innermost first
+abbrev pub kept : ℕ → List Frame → List Frame
+kept n [] = []
+kept n (f ∷ fs) = kept_in (part_of f) n f (kept n fs)
+
+-- what follows a stack is what remains of another, whatever end it is given, and then a call by the runner ends
+abbrev pub GoesOn : List Frame → ℕ → List Frame → Type 0
+GoesOn rest line stack = (h : Here) (o : CoreOutcome) (w : CoreWorld)
+    → after rest h o ≡ remains (layers_of stack) (site (scene_in h.place h.around [] None) line) o (λ o. Done (call_end (start w) o))

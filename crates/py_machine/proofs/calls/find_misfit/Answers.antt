@@ -1,0 +1,16 @@
+use Rattle.std.proofs.Common.{Option}
+use Rattle.std.specs.Prelude.{slice_get}
+use Rattle.std.proofs.lemmas.Result.{IfOk-weaker}
+use Rattle.py_world.specs.Runs.{function_and, start}
+use Rattle.machine_state.specs.Frames.{world_of}
+use Rattle.py_machine.specs.declared.calls.Misfit.{Misfit}
+use Rattle.py_machine.specs.Begun.{Begins, FitsCall}
+use Rattle.py_machine.proofs.Beginning.{begins}
+use Rattle.py_machine.proofs.calls.find_misfit.Goals as goal
+
+pub returns-in-Ref : goal.returns-in-Ref
+returns-in-Ref c =
+    let m = c.args.m.now in
+    IfOk-weaker c.object_misfit.result (λ (x : Option Misfit). FitsCall x (function_and m.heap c.args.args.now (slice_get m.heap c.in-Ref.id.at)) m.codes.items)
+    (λ (x : Option Misfit). Begins x c.args.f c.args.args.now (start (world_of m)))
+    (λ x h. rw c.in-Ref.is (begins x c.in-Ref.id c.args.args.now (start (world_of m)) h)) c.object_misfit.ensures

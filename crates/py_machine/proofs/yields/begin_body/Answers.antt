@@ -1,0 +1,18 @@
+use Rattle.std.proofs.Common.{Ok}
+use Rattle.run_tree.specs.Todo.{Done}
+use Rattle.py_world.specs.Calls.{entered}
+use Rattle.py_world.specs.Outcome.{call_end}
+use Rattle.py_world.specs.Site.{no_call}
+use Rattle.core_meaning.specs.Statements.{entry}
+use Rattle.machine_state.specs.Places.{CoreOutcome}
+use Rattle.machine_state.specs.Frames.{state_of, world_of}
+use Rattle.machine_stmt.specs.Stops.{stopped}
+use Rattle.py_machine.specs.Yields.{told_begun}
+use Rattle.py_machine.proofs.Resumed.{begun_tells}
+use Rattle.py_machine.proofs.yields.begin_body.Goals as goal
+
+pub returns : goal.returns
+returns c =
+    let m = c.args.m.now in
+    begun_tells c.args.budget m.left (entered entry c.args.code (Ok c.args.names) no_call (state_of m) (λ (o : CoreOutcome). Done (call_end (state_of m) o)))
+    (stopped c.in_ok-stop.stop c.run_body.new.m) (told_begun c.in_ok-begun.begun) (world_of c.tell.new.m) c.requires.left c.in_ok-stop.ensures c.in_ok-begun.ensures

@@ -1,0 +1,19 @@
+-- What begins where the runner begins a value.
+use Rattle.std.specs.Prelude.{List, Ok}
+use Rattle.run_tree.specs.Todo.{Done}
+use Rattle.py_values.specs.declared.value.Value.{Value}
+use Rattle.py_world.specs.Calls.{entered}
+use Rattle.py_world.specs.Outcome.{raised, call_end}
+use Rattle.py_world.specs.Runs.{begun_by_runner}
+use Rattle.py_world.specs.Site.{no_call}
+use Rattle.core_meaning.specs.Meaning.{core}
+use Rattle.core_meaning.specs.Statements.{entry}
+use Rattle.machine_state.specs.Places.{CoreRest, CoreState}
+use Rattle.py_machine.specs.declared.openings.Opening.{Opening}
+use Rattle.py_machine.specs.declared.openings.Opening.TheVariants.{Body, Refused, Call}
+
+-- what is to be done then
+abbrev pub opening_rest : Opening → Value → List Value → CoreState → CoreRest
+opening_rest (Body code names) f args s = entered entry code (Ok names) no_call s (λ o. Done (call_end s o))
+opening_rest (Refused x) f args s = Done (raised x.raise x.trace s)
+opening_rest Call f args s = begun_by_runner core f args s

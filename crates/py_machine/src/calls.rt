@@ -1,0 +1,287 @@
+// Calls and loads by the runner.
+
+ghost use Rattle.std.specs.Prelude.{◌≡◌, ◌∷◌, [], IfOk, slice_get, Some};
+ghost use Rattle.py_world.specs.Runs as runs;
+ghost use Rattle.core_meaning.specs.Meaning.{core_call};
+ghost use Rattle.core_meaning.specs.Statements.{entry};
+ghost use Rattle.machine_state.specs.Places.{ends};
+ghost use Rattle.machine_state.specs.Frames.{world_of};
+ghost use Rattle.machine_stmt.specs.Stops.{stopped};
+ghost use Rattle.py_machine.specs.Begun.{Fits};
+
+use crate::end::finish;
+use machine_call::arguments::{arguments_for, with_first};
+use machine_call::call::invoke;
+use machine_state::arguments::CallArguments;
+use machine_state::locals::Locals;
+use machine_state::machine::{Entry, Machine, Origin, TurnEnd};
+use machine_state::stack::ControlStack;
+use machine_state::traces::copy_text;
+use machine_stmt::run::{Stop, enter, run};
+use py_text::OutOfMemory;
+use py_values::end::Raise;
+use py_values::object::{FunctionObj, MethodObj, Obj};
+use py_values::throw::throw;
+use py_values::value::{ObjId, Value};
+use py_world::{Ended, Outcome, Thrown, Trace, TraceFrame};
+use std::alloc::Global;
+
+/// The frame of a function, at its `def`.
+pub fn frame_of(alloc: Global, function: &FunctionObj) -> Result<Trace, OutOfMemory>
+    ensures { IfOk result (λ t. t ≡ site.frame function.now.path function.now.line function.now.name ∷ []) }
+{
+    let mut frames = Vec::new(alloc);
+    frames.push(TraceFrame {
+        path: copy_text(alloc, &function.path)?,
+        line: function.line,
+        name: copy_text(alloc, &function.name)?,
+    })?;
+    Ok(Trace::from_vec(frames))
+}
+
+ghost use Rattle.py_world.specs.Site as site;
+ghost use Rattle.py_world.specs.Site.{no_call};
+
+/// What is raised where a function's arguments don't fit, and where.
+#[derive(Drop)]
+pub struct Misfit {
+    pub raise: Raise,
+    pub trace: Trace,
+}
+
+/// Arguments by position.
+fn plain_arguments(alloc: Global, args: &[Value]) -> Result<CallArguments, OutOfMemory>
+    ensures { IfOk result (λ all. arguments_in all ≡ plain args.now) }
+{
+    let mut values = Vec::new(alloc);
+    values.extend_from_slice(args)?;
+    Ok(CallArguments::plain(alloc, values))
+}
+
+ghost use Rattle.machine_state.specs.Places.{arguments_in};
+
+/// What is raised where a function, whose code is there, can't be called with arguments.
+fn arguments_misfit(
+    alloc: Global,
+    function: &FunctionObj,
+    args: &[Value],
+) -> Result<Option<Misfit>, OutOfMemory>
+    ensures { IfOk result (λ x. FitsNames x (calls.arguments_for function.now (plain args.now)) (site.frame function.now.path function.now.line function.now.name ∷ [])) }
+{
+    let args = plain_arguments(alloc, args)?;
+    match arguments_for(alloc, function, &args)? {
+        Ok(_) => Ok(None),
+        Err(raise) => {
+            let trace = frame_of(alloc, function)?;
+            Ok(Some(Misfit { raise, trace }))
+        }
+    }
+}
+
+ghost use Rattle.py_machine.specs.Begun.{FitsNames};
+
+/// What is raised where a function can't be called with arguments.
+fn function_misfit(
+    m: &Machine,
+    function: &FunctionObj,
+    args: &[Value],
+) -> Result<Option<Misfit>, OutOfMemory>
+    ensures { IfOk result (λ x. Fits x (calls.arguments_for function.now (plain args.now)) (slice_get m.now.codes.items function.now.code) (site.frame function.now.path function.now.line function.now.name ∷ [])) }
+{
+    if m.codes.get(function.code).is_none() {
+        return Ok(None);
+    }
+    arguments_misfit(m.alloc, function, args)
+}
+
+/// What is raised where a method can't be called with arguments.
+fn method_misfit(
+    m: &Machine,
+    method: &MethodObj,
+    args: &[Value],
+) -> Result<Option<Misfit>, OutOfMemory>
+    ensures { IfOk result (λ x. FitsCall x (runs.with_args (method.now.receiver ∷ args.now) (calls.function_of_object (slice_get m.now.heap method.now.function.at))) m.now.codes.items) }
+{
+    match m.heap.get(method.function) {
+        Some(Obj::Function(function)) => {
+            let all = with_first(m.alloc, method.receiver, args)?;
+            function_misfit(m, function, &all)
+        }
+        Some(
+            Obj::Text(_)
+            | Obj::List(_)
+            | Obj::Tuple(_)
+            | Obj::Dict(_)
+            | Obj::Range(_)
+            | Obj::Method(_)
+            | Obj::Builtin(_)
+            | Obj::Class(_)
+            | Obj::Instance(_)
+            | Obj::Exception(_)
+            | Obj::Module(_)
+            | Obj::Fixture(_)
+            | Obj::MarkMaker
+            | Obj::Mark(_)
+            | Obj::Hook(_)
+            | Obj::Param(_)
+            | Obj::Request(_)
+            | Obj::Raises(_)
+            | Obj::Info(_)
+            | Obj::Item(_),
+        )
+        | None => Ok(None),
+    }
+}
+
+ghost use Rattle.py_machine.specs.Begun.{FitsCall};
+
+/// What is raised where the function or the method at a place can't be called with arguments.
+fn object_misfit(m: &Machine, id: ObjId, args: &[Value]) -> Result<Option<Misfit>, OutOfMemory>
+    ensures { IfOk result (λ x. FitsCall x (runs.function_and m.now.heap args.now (slice_get m.now.heap id.at)) m.now.codes.items) }
+{
+    match m.heap.get(id) {
+        Some(Obj::Function(function)) => function_misfit(m, function, args),
+        Some(Obj::Method(method)) => method_misfit(m, method, args),
+        Some(
+            Obj::Text(_)
+            | Obj::List(_)
+            | Obj::Tuple(_)
+            | Obj::Dict(_)
+            | Obj::Range(_)
+            | Obj::Builtin(_)
+            | Obj::Class(_)
+            | Obj::Instance(_)
+            | Obj::Exception(_)
+            | Obj::Module(_)
+            | Obj::Fixture(_)
+            | Obj::MarkMaker
+            | Obj::Mark(_)
+            | Obj::Hook(_)
+            | Obj::Param(_)
+            | Obj::Request(_)
+            | Obj::Raises(_)
+            | Obj::Info(_)
+            | Obj::Item(_),
+        )
+        | None => Ok(None),
+    }
+}
+
+/// What is raised where the arguments of a call by the runner don't fit.
+pub fn find_misfit(m: &Machine, f: Value, args: &[Value]) -> Result<Option<Misfit>, OutOfMemory>
+    ensures { IfOk result (λ x. Begins x f args.now (runs.start (world_of m.now))) }
+{
+    match f {
+        Value::Ref(id) => object_misfit(m, id, args),
+        Value::None | Value::Bool(_) | Value::Int(_) => Ok(None),
+    }
+}
+
+ghost use Rattle.py_machine.specs.Begun.{Begins};
+
+/// Nothing is open, and no name is bound.
+pub fn reset(m: &mut Machine, budget: u64)
+    ensures state { state_of m.new ≡ runs.start (world_of m.old) }
+    ensures world { world_of m.new ≡ world_of m.old }
+    ensures locals { m.new.locals ≡ [] }
+    ensures temps { m.new.temps.items ≡ [] }
+    ensures stack { m.new.stack ≡ [] }
+    ensures left { m.new.left ≡ budget }
+{
+    m.stack = ControlStack::new(m.alloc);
+    m.locals = Locals::new(m.alloc);
+    m.temps = Vec::new(m.alloc);
+    m.left = budget;
+}
+
+ghost use Rattle.machine_state.specs.Frames.{ending, state_of, todo};
+
+/// Enters a body, and goes on until the run stops. Each body that is entered has a frame that waits for its end, so that memory is used
+/// up long before the count of entries is.
+fn run_entry(m: &mut Machine, entry: Entry) -> Result<Stop, OutOfMemory>
+    ensures { IfOk result (λ stop. ends m.old.left (todo_entry entry m.old) ≡ stopped stop m.new) }
+{
+    let mut entry = entry;
+    for _ in 0..u64::MAX {
+        match enter(m, entry)? {
+            TurnEnd::Go(doing) => return run(m, doing),
+            TurnEnd::Enter(next) => entry = next,
+            TurnEnd::Over(end) => return Ok(Stop::Over(end)),
+            TurnEnd::Exhausted(trace) => return Ok(Stop::Exhausted(trace)),
+            TurnEnd::Frozen(v) => return Ok(Stop::Frozen(v)),
+        }
+    }
+    Err(OutOfMemory)
+}
+
+ghost use Rattle.machine_state.specs.Frames.{todo_entry};
+
+/// Goes on until the run stops.
+fn go_on(m: &mut Machine, turned: TurnEnd) -> Result<Stop, OutOfMemory>
+    ensures { IfOk result (λ stop. ending turned m.old ≡ stopped stop m.new) }
+{
+    match turned {
+        TurnEnd::Go(doing) => run(m, doing),
+        TurnEnd::Enter(entry) => run_entry(m, entry),
+        TurnEnd::Over(end) => Ok(Stop::Over(end)),
+        TurnEnd::Exhausted(trace) => Ok(Stop::Exhausted(trace)),
+        TurnEnd::Frozen(v) => Ok(Stop::Frozen(v)),
+    }
+}
+
+/// Raises what is raised where the arguments don't fit.
+pub fn refuse(m: &mut Machine, misfit: Misfit) -> Result<Ended, OutOfMemory>
+    ensures { IfOk result (λ e. runs.ended_by (raised misfit.raise misfit.trace (state_of m.old)) 0 ≡ (e, world_of m.new)) }
+{
+    let Misfit { raise, trace } = misfit;
+    let exc = throw(m.alloc, &mut m.heap, raise)?;
+    Ok(Ended {
+        out: Outcome::Raised(Thrown { exc, trace }),
+        steps: 0,
+    })
+}
+
+ghost use Rattle.py_world.specs.Outcome.{raised};
+
+/// Runs a call where nothing is open.
+pub fn run_call(m: &mut Machine, f: Value, args: &[Value]) -> Result<Stop, OutOfMemory>
+    requires { m.old.stack ≡ [] }
+    ensures { IfOk result (λ stop. ends m.old.left (calls.invoke entry f (plain args.now) no_call (state_of m.old) (λ o. Done (call_end (state_of m.old) o))) ≡ stopped stop m.new) }
+{
+    let args = plain_arguments(m.alloc, args)?;
+    let turned = invoke(m, f, &args, Origin::Runner)?;
+    let stop = go_on(m, turned)?;
+    Ok(stop)
+}
+
+/// Calls what the arguments fit, where nothing is open.
+fn call_fitting(
+    m: &mut Machine,
+    f: Value,
+    args: &[Value],
+    budget: u64,
+) -> Result<Ended, OutOfMemory>
+    requires stack { m.old.stack ≡ [] }
+    requires left { m.old.left ≡ budget }
+    ensures { IfOk result (λ e. runs.told_by budget (ends budget (calls.invoke entry f (plain args.now) no_call (state_of m.old) (λ o. Done (call_end (state_of m.old) o)))) ≡ (e, world_of m.new)) }
+{
+    let stop = run_call(m, f, args)?;
+    let ended = finish(m, stop, budget)?;
+    Ok(ended)
+}
+
+ghost use Rattle.run_tree.specs.Todo.{Done};
+ghost use Rattle.py_world.specs.Calls as calls;
+ghost use Rattle.py_world.specs.Outcome.{call_end};
+ghost use Rattle.py_world.specs.Arguments.{plain};
+
+/// A call by the runner.
+pub fn call(m: &mut Machine, f: Value, args: &[Value], budget: u64) -> Result<Ended, OutOfMemory>
+    ensures { IfOk result (λ e. core_call f args.now budget (world_of m.old) ≡ (e, world_of m.new)) }
+{
+    reset(m, budget);
+    match find_misfit(m, f, args)? {
+        Some(misfit) => refuse(m, misfit),
+        None => call_fitting(m, f, args, budget),
+    }
+}

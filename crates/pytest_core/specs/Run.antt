@@ -1,0 +1,70 @@
+-- What a run on one thread gives.
+use Rattle.std.specs.Prelude.{◌≡◌, ℕ, List, [], ◌∷◌, None, map}
+use Rattle.cli_words.specs.declared.options.Options.{Options}
+use Rattle.collect_items.specs.declared.found.FoundSuite.{FoundSuite}
+use Rattle.collect_tree.specs.Collection.{item_numbered, selected_by}
+use Rattle.file_source.specs.Sources.{HoldsSource}
+use Rattle.fixture_world.specs.Items.{item_of}
+use Rattle.report_parts.specs.declared.report.CollectReport.{CollectReport}
+use Rattle.report_rules.specs.Collected.{Collected, SelectedItem}
+use Rattle.report_rules.specs.Fits.{chosen_item}
+use Rattle.report_rules.specs.Items.{item_report}
+use Rattle.report_rules.specs.Report as rules
+use Rattle.report_rules.specs.Rows.{ran, rows_of, task}
+use Rattle.run_items.specs.Stands.{plan_fixture, plan_rules, planned}
+use Rattle.run_items.specs.declared.plan.Plan.{Plan}
+use Rattle.runtest_loop.specs.Course.{chosen_in}
+use Rattle.runtest_loop.specs.Fed.{numbers_at}
+use Rattle.runtest_rules.specs.Language.{python}
+use Rattle.runtest_rules.specs.Rules.{rules as tests}
+use Rattle.session_rules.specs.Fits.{Distinct}
+use Rattle.session_rules.specs.Session.{has_stopped}
+use Rattle.session_rules.specs.World.{Item}
+use Rattle.source_meaning.specs.Meaning.{SourceWorld}
+use Rattle.test_suite.specs.declared.suite.Suite.{Suite}
+use Rattle.pytest_core.specs.Profile.{profile}
+use Rattle.pytest_core.specs.declared.session.RunAnswer.{RunAnswer}
+
+-- what was collected: the items of a suite with these numbers, in files at these places
+abbrev pub collected_of : FoundSuite → List ℕ → List ℕ → ℕ → List CollectReport → SourceWorld → Collected python Suite
+collected_of found places numbers deselected errors w = record {
+  table = found.suite;
+  world = w;
+  selected = map (selected_by found places) numbers;
+  deselected = deselected;
+  errors = errors;
+}
+
+-- what a session knows of the items with these numbers
+abbrev pub items_known : FoundSuite → List ℕ → List Item
+items_known found numbers = map (λ n. item_of found.table (item_numbered found.suite n)) numbers
+
+-- no two of them are one
+abbrev pub AreApart : FoundSuite → List ℕ → Type 0
+AreApart found numbers = Distinct (items_known found numbers)
+
+-- the reports of a run of these items, and whether it stopped early, are those of the report, whatever the places of the files and the
+-- number of the items that are not run
+pub record IsRunAnswer (options : Options) (found : FoundSuite) (numbers : List ℕ) (errors : List CollectReport) (w : SourceWorld) (answer : RunAnswer) : Type 0 where
+  pub reports : (places : List ℕ) (deselected : ℕ) → answer.reports.items ≡ rules.reports_told HoldsSource profile options (collected_of found places numbers deselected errors w) []
+  pub stopped : (places : List ℕ) (deselected : ℕ) → answer.stopped ≡ rules.stopped (tests options found.suite) options (collected_of found places numbers deselected errors w)
+
+-- what the run of found items depends on: their suite, its table and the limit of steps
+abbrev pub plan_by : Options → FoundSuite → Plan
+plan_by options found = record { run = record { limit = options.step_limit; suite = found.suite }; table = found.table }
+
+-- the answer of a run by a plan: the reports of its session, and whether that stopped early
+pub record IsRunOf (plan : Plan) (options : Options) (chosen : List SelectedItem) (w : SourceWorld) (answer : RunAnswer) : Type 0 where
+  pub reports : map (item_report options (plan_rules plan).scope (plan_fixture plan)) (rows_of (plan_rules plan) w options.maxfail (map (task None) chosen)) ≡ answer.reports.items
+  pub stopped : has_stopped options.maxfail (ran (plan_rules plan) w options.maxfail (map (task None) chosen)) ≡ answer.stopped
+
+-- the items of the first group
+abbrev pub chosen_first : Plan → List (List ℕ) → List SelectedItem
+chosen_first plan groups = chosen_in (planned plan) plan.run.suite.items (numbers_at groups 0)
+
+unfoldable pub RunsFirst : Plan → Options → List (List ℕ) → SourceWorld → RunAnswer → Type 0
+RunsFirst plan options groups w answer = Distinct (map chosen_item (chosen_first plan groups)) → IsRunOf plan options (chosen_first plan groups) w answer
+
+-- the only group
+abbrev pub IsOneGroup : List (List ℕ) → Type 0
+IsOneGroup groups = groups ≡ numbers_at groups 0 ∷ []

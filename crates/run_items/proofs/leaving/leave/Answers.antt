@@ -1,0 +1,19 @@
+use Rattle.std.proofs.Common.{ℕ, ◌∙◌, ap, subst, sym, List, Option}
+use Rattle.std.specs.Prelude.{option_map}
+use Rattle.item_stack.specs.Leaving.{IsNext, chain_for, left_for}
+use Rattle.run_items.proofs.Doings.{next_chain, next_stands}
+use Rattle.run_items.specs.Stands.{plan_rules, stand_state}
+use Rattle.run_items.proofs.leaving.leave.Goals as goal
+
+pub leave-requires-clause-tree : goal.leave-requires-clause-tree
+leave-requires-clause-tree c = c.requires.plan.tree
+
+pub leave-requires-clause-next : goal.leave-requires-clause-next
+leave-requires-clause-next c =
+    subst (λ (o : Option ℕ). IsNext c.args.plan.now.table o) (sym c.node_of-node.ensures) (next_stands c.args.plan.now (option_map (λ item. item.now) c.args.next) c.requires.next)
+
+pub returns : goal.returns
+returns c =
+    let plan = c.args.plan.now in
+    c.in_ok-raised.ensures
+    ∙ ap (λ (chain : List ℕ). left_for (plan_rules plan) chain (stand_state c.args.stand.now)) (ap (λ (o : Option ℕ). chain_for plan.table o) c.node_of-node.ensures ∙ next_chain plan (option_map (λ item. item.now) c.args.next))

@@ -1,0 +1,7 @@
+use Rattle.run_items.proofs.staging.StandStage.set_up.Goals as goal
+
+pub returns-clause-state : goal.returns-clause-state
+returns-clause-state c = c.in_ok-raised.ensures
+
+pub returns-clause-here : goal.returns-clause-here
+returns-clause-here c = c.requires.here

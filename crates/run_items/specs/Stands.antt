@@ -1,0 +1,49 @@
+-- Where a session over sources runs: a world, and what is set up in it.
+use Rattle.std.specs.Prelude.{◌≡◌, ℕ, ◌<◌, [], Option, Some, None, length}
+use Rattle.fixture_table.specs.Tree.{IsTree}
+use Rattle.fixture_world.specs.Items.{item_of, selected_item}
+use Rattle.item_stack.specs.States.{item_state}
+use Rattle.report_rules.specs.Collected.{FixtureTexts, SelectedItem}
+use Rattle.run_items.specs.Texts.{fixture_texts}
+use Rattle.run_items.specs.declared.plan.Plan.{Plan}
+use Rattle.run_items.specs.declared.stand.Stand.{Stand}
+use Rattle.runtest_rules.specs.Language.{python}
+use Rattle.runtest_rules.specs.Rules.{rules_within}
+use Rattle.session_rules.specs.Fits.{Fits}
+use Rattle.session_rules.specs.Teardown.{State}
+use Rattle.session_rules.specs.World.{Rules}
+use Rattle.setup_stack.specs.Scopes.{HasScopes}
+use Rattle.test_suite.specs.Suites.{item_at}
+use Rattle.test_suite.specs.declared.item.Item.{Item}
+
+-- the rules of a plan
+abbrev pub plan_rules : Plan → Rules python
+plan_rules plan = rules_within plan.run.limit plan.run.suite
+
+abbrev pub plan_fixture : Plan → ℕ → FixtureTexts
+plan_fixture plan d = fixture_texts plan.run.suite d
+
+-- THE STATE of the session that runs there; the rules aren't looked at
+abbrev pub stand_state : Stand → State python
+stand_state stand = item_state (rules_within 0 (record { items = []; fixtures = []; outer = 0 })) stand.world stand.stack
+
+-- an item of a plan, as a session and a report know it; the number of its file isn't looked at on one thread
+abbrev pub planned : Plan → Item → SelectedItem
+planned plan item = selected_item plan.table 0 item
+
+-- the table is one of the suite: it has the suite's fixtures with their scopes
+pub record IsPlan (plan : Plan) : Type 0 where
+  pub tree : IsTree plan.table.nodes
+  pub many : length plan.table.defs ≡ length plan.run.suite.fixtures
+  pub scopes : HasScopes (plan_rules plan) plan.table
+
+-- the plan speaks of an item: its node stands in the table, the suite has it there, and its closure fits
+pub record IsPlannedItem (plan : Plan) (item : Item) : Type 0 where
+  pub node : item.node < length plan.table.nodes
+  pub found : item_at plan.run.suite item.node ≡ item
+  pub fits : Fits (plan_rules plan) (item_of plan.table item)
+
+-- the node of an item, where there is one
+abbrev pub node_of : Option Item → Option ℕ
+node_of None = None
+node_of (Some item) = Some item.node

@@ -1,0 +1,120 @@
+// What is done in the world of a run, by the rules of sources.
+
+ghost use Rattle.std.specs.Prelude.{◌≡◌, IfOk};
+ghost use Rattle.fixture_calls.specs.Asking.{test_request};
+ghost use Rattle.fixture_calls.specs.Calls.{test_called};
+ghost use Rattle.report_rules.specs.Collected.{ends_badly};
+ghost use Rattle.runtest_rules.specs.Failures as failures;
+ghost use Rattle.runtest_rules.specs.Objects as objects;
+ghost use Rattle.runtest_rules.specs.Phases as phases;
+ghost use Rattle.session_rules.specs.World.{Teardown};
+
+use fixture_calls::Failure;
+use fixture_world::RunWorld;
+use py_values::value::Value;
+use report_parts::Phase;
+use runtest_rules::Ending;
+use seq::OutOfMemory;
+use std::alloc::Global;
+use test_suite::Item;
+
+/// Where a world takes memory.
+pub(crate) fn memory(world: &RunWorld) -> Global {
+    world.alloc
+}
+
+/// A new instance of an item's class, where it has one.
+pub(crate) fn make_instance(world: &mut RunWorld, item: &Item) -> Result<Option<Value>, OutOfMemory>
+    ensures { IfOk result (λ own. (own, world.new) ≡ objects.instance_made item.now world.old) }
+{
+    let own = runtest_rules::make_instance(&mut world.world, item)?;
+    Ok(own)
+}
+
+/// The object that hooks get for an item.
+pub(crate) fn make_item(world: &mut RunWorld, item: &Item) -> Result<Value, OutOfMemory>
+    ensures { IfOk result (λ object. (object, world.new) ≡ objects.object_made item.now world.old) }
+{
+    let object = runtest_rules::make_item(world.alloc, &mut world.world, item)?;
+    Ok(object)
+}
+
+/// The skip of an item, where its marks say so.
+pub(crate) fn skip(world: &mut RunWorld, item: &Item) -> Result<Option<Failure>, OutOfMemory>
+    ensures { IfOk result (λ failure. (failure, world.new) ≡ failures.skipped item.now world.old) }
+{
+    let failure = runtest_rules::skip(world.alloc, &mut world.world, item)?;
+    Ok(failure)
+}
+
+/// The fault of an item's fixtures.
+pub(crate) fn fixture_fault(world: &mut RunWorld, item: &Item) -> Result<Failure, OutOfMemory>
+    ensures { IfOk result (λ failure. (failure, world.new) ≡ failures.fixture_fault item.now world.old) }
+{
+    let failure = runtest_rules::fixture_fault(world.alloc, &mut world.world, item)?;
+    Ok(failure)
+}
+
+/// The exception of a test without a value for one of its arguments.
+pub(crate) fn wrong_arguments(world: &mut RunWorld, item: &Item) -> Result<Failure, OutOfMemory>
+    ensures { IfOk result (λ failure. (failure, world.new) ≡ failures.wrong_arguments item.now world.old) }
+{
+    let failure = runtest_rules::wrong_arguments(world.alloc, &mut world.world, item)?;
+    Ok(failure)
+}
+
+/// The `request` of a test, where it takes one.
+pub(crate) fn ask_test(world: &mut RunWorld, item: &Item) -> Result<Option<Value>, OutOfMemory>
+    ensures { IfOk result (λ request. (request, world.new) ≡ test_request item.now world.old) }
+{
+    let request = fixture_calls::ask_test(world.alloc, &mut world.world, item)?;
+    Ok(request)
+}
+
+/// Calls an item's test with the instance of its class, these values and this `request`: why it failed, if it did.
+pub(crate) fn call_test(
+    world: &mut RunWorld,
+    item: &Item,
+    own: Option<Value>,
+    values: &[Value],
+    request: Option<Value>,
+    limit: u64,
+) -> Result<Option<Failure>, OutOfMemory>
+    ensures { IfOk result (λ failure. (failure, world.new) ≡ test_called limit item.now own values.now request world.old) }
+{
+    let failure = fixture_calls::call_test(
+        world.alloc,
+        &mut world.world,
+        item,
+        own,
+        values,
+        request,
+        limit,
+    )?;
+    Ok(failure)
+}
+
+/// Ends a phase of an item that raised these.
+pub(crate) fn end_phase(
+    world: &mut RunWorld,
+    phase: Phase,
+    item: &Item,
+    raised: &[Failure],
+) -> Result<Ending, OutOfMemory>
+    ensures { IfOk result (λ ending. (ending, world.new) ≡ phases.phase_ended (phases.phase_of phase) item.now raised.now world.old) }
+{
+    let ending = runtest_rules::end_phase(world.alloc, &mut world.world, phase, item, raised)?;
+    Ok(ending)
+}
+
+/// Whether a teardown that raised these is an error.
+pub(crate) fn fails_in_teardown(
+    world: &RunWorld,
+    item: &Item,
+    raised: &[Failure],
+) -> Result<bool, OutOfMemory>
+    ensures { IfOk result (λ error. error ≡ ends_badly Teardown (phases.phase_ended Teardown item.now raised.now world.now).0) }
+{
+    let error = runtest_rules::fails_in_teardown(world.alloc, &world.world, item, raised)?;
+    Ok(error)
+}

@@ -1,0 +1,63 @@
+// The teardown of an item.
+
+ghost use Rattle.std.specs.Prelude.{◌≡◌, [], IfOk, option_map};
+ghost use Rattle.fixture_sessions.specs.FixtureSession.{fixture_leave};
+ghost use Rattle.run_items.specs.Stands.{IsPlan, IsPlannedItem, node_of, plan_rules, planned, stand_state};
+ghost use Rattle.runtest_loop.specs.Stages.{IsKnown, session_item};
+ghost use Rattle.session_rules.specs.Teardown.{down_all, step};
+
+use crate::acts::memory;
+use crate::plan::Plan;
+use crate::stand::Stand;
+use fixture_calls::Failure;
+use seq::{OutOfMemory, Seq};
+use test_suite::Item;
+
+fn node_of(next: Option<&Item>) -> Option<u32>
+    ensures { result ≡ node_of (option_map (λ item. item.now) next.entry) }
+{
+    match next {
+        Some(next) => Some(next.node),
+        None => None,
+    }
+}
+
+/// Calls the finalizers of the test's own `request`, and takes down what isn't for the next item.
+pub(crate) fn leave(
+    stand: &mut Stand,
+    plan: &Plan,
+    next: Option<&Item>,
+) -> Result<Seq<Failure>, OutOfMemory>
+    requires plan { IsPlan plan.now }
+    requires next { IsKnown (IsPlannedItem plan.now) (option_map (λ item. item.now) next) }
+    ensures { IfOk result (λ raised. step raised (stand_state stand.new) ≡ fixture_leave (plan_rules plan.now) (session_item (planned plan.now) (option_map (λ item. item.now) next.entry)) (stand_state stand.old)) }
+{
+    let alloc = memory(&stand.world);
+    let node = node_of(next);
+    let raised = item_stack::leave(
+        alloc,
+        &mut stand.stack,
+        &mut stand.world,
+        &plan.run,
+        &plan.table,
+        node,
+    )?;
+    Ok(raised)
+}
+
+/// Takes down all that lives, where no item is at hand.
+pub(crate) fn all_down(stand: &mut Stand, plan: &Plan) -> Result<Seq<Failure>, OutOfMemory>
+    requires plan { IsPlan plan.now }
+    requires left { (stand_state stand.old).given ≡ [] }
+    ensures { IfOk result (λ raised. step raised (stand_state stand.new) ≡ down_all (plan_rules plan.now) (stand_state stand.old).live (stand_state stand.old)) }
+{
+    let alloc = memory(&stand.world);
+    let raised = item_stack::all_down(
+        alloc,
+        &mut stand.stack,
+        &mut stand.world,
+        &plan.run,
+        &plan.table,
+    )?;
+    Ok(raised)
+}

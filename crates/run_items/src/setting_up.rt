@@ -1,0 +1,94 @@
+// The set-up of an item.
+
+ghost use Rattle.std.specs.Prelude.{◌≡◌, IfOk, None, Some};
+ghost use Rattle.fixture_sessions.specs.FixtureSession.{fixture_set_up};
+ghost use Rattle.fixture_world.specs.Items.{closure_of, item_of};
+ghost use Rattle.run_items.specs.Stands.{IsPlan, IsPlannedItem, plan_rules, stand_state};
+ghost use Rattle.session_rules.specs.Session.{demand_closure, set_up_item};
+ghost use Rattle.session_rules.specs.Teardown.{step};
+
+use crate::acts::{fixture_fault, memory, skip};
+use crate::plan::Plan;
+use crate::raised::one;
+use crate::stand::Stand;
+use fixture_calls::Failure;
+use item_stack::demand_all;
+use seq::{OutOfMemory, Seq};
+use session_types::DefId;
+use test_suite::{Item, ItemClosure};
+
+/// Demands the definitions of an item's closure in order, up to the first fault.
+fn demand(
+    stand: &mut Stand,
+    plan: &Plan,
+    item: &Item,
+    defs: &[DefId],
+) -> Result<Seq<Failure>, OutOfMemory>
+    requires plan { IsPlan plan.now }
+    requires item { IsPlannedItem plan.now item.now }
+    requires closure { closure_of item.now.closure ≡ Some defs.now }
+    ensures { IfOk result (λ raised. step raised (stand_state stand.new) ≡ demand_closure (plan_rules plan.now) (item_of plan.now.table item.now) defs.now (stand_state stand.old)) }
+{
+    let alloc = memory(&stand.world);
+    let raised = demand_all(
+        alloc,
+        &mut stand.stack,
+        &mut stand.world,
+        &plan.run,
+        &plan.table,
+        item.node,
+        defs,
+    )?;
+    Ok(raised)
+}
+
+/// Raises the fault of an item's closure.
+fn fault(stand: &mut Stand, plan: &Plan, item: &Item) -> Result<Seq<Failure>, OutOfMemory>
+    requires item { IsPlannedItem plan.now item.now }
+    requires closure { closure_of item.now.closure ≡ None }
+    ensures { IfOk result (λ raised. step raised (stand_state stand.new) ≡ set_up_item (plan_rules plan.now) (item_of plan.now.table item.now) (stand_state stand.old)) }
+{
+    let failure = fixture_fault(&mut stand.world, item)?;
+    let raised = one(memory(&stand.world), failure)?;
+    Ok(raised)
+}
+
+fn demand_or_fault(stand: &mut Stand, plan: &Plan, item: &Item) -> Result<Seq<Failure>, OutOfMemory>
+    requires plan { IsPlan plan.now }
+    requires item { IsPlannedItem plan.now item.now }
+    ensures { IfOk result (λ raised. step raised (stand_state stand.new) ≡ set_up_item (plan_rules plan.now) (item_of plan.now.table item.now) (stand_state stand.old)) }
+{
+    match &item.closure {
+        ItemClosure::Whole(defs) => {
+            let raised = demand(stand, plan, item, defs.items())?;
+            Ok(raised)
+        }
+        ItemClosure::Fault(_) => {
+            let raised = fault(stand, plan, item)?;
+            Ok(raised)
+        }
+    }
+}
+
+/// Skips an item, or demands its closure, or raises its fault.
+pub(crate) fn set_up(
+    stand: &mut Stand,
+    plan: &Plan,
+    item: &Item,
+) -> Result<Seq<Failure>, OutOfMemory>
+    requires plan { IsPlan plan.now }
+    requires item { IsPlannedItem plan.now item.now }
+    ensures { IfOk result (λ raised. step raised (stand_state stand.new) ≡ fixture_set_up (plan_rules plan.now) (item_of plan.now.table item.now) (stand_state stand.old)) }
+{
+    let skipped = skip(&mut stand.world, item)?;
+    match skipped {
+        Some(failure) => {
+            let raised = one(memory(&stand.world), failure)?;
+            Ok(raised)
+        }
+        None => {
+            let raised = demand_or_fault(stand, plan, item)?;
+            Ok(raised)
+        }
+    }
+}

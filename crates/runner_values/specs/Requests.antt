@@ -1,0 +1,53 @@
+-- What becomes of a `request`: it is closed, and its finalizers are taken, the latest first (pytest's reference, `FixtureRequest`). Another
+-- value is none: it stays as it is, and has no finalizers.
+use Rattle.std.specs.Prelude.{ℕ, ◌-◌, true, List, [], length, slice_get, remove, Option, Some, None}
+use Rattle.py_values.specs.Changes.{changed}
+use Rattle.py_values.specs.declared.object.Obj.{Obj}
+use Rattle.py_values.specs.declared.object.Obj.TheVariants as obj
+use Rattle.py_values.specs.declared.object.RequestObj.{RequestObj}
+use Rattle.py_values.specs.declared.value.Value.{Value}
+use Rattle.py_values.specs.declared.value.Value.TheVariants as val
+
+-- an object with another request in its place, where it is one
+abbrev pub with_request : (RequestObj → RequestObj) → Obj → Obj
+with_request f (obj.Request r) = obj.Request (f r)
+with_request f o = o
+
+-- the heap with a value's request changed, where it is one
+abbrev pub request_changed : (RequestObj → RequestObj) → Value → List Obj → List Obj
+request_changed f (val.Ref id) heap = changed (with_request f) id.at heap (slice_get heap id.at)
+request_changed f val.None heap = heap
+request_changed f (val.Bool b) heap = heap
+request_changed f (val.Int n) heap = heap
+
+-- A REQUEST IS CLOSED: every later `addfinalizer` on it raises
+abbrev pub closing : RequestObj → RequestObj
+closing r = record r { closed = true }
+
+abbrev pub request_closed : Value → List Obj → List Obj
+request_closed request heap = request_changed closing request heap
+
+-- the finalizers of a request, in the order in which they were added
+abbrev pub finalizers_in : Option Obj → List Value
+finalizers_in (Some (obj.Request r)) = r.finalizers
+finalizers_in _ = []
+
+abbrev pub finalizers_of : Value → List Obj → List Value
+finalizers_of (val.Ref id) heap = finalizers_in (slice_get heap id.at)
+finalizers_of val.None heap = []
+finalizers_of (val.Bool b) heap = []
+finalizers_of (val.Int n) heap = []
+
+-- the latest of some finalizers, and those before it
+abbrev pub latest_finalizer : List Value → Option Value
+latest_finalizer fs = slice_get fs (length fs - 1)
+
+abbrev pub earlier_finalizers : List Value → List Value
+earlier_finalizers fs = remove fs (length fs - 1)
+
+abbrev pub without_latest : RequestObj → RequestObj
+without_latest r = record r { finalizers = earlier_finalizers r.finalizers }
+
+-- ITS LATEST FINALIZER, and the heap without it
+abbrev pub finalizer_taken : Value → List Obj → Option Value × List Obj
+finalizer_taken request heap = (latest_finalizer (finalizers_of request heap), request_changed without_latest request heap)

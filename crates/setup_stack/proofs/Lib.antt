@@ -1,0 +1,14 @@
+pub mod States
+pub mod Downs
+pub mod Givens
+pub mod Births
+pub mod Begins
+pub mod Finds
+pub mod Settles
+pub mod Turns
+pub mod Requests
+pub mod Passing
+pub mod Ready
+pub mod Marked
+pub mod Stands
+pub mod Demands

@@ -1,0 +1,10 @@
+use Rattle.std.proofs.Common.{◌≡◌, [], drop}
+use Rattle.fixture_table.specs.Marks.{Marks}
+use Rattle.setup_stack.specs.Grants.{bases_of}
+use Rattle.setup_stack.proofs.lists.bases_by_marks.Given as goal
+
+abbrev pub invariant-loop-one : goal.invariant-loop-one
+invariant-loop-one g l = record {
+  same : bases_of (drop l.one-index l.given) l.out ≡ bases_of l.given [];
+  marks : Marks l.marks.items l.out;
+}

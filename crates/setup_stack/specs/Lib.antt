@@ -1,0 +1,9 @@
+pub mod Grants
+pub mod Views
+pub mod Making
+pub mod Borne
+pub mod Asking
+pub mod Scopes
+pub mod Standing
+pub mod SetUps
+pub mod Passing
