@@ -75,7 +75,7 @@ fn word_at(ops: &[CmpOp], at: usize) -> &'static str
 }
 
 /// The word between operands that are evaluated until one of them decides.
-#[derive(Clone, Copy, Debug, PartialEq, Eq)]
+#[derive(Clone, Copy, PartialEq, Eq)]
 pub enum Joint {
     And,
     Or,

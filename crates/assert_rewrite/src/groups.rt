@@ -5,7 +5,7 @@ use py_tree::{ExprKind, StmtKind};
 
 /// A group of forms of expressions: without parts, with one operator, with a first part and a row of others, and displays and what is
 /// read of an object.
-#[derive(Clone, Copy, Debug, PartialEq, Eq)]
+#[derive(Clone, Copy, PartialEq, Eq)]
 pub enum ExprGroup {
     Leaf,
     Operator,
@@ -44,7 +44,7 @@ pub fn expr_group(kind: &ExprKind) -> ExprGroup
 
 /// A group of forms of a condition that is explained: those whose value alone is shown; those with one operator and those with a row
 /// of operands, which are shown by their parts; and calls and attributes, which are shown by their value and their parts.
-#[derive(Clone, Copy, Debug, PartialEq, Eq)]
+#[derive(Clone, Copy, PartialEq, Eq)]
 pub enum WatchGroup {
     Whole,
     Between,
@@ -78,7 +78,7 @@ pub fn watch_group(kind: &ExprKind) -> WatchGroup
 
 /// A group of forms of statements: simple ones, of these those that are made of names alone and those with a `yield`, and compound
 /// ones.
-#[derive(Clone, Copy, Debug, PartialEq, Eq)]
+#[derive(Clone, Copy, PartialEq, Eq)]
 pub enum StmtGroup {
     Simple,
     Naming,

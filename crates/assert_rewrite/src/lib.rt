@@ -17,7 +17,7 @@
 //!
 //! # What tests alone show
 //!
-//! That core code comes where there is memory.
+//! That core code comes where there is memory (`rewrite_tests`).
 //!
 //! # What neither shows
 //!
@@ -31,8 +31,6 @@ mod parameters;
 mod simple;
 mod statements;
 mod targets;
-#[cfg(test)]
-mod tests;
 mod watched;
 mod yields;
 

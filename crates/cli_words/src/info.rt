@@ -4,7 +4,7 @@ ghost use Rattle.cli_words.specs.Info.{help_text};
 use std::fmt;
 
 /// A text that words may ask for in place of a run.
-#[derive(Clone, Copy, Debug, PartialEq, Eq)]
+#[derive(Clone, Copy, PartialEq, Eq)]
 pub enum Info {
     /// `--help`: what the program does, its options, its statuses.
     Help,
@@ -13,7 +13,7 @@ pub enum Info {
 }
 
 /// What is told before anything is run.
-#[derive(Clone, Copy, Debug, PartialEq, Eq)]
+#[derive(Clone, Copy, PartialEq, Eq)]
 pub enum Notice {
     Fault,
     Asked(Info),

@@ -9,7 +9,7 @@ use seq::OutOfMemory;
 use std::alloc::Global;
 
 /// How much a report tells of each failure: `--tb` of pytest's command line.
-#[derive(Clone, Copy, Debug, PartialEq, Eq)]
+#[derive(Clone, Copy, PartialEq, Eq)]
 pub enum Tb {
     Short,
     Line,
@@ -17,14 +17,13 @@ pub enum Tb {
 }
 
 /// How items are shared among workers: `--dist` of pytest-xdist's command line.
-#[derive(Clone, Copy, Debug, PartialEq, Eq)]
+#[derive(Clone, Copy, PartialEq, Eq)]
 pub enum Dist {
     LoadFile,
     No,
 }
 
 /// What a list of words asks for.
-#[derive(Debug, Drop)]
 pub struct Options {
     /// The words that are no options.
     pub paths: Words,
@@ -46,6 +45,26 @@ pub struct Options {
     pub step_limit: u64,
     /// Seed and number of files of the generated tree, where one is asked for.
     pub generated: Option<(u32, u32)>,
+}
+
+impl Drop for Options {
+    fn drop(self) {
+        let Options {
+            paths: _,
+            keyword: _,
+            marks: _,
+            maxfail: _,
+            tb: _,
+            workers: _,
+            dist: _,
+            ignore: _,
+            collect_only: _,
+            setup_show: _,
+            verbose: _,
+            step_limit: _,
+            generated: _,
+        } = self;
+    }
 }
 
 impl Options {

@@ -10,7 +10,7 @@ use seq::OutOfMemory;
 use std::alloc::Global;
 
 /// One option with its value.
-#[derive(Debug, Drop)]
+#[derive(Drop)]
 pub enum Setting {
     On(Switch),
     Count(Counter, u32),

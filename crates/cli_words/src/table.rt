@@ -4,7 +4,7 @@ ghost use Rattle.cli_words.specs.Table.{takes_in, takes_named};
 use crate::info::Info;
 
 /// What can be switched on.
-#[derive(Clone, Copy, Debug)]
+#[derive(Clone, Copy)]
 pub enum Switch {
     Verbose,
     CollectOnly,
@@ -12,7 +12,7 @@ pub enum Switch {
 }
 
 /// What is set to a number.
-#[derive(Clone, Copy, Debug)]
+#[derive(Clone, Copy)]
 pub enum Counter {
     MaxFail,
     Workers,
@@ -20,7 +20,7 @@ pub enum Counter {
 }
 
 /// What is set to a text.
-#[derive(Clone, Copy, Debug)]
+#[derive(Clone, Copy)]
 pub enum TextOption {
     Keyword,
     Marks,
@@ -28,14 +28,14 @@ pub enum TextOption {
 }
 
 /// What an option without a value sets.
-#[derive(Clone, Copy, Debug)]
+#[derive(Clone, Copy)]
 pub enum Given {
     On(Switch),
     Count(Counter, u32),
 }
 
 /// The form of an option's value.
-#[derive(Clone, Copy, Debug)]
+#[derive(Clone, Copy)]
 pub enum Rule {
     Text(TextOption),
     /// A number from the first to the second.
@@ -46,7 +46,7 @@ pub enum Rule {
 }
 
 /// Whether an option takes a value.
-#[derive(Clone, Copy, Debug)]
+#[derive(Clone, Copy)]
 pub enum Takes {
     Nothing(Given),
     Value(Rule),

@@ -1,7 +1,7 @@
 -- How many definitions a table has.
 use Rattle.std.proofs.Common.{◌≡◌, ℕ, suc, ◌+◌, List, [], ◌∷◌, length, refl, ap}
+use Rattle.fixture_definitions.specs.declared.found.Definition.{Definition}
 use Rattle.collect_fixtures.specs.Tables.{table_defs}
-use Rattle.collect_fixtures.specs.declared.found.Definition.{Definition}
 
 pub defs_count : (names : List (List ℕ)) (number : ℕ) (ds : List Definition) → length (table_defs names number ds) ≡ length ds
 defs_count names number [] = refl

@@ -4,11 +4,11 @@ use Rattle.fixture_table.proofs.Deciding.{closure_or_fault, not_both, one_closur
 use Rattle.fixture_table.specs.Faults.{IsClosure, IsFault}
 use Rattle.fixture_table.specs.Tables.{TableValue}
 use Rattle.fixture_table.specs.declared.fault.FixtureFault.{FixtureFault}
-use Rattle.collect_fixtures.specs.Arguments.{but_request}
+use Rattle.fixture_definitions.specs.Arguments.{but_request}
+use Rattle.fixture_definitions.specs.declared.found.Definition.{Definition}
+use Rattle.fixture_definitions.specs.declared.found.FoundTest.{FoundTest}
 use Rattle.collect_fixtures.specs.Closures.{IsNeeded, as_needed, closure_told, item_closure, needed}
 use Rattle.collect_fixtures.specs.Tables.{all_numbers}
-use Rattle.collect_fixtures.specs.declared.found.Definition.{Definition}
-use Rattle.collect_fixtures.specs.declared.found.FoundTest.{FoundTest}
 use Rattle.test_suite.specs.declared.item.ItemClosure.TheVariants.{Whole}
 
 module _ (table : TableValue) (item : ℕ) (uses args : List ℕ) where

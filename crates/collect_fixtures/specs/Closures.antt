@@ -1,6 +1,10 @@
 -- WHAT THE SET-UP OF AN ITEM DEMANDS, or the fault of its fixtures (pytest's reference, "Fixture instantiation order").
 use Rattle.std.specs.Prelude.{◌⊎◌, ℕ, List, [], ◌++◌, Option, Some, None, Result, Ok, Err, codes, map, slice_get, if◌then◌else◌}
 use Rattle.std.proofs.Common.{inl, inr}
+use Rattle.collection_nodes.specs.Texts.{number_among, text_numbered}
+use Rattle.fixture_definitions.specs.Arguments.{but_request}
+use Rattle.fixture_definitions.specs.declared.found.Definition.{Definition}
+use Rattle.fixture_definitions.specs.declared.found.FoundTest.{FoundTest}
 use Rattle.fixture_table.proofs.Deciding.{closure_or_fault}
 use Rattle.fixture_table.specs.Faults.{IsClosure, IsFault}
 use Rattle.fixture_table.specs.Nearest.{nearest_of}
@@ -14,11 +18,7 @@ use Rattle.test_suite.specs.Suites.{no_fixture}
 use Rattle.test_suite.specs.declared.fixture.Fixture.{Fixture}
 use Rattle.test_suite.specs.declared.item.ItemClosure.{ItemClosure}
 use Rattle.test_suite.specs.declared.item.ItemClosure.TheVariants.{Whole, Fault}
-use Rattle.collect_fixtures.specs.Arguments.{but_request}
 use Rattle.collect_fixtures.specs.Tables.{all_numbers}
-use Rattle.collect_fixtures.specs.Texts.{number_among, text_numbered}
-use Rattle.collect_fixtures.specs.declared.found.Definition.{Definition}
-use Rattle.collect_fixtures.specs.declared.found.FoundTest.{FoundTest}
 
 -- the closure or the fault of an item. There is one of the two, and only one: that is the law `closure_or_fault` of fixture_table
 abbrev pub IsNeeded : TableValue → ℕ → List ℕ → List ℕ → Result (List ℕ) FixtureFault → Type 0

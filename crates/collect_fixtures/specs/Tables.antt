@@ -1,14 +1,14 @@
 -- THE TABLE OF FIXTURES: the nodes of collection and the definitions, whose names are numbers.
 use Rattle.std.specs.Prelude.{ℕ, ◌+◌, List, [], ◌∷◌, ◌++◌, fold, map}
+use Rattle.collection_nodes.specs.Texts.{number_among, with_mentions}
+use Rattle.collection_nodes.specs.Tree.{tree_node}
+use Rattle.fixture_definitions.specs.Arguments.{but_request}
+use Rattle.fixture_definitions.specs.declared.found.Definition.{Definition}
+use Rattle.fixture_definitions.specs.declared.found.FoundTest.{FoundTest}
 use Rattle.fixture_table.specs.Tables.{TableValue}
 use Rattle.fixture_table.specs.declared.types.CollectionNode.{CollectionNode}
 use Rattle.fixture_table.specs.declared.types.FixtureDef.{FixtureDef}
 use Rattle.fixture_table.specs.declared.types.NodeKind.TheVariants as kind
-use Rattle.collect_fixtures.specs.Arguments.{but_request}
-use Rattle.collect_fixtures.specs.Texts.{number_among, with_mentions}
-use Rattle.collect_fixtures.specs.Tree.{tree_node}
-use Rattle.collect_fixtures.specs.declared.found.Definition.{Definition}
-use Rattle.collect_fixtures.specs.declared.found.FoundTest.{FoundTest}
 
 -- the names that a definition mentions, and those that a test does
 abbrev pub names_of_definition : Definition → List (List ℕ)

@@ -1,17 +1,16 @@
 // What the set-up of an item demands.
 
 ghost use Rattle.std.specs.Prelude.{◌≡◌, ◌<◌, ◌++◌, ◌∷◌, [], IfOk, OnOk, MatchOption, None as NoDefinition, Some as Definition, Ok as Closed, Err as Faulty, length, map, option_copied};
+ghost use Rattle.collection_nodes.specs.Texts.{number_among, text_numbered};
+ghost use Rattle.fixture_definitions.specs.Arguments.{but_request};
 ghost use Rattle.fixture_table.specs.Nearest.{nearest_of};
 ghost use Rattle.fixture_table.specs.declared.fault.FixtureFault.TheVariants as fault;
-ghost use Rattle.collect_fixtures.specs.Arguments.{but_request};
 ghost use Rattle.collect_fixtures.specs.Closures as closures;
 ghost use Rattle.collect_fixtures.specs.Tables.{all_numbers};
-ghost use Rattle.collect_fixtures.specs.Texts.{number_among, text_numbered};
 
-use crate::arguments::but_request;
-use crate::found::{Definition, FoundTest};
-use crate::mentions::Mentions;
 use crate::tables::asked_numbers;
+use collection_nodes::Mentions;
+use fixture_definitions::{Definition, FoundTest, but_request};
 use fixture_table::{FixtureFault, Table};
 use py_text::{OutOfMemory, PyText};
 use py_values::end::push_ascii;

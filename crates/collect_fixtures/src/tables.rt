@@ -1,15 +1,13 @@
 // The table of fixtures.
 
 ghost use Rattle.std.specs.Prelude.{◌≡◌, ◌<◌, ◌+◌, ◌++◌, ◌∷◌, [], ℕ, IfOk, OnOk, fold, length, map};
+ghost use Rattle.collection_nodes.specs.Texts.{number_among, with_mentions};
+ghost use Rattle.fixture_definitions.specs.Arguments.{but_request};
 ghost use Rattle.fixture_table.specs.Tree.{IsTree};
 ghost use Rattle.collect_fixtures.specs.Tables as tables;
-ghost use Rattle.collect_fixtures.specs.Arguments.{but_request};
-ghost use Rattle.collect_fixtures.specs.Texts.{number_among, with_mentions};
 
-use crate::arguments::but_request;
-use crate::found::{Definition, FoundTest};
-use crate::mentions::Mentions;
-use crate::tree::plus;
+use collection_nodes::{Mentions, plus};
+use fixture_definitions::{Definition, FoundTest, but_request};
 use fixture_table::{CollectionNode, CollectionTree, FixtureDef, NodeKind, Table};
 use py_text::{OutOfMemory, PyText};
 use seq::Seq;

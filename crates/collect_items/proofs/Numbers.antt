@@ -1,13 +1,13 @@
 -- Items that are numbered one behind the other, and files whose items are.
 use Rattle.std.proofs.Common.{◌≡◌, ℕ, ◌+◌, ◌<◌, List, [], ◌∷◌, ◌++◌, length, drop, get_or, refl, sym, ap, ◌∙◌}
 use Rattle.std.proofs.lemmas.List.{append_assoc, drop_more}
-use Rattle.collect_fixtures.specs.Tests.{tests_of}
-use Rattle.collect_fixtures.specs.declared.found.FoundTest.{FoundTest}
-use Rattle.collect_fixtures.specs.declared.found.PlacedFile.{PlacedFile}
 use Rattle.collect_items.specs.Items.{FixtureTable, item, items_from}
 use Rattle.collect_items.specs.Nodes.{names_of, nodes_of, numbered, all_nodes}
 use Rattle.collect_words.specs.declared.nodes.FileNodes.{FileNodes}
 use Rattle.collect_words.specs.declared.nodes.ItemNames.{ItemNames}
+use Rattle.collection_nodes.specs.declared.placed_file.PlacedFile.{PlacedFile}
+use Rattle.fixture_definitions.specs.Tests.{tests_of}
+use Rattle.fixture_definitions.specs.declared.found.FoundTest.{FoundTest}
 use Rattle.py_values.specs.declared.object.Obj.{Obj}
 use Rattle.test_suite.specs.declared.item.Item.{Item}
 

@@ -1,18 +1,18 @@
 -- THE ITEMS of the tests, each with what its set-up demands.
 use Rattle.std.specs.Prelude.{ℕ, ◌+◌, List, [], ◌∷◌, None, chars, encode_utf8_all, length, map}
-use Rattle.collect_fixtures.specs.Arguments.{defined_at}
 use Rattle.collect_fixtures.specs.Closures.{item_asks, item_closure}
-use Rattle.collect_fixtures.specs.Definitions.{all_definitions}
 use Rattle.collect_fixtures.specs.Tables.{all_names, table_of}
-use Rattle.collect_fixtures.specs.Tests.{all_tests}
-use Rattle.collect_fixtures.specs.Tree.{all_folders, classes_of, outer_nodes, placed_files}
-use Rattle.collect_fixtures.specs.declared.found.Definition.{Definition}
-use Rattle.collect_fixtures.specs.declared.found.FoundTest.{FoundTest}
-use Rattle.collect_fixtures.specs.declared.found.PlacedFile.{PlacedFile}
-use Rattle.collect_fixtures.specs.declared.test_file.TestFile.{TestFile}
 use Rattle.collect_names.specs.Ids.{item_id, item_name, item_title}
 use Rattle.collect_names.specs.Objects.{object_in, function_at}
 use Rattle.collect_words.specs.Walks.{path_at}
+use Rattle.collection_nodes.specs.Tree.{all_folders, classes_of, outer_nodes, placed_files}
+use Rattle.collection_nodes.specs.declared.placed_file.PlacedFile.{PlacedFile}
+use Rattle.collection_nodes.specs.declared.test_file.TestFile.{TestFile}
+use Rattle.fixture_definitions.specs.Arguments.{defined_at}
+use Rattle.fixture_definitions.specs.Definitions.{all_definitions}
+use Rattle.fixture_definitions.specs.Tests.{all_tests}
+use Rattle.fixture_definitions.specs.declared.found.Definition.{Definition}
+use Rattle.fixture_definitions.specs.declared.found.FoundTest.{FoundTest}
 use Rattle.fixture_table.specs.Tables.{TableValue}
 use Rattle.fixture_table.specs.declared.types.CollectionNode.{CollectionNode}
 use Rattle.py_values.specs.declared.object.Obj.{Obj}

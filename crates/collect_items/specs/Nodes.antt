@@ -1,12 +1,12 @@
 -- What words can name of each file.
 use Rattle.std.specs.Prelude.{ℕ, ◌+◌, false, List, [], ◌∷◌, None, encode_utf8_all, is_some, length, map, not, option_map, replicate, slice_set}
-use Rattle.collect_fixtures.specs.Tests.{all_tests, tests_of}
-use Rattle.collect_fixtures.specs.declared.found.FoundTest.{FoundTest}
-use Rattle.collect_fixtures.specs.declared.found.PlacedFile.{PlacedFile}
-use Rattle.collect_fixtures.specs.declared.test_file.TestFile.{TestFile}
 use Rattle.collect_names.specs.declared.found.TestClass.{TestClass}
 use Rattle.collect_words.specs.declared.nodes.FileNodes.{FileNodes}
 use Rattle.collect_words.specs.declared.nodes.ItemNames.{ItemNames}
+use Rattle.collection_nodes.specs.declared.placed_file.PlacedFile.{PlacedFile}
+use Rattle.collection_nodes.specs.declared.test_file.TestFile.{TestFile}
+use Rattle.fixture_definitions.specs.Tests.{all_tests, tests_of}
+use Rattle.fixture_definitions.specs.declared.found.FoundTest.{FoundTest}
 use Rattle.py_values.specs.declared.object.Obj.{Obj}
 use Rattle.collect_items.specs.Items.{classes_in, placed_of}
 

@@ -1,12 +1,12 @@
 -- WHAT IS NOT BUILT YET of the language of tests: parameters, of fixtures and by `parametrize`, and hooks.
 use Rattle.std.specs.Prelude.{ℕ, Bool, false, ◌&&◌, ◌||◌, List, Option, Some, None, codes, is_some, nat_eq}
 use Rattle.std.specs.List.{list_any, starts_with}
-use Rattle.collect_fixtures.specs.Definitions.{fixture_in}
-use Rattle.collect_fixtures.specs.Tree.{names_of_file}
-use Rattle.collect_fixtures.specs.declared.test_file.TestFile.{TestFile}
 use Rattle.collect_marks.specs.Given.{mark_in}
 use Rattle.collect_names.specs.Found.{is_class_node}
 use Rattle.collect_names.specs.Objects.{object_in, class_at, names_of_class}
+use Rattle.collection_nodes.specs.Tree.{names_of_file}
+use Rattle.collection_nodes.specs.declared.test_file.TestFile.{TestFile}
+use Rattle.fixture_definitions.specs.Definitions.{fixture_in}
 use Rattle.py_values.specs.Names.{name_eq}
 use Rattle.py_values.specs.declared.object.FixtureObj.{FixtureObj}
 use Rattle.py_values.specs.declared.object.MarkObj.{MarkObj}

@@ -3,8 +3,8 @@
 ghost use Rattle.std.specs.Prelude.{◌≡◌, IfOk, map};
 ghost use Rattle.collect_items.specs.Items.{defined_fixture};
 
-use collect_fixtures::Definition;
 use collect_names::found::{TestClass, TestFunction};
+use fixture_definitions::Definition;
 use py_text::{OutOfMemory, PyText};
 use py_values::rows::Values;
 use py_values::value::Value;

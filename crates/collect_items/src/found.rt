@@ -1,7 +1,7 @@
 // What is found in loaded files.
 
 ghost use Rattle.std.specs.Prelude.{◌≡◌, ◌+◌, ◌≤◌, ◌++◌, ◌∷◌, [], IfOk, OnOk, length, map};
-ghost use Rattle.collect_fixtures.specs.Tests.{all_tests, tests_of};
+ghost use Rattle.fixture_definitions.specs.Tests.{all_tests, tests_of};
 ghost use Rattle.fixture_table.specs.Tree.{IsTree};
 ghost use Rattle.collect_items.specs.Items as items;
 ghost use Rattle.collect_items.specs.Nodes as nodes;
@@ -9,11 +9,10 @@ ghost use Rattle.collect_items.specs.Nodes as nodes;
 use crate::copies::fixtures_of;
 use crate::item::items_from;
 use crate::nodes::{by_place, file_nodes};
-use collect_fixtures::{
-    Definition, FoundTest, Mentions, PlacedFile, TestFile, all_definitions, all_folders, all_names,
-    outer_nodes, placed_files, table_of, tests_of,
-};
+use collect_fixtures::{all_names, table_of};
 use collect_words::{FileNodes, Walk};
+use collection_nodes::{Mentions, PlacedFile, TestFile, all_folders, outer_nodes, placed_files};
+use fixture_definitions::{Definition, FoundTest, all_definitions, tests_of};
 use fixture_table::{CollectionNode, Table};
 use py_text::OutOfMemory;
 use py_values::heap::Heap;

@@ -1,21 +1,20 @@
 // Items.
 
 ghost use Rattle.std.specs.Prelude.{◌≡◌, ◌+◌, ◌≤◌, ◌<◌, ◌++◌, IfOk, OnOk, None, chars, encode_utf8_all, length, map};
-ghost use Rattle.collect_fixtures.specs.Arguments.{defined_at};
 ghost use Rattle.collect_names.specs.Ids.{item_id, item_title};
 ghost use Rattle.collect_names.specs.Objects as objects;
 ghost use Rattle.collect_words.specs.Walks.{path_at};
+ghost use Rattle.fixture_definitions.specs.Arguments.{defined_at};
 ghost use Rattle.collect_items.specs.Items as items;
 
 use crate::copies::{copied_test, copied_texts, copied_values};
-use collect_fixtures::{
-    Definition, FoundTest, Mentions, TestFile, classes_of, defined_at, item_asks, item_closure,
-    path_text,
-};
+use collect_fixtures::{item_asks, item_closure};
 use collect_names::found::TestFunction;
 use collect_names::ids::{item_id, item_name, item_title};
 use collect_names::objects::{function_at, object_in};
 use collect_words::Walk;
+use collection_nodes::{Mentions, TestFile, classes_of, path_text};
+use fixture_definitions::{Definition, FoundTest, defined_at};
 use fixture_table::Table;
 use py_text::{OutOfMemory, PyText};
 use py_values::heap::Heap;
@@ -169,7 +168,7 @@ fn push_encoded(
     texts.push(text)
 }
 
-ghost use Rattle.collect_fixtures.specs.Texts.{text_numbered};
+ghost use Rattle.collection_nodes.specs.Texts.{text_numbered};
 
 fn all_encoded(alloc: Global, classes: &Mentions) -> Result<Seq<Text>, OutOfMemory>
     ensures { IfOk result (λ t. t ≡ map encode_utf8_all classes.now) }

@@ -4,9 +4,10 @@ ghost use Rattle.std.specs.Prelude.{◌≡◌, ◌++◌, ◌∷◌, ◌+◌, [],
 ghost use Rattle.collect_items.specs.Nodes as nodes;
 
 use crate::item::{classes_in, encoded};
-use collect_fixtures::{FoundTest, TestFile};
 use collect_names::found::TestClass;
 use collect_words::{FileNodes, ItemNames};
+use collection_nodes::TestFile;
+use fixture_definitions::FoundTest;
 use py_text::OutOfMemory;
 use py_values::heap::Heap;
 use report_parts::Text;

@@ -6,9 +6,10 @@ ghost use Rattle.py_values.specs.Names.{name_eq};
 ghost use Rattle.collect_names.specs.Objects.{object_in, class_at, names_of_class};
 ghost use Rattle.collect_items.specs.Unbuilt as unbuilt;
 
-use collect_fixtures::{TestFile, fixture_in, is_class_node, names_of_file};
 use collect_marks::given::mark_in;
 use collect_names::objects::{class_at, object_in};
+use collection_nodes::{TestFile, names_of_file};
+use fixture_definitions::{fixture_in, is_class_node};
 use py_text::{OutOfMemory, PyText};
 use py_values::heap::Heap;
 use py_values::names::Names;

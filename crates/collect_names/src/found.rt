@@ -4,16 +4,30 @@ use py_text::PyText;
 use py_values::value::Value;
 
 /// A class of tests: the name to which it is bound, and its object.
-#[derive(Drop)]
 pub struct TestClass {
     pub name: PyText,
     pub object: Value,
 }
 
+impl Drop for TestClass {
+    fn drop(self) {
+        let TestClass { name: _, object: _ } = self;
+    }
+}
+
 /// A test function: the class in which it stands, where it stands in one, the name to which it is bound, and its object.
-#[derive(Drop)]
 pub struct TestFunction {
     pub class: Option<TestClass>,
     pub name: PyText,
     pub function: Value,
+}
+
+impl Drop for TestFunction {
+    fn drop(self) {
+        let TestFunction {
+            class: _,
+            name: _,
+            function: _,
+        } = self;
+    }
 }

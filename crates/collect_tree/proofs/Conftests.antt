@@ -1,8 +1,8 @@
 -- Conftests with their modules, one after another.
 use Rattle.std.proofs.Common.{◌≡◌, ℕ, ◌+◌, ◌<◌, ◌≤◌, List, [], ◌∷◌, ◌++◌, length, drop, get_or, refl, sym, ap, ◌∙◌}
 use Rattle.std.proofs.lemmas.List.{append_assoc, append-nil, drop_all, drop_more}
-use Rattle.collect_fixtures.specs.declared.test_file.TestFile.{TestFile}
 use Rattle.collect_tree.specs.Collection.{conftest_file, conftest_files}
+use Rattle.collection_nodes.specs.declared.test_file.TestFile.{TestFile}
 use Rattle.py_values.specs.declared.value.Value.{Value}
 
 no_modules : (places : List ℕ) → conftest_files places [] ≡ []

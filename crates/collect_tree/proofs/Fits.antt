@@ -3,7 +3,6 @@ use Rattle.std.proofs.Common.{◌≡◌, ◌+◌, ℕ, Bool, true, false, List, 
 use Rattle.std.specs.Prelude.{◌==◌, nat_lt, codes, slice_get, if◌then◌else◌}
 use Rattle.std.specs.List.{filter, flat_map}
 use Rattle.cli_words.specs.declared.options.Options.{Options}
-use Rattle.collect_fixtures.specs.declared.test_file.TestFile.{TestFile}
 use Rattle.collect_items.specs.Chosen.{is_chosen}
 use Rattle.collect_items.specs.Items.{found_suite}
 use Rattle.collect_items.specs.Nodes.{item_places, nodes_by_place}
@@ -14,6 +13,7 @@ use Rattle.collect_words.specs.Words.{named_words}
 use Rattle.collect_words.specs.declared.fault.WordFault.{WordFault}
 use Rattle.collect_words.specs.declared.named.NamedWord.{NamedWord}
 use Rattle.collect_words.specs.declared.nodes.FileNodes.{FileNodes}
+use Rattle.collection_nodes.specs.declared.test_file.TestFile.{TestFile}
 use Rattle.fixture_world.specs.Items.{item_of}
 use Rattle.py_load.specs.InTurn.{ConftestsEnd}
 use Rattle.py_load.specs.Reading.{ReadFile}

@@ -5,17 +5,17 @@ use Rattle.std.proofs.lemmas.List.{length-append, length-map}
 use Rattle.collect_fixtures.proofs.Counts.{defs_count}
 use Rattle.collect_fixtures.proofs.Known.{closure_low}
 use Rattle.collect_fixtures.proofs.Needs.{item_whole}
-use Rattle.collect_fixtures.specs.Arguments.{but_request}
 use Rattle.collect_fixtures.specs.Closures.{item_closure}
-use Rattle.collect_fixtures.specs.Definitions.{all_definitions}
 use Rattle.collect_fixtures.specs.Tables.{all_names, all_numbers, node_of_test, table_defs, table_of}
-use Rattle.collect_fixtures.specs.Tests.{all_tests}
-use Rattle.collect_fixtures.specs.Tree.{all_folders, outer_nodes}
-use Rattle.collect_fixtures.specs.declared.found.Definition.{Definition}
-use Rattle.collect_fixtures.specs.declared.found.FoundTest.{FoundTest}
-use Rattle.collect_fixtures.specs.declared.test_file.TestFile.{TestFile}
 use Rattle.collect_items.specs.Items.{FixtureTable, defined_fixture, fixtures_with, found_suite, item, items_from, placed_of, suite_behind}
 use Rattle.collect_items.specs.declared.found.FoundSuite.{FoundSuite}
+use Rattle.collection_nodes.specs.Tree.{all_folders, outer_nodes}
+use Rattle.collection_nodes.specs.declared.test_file.TestFile.{TestFile}
+use Rattle.fixture_definitions.specs.Arguments.{but_request}
+use Rattle.fixture_definitions.specs.Definitions.{all_definitions}
+use Rattle.fixture_definitions.specs.Tests.{all_tests}
+use Rattle.fixture_definitions.specs.declared.found.Definition.{Definition}
+use Rattle.fixture_definitions.specs.declared.found.FoundTest.{FoundTest}
 use Rattle.fixture_table.proofs.Settles.{settled}
 use Rattle.fixture_table.specs.Faults as table
 use Rattle.fixture_table.specs.Nearest.{def_at}

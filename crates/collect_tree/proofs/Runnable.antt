@@ -2,9 +2,9 @@
 use Rattle.std.proofs.Common.{◌≡◌, ◌+◌, ◌-◌, ℕ, Bool, true, List, Some, None, refl, sym, ap, ◌∙◌, subst, arith}
 use Rattle.std.specs.Prelude.{nat_le, slice_get, if◌then◌else◌}
 use Rattle.std.proofs.lemmas.Bool.{le-leb}
-use Rattle.collect_fixtures.specs.declared.test_file.TestFile.{TestFile}
 use Rattle.collect_items.specs.Items.{found_suite}
 use Rattle.collect_items.specs.declared.found.FoundSuite.{FoundSuite}
+use Rattle.collection_nodes.specs.declared.test_file.TestFile.{TestFile}
 use Rattle.fixture_table.specs.Tree.{IsTree}
 use Rattle.py_values.specs.declared.object.Obj.{Obj}
 use Rattle.runtest_rules.specs.Rules.{rules_within}

@@ -1,8 +1,8 @@
 -- Loads, one behind the other.
 use Rattle.std.proofs.Common.{◌≡◌, ℕ, ◌+◌, ◌<◌, ◌≤◌, List, [], ◌∷◌, ◌++◌, length, drop, get_or, sym, subst, ap, ◌∙◌}
 use Rattle.std.proofs.lemmas.List.{append_assoc, append-nil, drop_all, drop_more}
-use Rattle.collect_fixtures.specs.declared.test_file.TestFile.{TestFile}
 use Rattle.collect_words.specs.Walks.{path_at}
+use Rattle.collection_nodes.specs.declared.test_file.TestFile.{TestFile}
 use Rattle.py_load.specs.InTurn.{FileEnd, file_load}
 use Rattle.report_parts.specs.declared.report.CollectReport.{CollectReport}
 use Rattle.source_meaning.specs.Meaning.{SourceWorld}

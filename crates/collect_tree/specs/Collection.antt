@@ -5,7 +5,6 @@
 use Rattle.std.specs.Prelude.{ℕ, ◌+◌, ◌-◌, Bool, ◌||◌, List, [], ◌∷◌, Option, Some, None, Result, Ok, Err, codes, length, map, slice_get, slice_index_or, if◌then◌else◌}
 use Rattle.std.specs.List.{list_any}
 use Rattle.cli_words.specs.declared.options.Options.{Options}
-use Rattle.collect_fixtures.specs.declared.test_file.TestFile.{TestFile}
 use Rattle.collect_items.specs.Chosen.{chosen}
 use Rattle.collect_items.specs.Items.{found_suite}
 use Rattle.collect_items.specs.Nodes.{item_places, nodes_by_place}
@@ -18,6 +17,7 @@ use Rattle.collect_words.specs.Words.{fault_text, named_words}
 use Rattle.collect_words.specs.declared.fault.WordFault.{WordFault}
 use Rattle.collect_words.specs.declared.named.NamedWord.{NamedWord}
 use Rattle.collect_words.specs.declared.nodes.FileNodes.{FileNodes}
+use Rattle.collection_nodes.specs.declared.test_file.TestFile.{TestFile}
 use Rattle.fixture_world.specs.Items.{selected_item}
 use Rattle.py_load.specs.InTurn.{ConftestsEnd, conftest_loads}
 use Rattle.py_load.specs.Prepared.{with_reads}

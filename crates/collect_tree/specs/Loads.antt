@@ -2,8 +2,8 @@
 -- world right behind the load that it ended.
 use Rattle.std.specs.Prelude.{ℕ, List, [], ◌∷◌, ◌++◌, Option, Some, None, Ok, Err, chars, codes}
 use Rattle.std.specs.Str.Lossy.{utf8_lossy}
-use Rattle.collect_fixtures.specs.declared.test_file.TestFile.{TestFile}
 use Rattle.collect_words.specs.Walks.{path_at}
+use Rattle.collection_nodes.specs.declared.test_file.TestFile.{TestFile}
 use Rattle.py_load.specs.InTurn.{FileEnd, file_load}
 use Rattle.py_load.specs.declared.error.LoadError.{LoadError}
 use Rattle.py_load.specs.declared.error.LoadError.TheVariants.{Syntax, NotUtf8, Raised, Exhausted, OutOfMemory}

@@ -18,11 +18,11 @@ use crate::loads::{LoadedTests, load_tests, load_told};
 use crate::unbuilt::wants_more;
 use crate::walk::{paths_at, walk_of_files};
 use cli_words::Options;
-use collect_fixtures::TestFile;
 use collect_items::{FoundItems, FoundSuite, chosen, found_items};
 use collect_words::{
     NamedWord, Walk, conftests, named_files, named_words, selected, test_files, walked,
 };
+use collection_nodes::TestFile;
 use edge_io::Files;
 use py_load::{FailedFile, has_reading, load_conftests, prepare};
 use py_machine::{World, heap};

@@ -4,8 +4,8 @@ ghost use Rattle.std.specs.Prelude.{◌≡◌, IfOk, IfSome, OnOk, chars};
 ghost use Rattle.collect_tree.specs.Loads as loads;
 
 use crate::walk::path_text;
-use collect_fixtures::TestFile;
 use collect_words::Walk;
+use collection_nodes::TestFile;
 use py_load::{LoadError, LoadedFile, load_file};
 use py_machine::{World, heap};
 use py_source::SourceFault;

@@ -5,8 +5,8 @@ ghost use Rattle.std.specs.List.{list_any};
 ghost use Rattle.collect_items.specs.Unbuilt as unbuilt;
 ghost use Rattle.collect_tree.specs.Collection.{wants_more};
 
-use collect_fixtures::TestFile;
 use collect_items::{wants_unbuilt, wants_unbuilt_conftest, wants_unbuilt_file};
+use collection_nodes::TestFile;
 use py_values::heap::Heap;
 use report_parts::OutOfMemory;
 use std::alloc::Global;

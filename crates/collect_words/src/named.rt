@@ -1,7 +1,6 @@
 use seq::{ByteText, Seq};
 
 /// What a word names of a tree.
-#[derive(Debug, Drop)]
 pub enum Named {
     /// The folder with this path, which is empty for the root.
     Folder(Seq<u8>),
@@ -11,9 +10,24 @@ pub enum Named {
     Node(usize, Seq<u8>),
 }
 
+impl Drop for Named {
+    fn drop(self) {
+        match self {
+            Named::Folder(_) => {}
+            Named::File(_) => {}
+            Named::Node(_, _) => {}
+        }
+    }
+}
+
 /// A word with what it names.
-#[derive(Debug, Drop)]
 pub struct NamedWord {
     pub word: ByteText,
     pub named: Named,
+}
+
+impl Drop for NamedWord {
+    fn drop(self) {
+        let NamedWord { word: _, named: _ } = self;
+    }
 }

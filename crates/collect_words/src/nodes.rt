@@ -1,7 +1,6 @@
 use seq::{ByteText, Seq};
 
 /// The names of an item, and the number that the collector gave it.
-#[derive(Debug, Drop)]
 pub struct ItemNames {
     pub number: usize,
     /// The name of its class, where it has one.
@@ -12,8 +11,18 @@ pub struct ItemNames {
     pub id: Option<ByteText>,
 }
 
+impl Drop for ItemNames {
+    fn drop(self) {
+        let ItemNames {
+            number: _,
+            class: _,
+            function: _,
+            id: _,
+        } = self;
+    }
+}
+
 /// What was collected of a file.
-#[derive(Debug, Drop)]
 pub struct FileNodes {
     /// Whether the file has an error of collection.
     pub failed: bool,
@@ -21,4 +30,14 @@ pub struct FileNodes {
     pub classes: Seq<ByteText>,
     /// Its items, in their order.
     pub items: Seq<ItemNames>,
+}
+
+impl Drop for FileNodes {
+    fn drop(self) {
+        let FileNodes {
+            failed: _,
+            classes: _,
+            items: _,
+        } = self;
+    }
 }

@@ -9,9 +9,14 @@ use std::alloc::Global;
 use std::marker::Model;
 
 /// The paths of a tree's files, in the order in which collection walks through them. Contracts see it as the list.
-#[derive(Drop)]
 pub struct Walk {
     paths: Seq<ByteText>,
+}
+
+impl Drop for Walk {
+    fn drop(self) {
+        let Walk { paths: _ } = self;
+    }
 }
 
 impl Model for Walk {

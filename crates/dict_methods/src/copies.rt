@@ -79,7 +79,7 @@ fn has_room(dict: &Dict, key: &Key) -> bool
 }
 
 /// What comes of storing pairs: all are stored, or there was no room for one, behind so many steps.
-#[derive(Clone, Copy, Debug, PartialEq, Eq)]
+#[derive(Clone, Copy, PartialEq, Eq)]
 pub enum Fill {
     Whole(u64),
     Full(u64),

@@ -18,7 +18,7 @@ use py_values::value::{ObjId, Value};
 use std::alloc::Global;
 
 /// A key, and a value where it is given.
-#[derive(Clone, Copy, Debug, PartialEq, Eq)]
+#[derive(Clone, Copy, PartialEq, Eq)]
 pub struct KeyArgs {
     pub key: Value,
     pub default: Option<Value>,

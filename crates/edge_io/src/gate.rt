@@ -4,7 +4,7 @@ pub trait Gate {
 }
 
 /// The real gate, which does nothing.
-#[derive(Clone, Copy, Debug, PartialEq, Eq)]
+#[derive(Clone, Copy, PartialEq, Eq)]
 pub struct OpenGate;
 
 impl Gate for OpenGate {

@@ -17,12 +17,22 @@ use std::alloc::Global;
 use std::marker::Model;
 
 /// The nodes of a collection and the fixture definitions that stand at them.
-#[derive(Drop)]
 pub struct Table {
     alloc: Global,
     nodes: Vec<CollectionNode>,
     defs: Vec<FixtureDef>,
     at_nodes: Vec<Seq<u32>>,
+}
+
+impl Drop for Table {
+    fn drop(self) {
+        let Table {
+            alloc: _,
+            nodes: _,
+            defs: _,
+            at_nodes: _,
+        } = self;
+    }
 }
 
 impl Model for Table {

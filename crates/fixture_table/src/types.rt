@@ -6,7 +6,7 @@ use session_types::Scope;
 use std::marker::Model;
 
 /// What a node of the collection tree is.
-#[derive(Clone, Copy, Debug, PartialEq, Eq)]
+#[derive(Clone, Copy, PartialEq, Eq)]
 pub enum NodeKind {
     Session,
     Directory,
@@ -16,16 +16,21 @@ pub enum NodeKind {
 }
 
 /// A node of the collection tree. The root's parent means nothing.
-#[derive(Clone, Copy, Debug, PartialEq, Eq)]
+#[derive(Clone, Copy, PartialEq, Eq)]
 pub struct CollectionNode {
     pub kind: NodeKind,
     pub parent: u32,
 }
 
 /// A tree of nodes: node 0 is the root, and each other node stands behind its parent.
-#[derive(Debug, Drop)]
 pub struct CollectionTree {
     items: Vec<CollectionNode>,
+}
+
+impl Drop for CollectionTree {
+    fn drop(self) {
+        let CollectionTree { items: _ } = self;
+    }
 }
 
 impl Model for CollectionTree {
@@ -61,7 +66,8 @@ impl CollectionTree {
         ensures items { result.items ≡ self }
         ensures tree { IsTree result.items }
     {
-        self.items
+        let CollectionTree { items } = self;
+        items
     }
 }
 
@@ -69,7 +75,6 @@ impl CollectionTree {
 pub type FixtureNames = Seq<u32>;
 
 /// A fixture definition. Names and codes are numbers of the collector's own.
-#[derive(Debug, Drop)]
 pub struct FixtureDef {
     pub name: u32,
     pub scope: Scope,
@@ -81,4 +86,18 @@ pub struct FixtureDef {
     /// The node at which it stands.
     pub node: u32,
     pub code: u32,
+}
+
+impl Drop for FixtureDef {
+    fn drop(self) {
+        let FixtureDef {
+            name: _,
+            scope: _,
+            autouse: _,
+            params: _,
+            args: _,
+            node: _,
+            code: _,
+        } = self;
+    }
 }

@@ -11,7 +11,7 @@ pub enum ImplEnd<Got, Exc> {
 }
 
 /// What a wrapper is resumed with: how the rest of the hook call ended.
-#[derive(Debug, Drop)]
+#[derive(Drop)]
 pub enum Inner<Got, Exc> {
     /// The values that the runner gave, in order of call; no wrapper replaced them.
     List,
@@ -22,7 +22,7 @@ pub enum Inner<Got, Exc> {
 }
 
 /// How the beginning of a wrapper ended.
-#[derive(Debug, Drop)]
+#[derive(Drop)]
 pub enum WrapperStart<Frozen, Exc> {
     /// It stands at its `yield`.
     Yielded(Frozen),

@@ -11,7 +11,7 @@ use py_values::value::Value;
 
 /// What comes of looking for the first equal element: its place, none, or an element that lies too deep to compare, each behind so many
 /// steps.
-#[derive(Clone, Copy, Debug, PartialEq, Eq)]
+#[derive(Clone, Copy, PartialEq, Eq)]
 pub enum Search {
     At(usize, u64),
     Nowhere(u64),
@@ -19,7 +19,7 @@ pub enum Search {
 }
 
 /// What comes of counting the equal elements: their number, or an element that lies too deep to compare, behind so many steps.
-#[derive(Clone, Copy, Debug, PartialEq, Eq)]
+#[derive(Clone, Copy, PartialEq, Eq)]
 pub enum Tally {
     Count(usize, u64),
     TooDeep(u64),

@@ -3,7 +3,7 @@ ghost use Rattle.std.specs.Prelude.{◌≡◌};
 use link_cells::CellId;
 
 /// The name of a live instance. It names it until it is unlinked.
-#[derive(Clone, Copy, Debug, PartialEq, Eq)]
+#[derive(Clone, Copy, PartialEq, Eq)]
 pub struct LiveId {
     order: u64,
     cell: CellId,

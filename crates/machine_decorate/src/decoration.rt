@@ -16,7 +16,7 @@ use py_values::value::Value;
 use std::alloc::Global;
 
 /// What is decorated.
-#[derive(Clone, Copy, Debug, PartialEq, Eq)]
+#[derive(Clone, Copy, PartialEq, Eq)]
 enum Decorable {
     Function,
     Class,

@@ -7,7 +7,7 @@ use py_core::CoreExprKind;
 
 /// A group of forms: without parts, with one operator, with a first part and a row of others, and displays and what is read of an
 /// object.
-#[derive(Clone, Copy, Debug, PartialEq, Eq)]
+#[derive(Clone, Copy, PartialEq, Eq)]
 pub enum Group {
     Leaf,
     Operator,

@@ -26,7 +26,7 @@ use py_values::value::Value;
 use std::rc::Rc;
 
 /// A value that is there at once, and the steps that are left behind it.
-#[derive(Clone, Copy, Debug)]
+#[derive(Clone, Copy)]
 pub struct Immediate {
     pub value: Value,
     pub left: u64,

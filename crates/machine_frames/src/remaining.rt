@@ -12,7 +12,7 @@ use py_text::OutOfMemory;
 use std::alloc::Global;
 
 /// What becomes of a frame of a body that has stopped: it is kept, it is passed, or the body ends there.
-#[derive(Clone, Copy, Debug, PartialEq, Eq)]
+#[derive(Clone, Copy, PartialEq, Eq)]
 pub enum Part {
     Kept,
     Passed,

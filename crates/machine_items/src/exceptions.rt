@@ -28,7 +28,7 @@ pub fn takes_exception(heap: &Heap, e: Value, class: Value) -> Option<bool>
 }
 
 /// What a value is to a `raise`.
-#[derive(Clone, Copy, Debug, PartialEq, Eq)]
+#[derive(Clone, Copy, PartialEq, Eq)]
 pub enum RaiseKind {
     /// An exception of the heap.
     Exception(ObjId),

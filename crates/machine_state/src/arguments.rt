@@ -9,10 +9,15 @@ use py_values::value::Value;
 use std::alloc::Global;
 
 /// The arguments of a call: those by position, and those by name in the order of the text.
-#[derive(Drop)]
 pub struct CallArguments {
     pub plain: Vec<Value>,
     pub named: Locals,
+}
+
+impl Drop for CallArguments {
+    fn drop(self) {
+        let CallArguments { plain: _, named: _ } = self;
+    }
 }
 
 impl CallArguments {

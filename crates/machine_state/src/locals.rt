@@ -12,9 +12,14 @@ use std::alloc::Global;
 use std::marker::Model;
 
 /// The names of a call with their values, in order of first binding. There are few, so they are looked through from the first one on.
-#[derive(Drop)]
 pub struct Locals {
     entries: Vec<(SrcText, Value)>,
+}
+
+impl Drop for Locals {
+    fn drop(self) {
+        let Locals { entries: _ } = self;
+    }
 }
 
 impl Model for Locals {

@@ -10,18 +10,35 @@ use py_world::Load;
 use std::marker::Model;
 
 /// The code of a source, or why it has none.
-#[derive(Drop)]
 pub enum SourceCode {
     Code(Core),
     Fault(SourceFault),
 }
 
+impl Drop for SourceCode {
+    fn drop(self) {
+        match self {
+            SourceCode::Code(_) => {}
+            SourceCode::Fault(_) => {}
+        }
+    }
+}
+
 /// A source: its file's path and bytes, and its code.
-#[derive(Drop)]
 pub struct SourceFile {
     path: PyText,
     bytes: Vec<u8>,
     code: SourceCode,
+}
+
+impl Drop for SourceFile {
+    fn drop(self) {
+        let SourceFile {
+            path: _,
+            bytes: _,
+            code: _,
+        } = self;
+    }
 }
 
 impl Model for SourceFile {
@@ -70,10 +87,15 @@ impl SourceFile {
 }
 
 /// A module's path, and how far its load is.
-#[derive(Drop)]
 pub struct ModuleLoad {
     path: PyText,
     load: Load,
+}
+
+impl Drop for ModuleLoad {
+    fn drop(self) {
+        let ModuleLoad { path: _, load: _ } = self;
+    }
 }
 
 impl Model for ModuleLoad {

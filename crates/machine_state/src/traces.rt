@@ -32,9 +32,14 @@ pub fn copy_trace(alloc: Global, trace: &Trace) -> Result<Trace, OutOfMemory>
 }
 
 /// The traces with which exceptions were first raised, by the places of their objects.
-#[derive(Drop)]
 pub struct Traces {
     map: IndexMap<usize, Trace>,
+}
+
+impl Drop for Traces {
+    fn drop(self) {
+        let Traces { map: _ } = self;
+    }
 }
 
 impl Model for Traces {

@@ -6,7 +6,7 @@ ghost use Rattle.mark_expr.specs.Matching.{Holds, begins, has_part, names_it, tr
 use crate::tree::{MarkExpr, PyName};
 
 /// How an ident names a name.
-#[derive(Clone, Copy, Debug)]
+#[derive(Clone, Copy)]
 pub enum How {
     /// It is a part of it, whatever the case of ASCII letters.
     Part,

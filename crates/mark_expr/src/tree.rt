@@ -4,7 +4,7 @@ use seq::CharText;
 pub type PyName = CharText;
 
 /// An expression. `And` and `Or` hold their first part and the further ones, so that a long row of parts is not deep.
-#[derive(Debug, Drop)]
+#[derive(Drop)]
 pub enum MarkExpr {
     Ident(PyName),
     Not(Box<MarkExpr>),

@@ -3,7 +3,7 @@
 use seq::Seq;
 
 /// What one character may be.
-#[derive(Clone, Copy, Debug, PartialEq, Eq)]
+#[derive(Clone, Copy, PartialEq, Eq)]
 pub enum Atom {
     /// Any but a line end.
     AnyCharacter,
@@ -12,7 +12,7 @@ pub enum Atom {
 }
 
 /// How many characters in a row are such.
-#[derive(Clone, Copy, Debug, PartialEq, Eq)]
+#[derive(Clone, Copy, PartialEq, Eq)]
 pub enum Times {
     Once,
     ZeroOrMore,
@@ -20,7 +20,7 @@ pub enum Times {
 }
 
 /// A part of a pattern.
-#[derive(Clone, Copy, Debug, PartialEq, Eq)]
+#[derive(Clone, Copy, PartialEq, Eq)]
 pub struct Item {
     pub atom: Atom,
     pub times: Times,
@@ -28,7 +28,7 @@ pub struct Item {
 
 /// A pattern: whether it matches at the text's beginning alone, its items in order, whether it matches at the text's very end
 /// alone, and how many characters it is written with.
-#[derive(Debug, Drop)]
+#[derive(Drop)]
 pub struct Pattern {
     pub at_start: bool,
     pub items: Seq<Item>,

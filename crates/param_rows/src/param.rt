@@ -8,7 +8,7 @@ pub type ParamNumbers = Seq<u32>;
 pub type Pairs = Seq<(u32, u32)>;
 
 /// One set of values of a `parametrize` mark (pytest's reference, `pytest.param`).
-#[derive(Debug, Drop)]
+#[derive(Drop)]
 pub struct ParamSet {
     /// The numbers of its values, one for each name of the mark.
     pub values: ParamNumbers,
@@ -21,14 +21,14 @@ pub struct ParamSet {
 pub type ParamSets = Seq<ParamSet>;
 
 /// A `parametrize` mark (pytest's reference, `pytest.mark.parametrize`).
-#[derive(Debug, Drop)]
+#[derive(Drop)]
 pub struct ParamMark {
     pub names: ParamNumbers,
     pub sets: ParamSets,
 }
 
 /// One row of a test.
-#[derive(Debug, Drop)]
+#[derive(Drop)]
 pub struct ParamRow {
     /// Names that marks bind, with the numbers of their values.
     pub bound: Pairs,

@@ -1,7 +1,7 @@
 // What a comparison tells.
 
 /// What a comparison tells, with the steps that it used.
-#[derive(Clone, Copy, Debug, PartialEq, Eq)]
+#[derive(Clone, Copy, PartialEq, Eq)]
 pub enum Tested {
     Yes(u64),
     No(u64),
@@ -11,7 +11,7 @@ pub enum Tested {
 }
 
 /// How two values are ordered, with the steps that this used.
-#[derive(Clone, Copy, Debug, PartialEq, Eq)]
+#[derive(Clone, Copy, PartialEq, Eq)]
 pub enum Ordered {
     Less(u64),
     Same(u64),

@@ -12,7 +12,7 @@ use std::alloc::Global;
 use std::rc::Rc;
 
 /// A part of an expression: where it begins, and the first place in it where something may not stand.
-#[derive(Clone, Copy, Debug)]
+#[derive(Clone, Copy)]
 pub struct Part {
     pub at: Pos,
     pub first: Option<Pos>,

@@ -20,7 +20,7 @@ use std::alloc::Global;
 use std::rc::Rc;
 
 /// What statements stand in.
-#[derive(Clone, Copy, Debug)]
+#[derive(Clone, Copy)]
 pub enum Scope {
     Module,
     Class,
@@ -28,7 +28,7 @@ pub enum Scope {
 }
 
 /// Where a statement stands: in a module, a class or a function, in a loop of it or not, and where a `yield` may stand or not.
-#[derive(Clone, Copy, Debug)]
+#[derive(Clone, Copy)]
 pub struct Where {
     pub scope: Scope,
     pub in_loop: bool,

@@ -9,18 +9,33 @@ use py_tree::{Alias, BinOp, Expr, Function, Handler, Names, Stmt, Target};
 use std::rc::Rc;
 
 /// The core code of a source.
-#[derive(Drop)]
 pub struct Core {
     pub body: Rc<CoreBlock>,
 }
 
+impl Drop for Core {
+    fn drop(self) {
+        let Core { body: _ } = self;
+    }
+}
+
 /// The core statements of a block, the source's statements for which they stand, and whether asserts are explained there.
-#[derive(Drop)]
 #[cycle(statement)]
 pub struct CoreBlock {
     pub source: Rc<Vec<Stmt>>,
     pub explains: bool,
     pub stmts: Vec<CoreStmt>,
+}
+
+impl Drop for CoreBlock {
+    #[cycle(statement)]
+    fn drop(self) {
+        let CoreBlock {
+            source: _,
+            explains: _,
+            stmts: _,
+        } = self;
+    }
 }
 
 impl CoreBlock {
@@ -41,15 +56,20 @@ impl CoreBlock {
 }
 
 /// A core statement, at its first token.
-#[derive(Drop)]
 #[cycle(statement)]
 pub struct CoreStmt {
     pub at: Pos,
     pub kind: CoreStmtKind,
 }
 
+impl Drop for CoreStmt {
+    #[cycle(statement)]
+    fn drop(self) {
+        let CoreStmt { at: _, kind: _ } = self;
+    }
+}
+
 /// The forms of core statements, each with its parts in the order of the text (Language Reference, simple and compound statements).
-#[derive(Drop)]
 #[cycle(statement)]
 pub enum CoreStmtKind {
     Expr(Rc<CoreExpr>),
@@ -86,15 +106,55 @@ pub enum CoreStmtKind {
     ImportFrom(Rc<Vec<SrcText>>, Rc<Vec<Alias>>),
 }
 
+impl Drop for CoreStmtKind {
+    #[cycle(statement)]
+    fn drop(self) {
+        match self {
+            CoreStmtKind::Expr(_) => {}
+            CoreStmtKind::Assign(_, _) => {}
+            CoreStmtKind::AugAssign(_, _, _) => {}
+            CoreStmtKind::Return(_) => {}
+            CoreStmtKind::FailWith(_, _) => {}
+            CoreStmtKind::Global(_) => {}
+            CoreStmtKind::Pass => {}
+            CoreStmtKind::Break => {}
+            CoreStmtKind::Continue => {}
+            CoreStmtKind::If(_, _) => {}
+            CoreStmtKind::Yield(_, _) => {}
+            CoreStmtKind::While(_, _) => {}
+            CoreStmtKind::Def(_, _, _) => {}
+            CoreStmtKind::Raise(_) => {}
+            CoreStmtKind::Del(_) => {}
+            CoreStmtKind::For(_, _, _) => {}
+            CoreStmtKind::Try(_, _) => {}
+            CoreStmtKind::With(_, _, _) => {}
+            CoreStmtKind::Class(_, _, _) => {}
+            CoreStmtKind::Import(_, _) => {}
+            CoreStmtKind::ImportFrom(_, _) => {}
+        }
+    }
+}
+
 /// What guards the block of a `try`: its handlers, the source's handlers for which they stand, and the blocks behind `else` and
 /// `finally`, which are empty where these are absent.
-#[derive(Drop)]
 #[cycle(statement)]
 pub struct CoreGuard {
     pub source: Rc<Vec<Handler>>,
     pub handlers: Vec<CoreHandler>,
     pub other: Rc<CoreBlock>,
     pub last: Rc<CoreBlock>,
+}
+
+impl Drop for CoreGuard {
+    #[cycle(statement)]
+    fn drop(self) {
+        let CoreGuard {
+            source: _,
+            handlers: _,
+            other: _,
+            last: _,
+        } = self;
+    }
 }
 
 impl CoreGuard {
@@ -115,7 +175,6 @@ impl CoreGuard {
 }
 
 /// What an `except` takes, the name that it binds, and its block.
-#[derive(Drop)]
 #[cycle(statement)]
 pub struct CoreHandler {
     pub class: Option<Rc<CoreExpr>>,
@@ -123,8 +182,18 @@ pub struct CoreHandler {
     pub body: Rc<CoreBlock>,
 }
 
+impl Drop for CoreHandler {
+    #[cycle(statement)]
+    fn drop(self) {
+        let CoreHandler {
+            class: _,
+            name: _,
+            body: _,
+        } = self;
+    }
+}
+
 /// A condition and its block, at `if` or `elif`.
-#[derive(Drop)]
 #[cycle(statement)]
 pub struct CoreBranch {
     pub at: Pos,
@@ -132,8 +201,18 @@ pub struct CoreBranch {
     pub body: Rc<CoreBlock>,
 }
 
+impl Drop for CoreBranch {
+    #[cycle(statement)]
+    fn drop(self) {
+        let CoreBranch {
+            at: _,
+            condition: _,
+            body: _,
+        } = self;
+    }
+}
+
 /// A function (Language Reference, function definitions).
-#[derive(Drop)]
 #[cycle(statement)]
 pub struct CoreFn {
     /// The function of the source.
@@ -150,15 +229,37 @@ pub struct CoreFn {
     pub body: Rc<CoreBlock>,
 }
 
+impl Drop for CoreFn {
+    #[cycle(statement)]
+    fn drop(self) {
+        let CoreFn {
+            source: _,
+            at: _,
+            name: _,
+            params: _,
+            locals: _,
+            yields: _,
+            body: _,
+        } = self;
+    }
+}
+
 /// A parameter's name, and whether it has a default.
-#[derive(Drop)]
 pub struct CoreParam {
     pub name: SrcText,
     pub has_default: bool,
 }
 
+impl Drop for CoreParam {
+    fn drop(self) {
+        let CoreParam {
+            name: _,
+            has_default: _,
+        } = self;
+    }
+}
+
 /// A class (Language Reference, class definitions).
-#[derive(Drop)]
 #[cycle(statement)]
 pub struct CoreClass {
     /// Where the word `class` stands.
@@ -167,31 +268,63 @@ pub struct CoreClass {
     pub body: Rc<CoreBlock>,
 }
 
+impl Drop for CoreClass {
+    #[cycle(statement)]
+    fn drop(self) {
+        let CoreClass {
+            at: _,
+            name: _,
+            body: _,
+        } = self;
+    }
+}
+
 /// What takes a value.
-#[derive(Drop)]
 pub enum CoreTarget {
     Single(CoreSingle),
     /// The value is unpacked.
     Unpack(Rc<Vec<CoreSingle>>),
 }
 
+impl Drop for CoreTarget {
+    fn drop(self) {
+        match self {
+            CoreTarget::Single(_) => {}
+            CoreTarget::Unpack(_) => {}
+        }
+    }
+}
+
 /// What takes one value, at its first token.
-#[derive(Drop)]
 pub struct CoreSingle {
     pub at: Pos,
     pub kind: CoreSingleKind,
 }
 
+impl Drop for CoreSingle {
+    fn drop(self) {
+        let CoreSingle { at: _, kind: _ } = self;
+    }
+}
+
 /// The forms of what takes one value.
-#[derive(Drop)]
 pub enum CoreSingleKind {
     Name(SrcText),
     Attribute(Rc<CoreExpr>, SrcText),
     Subscript(Rc<CoreExpr>, Rc<CoreExpr>),
 }
 
+impl Drop for CoreSingleKind {
+    fn drop(self) {
+        match self {
+            CoreSingleKind::Name(_) => {}
+            CoreSingleKind::Attribute(_, _) => {}
+            CoreSingleKind::Subscript(_, _) => {}
+        }
+    }
+}
+
 /// What is done with the value that a `yield` is given when its body goes on (Language Reference, yield expressions).
-#[derive(Drop)]
 pub enum CoreUse {
     /// Nothing.
     NoUse,
@@ -201,11 +334,29 @@ pub enum CoreUse {
     Return,
 }
 
+impl Drop for CoreUse {
+    fn drop(self) {
+        match self {
+            CoreUse::NoUse => {}
+            CoreUse::Targets(_, _) => {}
+            CoreUse::Return => {}
+        }
+    }
+}
+
 /// What the failure of an assert shows beside its message.
-#[derive(Drop)]
 pub enum Template {
     /// Nothing.
     Plain,
     /// What its condition was, whose parts are kept as temporaries.
     Explain(Rc<Expr>),
+}
+
+impl Drop for Template {
+    fn drop(self) {
+        match self {
+            Template::Plain => {}
+            Template::Explain(_) => {}
+        }
+    }
 }

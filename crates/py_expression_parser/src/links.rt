@@ -11,7 +11,7 @@ use py_tree::CmpOp;
 use std::alloc::{AllocError, Global};
 
 /// What joins operands to a chain.
-#[derive(Clone, Copy, Debug)]
+#[derive(Clone, Copy)]
 pub enum Link {
     Compare,
     And,

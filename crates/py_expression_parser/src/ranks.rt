@@ -6,7 +6,7 @@ use py_tokens::Op;
 use py_tree::BinOp;
 
 /// A rank of binary operators, from the tightest; what stands below them all is unary.
-#[derive(Clone, Copy, Debug)]
+#[derive(Clone, Copy)]
 pub enum Rank {
     Unary,
     Product,

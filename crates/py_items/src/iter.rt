@@ -4,7 +4,7 @@ use py_values::end::Raise;
 use py_values::value::Value;
 
 /// What a `for` goes over, the place of the next element, and the length at its start.
-#[derive(Clone, Copy, Debug, PartialEq, Eq)]
+#[derive(Clone, Copy, PartialEq, Eq)]
 pub struct IterAt {
     pub of: Value,
     pub next: usize,

@@ -7,7 +7,7 @@ use crate::chars::{digit_value, line_end_len};
 use py_source::LexKind;
 
 /// A part of a literal's body that stands for one character, or for none.
-#[derive(Clone, Copy, Debug, PartialEq, Eq)]
+#[derive(Clone, Copy, PartialEq, Eq)]
 pub struct Item {
     pub stands_for: Option<char>,
     /// How many characters spell it.

@@ -10,7 +10,7 @@ use seq::OutOfMemory;
 use std::alloc::Global;
 
 /// A text literal at the head of a text.
-#[derive(Debug, Drop)]
+#[derive(Drop)]
 pub struct Literal {
     pub text: SrcText,
     /// How many characters spell it, from its opening quote on.

@@ -32,9 +32,14 @@ use std::marker::Model;
 use std::mem;
 
 /// The sources, the modules that are loaded, the heap, and what was printed.
-#[derive(Drop)]
 pub struct World {
     machine: Machine,
+}
+
+impl Drop for World {
+    fn drop(self) {
+        let World { machine: _ } = self;
+    }
 }
 
 impl Model for World {

@@ -8,7 +8,7 @@ use crate::token::{LexFault, TokenKind};
 use py_source::{LexKind, MOST_LEVELS, Pos};
 
 /// The shape of a bracket.
-#[derive(Clone, Copy, Debug, PartialEq, Eq)]
+#[derive(Clone, Copy, PartialEq, Eq)]
 pub enum Shape {
     Round,
     Square,
@@ -16,7 +16,7 @@ pub enum Shape {
 }
 
 /// What a token does with brackets.
-#[derive(Clone, Copy, Debug, PartialEq, Eq)]
+#[derive(Clone, Copy, PartialEq, Eq)]
 pub enum BracketRole {
     Opens(Shape),
     Closes(Shape),
@@ -24,7 +24,7 @@ pub enum BracketRole {
 }
 
 /// An open bracket at its place.
-#[derive(Clone, Copy, Debug, PartialEq, Eq)]
+#[derive(Clone, Copy, PartialEq, Eq)]
 pub struct Bracket {
     pub shape: Shape,
     pub at: Pos,

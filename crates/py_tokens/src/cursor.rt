@@ -7,7 +7,7 @@ use py_literals::behind;
 use py_source::Pos;
 
 /// What is left of a text, and where it begins.
-#[derive(Debug, Drop)]
+#[derive(Drop)]
 pub struct Cursor<'a> {
     pub rest: &'a [char],
     pub place: Place,

@@ -18,7 +18,7 @@ use std::alloc::Global;
 use unicode_normalization::{Form, slice};
 
 /// A token at the head of a text.
-#[derive(Debug, Drop)]
+#[derive(Drop)]
 pub struct Lexeme {
     pub kind: TokenKind,
     /// How many characters spell it.
@@ -26,7 +26,7 @@ pub struct Lexeme {
 }
 
 /// What a name right before a quote means.
-#[derive(Clone, Copy, Debug, PartialEq, Eq)]
+#[derive(Clone, Copy, PartialEq, Eq)]
 pub enum Prefix {
     Raw,
     /// A prefix that the language does not have.

@@ -5,7 +5,7 @@ use py_literals::line_end_len;
 use py_source::Pos;
 
 /// A place in a text.
-#[derive(Clone, Copy, Debug, PartialEq, Eq)]
+#[derive(Clone, Copy, PartialEq, Eq)]
 pub struct Place {
     pub pos: Pos,
     /// How many bytes stand before it.

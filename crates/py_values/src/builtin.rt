@@ -3,7 +3,7 @@
 use crate::class::ExcClass;
 
 /// The built-in functions that make sequences and dicts, or ask all elements (Python library reference, built-in functions).
-#[derive(Clone, Copy, Debug, PartialEq, Eq)]
+#[derive(Clone, Copy, PartialEq, Eq)]
 pub enum SequenceCall {
     All,
     Any,
@@ -18,7 +18,7 @@ pub enum SequenceCall {
 }
 
 /// The built-in functions on numbers, and those that add or compare elements (Python library reference, built-in functions).
-#[derive(Clone, Copy, Debug, PartialEq, Eq)]
+#[derive(Clone, Copy, PartialEq, Eq)]
 pub enum NumberCall {
     Abs,
     Bool,
@@ -32,7 +32,7 @@ pub enum NumberCall {
 }
 
 /// The built-in functions that ask of any object (Python library reference, built-in functions).
-#[derive(Clone, Copy, Debug, PartialEq, Eq)]
+#[derive(Clone, Copy, PartialEq, Eq)]
 pub enum ObjectCall {
     Callable,
     GetAttr,
@@ -42,7 +42,7 @@ pub enum ObjectCall {
 }
 
 /// The methods of texts (Python library reference, string methods).
-#[derive(Clone, Copy, Debug, PartialEq, Eq)]
+#[derive(Clone, Copy, PartialEq, Eq)]
 pub enum TextMethod {
     Count,
     EndsWith,
@@ -58,7 +58,7 @@ pub enum TextMethod {
 }
 
 /// The methods of lists (Python library reference, mutable sequence types, lists).
-#[derive(Clone, Copy, Debug, PartialEq, Eq)]
+#[derive(Clone, Copy, PartialEq, Eq)]
 pub enum ListMethod {
     Append,
     Clear,
@@ -74,14 +74,14 @@ pub enum ListMethod {
 }
 
 /// The methods of tuples (Python library reference, common sequence operations).
-#[derive(Clone, Copy, Debug, PartialEq, Eq)]
+#[derive(Clone, Copy, PartialEq, Eq)]
 pub enum TupleMethod {
     Count,
     Index,
 }
 
 /// The methods of dicts (Python library reference, mapping types).
-#[derive(Clone, Copy, Debug, PartialEq, Eq)]
+#[derive(Clone, Copy, PartialEq, Eq)]
 pub enum DictMethod {
     Clear,
     Copy,
@@ -95,7 +95,7 @@ pub enum DictMethod {
 }
 
 /// The functions of the module `pytest` (pytest's reference, functions).
-#[derive(Clone, Copy, Debug, PartialEq, Eq)]
+#[derive(Clone, Copy, PartialEq, Eq)]
 pub enum PytestCall {
     Fail,
     Fixture,
@@ -107,7 +107,7 @@ pub enum PytestCall {
 
 /// The built-in functions, the classes of built-in kinds as what their calls do (Python library reference, built-in functions), the
 /// methods of built-in kinds, the functions of `pytest`, and the method of `request`.
-#[derive(Clone, Copy, Debug, PartialEq, Eq)]
+#[derive(Clone, Copy, PartialEq, Eq)]
 pub enum Builtin {
     Print,
     Len,

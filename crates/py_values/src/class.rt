@@ -5,7 +5,7 @@ use crate::value::ObjId;
 
 /// The built-in classes of exceptions (Python library reference, built-in exceptions), with `Skipped`, `Failed` and
 /// `StepLimit`, whose names no source can reach.
-#[derive(Clone, Copy, Debug, PartialEq, Eq)]
+#[derive(Clone, Copy, PartialEq, Eq)]
 pub enum ExcClass {
     BaseException,
     Exception,
@@ -34,7 +34,7 @@ pub enum ExcClass {
 }
 
 /// The class of an exception: a built-in one, or a class of the sources, an object of the heap.
-#[derive(Clone, Copy, Debug, PartialEq, Eq)]
+#[derive(Clone, Copy, PartialEq, Eq)]
 pub enum ClassRef {
     Builtin(ExcClass),
     Defined(ObjId),
@@ -42,7 +42,7 @@ pub enum ClassRef {
 
 /// What a class is: a class of the sources, a built-in class of exceptions, or that of a built-in kind, which is called as a
 /// built-in function.
-#[derive(Clone, Copy, Debug, PartialEq, Eq)]
+#[derive(Clone, Copy, PartialEq, Eq)]
 pub enum ClassForm {
     Source,
     Exception(ExcClass),

@@ -12,16 +12,21 @@ use std::alloc::Global;
 use std::marker::Model;
 
 /// A key of a dict as the value that was first stored under it, and the value that is stored there.
-#[derive(Clone, Copy, Debug, PartialEq, Eq)]
+#[derive(Clone, Copy, PartialEq, Eq)]
 pub struct Pair {
     pub key: Value,
     pub value: Value,
 }
 
 /// A dict: its pairs in order of insertion, by their keys as plain data.
-#[derive(Drop)]
 pub struct Dict {
     map: IndexMap<Key, Pair>,
+}
+
+impl Drop for Dict {
+    fn drop(self) {
+        let Dict { map: _ } = self;
+    }
 }
 
 impl Model for Dict {

@@ -1,13 +1,11 @@
 // The heap.
 
-ghost use Rattle.std.specs.Prelude.{◌≡◌, ◌<◌, ◌++◌, ◌∷◌, [], IfOk, length, slice_get, slice_set, remove, Some, option_copied, OnOk};
-ghost use Rattle.py_values.specs.Changes.{heap_after, object_after, with_items, with_pairs};
-ghost use Rattle.py_values.specs.Pairs as pairs;
+ghost use Rattle.std.specs.Prelude.{◌≡◌, ◌<◌, ◌++◌, ◌∷◌, [], IfOk, length, slice_get, Some, option_copied, OnOk};
+ghost use Rattle.py_values.specs.Changes.{heap_after};
 ghost use Rattle.py_values.specs.Lending.{LendsObj};
 ghost use Rattle.std.specs.Borrow.{sem};
 
 use crate::change::Change;
-use crate::key::Key;
 use crate::object::Obj;
 use crate::value::{ObjId, Value};
 use py_text::OutOfMemory;
@@ -15,9 +13,14 @@ use std::alloc::Global;
 use std::marker::Model;
 
 /// The objects of a session; none is ever taken away.
-#[derive(Drop)]
 pub struct Heap {
     objs: Vec<Obj>,
+}
+
+impl Drop for Heap {
+    fn drop(self) {
+        let Heap { objs: _ } = self;
+    }
 }
 
 impl Model for Heap {
@@ -83,77 +86,6 @@ impl Heap {
             drop(change);
             return Ok(());
         }
-        apply(self.obj_mut(id), change)
-    }
-}
-
-/// Changes an object.
-fn apply(obj: &mut Obj, change: Change) -> Result<(), OutOfMemory>
-    ensures { OnOk result (obj.new ≡ object_after change obj.old) }
-{
-    match change {
-        Change::Whole(new) => {
-            *obj = new;
-            Ok(())
-        }
-        Change::Push(v) => push_item(obj, v),
-        Change::Item(at, v) => {
-            set_item(obj, at, v);
-            Ok(())
-        }
-        Change::WithoutItem(at) => {
-            remove_item(obj, at);
-            Ok(())
-        }
-        Change::Pair(k, key, v) => put_pair(obj, k, key, v),
-        Change::WithoutPair(k) => {
-            remove_pair(obj, &k);
-            Ok(())
-        }
-    }
-}
-
-fn push_item(obj: &mut Obj, v: Value) -> Result<(), OutOfMemory>
-    ensures { OnOk result (obj.new ≡ with_items (λ vs. vs ++ v ∷ []) obj.old) }
-{
-    match obj {
-        Obj::List(items) => items.push(v),
-        _ => Ok(()),
-    }
-}
-
-fn set_item(obj: &mut Obj, at: usize, v: Value)
-    ensures { obj.new ≡ with_items (λ vs. slice_set vs at v) obj.old }
-{
-    match obj {
-        Obj::List(items) => items.set(at, v),
-        _ => {}
-    }
-}
-
-fn remove_item(obj: &mut Obj, at: usize)
-    ensures { obj.new ≡ with_items (λ vs. remove vs at) obj.old }
-{
-    match obj {
-        Obj::List(items) => items.remove(at),
-        _ => {}
-    }
-}
-
-fn put_pair(obj: &mut Obj, k: Key, key: Value, v: Value) -> Result<(), OutOfMemory>
-    ensures { OnOk result (obj.new ≡ with_pairs (pairs.put_pair k key v) obj.old) }
-{
-    match obj {
-        Obj::Dict(dict) => dict.put(k, key, v),
-        _ => Ok(()),
-    }
-}
-
-fn remove_pair(obj: &mut Obj, k: &Key)
-    ensures { obj.new ≡ with_pairs (pairs.without_pair k.now) obj.old }
-{
-    match obj {
-        Obj::Dict(dict) => dict.remove(k),
-        _ => {}
+        change.apply(self.obj_mut(id))
     }
 }

@@ -10,7 +10,7 @@ use std::hash::{Hash, Hasher};
 use std::marker::Model;
 
 /// A part of a key. Booleans are the numbers 0 and 1.
-#[derive(PartialEq, Eq, Hash, Drop)]
+#[derive(PartialEq, Eq, Hash)]
 pub enum Atom {
     None,
     Number(i128),
@@ -19,6 +19,18 @@ pub enum Atom {
     Tuple(usize),
     /// An object that is equal to itself alone.
     Object(ObjId),
+}
+
+impl Drop for Atom {
+    fn drop(self) {
+        match self {
+            Atom::None => {}
+            Atom::Number(_) => {}
+            Atom::Text(_) => {}
+            Atom::Tuple(_) => {}
+            Atom::Object(_) => {}
+        }
+    }
 }
 
 fn copied_atom(alloc: Global, atom: &Atom) -> Result<Atom, OutOfMemory>
@@ -34,9 +46,14 @@ fn copied_atom(alloc: Global, atom: &Atom) -> Result<Atom, OutOfMemory>
 }
 
 /// A key as plain data: its parts, a tuple before its elements.
-#[derive(Drop)]
 pub struct Key {
     atoms: Vec<Atom>,
+}
+
+impl Drop for Key {
+    fn drop(self) {
+        let Key { atoms: _ } = self;
+    }
 }
 
 impl Model for Key {

@@ -12,9 +12,15 @@ use std::hash::{Hash, Hasher};
 use std::marker::Model;
 
 /// A name, seen as its characters.
-#[derive(Debug, Drop)]
+#[derive(Debug)]
 pub struct Name {
     text: PyText,
+}
+
+impl Drop for Name {
+    fn drop(self) {
+        let Name { text: _ } = self;
+    }
 }
 
 impl Model for Name {
@@ -84,9 +90,14 @@ impl Hash for Name {
 }
 
 /// Names with values, in order of first binding.
-#[derive(Drop)]
 pub struct Names {
     map: IndexMap<Name, Value>,
+}
+
+impl Drop for Names {
+    fn drop(self) {
+        let Names { map: _ } = self;
+    }
 }
 
 impl Model for Names {

@@ -1,7 +1,7 @@
 // Ranges.
 
 /// The numbers from a start on by a step: `length` of them. `range` counts those before the stop.
-#[derive(Clone, Copy, Debug, PartialEq, Eq)]
+#[derive(Clone, Copy, PartialEq, Eq)]
 pub struct RangeObj {
     pub start: i128,
     pub stop: i128,

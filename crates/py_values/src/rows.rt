@@ -8,9 +8,14 @@ use std::alloc::Global;
 use std::marker::Model;
 
 /// Values in a row.
-#[derive(Drop)]
 pub struct Values {
     items: Vec<Value>,
+}
+
+impl Drop for Values {
+    fn drop(self) {
+        let Values { items: _ } = self;
+    }
 }
 
 impl Model for Values {
@@ -70,9 +75,14 @@ impl Values {
 }
 
 /// Texts in a row.
-#[derive(Drop)]
 pub struct Texts {
     items: Vec<PyText>,
+}
+
+impl Drop for Texts {
+    fn drop(self) {
+        let Texts { items: _ } = self;
+    }
 }
 
 impl Model for Texts {
@@ -98,16 +108,29 @@ impl Texts {
 }
 
 /// A parameter of a function, and its default where it has one.
-#[derive(Drop)]
 pub struct Param {
     pub name: PyText,
     pub default: Option<Value>,
 }
 
+impl Drop for Param {
+    fn drop(self) {
+        let Param {
+            name: _,
+            default: _,
+        } = self;
+    }
+}
+
 /// The parameters of a function, in order.
-#[derive(Drop)]
 pub struct Params {
     items: Vec<Param>,
+}
+
+impl Drop for Params {
+    fn drop(self) {
+        let Params { items: _ } = self;
+    }
 }
 
 impl Model for Params {

@@ -13,7 +13,7 @@ use py_values::{OutOfMemory, PyText};
 use std::alloc::Global;
 
 /// An argument of a function of `pytest` or of one of its own marks.
-#[derive(Clone, Copy, Debug, PartialEq, Eq)]
+#[derive(Clone, Copy, PartialEq, Eq)]
 pub enum Argument {
     AutoUse,
     Condition,
@@ -35,7 +35,7 @@ pub enum Argument {
 }
 
 /// One of pytest's own marks (pytest's reference, marks).
-#[derive(Clone, Copy, Debug, PartialEq, Eq)]
+#[derive(Clone, Copy, PartialEq, Eq)]
 pub enum OwnMark {
     Parametrize,
     Skip,

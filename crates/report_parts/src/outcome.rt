@@ -5,7 +5,7 @@ ghost use Rattle.report_parts.specs.Outcomes.{has_error, has_failed, is_failed, 
 use crate::report::{CollectReport, ItemReport, PhaseEnd};
 
 /// The phases of an item.
-#[derive(Clone, Copy, Debug, PartialEq, Eq)]
+#[derive(Clone, Copy, PartialEq, Eq)]
 pub enum Phase {
     Setup,
     Call,
@@ -13,7 +13,7 @@ pub enum Phase {
 }
 
 /// What a phase shows of its end.
-#[derive(Clone, Copy, Debug, PartialEq, Eq)]
+#[derive(Clone, Copy, PartialEq, Eq)]
 pub enum Outcome {
     Passed,
     Failed,

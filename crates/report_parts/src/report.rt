@@ -17,7 +17,6 @@ pub type Frames = Seq<Frame>;
 pub type Tolds = Seq<Told>;
 
 /// A place in a source that an exception passed.
-#[derive(Debug, Drop)]
 pub struct Frame {
     pub file: Text,
     pub line: u32,
@@ -27,16 +26,31 @@ pub struct Frame {
     pub source: Option<Text>,
 }
 
+impl Drop for Frame {
+    fn drop(self) {
+        let Frame {
+            file: _,
+            line: _,
+            name: _,
+            source: _,
+        } = self;
+    }
+}
+
 /// An exception with its frames, the outermost first.
-#[derive(Debug, Drop)]
 pub struct Told {
     pub frames: Frames,
     /// The class, and the message where there is one.
     pub text: PyText,
 }
 
+impl Drop for Told {
+    fn drop(self) {
+        let Told { frames: _, text: _ } = self;
+    }
+}
+
 /// How a phase of an item ended.
-#[derive(Debug, Drop)]
 pub enum PhaseEnd {
     NotRun,
     Passed,
@@ -48,8 +62,21 @@ pub enum PhaseEnd {
     Raised(Tolds),
 }
 
+impl Drop for PhaseEnd {
+    fn drop(self) {
+        match self {
+            PhaseEnd::NotRun => {}
+            PhaseEnd::Passed => {}
+            PhaseEnd::Skipped => {}
+            PhaseEnd::Xfailed => {}
+            PhaseEnd::Xpassed => {}
+            PhaseEnd::StrictXpassed(_, _) => {}
+            PhaseEnd::Raised(_) => {}
+        }
+    }
+}
+
 /// What happened to an item.
-#[derive(Debug, Drop)]
 pub struct ItemReport {
     pub node_id: Text,
     /// What the title of a block calls the item.
@@ -64,8 +91,22 @@ pub struct ItemReport {
     pub captured: (Text, Text, Text),
 }
 
+impl Drop for ItemReport {
+    fn drop(self) {
+        let ItemReport {
+            node_id: _,
+            title: _,
+            file: _,
+            setup: _,
+            call: _,
+            teardown: _,
+            shown_lines: _,
+            captured: _,
+        } = self;
+    }
+}
+
 /// A file whose collection failed.
-#[derive(Debug, Drop)]
 pub struct CollectReport {
     pub file: Text,
     pub told: Told,
@@ -73,8 +114,18 @@ pub struct CollectReport {
     pub captured: Text,
 }
 
+impl Drop for CollectReport {
+    fn drop(self) {
+        let CollectReport {
+            file: _,
+            told: _,
+            captured: _,
+        } = self;
+    }
+}
+
 /// Where an item ran: the number of its group, and of the worker that took the group.
-#[derive(Clone, Copy, Debug, PartialEq, Eq)]
+#[derive(Clone, Copy, PartialEq, Eq)]
 pub struct Place {
     pub group: u32,
     pub worker: u32,

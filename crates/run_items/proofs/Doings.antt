@@ -14,8 +14,8 @@ use Rattle.report_rules.specs.Collected.{Ending, ends_badly}
 use Rattle.run_items.specs.Stands.{IsPlannedItem, node_of, plan_rules, planned, stand_state}
 use Rattle.run_items.specs.declared.plan.Plan.{Plan}
 use Rattle.run_items.specs.declared.stand.Stand.{Stand}
-use Rattle.runtest_loop.specs.Kept.{session_phase}
-use Rattle.runtest_loop.specs.Stages.{IsKnown, session_item}
+use Rattle.runtest_reports.specs.Kept.{session_phase}
+use Rattle.runtest_reports.specs.Stages.{IsKnown, session_item}
 use Rattle.runtest_rules.specs.Failures.{fixture_fault, skipped, wrong_arguments}
 use Rattle.runtest_rules.specs.Language.{python}
 use Rattle.runtest_rules.specs.Objects.{instance_made, object_made}

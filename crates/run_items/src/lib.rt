@@ -2,8 +2,8 @@
 //!
 //! # What it is for
 //!
-//! `runtest_loop` runs items on a stage; here is the stage of a world of sources ([`Stand`]): the world, and what is set up in it
-//! (`item_stack`). What the items and their fixtures do are the rules of `runtest_rules` for the suite of a [`Plan`].
+//! `runtest_loop` runs items on a stage (`Stage` of `runtest_reports`); here is the stage of a world of sources ([`Stand`]): the world, and
+//! what is set up in it (`item_stack`). What the items and their fixtures do are the rules of `runtest_rules` for the suite of a [`Plan`].
 //!
 //! # What is proved
 //!

@@ -2,7 +2,7 @@
 
 ghost use Rattle.std.specs.Prelude.{◌≡◌, IfOk, OnOk};
 ghost use Rattle.run_items.specs.Stands.{IsPlan, IsPlannedItem, plan_fixture, plan_rules, planned, stand_state};
-ghost use Rattle.runtest_loop.specs.Kept.{reported_ending, session_phase};
+ghost use Rattle.runtest_reports.specs.Kept.{reported_ending, session_phase};
 ghost use Rattle.session_rules.specs.Session.{telling};
 ghost use Rattle.session_rules.specs.Teardown.{in_world, step};
 
@@ -14,7 +14,7 @@ use fixture_calls::Failure;
 use py_machine::{Frozen, World};
 use py_values::value::Value;
 use report_parts::{Phase, Text};
-use runtest_loop::{PhaseEnding, Stage};
+use runtest_reports::{PhaseEnding, Stage};
 use seq::{OutOfMemory, Seq};
 use session_types::{DefId, Event, Scope};
 use std::alloc::Global;

@@ -12,9 +12,9 @@ use Rattle.report_rules.specs.Items.{item_report}
 use Rattle.report_rules.specs.Rows.{Arrival, Row, Task, task, with_ends}
 use Rattle.runtest_loop.specs.Course.{arrivals_with, chosen_at, chosen_in, reports_left, run_left, told_item}
 use Rattle.runtest_loop.specs.Fed.{IsNumbered, numbers_at, numbers_fed}
-use Rattle.runtest_loop.specs.Kept.{arrived_all}
-use Rattle.runtest_loop.specs.Stages.{session_item}
-use Rattle.runtest_loop.specs.declared.kept.Arrived.{Arrived}
+use Rattle.runtest_reports.specs.Kept.{arrived_all}
+use Rattle.runtest_reports.specs.Stages.{session_item}
+use Rattle.runtest_reports.specs.declared.kept.Arrived.{Arrived}
 use Rattle.session_rules.specs.Session.{next_of, reaches}
 use Rattle.session_rules.specs.Teardown.{State}
 use Rattle.session_rules.specs.World.{Item, Language, Rules}

@@ -8,10 +8,10 @@ use Rattle.report_rules.specs.Collected.{FixtureTexts, SelectedItem, spoken}
 use Rattle.runtest_loop.proofs.Reports.{HasPhases, IsCalled}
 use Rattle.runtest_loop.specs.Calls.{call_where, failed_call, torn_where}
 use Rattle.runtest_loop.specs.Item.{IsKeptCall, IsKeptItem}
-use Rattle.runtest_loop.specs.Kept.{IsKept}
-use Rattle.runtest_loop.specs.Stages.{kept_next, session_item}
-use Rattle.runtest_loop.specs.declared.kept.KeptItem.{KeptItem}
-use Rattle.runtest_loop.specs.declared.kept.KeptPhase.{KeptPhase}
+use Rattle.runtest_reports.specs.Kept.{IsKept}
+use Rattle.runtest_reports.specs.Stages.{kept_next, session_item}
+use Rattle.runtest_reports.specs.declared.kept.KeptItem.{KeptItem}
+use Rattle.runtest_reports.specs.declared.kept.KeptPhase.{KeptPhase}
 use Rattle.session_rules.specs.Session.{as_count, opened, reaches}
 use Rattle.session_rules.specs.Teardown.{PhaseEnd, State}
 use Rattle.session_rules.specs.World.{Item, Language, Rules, SetUp}

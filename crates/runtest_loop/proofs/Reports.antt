@@ -14,13 +14,13 @@ use Rattle.report_rules.specs.Rows.{Arrival, arrival_of, arrivals_of, row, task}
 use Rattle.report_rules.specs.Shown.{arrival_with, event_lines, outcome_lines, phase_lines, shown_lines, shown_phase, teardown_lines}
 use Rattle.runtest_loop.specs.Course.{told_item}
 use Rattle.runtest_loop.specs.Item.{IsKeptCall, IsKeptItem}
-use Rattle.runtest_loop.specs.Kept.{IsKept, arrived_all, arrived_of, noted_event}
-use Rattle.runtest_loop.specs.Lines.{all_that_came, came_up, down_lines, kept_lines, noted_lines}
-use Rattle.runtest_loop.specs.Reported.{all_came, all_lines, call_came, call_captured, call_end, call_lines, kept_report}
-use Rattle.runtest_loop.specs.declared.kept.Arrived.{Arrived}
-use Rattle.runtest_loop.specs.declared.kept.KeptItem.{KeptItem}
-use Rattle.runtest_loop.specs.declared.kept.KeptPhase.{KeptPhase}
-use Rattle.runtest_loop.specs.declared.kept.Noted.{Noted}
+use Rattle.runtest_reports.specs.Kept.{IsKept, arrived_all, arrived_of, noted_event}
+use Rattle.runtest_reports.specs.Lines.{all_that_came, came_up, down_lines, kept_lines, noted_lines}
+use Rattle.runtest_reports.specs.Reported.{all_came, all_lines, call_came, call_captured, call_end, call_lines, kept_report}
+use Rattle.runtest_reports.specs.declared.kept.Arrived.{Arrived}
+use Rattle.runtest_reports.specs.declared.kept.KeptItem.{KeptItem}
+use Rattle.runtest_reports.specs.declared.kept.KeptPhase.{KeptPhase}
+use Rattle.runtest_reports.specs.declared.kept.Noted.{Noted}
 use Rattle.session_rules.specs.Teardown.{PhaseEnd}
 use Rattle.session_rules.specs.World.{Call, Language, Phase, Rules, SetUp, Teardown}
 use Rattle.session_types.specs.declared.journal.Event.{Event}

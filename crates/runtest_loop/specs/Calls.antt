@@ -2,7 +2,7 @@
 use Rattle.std.specs.Prelude.{Bool, true, false, length, ℕ, Option, None, Some}
 use Rattle.fixture_sessions.specs.FixtureSession.{CallRun, PhaseRun, call_ran, fixture_call, fixture_teardown, next_where, phase_run}
 use Rattle.report_parts.specs.Outcomes.{is_failed}
-use Rattle.runtest_loop.specs.declared.kept.KeptPhase.{KeptPhase}
+use Rattle.runtest_reports.specs.declared.kept.KeptPhase.{KeptPhase}
 use Rattle.session_rules.specs.Session.{as_count, reaches}
 use Rattle.session_rules.specs.Teardown.{State, Step, also, down_all}
 use Rattle.session_rules.specs.World.{Call, Item, Language, Rules, Teardown}

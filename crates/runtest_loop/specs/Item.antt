@@ -2,9 +2,9 @@
 use Rattle.std.specs.Prelude.{◌≡◌, ℕ, Bool, Option, None, Some}
 use Rattle.fixture_sessions.specs.FixtureSession.{ItemRun}
 use Rattle.report_rules.specs.Collected.{FixtureTexts, SelectedItem, spoken}
-use Rattle.runtest_loop.specs.declared.kept.KeptItem.{KeptItem}
-use Rattle.runtest_loop.specs.declared.kept.KeptPhase.{KeptPhase}
-use Rattle.runtest_loop.specs.Kept.{IsKept}
+use Rattle.runtest_reports.specs.declared.kept.KeptItem.{KeptItem}
+use Rattle.runtest_reports.specs.declared.kept.KeptPhase.{KeptPhase}
+use Rattle.runtest_reports.specs.Kept.{IsKept}
 use Rattle.session_rules.specs.Teardown.{PhaseEnd}
 use Rattle.session_types.specs.declared.scope.Scope.{Scope}
 

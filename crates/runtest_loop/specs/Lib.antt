@@ -1,9 +1,5 @@
-pub mod Stages
-pub mod Kept
-pub mod Lines
 pub mod Item
 pub mod Calls
-pub mod Reported
 pub mod Received
 pub mod RunFaults
 pub mod Fed

@@ -5,16 +5,14 @@ ghost use Rattle.fixture_sessions.specs.FixtureSession as loop;
 ghost use Rattle.report_parts.specs.Outcomes.{is_raised};
 ghost use Rattle.runtest_loop.specs.Calls.{all_down_behind, call_where, failed_call, torn_run, torn_where};
 ghost use Rattle.runtest_loop.specs.Item.{IsKeptCall, IsKeptItem};
-ghost use Rattle.runtest_loop.specs.Kept.{IsKept, session_phase};
-ghost use Rattle.runtest_loop.specs.Stages.{IsKnown, kept_next, session_item};
+ghost use Rattle.runtest_reports.specs.Kept.{IsKept, session_phase};
+ghost use Rattle.runtest_reports.specs.Stages.{IsKnown, kept_next, session_item};
 ghost use Rattle.session_rules.specs.Session.{as_count, opened, reaches};
 ghost use Rattle.session_rules.specs.Teardown.{step};
 ghost use Rattle.session_rules.specs.World as session;
 
-use crate::kept::{KeptItem, KeptPhase};
-use crate::noting::note;
-use crate::stage::Stage;
 use report_parts::{Phase, is_failed, is_raised};
+use runtest_reports::{KeptItem, KeptPhase, Stage, note};
 use seq::{OutOfMemory, Seq};
 use std::alloc::Global;
 

@@ -7,7 +7,7 @@ use crate::receiver::ReceiveFail;
 use seq::OutOfMemory;
 
 /// How a run ended.
-#[derive(Clone, Copy, Debug, PartialEq, Eq)]
+#[derive(Clone, Copy, PartialEq, Eq)]
 pub enum RunEnd {
     /// All items of all groups ran.
     Done,

@@ -4,24 +4,22 @@ ghost use Rattle.std.specs.Prelude.{◌≡◌, ◌<◌, ◌≤◌, ◌+◌, ◌+
 ghost use Rattle.fixture_sessions.specs.FixtureSession as loop;
 ghost use Rattle.runtest_loop.specs.Course.{arrivals_with, chosen_in, reports_left, run_left, told_item};
 ghost use Rattle.runtest_loop.specs.Fed.{AreKnown, IsNumbered, numbers_fed, numbers_in_range, unfed};
-ghost use Rattle.runtest_loop.specs.Kept.{arrived_all};
-ghost use Rattle.report_parts.specs.declared.report.ItemReport.{ItemReport};
 ghost use Rattle.runtest_loop.specs.Run.{Runs, is_stopped};
+ghost use Rattle.report_parts.specs.declared.report.ItemReport.{ItemReport};
 ghost use Rattle.runtest_loop.specs.RunFaults.{IsBlamed};
+ghost use Rattle.runtest_reports.specs.Kept.{arrived_all};
 ghost use Rattle.report_rules.specs.Rows.{Arrival};
-ghost use Rattle.runtest_loop.specs.Stages.{IsKnown, session_item};
+ghost use Rattle.runtest_reports.specs.Stages.{IsKnown, session_item};
 ghost use Rattle.session_rules.specs.Session.{reaches, start};
 ghost use Rattle.share_files.specs.Deal.{Every};
 
 use crate::fed::{next_number, value_at};
 use crate::item::{reaches, run_item};
-use crate::kept::Arrived;
 use crate::receiver::Receiver;
-use crate::report::report_of;
 use crate::run_end::{RunEnd, RunFault};
-use crate::stage::Stage;
 use cli_words::Options;
 use report_parts::ItemReport;
+use runtest_reports::{Arrived, Stage, report_of};
 use seq::{OutOfMemory, Seq};
 use share_files::Feed;
 use std::alloc::Global;

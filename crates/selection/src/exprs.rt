@@ -8,7 +8,7 @@ use mark_expr::{ExprFault, How, MarkExpr, PyName, matches, read_expr};
 use std::alloc::Global;
 
 /// The expressions of `-k` and `-m`, where they are given.
-#[derive(Debug, Drop)]
+#[derive(Drop)]
 pub struct Exprs {
     pub keyword: Option<MarkExpr>,
     pub marks: Option<MarkExpr>,

@@ -7,9 +7,15 @@ use std::hash::{Hash, Hasher};
 use std::marker::Model;
 
 /// A list of values. Contracts see it as the list.
-#[derive(Debug, Drop)]
+#[derive(Debug)]
 pub struct Seq<T> {
     items: Vec<T>,
+}
+
+impl<T: Drop> Drop for Seq<T> {
+    fn drop(self) {
+        let Seq { items: _ } = self;
+    }
 }
 
 impl<T> Model for Seq<T> {
@@ -41,7 +47,8 @@ impl<T> Seq<T> {
     pub fn into_vec(self) -> Vec<T>
         ensures { result.items ≡ self }
     {
-        self.items
+        let Seq { items } = self;
+        items
     }
 
     /// The values, lent.

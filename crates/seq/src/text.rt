@@ -34,9 +34,15 @@ impl Seq<char> {
 }
 
 /// A text, seen as the list of its bytes in UTF-8.
-#[derive(Debug, Drop)]
+#[derive(Debug)]
 pub struct ByteText {
     text: String,
+}
+
+impl Drop for ByteText {
+    fn drop(self) {
+        let ByteText { text: _ } = self;
+    }
 }
 
 impl Model for ByteText {
@@ -59,7 +65,8 @@ impl ByteText {
     pub fn into_string(self) -> String
         ensures { string_bytes result ≡ self }
     {
-        self.text
+        let ByteText { text } = self;
+        text
     }
 
     /// A copy of a text.

@@ -15,7 +15,7 @@ use py_values::{OutOfMemory, PyText};
 use std::alloc::Global;
 
 /// The start, the stop and the step of a range.
-#[derive(Clone, Copy, Debug, PartialEq, Eq)]
+#[derive(Clone, Copy, PartialEq, Eq)]
 pub struct Span {
     pub start: i128,
     pub stop: i128,

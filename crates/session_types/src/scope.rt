@@ -3,7 +3,7 @@ ghost use Rattle.session_types.specs.Scopes.{rank, scope_count};
 
 /// How long an instance of a fixture lives, from broad to narrow (pytest's fixture guide, "Scope: sharing fixtures across classes,
 /// modules, packages or session").
-#[derive(Clone, Copy, Debug, PartialEq, Eq)]
+#[derive(Clone, Copy, PartialEq, Eq)]
 pub enum Scope {
     Session,
     Module,

@@ -3,7 +3,7 @@ use atomic_table::{Join, Play, Shared, Split, TableRule};
 use std::collections::LinkedList;
 
 /// How many groups and workers there are.
-#[derive(Clone, Copy, Debug, PartialEq, Eq)]
+#[derive(Clone, Copy, PartialEq, Eq)]
 pub struct Counts {
     pub groups: u32,
     pub workers: u32,

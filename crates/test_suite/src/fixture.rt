@@ -7,7 +7,6 @@ use seq::Seq;
 use session_types::Scope;
 
 /// A fixture, as collection found it (pytest's reference, "Fixtures"). Its number is that of its definition.
-#[derive(Drop)]
 pub struct Fixture {
     /// The name by which it is asked for.
     pub name: PyText,
@@ -21,4 +20,18 @@ pub struct Fixture {
     pub yields: bool,
     /// The place of its function's `def`.
     pub defined: TraceFrame,
+}
+
+impl Drop for Fixture {
+    fn drop(self) {
+        let Fixture {
+            name: _,
+            function: _,
+            in_class: _,
+            arguments: _,
+            scope: _,
+            yields: _,
+            defined: _,
+        } = self;
+    }
 }

@@ -9,14 +9,21 @@ use seq::Seq;
 use session_types::DefId;
 
 /// What the set-up of an item demands, broad scopes first; or the text of the fault of its fixtures.
-#[derive(Drop)]
 pub enum ItemClosure {
     Whole(Seq<DefId>),
     Fault(PyText),
 }
 
+impl Drop for ItemClosure {
+    fn drop(self) {
+        match self {
+            ItemClosure::Whole(_) => {}
+            ItemClosure::Fault(_) => {}
+        }
+    }
+}
+
 /// A test item, as collection found it.
-#[derive(Drop)]
 pub struct Item {
     pub node_id: Text,
     /// What the title of a block of a report calls it.
@@ -37,4 +44,22 @@ pub struct Item {
     /// The definition that each argument but `request` stands for, where it has one.
     pub asked: Seq<Option<DefId>>,
     pub closure: ItemClosure,
+}
+
+impl Drop for Item {
+    fn drop(self) {
+        let Item {
+            node_id: _,
+            title: _,
+            file: _,
+            name: _,
+            test: _,
+            defined: _,
+            marks: _,
+            node: _,
+            arguments: _,
+            asked: _,
+            closure: _,
+        } = self;
+    }
 }

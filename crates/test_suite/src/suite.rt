@@ -9,7 +9,6 @@ use seq::Seq;
 use session_types::DefId;
 
 /// The items and the fixtures of a run.
-#[derive(Drop)]
 pub struct Suite {
     /// All items of all test files; an item's number is its place.
     pub items: Seq<Item>,
@@ -17,6 +16,16 @@ pub struct Suite {
     pub fixtures: Seq<Fixture>,
     /// How many nodes stand before those of the items.
     pub outer: u32,
+}
+
+impl Drop for Suite {
+    fn drop(self) {
+        let Suite {
+            items: _,
+            fixtures: _,
+            outer: _,
+        } = self;
+    }
 }
 
 impl Suite {

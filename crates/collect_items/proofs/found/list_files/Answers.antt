@@ -1,6 +1,6 @@
 use Rattle.std.proofs.Common.{arith, ap, ◌∙◌, length}
 use Rattle.std.proofs.lemmas.List.{length-append}
-use Rattle.collect_fixtures.specs.Tests.{tests_of}
+use Rattle.fixture_definitions.specs.Tests.{tests_of}
 use Rattle.collect_items.proofs.Numbers.{nodes_on}
 use Rattle.collect_items.proofs.Steps.{flat_at}
 use Rattle.collect_items.proofs.found.list_files.Goals as goal

@@ -1,5 +1,5 @@
 use Rattle.std.proofs.Common.{◌≡◌, ◌++◌, length, drop}
-use Rattle.collect_fixtures.specs.Tests as tests
+use Rattle.fixture_definitions.specs.Tests as tests
 use Rattle.collect_items.specs.Nodes as nodes
 use Rattle.collect_items.proofs.found.list_files.Given as goal
 

@@ -3,7 +3,7 @@ use Rattle.std.specs.Prelude.{IfOk, OnOk}
 use Rattle.fixture_calls.specs.declared.failure.Failure.{Failure}
 use Rattle.fixture_world.specs.Items.{item_of}
 use Rattle.run_items.specs.Stands.{plan_rules, stand_state}
-use Rattle.runtest_loop.specs.Kept.{reported_ending, session_phase}
+use Rattle.runtest_reports.specs.Kept.{reported_ending, session_phase}
 use Rattle.session_rules.specs.Session.{telling}
 use Rattle.session_rules.specs.Teardown.{in_world, step}
 use Rattle.run_items.proofs.ending.end_phase.Goals as goal

@@ -2,9 +2,9 @@ use Rattle.std.proofs.Common.{ap, subst, ◌∙◌, Option}
 use Rattle.std.specs.Prelude.{option_map}
 use Rattle.runtest_loop.proofs.Parts.{there_same}
 use Rattle.runtest_loop.specs.Calls.{torn_run}
-use Rattle.runtest_loop.specs.Kept.{IsKept}
-use Rattle.session_rules.specs.World.{Item}
 use Rattle.runtest_loop.proofs.item.behind_call.Goals as goal
+use Rattle.session_rules.specs.World.{Item}
+use Rattle.runtest_reports.specs.Kept.{IsKept}
 
 pub returns-in-Ok-clause-teardown : goal.returns-in-Ok-clause-teardown
 returns-in-Ok-clause-teardown g c =

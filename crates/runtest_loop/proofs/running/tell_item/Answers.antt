@@ -3,8 +3,8 @@ use Rattle.std.specs.Prelude.{option_copied}
 use Rattle.fixture_sessions.specs.FixtureSession.{fixture_item}
 use Rattle.runtest_loop.proofs.Parts.{item_phases}
 use Rattle.runtest_loop.proofs.Reports.{arrived_behind, report_same}
-use Rattle.runtest_loop.specs.Stages.{session_item}
 use Rattle.runtest_loop.proofs.running.tell_item.Goals as goal
+use Rattle.runtest_reports.specs.Stages.{session_item}
 
 pub returns-clause-report : goal.returns-clause-report
 returns-clause-report g c =

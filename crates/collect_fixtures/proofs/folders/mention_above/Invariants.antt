@@ -1,8 +1,0 @@
-use Rattle.std.proofs.Common.{◌≡◌, map, take}
-use Rattle.std.specs.List.{filter, range_with_len}
-use Rattle.collect_fixtures.specs.Texts.{with_mentions}
-use Rattle.collect_fixtures.specs.Tree.{parts_at}
-use Rattle.collect_fixtures.proofs.folders.mention_above.Given as goal
-
-abbrev pub invariant-loop-at : goal.invariant-loop-at
-invariant-loop-at l = l.folders ≡ with_mentions l.initial.folders (map (λ end. take end l.path) (filter (parts_at l.path) (range_with_len 0 l.at)))

@@ -1,6 +1,0 @@
-use Rattle.std.proofs.Common.{◌≡◌, map, take}
-use Rattle.collect_fixtures.specs.Tests.{test_in}
-use Rattle.collect_fixtures.proofs.found_tests.tests_from.Given as goal
-
-abbrev pub invariant-loop-test : goal.invariant-loop-test
-invariant-loop-test l = l.found.items ≡ map (test_in l.heap l.placed) (take l.test-index l.functions)

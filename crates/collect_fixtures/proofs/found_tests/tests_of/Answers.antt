@@ -1,6 +1,0 @@
-use Rattle.std.proofs.Common.{◌∙◌}
-use Rattle.collect_fixtures.proofs.NoTests.{no_tests}
-use Rattle.collect_fixtures.proofs.found_tests.tests_of.Goals as goal
-
-pub returns-in_default : goal.returns-in_default
-returns-in_default c = c.new.ensures.items ∙ no_tests c.args.heap.now c.args.placed c.in_default.ensures

@@ -1,6 +1,0 @@
-use Rattle.std.proofs.Common.{◌≡◌, drop}
-use Rattle.collect_fixtures.specs.Texts.{with_mentions}
-use Rattle.collect_fixtures.proofs.mentions.Mentions.mention_all.Given as goal
-
-abbrev pub invariant-loop-text : goal.invariant-loop-text
-invariant-loop-text l = with_mentions l.self (drop l.text-index l.more) ≡ with_mentions l.initial.self l.more

@@ -1,0 +1,243 @@
+// A tree of four fixtures, in which each point raises in turn.
+
+use crate::benches::{Asking, How, Row, Told, row_of, told_of};
+use crate::logs::{Cause, Done, Part, Way};
+use crate::undoing::all_is_undone;
+use seq::{OutOfMemory, Seq};
+use session_types::Scope;
+use std::alloc::Global;
+use std::test::Fail;
+
+/// What happened in the tree: the functions and tests that were called, in order, the exceptions, and whether all was undone.
+#[derive(Drop)]
+struct Went {
+    called: Vec<Done>,
+    raised: Seq<Cause>,
+    undone: bool,
+}
+
+fn part(scope: Scope, way: Way, fails: bool) -> Part {
+    Part { scope, way, fails }
+}
+
+/// A fixture of the session, one of the file, and two of the item, all of which go this way.
+fn all_go(way: Way, fails: bool) -> [Part; 4] {
+    [
+        part(Scope::Session, way, fails),
+        part(Scope::Module, way, fails),
+        part(Scope::Function, way, fails),
+        part(Scope::Function, way, fails),
+    ]
+}
+
+/// The functions of fixtures and the tests that were called.
+fn called_in(alloc: Global, lines: &[Done]) -> Result<Vec<Done>, OutOfMemory> {
+    let mut called = Vec::new(alloc);
+    for line in lines {
+        match *line {
+            Done::Begun(_) => called.push(*line)?,
+            Done::Called(_) => called.push(*line)?,
+            Done::Closed(_) => {}
+            Done::Resumed(_) => {}
+            Done::Finalized(_) => {}
+        }
+    }
+    Ok(called)
+}
+
+/// Items 2 and 3 run, whose tests ask for fixture 3, which asks for 1 and 2, which ask for 0.
+fn run_tree(alloc: Global, parts: [Part; 4], raises: bool) -> Result<Went, OutOfMemory> {
+    let rows = [
+        Row {
+            args: &[],
+            part: parts[0],
+        },
+        Row {
+            args: &[0],
+            part: parts[1],
+        },
+        Row {
+            args: &[0],
+            part: parts[2],
+        },
+        Row {
+            args: &[1, 2],
+            part: parts[3],
+        },
+    ];
+    let how = How {
+        args: &[3],
+        asking: Asking::AtOnce,
+        raises,
+    };
+    let Told { world, raised } = told_of(alloc, &rows, how)?;
+    let called = called_in(alloc, world.lines.items())?;
+    let undone = all_is_undone(alloc, &rows, world.lines.items())?;
+    Ok(Went {
+        called,
+        raised,
+        undone,
+    })
+}
+
+/// One fixture of the tree, the ways that its function goes in turn, what is called then, and how often its exception is told.
+#[derive(Clone, Copy)]
+struct Case<'c> {
+    def: u32,
+    ways: &'c [Way],
+    called: &'c [Done],
+    times: usize,
+}
+
+fn case_of<'c>(def: u32, ways: &'c [Way], called: &'c [Done], times: usize) -> Case<'c> {
+    Case {
+        def,
+        ways,
+        called,
+        times,
+    }
+}
+
+/// Where nothing raises in the function, the finalizer does.
+fn fails(way: Way) -> bool {
+    match way {
+        Way::Returns => true,
+        Way::Raises => false,
+        Way::YieldsOnce => true,
+        Way::YieldsTwice => false,
+        Way::RaisesBehind => false,
+        Way::NeverYields => false,
+        Way::Loops => false,
+        Way::LoopsBehind => false,
+    }
+}
+
+/// What is told of a fixture that goes this way.
+fn cause(way: Way, def: u32) -> Cause {
+    match way {
+        Way::Returns => Cause::InFinalizer(def),
+        Way::Raises => Cause::InSetUp(def),
+        Way::YieldsOnce => Cause::InFinalizer(def),
+        Way::YieldsTwice => Cause::SecondYield(def),
+        Way::RaisesBehind => Cause::InTeardown(def),
+        Way::NeverYields => Cause::NoYield(def),
+        Way::Loops => Cause::OutOfSteps(def),
+        Way::LoopsBehind => Cause::OutOfSteps(def),
+    }
+}
+
+/// Whether a case comes out as it is written down, where its fixture goes this way and the others yield once.
+fn is_as_wanted(alloc: Global, case: Case, way: Way) -> Result<bool, OutOfMemory> {
+    let mut parts = all_go(Way::YieldsOnce, false);
+    if let Some(part) = parts.get_mut(case.def as usize) {
+        part.way = way;
+        part.fails = fails(way);
+    }
+    let went = run_tree(alloc, parts, false)?;
+    let wanted = cause(way, case.def);
+    Ok(
+        went.undone
+            && went.called.as_slice() == case.called
+            && went.raised.len() == case.times
+            && went.raised.items().iter().all(|one| *one == wanted),
+    )
+}
+
+/// pytest's fixture guide, "Fixture errors" and "Yield fixtures": what asks for a fixture that raised isn't set up, its test isn't called, and
+/// what is up goes down all the same; a teardown that raises stops no other. "Fixture scopes": a fixture of the session or of the file that
+/// raised is told to each item and isn't called again.
+#[test]
+fn each_point_raises_in_turn(rt: HostRuntime) -> Result<(), Fail> {
+    let alloc = rt.alloc();
+    let in_set_up = [Way::Raises, Way::NeverYields, Way::Loops];
+    let in_teardown = [
+        Way::RaisesBehind,
+        Way::YieldsTwice,
+        Way::LoopsBehind,
+        Way::YieldsOnce,
+        Way::Returns,
+    ];
+    let twice = [
+        Done::Begun(0),
+        Done::Begun(1),
+        Done::Begun(2),
+        Done::Begun(2),
+    ];
+    let uncalled = [
+        Done::Begun(0),
+        Done::Begun(1),
+        Done::Begun(2),
+        Done::Begun(3),
+        Done::Begun(2),
+        Done::Begun(3),
+    ];
+    let whole = [
+        Done::Begun(0),
+        Done::Begun(1),
+        Done::Begun(2),
+        Done::Begun(3),
+        Done::Called(2),
+        Done::Begun(2),
+        Done::Begun(3),
+        Done::Called(3),
+    ];
+    let cases = [
+        case_of(0, &in_set_up[..], &whole[..1], 2),
+        case_of(1, &in_set_up[..], &whole[..2], 2),
+        case_of(2, &in_set_up[..], &twice[..], 2),
+        case_of(3, &in_set_up[..], &uncalled[..], 2),
+        case_of(0, &in_teardown[..], &whole[..], 1),
+        case_of(1, &in_teardown[..], &whole[..], 1),
+        case_of(2, &in_teardown[..], &whole[..], 2),
+        case_of(3, &in_teardown[..], &whole[..], 2),
+    ];
+    for case in &cases {
+        for way in case.ways {
+            assert!(rt;
+                is_as_wanted(alloc, *case, *way)?,
+                "{:?}",
+                cause(*way, case.def)
+            );
+        }
+    }
+    Ok(())
+}
+
+/// The tests of both items raise: all goes down as ever.
+#[test]
+fn a_test_raises(rt: HostRuntime) -> Result<(), Fail> {
+    let went = run_tree(rt.alloc(), all_go(Way::YieldsOnce, false), true)?;
+    assert!(rt; went.undone);
+    assert_eq!(rt; went.called.len(), 8);
+    assert_eq!(rt;
+        went.raised.items(),
+        &[Cause::InTest(2), Cause::InTest(3)][..]
+    );
+    Ok(())
+}
+
+/// Everything raises at once, and each exception is told: those of the item's own fixtures behind each test, the others at the end.
+#[test]
+fn all_raises(rt: HostRuntime) -> Result<(), Fail> {
+    let went = run_tree(rt.alloc(), all_go(Way::RaisesBehind, true), true)?;
+    let raised = [
+        Cause::InTest(2),
+        Cause::InTeardown(3),
+        Cause::InFinalizer(3),
+        Cause::InTeardown(2),
+        Cause::InFinalizer(2),
+        Cause::InTest(3),
+        Cause::InTeardown(3),
+        Cause::InFinalizer(3),
+        Cause::InTeardown(2),
+        Cause::InFinalizer(2),
+        Cause::InTeardown(1),
+        Cause::InFinalizer(1),
+        Cause::InTeardown(0),
+        Cause::InFinalizer(0),
+    ];
+    assert!(rt; went.undone);
+    assert_eq!(rt; went.called.len(), 8);
+    assert_eq!(rt; went.raised.items(), &raised[..]);
+    Ok(())
+}

@@ -1,0 +1,149 @@
+// What a journal says of the fixtures that were set up: a short reading of it that knows nothing of the stack.
+
+use crate::benches::{Row, row_of};
+use crate::logs::{Done, Way};
+use seq::OutOfMemory;
+use session_types::Scope;
+use std::alloc::Global;
+use std::test::Fail;
+
+/// The fixtures that are up, the latest last, and the lines that are due next, the next last.
+#[derive(Drop)]
+struct Reading {
+    up: Vec<u32>,
+    due: Vec<Done>,
+}
+
+/// Whether a function stands at its `yield` once its fixture is set up.
+fn stands(way: Way) -> bool {
+    match way {
+        Way::Returns => false,
+        Way::Raises => false,
+        Way::YieldsOnce => true,
+        Way::YieldsTwice => true,
+        Way::RaisesBehind => true,
+        Way::NeverYields => false,
+        Way::Loops => false,
+        Way::LoopsBehind => true,
+    }
+}
+
+fn is_standing(rows: &[Row], def: u32) -> bool {
+    match rows.get(def as usize) {
+        None => false,
+        Some(row) => stands(row.part.way),
+    }
+}
+
+/// A fixture's function is called only while it isn't up, and all that it asks for is.
+fn may_begin(rows: &[Row], up: &[u32], def: u32) -> bool {
+    if up.contains(&def) {
+        return false;
+    }
+    match rows.get(def as usize) {
+        None => false,
+        Some(row) => row.args.iter().all(|arg| up.contains(arg)),
+    }
+}
+
+/// The latest that is up goes down, so all that asked for it is gone. Its `request` is closed; what stands at a `yield` is resumed next, and
+/// then its finalizer is called.
+fn goes_down(rows: &[Row], reading: &mut Reading, def: u32) -> Result<bool, OutOfMemory> {
+    if reading.up.pop() != Some(def) {
+        return Ok(false);
+    }
+    reading.due.push(Done::Finalized(def))?;
+    if is_standing(rows, def) {
+        reading.due.push(Done::Resumed(def))?;
+    }
+    Ok(true)
+}
+
+fn goes_on(rows: &[Row], reading: &mut Reading, line: Done) -> Result<bool, OutOfMemory> {
+    if let Some(due) = reading.due.pop() {
+        return Ok(due == line);
+    }
+    match line {
+        Done::Begun(def) => {
+            if !may_begin(rows, &reading.up, def) {
+                return Ok(false);
+            }
+            reading.up.push(def)?;
+            Ok(true)
+        }
+        Done::Called(_) => Ok(true),
+        Done::Closed(def) => goes_down(rows, reading, def),
+        Done::Resumed(_) => Ok(false),
+        Done::Finalized(_) => Ok(false),
+    }
+}
+
+/// Whether each fixture that was set up, or failed to, was undone once, the latest first, behind all that asked for it.
+pub fn all_is_undone(alloc: Global, rows: &[Row], lines: &[Done]) -> Result<bool, OutOfMemory> {
+    let mut reading = Reading {
+        up: Vec::new(alloc),
+        due: Vec::new(alloc),
+    };
+    for line in lines {
+        if !goes_on(rows, &mut reading, *line)? {
+            return Ok(false);
+        }
+    }
+    Ok(reading.up.is_empty() && reading.due.is_empty())
+}
+
+/// Journals in which something is undone too early, too late, twice or never.
+#[test]
+fn what_is_not_undone_is_seen(rt: HostRuntime) -> Result<(), Fail> {
+    let alloc = rt.alloc();
+    let rows = [
+        row_of(Scope::Session, &[], Way::Returns),
+        row_of(Scope::Session, &[0], Way::YieldsOnce),
+    ];
+    let whole = [
+        Done::Begun(0),
+        Done::Begun(1),
+        Done::Called(2),
+        Done::Closed(1),
+        Done::Resumed(1),
+        Done::Finalized(1),
+        Done::Closed(0),
+        Done::Finalized(0),
+    ];
+    let early = [
+        Done::Begun(0),
+        Done::Begun(1),
+        Done::Closed(0),
+        Done::Finalized(0),
+        Done::Closed(1),
+        Done::Resumed(1),
+        Done::Finalized(1),
+    ];
+    let unresumed = [
+        Done::Begun(0),
+        Done::Begun(1),
+        Done::Closed(1),
+        Done::Finalized(1),
+        Done::Closed(0),
+        Done::Finalized(0),
+    ];
+    let twice = [
+        Done::Begun(0),
+        Done::Closed(0),
+        Done::Finalized(0),
+        Done::Closed(0),
+        Done::Finalized(0),
+    ];
+    assert!(rt; all_is_undone(alloc, &rows, &whole)?);
+    for lines in [
+        &whole[..7],
+        &whole[..6],
+        &whole[1..],
+        &early[..],
+        &unresumed[..],
+        &twice[..],
+    ] {
+        assert!(rt; !all_is_undone(alloc, &rows, lines)?);
+    }
+    Ok(())
+}

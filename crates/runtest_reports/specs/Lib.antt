@@ -1,0 +1,4 @@
+pub mod Stages
+pub mod Kept
+pub mod Lines
+pub mod Reported
