@@ -33,6 +33,7 @@ while True:
         elif cwd.startswith('/tmp/g'): n=c.get('G',10)
         elif cwd.startswith(('/tmp/m','/tmp/M')): n=c.get('M',10)
         elif cwd.startswith('/tmp/d'): n=c.get('D',10)
+        elif cwd.startswith('/tmp/s'): n=c.get('S',8)
         elif cwd.startswith(('/tmp/f','/tmp/F')): n=c.get('F',10)
         else: continue
         try:

@@ -1,8 +1,9 @@
 #!/usr/bin/env python3
 """Runs the cases of a folder against a built program: run_cases.py FOLDER PROGRAM."""
 import os, sys
+sys.path.append(os.path.join(os.path.dirname(os.path.abspath(__file__)), os.pardir, "fixtures"))
 from cases import Case, has_all
-from compare import by_program
+from compare_fixtures import by_program
 bad = n = 0
 for name in sorted(os.listdir(sys.argv[1])):
     if not name.endswith(".case") or name.startswith("wrong_"):
