@@ -16,6 +16,16 @@ pub struct Case {
     pub files: Vec<(String, Vec<u8>)>,
     pub wanted: Vec<Wanted>,
     pub status: u8,
+    pub outside: Outside,
+}
+
+/// What the outside of a run does: the number of the call of the tree that fails and that of the sink's, from 1 and none where it is 0,
+/// and how many bytes the sink takes in a call.
+#[derive(Clone, Copy)]
+pub struct Outside {
+    pub tree_fails: u64,
+    pub sink_fails: u64,
+    pub sink_takes: usize,
 }
 
 /// Where the next lines of a case belong.
@@ -29,6 +39,7 @@ enum Section {
     Bytes(String, Vec<u8>),
     Output(String),
     Part(String),
+    Outside,
 }
 
 impl Case {
@@ -38,13 +49,18 @@ impl Case {
             files: Vec::new(alloc),
             wanted: Vec::new(alloc),
             status: 0,
+            outside: Outside {
+                tree_fails: 0,
+                sink_fails: 0,
+                sink_takes: usize::MAX,
+            },
         }
     }
 
     /// Takes a section that has all its lines.
     fn close(&mut self, section: Section) -> Result<(), AllocError> {
         match section {
-            Section::About | Section::Words => {}
+            Section::About | Section::Words | Section::Outside => {}
             Section::File(path, text) => self.files.push((path, text.into_bytes()))?,
             Section::Bytes(path, bytes) => self.files.push((path, bytes))?,
             Section::Output(text) => self.wanted.push(Wanted::Output(text))?,
@@ -71,7 +87,43 @@ fn take_line(
         Section::Bytes(path, bytes) => Section::Bytes(path, with_bytes(bytes, line)?),
         Section::Output(text) => Section::Output(with_line(text, line)?),
         Section::Part(text) => Section::Part(with_line(text, line)?),
+        Section::Outside => {
+            take_outside(alloc, case, line)?;
+            Section::Outside
+        }
     })
+}
+
+/// Takes a line on the outside: what it tells, and a number; one that tells nothing is left out.
+fn take_outside(alloc: Global, case: &mut Case, line: &str) -> Result<(), AllocError> {
+    let Some((told, number)) = line.rsplit_once(' ') else {
+        return Ok(());
+    };
+    let number = number.parse::<u32>().unwrap_or(0);
+    match told {
+        "tree fails" => case.outside.tree_fails = u64::from(number),
+        "sink fails" => case.outside.sink_fails = u64::from(number),
+        "sink takes" => case.outside.sink_takes = number as usize,
+        "empty files" => push_files(alloc, &mut case.files, number, 0)?,
+        "files of a MiB" => push_files(alloc, &mut case.files, number, 1_048_576)?,
+        "files of a MiB and a byte" => push_files(alloc, &mut case.files, number, 1_048_577)?,
+        _ => {}
+    }
+    Ok(())
+}
+
+/// Appends so many files `a0.py`, `a1.py` and so on, each of so many signs of a comment.
+fn push_files(
+    alloc: Global,
+    files: &mut Vec<(String, Vec<u8>)>,
+    count: u32,
+    size: usize,
+) -> Result<(), AllocError> {
+    for number in 0..count {
+        let path = format!(in alloc; "a{number}.py")?;
+        files.push((path, vec![in alloc; b'#'; size]?))?;
+    }
+    Ok(())
 }
 
 fn with_line(text: String, line: &str) -> Result<String, AllocError> {
@@ -106,6 +158,7 @@ fn section_of(alloc: Global, heading: &str) -> Result<Option<Section>, AllocErro
         "words" => Some(Section::Words),
         "stdout" => Some(Section::Output(text)),
         "part" => Some(Section::Part(text)),
+        "outside" => Some(Section::Outside),
         _ => None,
     })
 }
@@ -113,8 +166,10 @@ fn section_of(alloc: Global, heading: &str) -> Result<Option<Section>, AllocErro
 /// Reads a case, or answers None where the text is none.
 ///
 /// What it shows stands first. Then come, each below a heading `>>> words`, `>>> file PATH`,
-/// `>>> bytes PATH`, `>>> stdout` or `>>> part`, the words, one a line, the files, as text or as
-/// numbers of bytes, and what must be written; the heading `>>> status N` stands last.
+/// `>>> bytes PATH`, `>>> outside`, `>>> stdout` or `>>> part`, the words, one a line, the files, as
+/// text or as numbers of bytes, what the outside does, and what must be written; the heading
+/// `>>> status N` stands last. Lines on the outside are `tree fails N`, `sink fails N`, `sink takes N`
+/// for the bytes of a call, `empty files N`, `files of a MiB N` and `files of a MiB and a byte N`.
 pub fn read_case(alloc: Global, text: &str) -> Result<Option<Case>, AllocError> {
     let mut case = Case::new(alloc);
     let mut section = Section::About;

@@ -1,5 +1,5 @@
 use crate::case::{Case, Wanted};
-use edge_io::{OpenGate, SureSink, SureTree};
+use edge_io::{MemSink, MemTree, OpenGate, SureTree};
 use pytest_core::pytest_main;
 use std::alloc::{AllocError, Global};
 use std::thread::Threads;
@@ -54,9 +54,15 @@ pub fn check<R: Threads + Sync>(rt: &R, alloc: Global, case: Case) -> Result<Str
         files,
         wanted,
         status,
+        outside,
     } = case;
-    let mut tree = SureTree::new(alloc, files);
-    let mut out = SureSink::new(alloc);
+    let tree = SureTree::new(alloc, files);
+    let mut tree = MemTree::new(tree, vec![in alloc; outside.tree_fails]?);
+    let mut out = MemSink::new(
+        alloc,
+        outside.sink_takes,
+        vec![in alloc; outside.sink_fails]?,
+    );
     let came = pytest_main(rt, alloc, &words, &mut tree, &mut out, &OpenGate).number();
     let Ok(output) = str::from_utf8(out.bytes()) else {
         return String::from_str(alloc, "the output is not UTF-8\n");
@@ -67,6 +73,9 @@ pub fn check<R: Threads + Sync>(rt: &R, alloc: Global, case: Case) -> Result<Str
     }
     if came != status {
         return format!(in alloc; "wanted status {status} but got {came}\n");
+    }
+    if outside.sink_fails != 0 && out.calls() != outside.sink_fails {
+        return String::from_str(alloc, "no put was wanted behind the one that failed\n");
     }
     Ok(String::new(alloc))
 }

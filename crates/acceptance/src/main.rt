@@ -2,8 +2,9 @@
 //!
 //! # What it is for
 //!
-//! Each file `NAME.case` has words, files, and what a run over them must write and answer. Those named `wrong_..` want what no
-//! run writes or answers, and must be told as wrong, so that a checker that passes everything is seen.
+//! Each file `NAME.case` has words, files, and what a run over them must write and answer; where it tells so, a call of the tree or the
+//! sink fails. Those named `wrong_..` want what no run writes or answers, and must be told as wrong, so that a checker that passes
+//! everything is seen.
 //!
 //! # What is proved
 //!

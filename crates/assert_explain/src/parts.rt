@@ -2,6 +2,7 @@
 
 ghost use Rattle.std.specs.Prelude.{◌≡◌, ◌+◌, ◌++◌, ◌∷◌, suc, codes, if◌then◌else◌, IfOk, OnOk};
 ghost use Rattle.py_tree.specs.Trees.{tree, trees};
+ghost use Rattle.py_tree.specs.declared.expr.ExprKind.TheVariants as kinds;
 ghost use Rattle.py_world.specs.Explained as world;
 ghost use Rattle.py_ops.specs.Binary as binary;
 ghost use Rattle.assert_explain.specs.Texts as texts;
@@ -13,7 +14,7 @@ use py_ops::binary::binary_text;
 use py_ops::compare::compare_text;
 use py_ops::unary::unary_text;
 use py_text::OutOfMemory;
-use py_tree::{ArgName, BinOp, CmpOp, Expr, ExprKind, SrcText};
+use py_tree::{ArgName, BinOp, CmpOp, Expr, ExprKind, SrcText, UnOp};
 use py_values::heap::Heap;
 use py_values::value::Value;
 use std::alloc::Global;
@@ -276,6 +277,145 @@ fn show_pairs(
     Ok(pair)
 }
 
+/// A call: its value, and how it came.
+#[cycle(part)]
+fn show_call(
+    alloc: Global,
+    heap: &Heap,
+    kept: &[Option<Value>],
+    n: usize,
+    e: &Expr,
+    f: &Rc<Expr>,
+    es: &Rc<Vec<Rc<Expr>>>,
+    names: &Rc<Vec<Option<ArgName>>>,
+) -> Result<Shows, OutOfMemory>
+    requires { e.now.kind ≡ kinds.Call f.now es.now names.now }
+    ensures { IfOk result (λ s. s ≡ world.show_part heap.now kept.now n (tree e.now)) }
+{
+    let next = behind(n, 1)?;
+    let callee = show_part(alloc, heap, kept, next, f)?;
+    let args = show_args(alloc, heap, kept, place_behind(next, f)?, es, names)?;
+    call_shows(alloc, heap, kept, n, callee, &args)
+}
+
+/// A sign and its operand.
+#[cycle(part)]
+#[tactic(auto, using(crate::proofs::Forms::shown_by_form))]
+fn show_unary(
+    alloc: Global,
+    heap: &Heap,
+    kept: &[Option<Value>],
+    n: usize,
+    e: &Expr,
+    op: UnOp,
+    a: &Rc<Expr>,
+) -> Result<Shows, OutOfMemory>
+    requires { e.now.kind ≡ kinds.Unary op a.now }
+    ensures { IfOk result (λ s. s ≡ world.show_part heap.now kept.now n (tree e.now)) }
+{
+    show_part(alloc, heap, kept, n, a)?.behind(alloc, unary_text(op), &[])
+}
+
+/// `not` and its operand.
+#[cycle(part)]
+#[tactic(auto, using(crate::proofs::Forms::shown_by_form))]
+fn show_not(
+    alloc: Global,
+    heap: &Heap,
+    kept: &[Option<Value>],
+    n: usize,
+    e: &Expr,
+    a: &Rc<Expr>,
+) -> Result<Shows, OutOfMemory>
+    requires { e.now.kind ≡ kinds.Not a.now }
+    ensures { IfOk result (λ s. s ≡ world.show_part heap.now kept.now n (tree e.now)) }
+{
+    show_part(alloc, heap, kept, n, a)?.behind(alloc, "not ", &[])
+}
+
+/// An operator between its operands.
+#[cycle(part)]
+#[tactic(auto, using(crate::proofs::Forms::shown_by_form))]
+fn show_binary(
+    alloc: Global,
+    heap: &Heap,
+    kept: &[Option<Value>],
+    n: usize,
+    e: &Expr,
+    a: &Rc<Expr>,
+    op: BinOp,
+    b: &Rc<Expr>,
+) -> Result<Shows, OutOfMemory>
+    requires { e.now.kind ≡ kinds.Binary a.now op b.now }
+    ensures { IfOk result (λ s. s ≡ world.show_part heap.now kept.now n (tree e.now)) }
+{
+    let left = show_part(alloc, heap, kept, n, a)?;
+    show_right(alloc, heap, kept, place_behind(n, a)?, &left, op, b)
+}
+
+/// A comparison.
+#[cycle(part)]
+fn show_compare(
+    alloc: Global,
+    heap: &Heap,
+    kept: &[Option<Value>],
+    n: usize,
+    e: &Expr,
+    a: &Rc<Expr>,
+    ops: &Rc<Vec<CmpOp>>,
+    es: &Rc<Vec<Rc<Expr>>>,
+) -> Result<Shows, OutOfMemory>
+    requires { e.now.kind ≡ kinds.Compare a.now ops.now es.now }
+    ensures { IfOk result (λ s. s ≡ world.show_part heap.now kept.now n (tree e.now)) }
+{
+    let first = show_part(alloc, heap, kept, n, a)?;
+    show_pairs(alloc, heap, kept, place_behind(n, a)?, first, ops, es)
+}
+
+/// Operands with `and` between them.
+#[cycle(part)]
+fn show_and(
+    alloc: Global,
+    heap: &Heap,
+    kept: &[Option<Value>],
+    n: usize,
+    e: &Expr,
+    a: &Rc<Expr>,
+    es: &Rc<Vec<Rc<Expr>>>,
+) -> Result<Shows, OutOfMemory>
+    requires { e.now.kind ≡ kinds.And a.now es.now }
+    ensures { IfOk result (λ s. s ≡ world.show_part heap.now kept.now n (tree e.now)) }
+{
+    let first = show_part(alloc, heap, kept, n, a)?;
+    show_others(
+        alloc,
+        heap,
+        kept,
+        place_behind(n, a)?,
+        Joint::And,
+        first,
+        es,
+    )
+}
+
+/// Operands with `or` between them.
+#[cycle(part)]
+fn show_or(
+    alloc: Global,
+    heap: &Heap,
+    kept: &[Option<Value>],
+    n: usize,
+    e: &Expr,
+    a: &Rc<Expr>,
+    es: &Rc<Vec<Rc<Expr>>>,
+) -> Result<Shows, OutOfMemory>
+    requires { e.now.kind ≡ kinds.Or a.now es.now }
+    ensures { IfOk result (λ s. s ≡ world.show_part heap.now kept.now n (tree e.now)) }
+{
+    let first = show_part(alloc, heap, kept, n, a)?;
+    show_others(alloc, heap, kept, place_behind(n, a)?, Joint::Or, first, es)
+}
+
 /// What is shown of a part whose parts are numbered from a number on.
 #[cycle(part)]
 #[tactic(auto, using(crate::proofs::Forms::shown_by_form))]
@@ -291,41 +431,14 @@ pub fn show_part(
     match &e.kind {
         ExprKind::Paren(a) => show_part(alloc, heap, kept, n, a),
         ExprKind::Name(name) => show_name(alloc, heap, kept, n, name),
-        ExprKind::Call(f, es, names) => {
-            let next = behind(n, 1)?;
-            let callee = show_part(alloc, heap, kept, next, f)?;
-            let args = show_args(alloc, heap, kept, place_behind(next, f)?, es, names)?;
-            call_shows(alloc, heap, kept, n, callee, &args)
-        }
+        ExprKind::Call(f, es, names) => show_call(alloc, heap, kept, n, e, f, es, names),
         ExprKind::Attribute(a, name) => show_attribute(alloc, heap, kept, n, a, name),
-        ExprKind::Unary(op, a) => {
-            show_part(alloc, heap, kept, n, a)?.behind(alloc, unary_text(*op), &[])
-        }
-        ExprKind::Not(a) => show_part(alloc, heap, kept, n, a)?.behind(alloc, "not ", &[]),
-        ExprKind::Binary(a, op, b) => {
-            let left = show_part(alloc, heap, kept, n, a)?;
-            show_right(alloc, heap, kept, place_behind(n, a)?, &left, *op, b)
-        }
-        ExprKind::Compare(a, ops, es) => {
-            let first = show_part(alloc, heap, kept, n, a)?;
-            show_pairs(alloc, heap, kept, place_behind(n, a)?, first, ops, es)
-        }
-        ExprKind::And(a, es) => {
-            let first = show_part(alloc, heap, kept, n, a)?;
-            show_others(
-                alloc,
-                heap,
-                kept,
-                place_behind(n, a)?,
-                Joint::And,
-                first,
-                es,
-            )
-        }
-        ExprKind::Or(a, es) => {
-            let first = show_part(alloc, heap, kept, n, a)?;
-            show_others(alloc, heap, kept, place_behind(n, a)?, Joint::Or, first, es)
-        }
+        ExprKind::Unary(op, a) => show_unary(alloc, heap, kept, n, e, *op, a),
+        ExprKind::Not(a) => show_not(alloc, heap, kept, n, e, a),
+        ExprKind::Binary(a, op, b) => show_binary(alloc, heap, kept, n, e, a, *op, b),
+        ExprKind::Compare(a, ops, es) => show_compare(alloc, heap, kept, n, e, a, ops, es),
+        ExprKind::And(a, es) => show_and(alloc, heap, kept, n, e, a, es),
+        ExprKind::Or(a, es) => show_or(alloc, heap, kept, n, e, a, es),
         ExprKind::Number(_)
         | ExprKind::Text(_)
         | ExprKind::True

@@ -11,8 +11,8 @@ use Rattle.py_tree.specs.Statements as st
 use Rattle.py_tree.specs.Statements.{Parameter, parameter, parameters}
 use Rattle.py_core.specs.declared.expr.CoreExpr.{CoreExpr}
 use Rattle.py_core.specs.declared.stmt.CoreParam.{CoreParam}
-use Rattle.core_meaning.specs.Statements.{written as core_written}
-use Rattle.source_meaning.specs.Statements.{written, is_given}
+use Rattle.lower_law.specs.core_meaning.Statements.{written as core_written}
+use Rattle.lower_law.specs.source_meaning.Statements.{written, is_given}
 use Rattle.lower_law.specs.Built.{BuiltParameters}
 use Rattle.lower_law.specs.Lowered as low
 use Rattle.lower_law.specs.Lowered.{LoweredEach, defaults_listed}

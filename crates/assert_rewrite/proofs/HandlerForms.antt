@@ -15,7 +15,7 @@ use Rattle.py_core.specs.declared.stmt.CoreBlock.{CoreBlock}
 use Rattle.py_core.specs.declared.stmt.CoreGuard.{CoreGuard, roll-CoreGuard}
 use Rattle.py_core.specs.declared.stmt.CoreHandler.{CoreHandler, roll-CoreHandler}
 use Rattle.py_core.specs.declared.stmt.CoreStmtKind.TheBlock.{items_hidden-the_row-CoreHandler-2 as core_handlers_hidden, hidden-the_row-CoreHandler-2}
-use Rattle.source_meaning.specs.Statements.{listed}
+use Rattle.lower_law.specs.source_meaning.Statements.{listed}
 use Rattle.lower_law.specs.Built.{BuiltHandlers}
 use Rattle.lower_law.specs.Lowered as low
 use Rattle.lower_law.specs.Lowered.{LoweredSome, LoweredBody, LoweredHandlers, LoweredGuard, Catch, catch_at, handlers_listed}

@@ -34,11 +34,11 @@ use Rattle.py_core.specs.declared.stmt.CoreStmtKind.{CoreStmtKind, items-the_row
 use Rattle.py_core.specs.declared.stmt.CoreStmtKind.TheBlock.{hidden-the_row-CoreStmt-1, items_hidden-the_row-CoreBranch-0 as core_branches_hidden, hidden-the_row-CoreBranch-0 as core_hide_branches}
 use Rattle.py_core.specs.declared.stmt.CoreStmtKind.TheVariants as c
 use Rattle.py_core.specs.declared.stmt.CoreTarget.{CoreTarget}
-use Rattle.source_meaning.specs.Statements.{listed, function as source_function, written}
-use Rattle.core_meaning.specs.Statements.{written as core_written}
+use Rattle.lower_law.specs.source_meaning.Statements.{listed, function as source_function, written}
+use Rattle.lower_law.specs.core_meaning.Statements.{written as core_written}
 use Rattle.lower_law.specs.Built.{BuiltStatement, BuiltBlock, BuiltBranches, BuiltHandlers}
 use Rattle.lower_law.specs.Lowered as low
-use Rattle.source_meaning.specs.Statements.{script}
+use Rattle.lower_law.specs.source_meaning.Statements.{script}
 use Rattle.std.specs.Prelude.{Bool}
 use Rattle.py_core.specs.Blocks.{explains_in, source_in, stmts_in}
 use Rattle.py_core.specs.declared.stmt.CoreBlock.{CoreBlock, roll-CoreBlock}

@@ -16,7 +16,7 @@ use Rattle.py_tree.specs.declared.op.UnOp.{UnOp}
 use Rattle.py_tree.specs.Trees as t
 use Rattle.py_tree.specs.Trees.{Tree, Trees, Empty, tree, tree_at, trees, trees_on}
 use Rattle.py_tree.proofs.Rows.{trees_hidden, trees_more}
-use Rattle.py_world.specs.Explained.{kept_count, kept_count_all}
+use Rattle.lower_law.specs.py_world.Explained.{kept_count, kept_count_all}
 use Rattle.py_core.specs.declared.expr.CoreExpr.{CoreExpr}
 use Rattle.py_core.specs.declared.expr.CoreExprKind.{CoreExprKind, items-the_row-CoreExprKind-Call-1-1 as row_items}
 use Rattle.py_core.specs.declared.expr.CoreExprKind.TheVariants as c

@@ -13,7 +13,7 @@ use Rattle.py_core.specs.declared.stmt.CoreStmtKind.TheVariants as c
 use Rattle.py_core.specs.declared.stmt.CoreTarget.{CoreTarget}
 use Rattle.py_core.specs.declared.stmt.CoreUse.{CoreUse}
 use Rattle.py_core.specs.declared.stmt.CoreUse.TheVariants as taken
-use Rattle.source_meaning.specs.Requests as source
+use Rattle.lower_law.specs.source_meaning.Requests as source
 use Rattle.lower_law.specs.Lowered as low
 use Rattle.lower_law.specs.Lowered.{LoweredUse}
 use Rattle.assert_rewrite.specs.Lowers.{LowersSome, LowersTargets, LowersUse, LowersStatement}

@@ -36,7 +36,7 @@ mod yields;
 
 ghost use Rattle.std.specs.Prelude.{IfOk, ◌≡◌, true as explained, false as plain};
 ghost use Rattle.py_tree.specs.Statements.{module_tree};
-ghost use Rattle.source_meaning.specs.Statements.{script};
+ghost use Rattle.lower_law.specs.source_meaning.Statements.{script};
 ghost use Rattle.lower_law.specs.Built.{BuiltBlock};
 ghost use Rattle.lower_law.specs.Lowered.{LoweredModule};
 ghost use Rattle.lower_law.specs.Sourced.{module_of};

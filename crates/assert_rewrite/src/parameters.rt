@@ -1,8 +1,8 @@
 // The parameters of functions, and their defaults.
 
 ghost use Rattle.std.specs.Prelude.{IfOk, ◌≡◌};
-ghost use Rattle.core_meaning.specs.Statements.{written as core_written};
-ghost use Rattle.source_meaning.specs.Statements.{written};
+ghost use Rattle.lower_law.specs.core_meaning.Statements.{written as core_written};
+ghost use Rattle.lower_law.specs.source_meaning.Statements.{written};
 ghost use Rattle.py_tree.specs.Statements.{parameters};
 ghost use Rattle.assert_rewrite.specs.Lowers.{LowersDefaults};
 

@@ -3,10 +3,10 @@ use Rattle.std.specs.Prelude.{ℕ, zero, suc, List, [], ◌∷◌, map, length, 
 use Rattle.call_products.specs.Products.{refs_from}
 use Rattle.call_products.specs.declared.elements.Gathered.{Gathered}
 use Rattle.call_products.specs.declared.elements.Gathered.TheVariants as gathered
-use Rattle.py_operands.specs.Faults.{not_iterable}
-use Rattle.py_operands.specs.Numbers.{fitting}
-use Rattle.py_operands.specs.Ranges.{nth_of}
-use Rattle.py_kinds.specs.Kinds.{kind_name}
+use Rattle.py_ops.specs.py_operands.Faults.{not_iterable}
+use Rattle.py_ops.specs.py_operands.Numbers.{fitting}
+use Rattle.py_ops.specs.py_operands.Ranges.{nth_of}
+use Rattle.py_ops.specs.py_kinds.Kinds.{kind_name}
 use Rattle.py_values.specs.Raises.{raise}
 use Rattle.py_values.specs.declared.class.ExcClass.TheVariants.{OverflowError}
 use Rattle.py_values.specs.declared.dict.Pair.{Pair}

@@ -2,12 +2,12 @@
 
 ghost use Rattle.std.specs.Prelude.{◌≡◌, ◌++◌, IfOk, OnOk, map, slice_get, option_copied};
 ghost use Rattle.call_products.specs.Elements as elements;
-ghost use Rattle.py_operands.specs.Numbers.{fitting};
-ghost use Rattle.py_operands.specs.Ranges.{nth_of};
+ghost use Rattle.py_ops.specs.py_operands.Numbers.{fitting};
+ghost use Rattle.py_ops.specs.py_operands.Ranges.{nth_of};
 
 use crate::product::{Objs, refs};
-use py_operands::faults::not_iterable;
-use py_operands::ranges::nth;
+use py_ops::py_operands::faults::not_iterable;
+use py_ops::py_operands::ranges::nth;
 use py_values::class::ExcClass;
 use py_values::dict::{Dict, Pair};
 use py_values::end::Raise;

@@ -24,6 +24,9 @@
 //! How long a call takes.
 #![tactic(auto)]
 
+pub use py_ops;
+pub use py_ops::{py_kinds, py_operands};
+
 pub mod arguments;
 pub mod elements;
 pub mod product;

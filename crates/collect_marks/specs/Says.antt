@@ -2,7 +2,7 @@
 use Rattle.std.specs.Prelude.{ℕ, Bool, true, false, ◌&&◌, List, [], ◌∷◌, Option, Some, None, codes, find, option_map}
 use Rattle.collect_marks.specs.declared.xfail.Xfail.{Xfail}
 use Rattle.collect_names.specs.Objects.{object_in}
-use Rattle.py_kinds.specs.Truth.{truth}
+use Rattle.collect_names.specs.py_kinds.Truth.{truth}
 use Rattle.py_values.specs.Names.{find_name, name_eq}
 use Rattle.py_values.specs.declared.object.MarkObj.{MarkObj}
 use Rattle.py_values.specs.declared.object.Obj.{Obj}

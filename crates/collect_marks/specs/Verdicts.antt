@@ -4,7 +4,7 @@ use Rattle.collect_marks.specs.declared.verdict.Verdict.{Verdict}
 use Rattle.collect_marks.specs.declared.verdict.Verdict.TheVariants as verdict
 use Rattle.collect_marks.specs.declared.xfail.Xfail.{Xfail}
 use Rattle.collect_names.specs.Objects.{object_in}
-use Rattle.py_kinds.specs.Classes.{is_a, root_of, exc_eq, if_exc}
+use Rattle.collect_names.specs.py_kinds.Classes.{is_a, root_of, exc_eq, if_exc}
 use Rattle.py_values.specs.declared.class.ClassRef.{ClassRef}
 use Rattle.py_values.specs.declared.class.ExcClass.TheVariants as class
 use Rattle.py_values.specs.declared.object.Obj.{Obj}

@@ -1,12 +1,12 @@
 // How the phases of an item have ended.
 
 ghost use Rattle.std.specs.Prelude.{◌≡◌, option_copied};
-ghost use Rattle.py_kinds.specs.Classes.{exc_eq, if_exc};
+ghost use Rattle.collect_names.specs.py_kinds.Classes.{exc_eq, if_exc};
 ghost use Rattle.collect_marks.specs.Verdicts as verdicts;
 
 use crate::xfail::Xfail;
 use collect_names::objects::object_in;
-use py_kinds::classes::{is_a, root_of};
+use collect_names::py_kinds::classes::{is_a, root_of};
 use py_values::class::{ClassRef, ExcClass};
 use py_values::heap::Heap;
 use py_values::object::Obj;

@@ -22,6 +22,8 @@
 //! Time.
 #![tactic(auto)]
 
+pub use py_kinds;
+
 pub mod found;
 pub mod ids;
 pub mod names;

@@ -18,13 +18,13 @@ use Rattle.fixture_world.specs.Items.{item_of}
 use Rattle.py_load.specs.InTurn.{ConftestsEnd}
 use Rattle.py_load.specs.Reading.{ReadFile}
 use Rattle.report_parts.specs.Limits.{most_items}
-use Rattle.report_rules.specs.Collected.{Collected, ConftestFault, Refused, SelectedItem, Whole}
-use Rattle.report_rules.specs.Fits.{IsFit, chosen_item}
-use Rattle.runtest_rules.specs.Language.{python}
+use Rattle.fixture_world.specs.report_rules.Collected.{Collected, ConftestFault, Refused, SelectedItem, Whole}
+use Rattle.fixture_world.specs.report_rules.Fits.{IsFit, chosen_item}
+use Rattle.fixture_world.specs.runtest_rules.Language.{python}
 use Rattle.session_rules.specs.Fits.{Distinct, Fits}
 use Rattle.session_rules.specs.World as session
 use Rattle.session_types.specs.Members.{In}
-use Rattle.source_meaning.specs.Meaning.{SourceWorld}
+use Rattle.tracebacks.specs.source_meaning.Meaning.{SourceWorld}
 use Rattle.test_suite.specs.Suites.{fixture_at, numbered_item}
 use Rattle.test_suite.specs.declared.item.Item.{Item}
 use Rattle.test_suite.specs.declared.suite.Suite.{Suite}

@@ -1,3 +1,4 @@
+pub use Rattle.py_load.proofs.file_source_lemmas
 pub mod Walks
 pub mod Turns
 pub mod ReadPaths

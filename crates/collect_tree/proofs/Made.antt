@@ -2,34 +2,34 @@
 use Rattle.std.proofs.Common.{◌≡◌, ◌≤◌, ◌+◌, ◌<◌, ℕ, zero, suc, true, List, [], ◌∷◌, ◌++◌, map, length, Some, refl, sym, ap, ◌∙◌, subst, arith}
 use Rattle.std.specs.Prelude.{slice_get}
 use Rattle.std.proofs.lemmas.List.{length-append, length-map}
-use Rattle.collect_fixtures.proofs.Counts.{defs_count}
-use Rattle.collect_fixtures.proofs.Known.{closure_low}
-use Rattle.collect_fixtures.proofs.Needs.{item_whole}
-use Rattle.collect_fixtures.specs.Closures.{item_closure}
-use Rattle.collect_fixtures.specs.Tables.{all_names, all_numbers, node_of_test, table_defs, table_of}
+use Rattle.collect_items.proofs.collect_fixtures_lemmas.Counts.{defs_count}
+use Rattle.collect_items.proofs.collect_fixtures_lemmas.Known.{closure_low}
+use Rattle.collect_items.proofs.collect_fixtures_lemmas.Needs.{item_whole}
+use Rattle.collect_items.specs.collect_fixtures.Closures.{item_closure}
+use Rattle.collect_items.specs.collect_fixtures.Tables.{all_names, all_numbers, node_of_test, table_defs, table_of}
 use Rattle.collect_items.specs.Items.{FixtureTable, defined_fixture, fixtures_with, found_suite, item, items_from, placed_of, suite_behind}
 use Rattle.collect_items.specs.declared.found.FoundSuite.{FoundSuite}
 use Rattle.collection_nodes.specs.Tree.{all_folders, outer_nodes}
 use Rattle.collection_nodes.specs.declared.test_file.TestFile.{TestFile}
-use Rattle.fixture_definitions.specs.Arguments.{but_request}
-use Rattle.fixture_definitions.specs.Definitions.{all_definitions}
-use Rattle.fixture_definitions.specs.Tests.{all_tests}
-use Rattle.fixture_definitions.specs.declared.found.Definition.{Definition}
-use Rattle.fixture_definitions.specs.declared.found.FoundTest.{FoundTest}
+use Rattle.collect_items.specs.fixture_definitions.Arguments.{but_request}
+use Rattle.collect_items.specs.fixture_definitions.Definitions.{all_definitions}
+use Rattle.collect_items.specs.fixture_definitions.Tests.{all_tests}
+use Rattle.collect_items.specs.fixture_definitions.declared.found.Definition.{Definition}
+use Rattle.collect_items.specs.fixture_definitions.declared.found.FoundTest.{FoundTest}
 use Rattle.fixture_table.proofs.Settles.{settled}
 use Rattle.fixture_table.specs.Faults as table
 use Rattle.fixture_table.specs.Nearest.{def_at}
 use Rattle.fixture_table.specs.declared.types.CollectionNode.{CollectionNode}
 use Rattle.fixture_world.specs.Items.{closure_of, item_of}
 use Rattle.py_values.specs.declared.object.Obj.{Obj}
-use Rattle.runtest_rules.specs.Language.{python}
+use Rattle.fixture_world.specs.runtest_rules.Language.{python}
 use Rattle.session_rules.specs.Fits.{Directly, Fits, FitsClosure, Further, IsClosure, Reaches}
 use Rattle.session_rules.specs.World as session
 use Rattle.session_types.proofs.Lists.{In-among, among-In}
 use Rattle.session_types.specs.Numbers.{among}
 use Rattle.session_types.specs.Scopes.{rank}
 use Rattle.session_types.specs.declared.scope.Scope.{Scope}
-use Rattle.fixture_instances.specs.Items.{requests_in}
+use Rattle.setup_stack.specs.fixture_instances.Items.{requests_in}
 use Rattle.test_suite.specs.Suites.{fixture_at, fixture_or}
 use Rattle.test_suite.specs.declared.item.Item.{Item}
 use Rattle.test_suite.specs.declared.item.ItemClosure.{ItemClosure}

@@ -7,7 +7,7 @@ use Rattle.collect_items.specs.declared.found.FoundSuite.{FoundSuite}
 use Rattle.collection_nodes.specs.declared.test_file.TestFile.{TestFile}
 use Rattle.fixture_table.specs.Tree.{IsTree}
 use Rattle.py_values.specs.declared.object.Obj.{Obj}
-use Rattle.runtest_rules.specs.Rules.{rules_within}
+use Rattle.fixture_world.specs.runtest_rules.Rules.{rules_within}
 use Rattle.test_suite.specs.Suites.{item_at, item_or}
 use Rattle.test_suite.specs.declared.item.Item.{Item}
 use Rattle.test_suite.specs.declared.suite.Suite.{Suite}

@@ -5,7 +5,7 @@ use Rattle.collect_words.specs.Walks.{path_at}
 use Rattle.collection_nodes.specs.declared.test_file.TestFile.{TestFile}
 use Rattle.py_load.specs.InTurn.{FileEnd, file_load}
 use Rattle.report_parts.specs.declared.report.CollectReport.{CollectReport}
-use Rattle.source_meaning.specs.Meaning.{SourceWorld}
+use Rattle.tracebacks.specs.source_meaning.Meaning.{SourceWorld}
 use Rattle.collect_tree.specs.Loads.{Loaded, ended_before, loaded_before, test_loads}
 
 abbrev pub made : List TestFile → List CollectReport → SourceWorld → Loaded

@@ -22,13 +22,13 @@ use Rattle.fixture_world.specs.Items.{selected_item}
 use Rattle.py_load.specs.InTurn.{ConftestsEnd, conftest_loads}
 use Rattle.py_load.specs.Prepared.{with_reads}
 use Rattle.py_load.specs.Reading.{ReadFile}
-use Rattle.py_machine.specs.Worlds.{empty}
+use Rattle.tracebacks.specs.py_machine.Worlds.{empty}
 use Rattle.py_values.specs.declared.object.Obj.{Obj}
 use Rattle.py_values.specs.declared.value.Value.{Value}
 use Rattle.report_parts.specs.Limits.{most_items}
-use Rattle.report_rules.specs.Collected.{Collected, Collection, ConftestFault, Refused, SelectedItem, Whole}
-use Rattle.runtest_rules.specs.Language.{python}
-use Rattle.source_meaning.specs.Meaning.{SourceWorld}
+use Rattle.fixture_world.specs.report_rules.Collected.{Collected, Collection, ConftestFault, Refused, SelectedItem, Whole}
+use Rattle.fixture_world.specs.runtest_rules.Language.{python}
+use Rattle.tracebacks.specs.source_meaning.Meaning.{SourceWorld}
 use Rattle.test_suite.specs.Suites.{no_item}
 use Rattle.test_suite.specs.declared.item.Item.{Item}
 use Rattle.test_suite.specs.declared.suite.Suite.{Suite}

@@ -1,3 +1,6 @@
+pub use Rattle.collect_items.specs as collect_items
+pub use Rattle.py_load.specs.file_source
+pub use Rattle.py_load.specs as py_load
 pub mod Walk
 pub mod Loads
 pub mod Collection

@@ -14,7 +14,7 @@ use Rattle.py_values.specs.declared.value.Value.{Value}
 use Rattle.py_world.specs.Site.{frame}
 use Rattle.report_parts.specs.declared.report.CollectReport.{CollectReport}
 use Rattle.report_parts.specs.declared.report.Told.{Told}
-use Rattle.source_meaning.specs.Meaning.{SourceWorld}
+use Rattle.tracebacks.specs.source_meaning.Meaning.{SourceWorld}
 use Rattle.tracebacks.specs.Faults.{fault_text}
 use Rattle.tracebacks.specs.Frames.{told}
 use Rattle.tracebacks.specs.Texts.{exception_text, limit_text}

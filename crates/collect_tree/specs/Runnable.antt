@@ -3,7 +3,7 @@ use Rattle.std.specs.Prelude.{◌≡◌, ℕ, ◌<◌, Some, length, slice_get}
 use Rattle.collect_items.specs.declared.found.FoundSuite.{FoundSuite}
 use Rattle.fixture_table.specs.Tree.{IsTree}
 use Rattle.fixture_world.specs.Items.{item_of}
-use Rattle.runtest_rules.specs.Rules.{rules_within}
+use Rattle.fixture_world.specs.runtest_rules.Rules.{rules_within}
 use Rattle.session_rules.specs.Fits.{Fits}
 use Rattle.setup_stack.specs.Scopes.{HasScopes}
 use Rattle.test_suite.specs.Suites.{item_at}

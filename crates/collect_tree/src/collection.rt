@@ -3,7 +3,7 @@
 ghost use Rattle.std.specs.Prelude.{◌≡◌, [], IfOk, IfSome, Ok as Meant};
 ghost use Rattle.edge_io.specs.Files.{InOrder, paths_of};
 ghost use Rattle.py_load.specs.Reading.{AreRead, ReadFile};
-ghost use Rattle.py_machine.specs.Worlds.{empty};
+ghost use Rattle.tracebacks.specs.py_machine.Worlds.{empty};
 ghost use Rattle.selection.specs.Exprs.{AreExprs};
 ghost use Rattle.collect_words.specs.Files as files;
 ghost use Rattle.collect_tree.specs.Collection as collection;
@@ -25,11 +25,11 @@ use collect_words::{
 use collection_nodes::TestFile;
 use edge_io::Files;
 use py_load::{FailedFile, has_reading, load_conftests, prepare};
-use py_machine::{World, heap};
 use py_values::value::Value;
 use report_parts::{CollectReport, MOST_ITEMS, OutOfMemory};
 use selection::Exprs;
 use std::alloc::Global;
+use tracebacks::{World, heap};
 
 /// A number of items as it is reported.
 fn counted(count: usize) -> Result<u32, OutOfMemory>

@@ -3,9 +3,9 @@
 ghost use Rattle.std.specs.Prelude.{◌≡◌, ℕ, List, length};
 ghost use Rattle.cli_words.specs.declared.options.Options.{Options};
 ghost use Rattle.py_load.specs.Reading.{ReadFile};
-ghost use Rattle.report_rules.specs.Collected.{Collected, Whole};
-ghost use Rattle.report_rules.specs.Fits.{IsFit};
-ghost use Rattle.runtest_rules.specs.Language.{python};
+ghost use Rattle.fixture_world.specs.report_rules.Collected.{Collected, Whole};
+ghost use Rattle.fixture_world.specs.report_rules.Fits.{IsFit};
+ghost use Rattle.fixture_world.specs.runtest_rules.Language.{python};
 ghost use Rattle.session_rules.specs.World.{Rules};
 ghost use Rattle.test_suite.specs.Suites.{fixture_at};
 ghost use Rattle.test_suite.specs.declared.suite.Suite.{Suite};

@@ -29,6 +29,9 @@
 //! That what is collected is what pytest collects: a reader compares the definitions. Time.
 #![tactic(auto)]
 
+pub use collect_items::FoundSuite;
+pub use fixture_world::{RunSetting, RunWorld};
+
 mod collected;
 mod collection;
 mod fault;

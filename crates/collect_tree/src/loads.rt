@@ -7,13 +7,12 @@ use crate::walk::path_text;
 use collect_words::Walk;
 use collection_nodes::TestFile;
 use py_load::{LoadError, LoadedFile, load_file};
-use py_machine::{World, heap};
 use py_source::SourceFault;
 use py_text::PyText;
 use py_world::{Trace, TraceFrame};
 use report_parts::{CollectReport, OutOfMemory, Text, Told};
 use std::alloc::Global;
-use tracebacks::{exception_text, fault_text, limit_text, told};
+use tracebacks::{World, exception_text, fault_text, heap, limit_text, told};
 
 /// A source's fault, at its place in the module.
 fn fault_here(

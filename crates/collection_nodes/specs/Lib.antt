@@ -1,2 +1,3 @@
+pub use Rattle.py_world.specs as py_world
 pub mod Texts
 pub mod Tree

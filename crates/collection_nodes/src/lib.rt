@@ -26,6 +26,8 @@
 //! The definitions, in the order in which to read them: `specs/Texts.antt` (texts by number), `specs/Tree.antt` (the tree and its nodes).
 #![tactic(auto)]
 
+pub use py_world::TraceFrame;
+
 mod folders;
 mod mentions;
 mod placed_file;

@@ -7,41 +7,41 @@ use Rattle.py_source.specs.declared.pos.Pos.{Pos}
 use Rattle.py_tree.specs.declared.op.BinOp.{BinOp}
 use Rattle.py_values.specs.declared.value.Value.{Value}
 use Rattle.py_values.specs.declared.value.Value.TheVariants as val
-use Rattle.py_core.specs.declared.expr.CoreExpr.{CoreExpr}
-use Rattle.py_core.specs.declared.expr.CoreExprKind as f
-use Rattle.py_core.specs.declared.expr.CoreExprKind.{CoreExprKind, Row_of-CoreExprKind-Call-1-1 as Row, end_of-CoreExprKind-Call-1-1 as end, more_of-CoreExprKind-Call-1-1 as more_of, Held-CoreExprKind-Slice-1 as Held}
-use Rattle.py_core.specs.declared.expr.CoreExprKind.TheVariants as v
-use Rattle.py_core.specs.declared.stmt.CoreBranch as branch
-use Rattle.py_core.specs.declared.stmt.CoreClass as class
-use Rattle.py_core.specs.declared.stmt.CoreFn as fn
-use Rattle.py_core.specs.declared.stmt.CoreFn.{CoreFn}
-use Rattle.py_core.specs.declared.stmt.CoreSingleKind.{CoreSingleKind}
-use Rattle.py_core.specs.declared.stmt.CoreSingleKind.TheVariants as single
-use Rattle.py_core.specs.declared.stmt.CoreTarget.{CoreTarget}
-use Rattle.py_core.specs.declared.stmt.CoreTarget.TheVariants as target
-use Rattle.py_core.specs.declared.stmt.Template.{Template}
-use Rattle.py_core.specs.declared.stmt.Template.TheVariants.{Plain, Explain}
-use Rattle.py_core.specs.declared.stmt.CoreStmt.{CoreStmt}
-use Rattle.py_core.specs.declared.stmt.CoreStmtKind as c
-use Rattle.py_core.specs.declared.stmt.CoreStmtKind.{CoreStmtKind, items-the_row-CoreBranch}
-use Rattle.py_core.specs.declared.stmt.CoreBlock.{CoreBlock}
-use Rattle.py_core.specs.declared.stmt.CoreGuard.{CoreGuard}
-use Rattle.py_core.specs.declared.stmt.CoreUse.{CoreUse}
-use Rattle.py_core.specs.declared.stmt.CoreUse.TheVariants as taken
-use Rattle.py_core.specs.declared.stmt.CoreHandler as handler
-use Rattle.py_core.specs.declared.stmt.CoreSingle.{CoreSingle}
-use Rattle.py_core.specs.Blocks.{stmts_in, handlers_in, other_in, last_in}
-use Rattle.py_core.specs.declared.stmt.CoreStmtKind.TheVariants as k
+use Rattle.core_meaning.specs.py_core.declared.expr.CoreExpr.{CoreExpr}
+use Rattle.core_meaning.specs.py_core.declared.expr.CoreExprKind as f
+use Rattle.core_meaning.specs.py_core.declared.expr.CoreExprKind.{CoreExprKind, Row_of-CoreExprKind-Call-1-1 as Row, end_of-CoreExprKind-Call-1-1 as end, more_of-CoreExprKind-Call-1-1 as more_of, Held-CoreExprKind-Slice-1 as Held}
+use Rattle.core_meaning.specs.py_core.declared.expr.CoreExprKind.TheVariants as v
+use Rattle.core_meaning.specs.py_core.declared.stmt.CoreBranch as branch
+use Rattle.core_meaning.specs.py_core.declared.stmt.CoreClass as class
+use Rattle.core_meaning.specs.py_core.declared.stmt.CoreFn as fn
+use Rattle.core_meaning.specs.py_core.declared.stmt.CoreFn.{CoreFn}
+use Rattle.core_meaning.specs.py_core.declared.stmt.CoreSingleKind.{CoreSingleKind}
+use Rattle.core_meaning.specs.py_core.declared.stmt.CoreSingleKind.TheVariants as single
+use Rattle.core_meaning.specs.py_core.declared.stmt.CoreTarget.{CoreTarget}
+use Rattle.core_meaning.specs.py_core.declared.stmt.CoreTarget.TheVariants as target
+use Rattle.core_meaning.specs.py_core.declared.stmt.Template.{Template}
+use Rattle.core_meaning.specs.py_core.declared.stmt.Template.TheVariants.{Plain, Explain}
+use Rattle.core_meaning.specs.py_core.declared.stmt.CoreStmt.{CoreStmt}
+use Rattle.core_meaning.specs.py_core.declared.stmt.CoreStmtKind as c
+use Rattle.core_meaning.specs.py_core.declared.stmt.CoreStmtKind.{CoreStmtKind, items-the_row-CoreBranch}
+use Rattle.core_meaning.specs.py_core.declared.stmt.CoreBlock.{CoreBlock}
+use Rattle.core_meaning.specs.py_core.declared.stmt.CoreGuard.{CoreGuard}
+use Rattle.core_meaning.specs.py_core.declared.stmt.CoreUse.{CoreUse}
+use Rattle.core_meaning.specs.py_core.declared.stmt.CoreUse.TheVariants as taken
+use Rattle.core_meaning.specs.py_core.declared.stmt.CoreHandler as handler
+use Rattle.core_meaning.specs.py_core.declared.stmt.CoreSingle.{CoreSingle}
+use Rattle.core_meaning.specs.py_core.Blocks.{stmts_in, handlers_in, other_in, last_in}
+use Rattle.core_meaning.specs.py_core.declared.stmt.CoreStmtKind.TheVariants as k
 use Rattle.py_tree.specs.Trees as Rattle_tree
 use Rattle.core_meaning.specs.Requests.{core_kinds, Layer, Statements, Guard, Receives, Turn, StatementOf, TurnOf, ForOf}
 use Rattle.core_meaning.specs.Meaning.{core}
 use Rattle.core_meaning.specs.Expressions.{CorePart, eval_at, eval, parts, parts_of, held}
 use Rattle.core_meaning.specs.Statements.{remains, store_at, store_singles, store, stores, use_of, augment_at, delete_at, some_part, failure, begun_at, block_from, block, handlings, guard, choices, core_body, written, define_fn, define_class, try_at, statement_at, statement, act, entry}
-use Rattle.py_world.specs.World.{State}
-use Rattle.py_world.specs.Site.{Around, Scene, Site, site}
-use Rattle.py_world.specs.Arguments.{Arguments, arguments_of}
-use Rattle.py_world.specs.Outcome.{Then}
-use Rattle.py_world.specs.Calls.{invoke, body_of}
+use Rattle.source_meaning.specs.py_world.World.{State}
+use Rattle.source_meaning.specs.py_world.Site.{Around, Scene, Site, site}
+use Rattle.source_meaning.specs.py_world.Arguments.{Arguments, arguments_of}
+use Rattle.source_meaning.specs.py_world.Outcome.{Then}
+use Rattle.source_meaning.specs.py_world.Calls.{invoke, body_of}
 use Rattle.core_rules.proofs.LinearFlow as flow
 use Rattle.core_rules.proofs.LinearClasses as more
 use Rattle.core_rules.proofs.Linear as line

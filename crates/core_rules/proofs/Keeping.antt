@@ -10,7 +10,7 @@ use Rattle.py_tree.specs.Trees.{Tree}
 use Rattle.py_tree.specs.declared.op.BinOp.{BinOp}
 use Rattle.py_tree.specs.declared.op.UnOp.{UnOp}
 use Rattle.py_tree.specs.declared.op.CmpOp.{CmpOp}
-use Rattle.py_kinds.specs.Builtins.{with_receiver}
+use Rattle.source_meaning.specs.py_kinds.Builtins.{with_receiver}
 use Rattle.py_values.specs.Changes.{changed, object_after}
 use Rattle.py_values.specs.declared.class.ClassRef.{ClassRef}
 use Rattle.py_values.specs.declared.class.ClassRef.TheVariants as ref
@@ -28,32 +28,32 @@ use Rattle.py_values.specs.declared.value.ObjId.{ObjId}
 use Rattle.py_values.specs.declared.value.Value.{Value}
 use Rattle.py_values.specs.declared.value.Value.TheVariants as val
 use Rattle.py_values.specs.Ends.{cost_of, id_at}
-use Rattle.py_kinds.specs.Classes.{is_exc_class}
-use Rattle.py_kinds.specs.Kinds.{kind_name}
-use Rattle.call_products.specs.declared.product.Product.{Product}
-use Rattle.pytest_calls.specs.Marks.{mark_called}
+use Rattle.source_meaning.specs.py_kinds.Classes.{is_exc_class}
+use Rattle.source_meaning.specs.py_kinds.Kinds.{kind_name}
+use Rattle.source_meaning.specs.call_products.declared.product.Product.{Product}
+use Rattle.source_meaning.specs.pytest_calls.Marks.{mark_called}
 use Rattle.py_values.specs.Limits.{most_elements}
 use Rattle.py_values.specs.Raises.{raise, exception, thrown_by, thrown_with}
-use Rattle.py_kinds.specs.Truth.{truth}
-use Rattle.py_ops.specs.Binary.{binary_of}
-use Rattle.py_ops.specs.Unary.{unary_of}
-use Rattle.py_ops.specs.Compare.{compare_of}
-use Rattle.py_calls.specs.Called.{Called}
-use Rattle.py_calls.specs.Calls.{called_of}
-use Rattle.py_world.specs.declared.trace.TraceFrame.{TraceFrame}
-use Rattle.py_world.specs.declared.load.Load.{Load}
-use Rattle.py_world.specs.Arguments.{Arguments, with_plain}
-use Rattle.py_world.specs.World.{Kinds, World, State, Locals, Stored, heap_of, unset, with_heap, with_object, with_objects, world_with_heap, world_with_printed, world_with_code, world_with_modules, world_with_traces, put_trace}
-use Rattle.py_world.specs.Site.{Around, around_of, Own, InModule, InFunction, InClass, Scene, Site, site, trace_of}
-use Rattle.py_world.specs.Outcome.{Outcome, Gave, Next, Returned, Broke, Continued, Raised, Spent, Paused, Rest, Then, Part, After, Body, Request, CallOf, DoOf, Ways, route, onward, gave_in, raised, made, product_end, call_end, on_value, on_next, on_turn, if_true, costing, operated}
-use Rattle.py_world.specs.Names.{with_name, name_end, named, bound, bound_by, bound_global}
-use Rattle.py_world.specs.Expressions.{noted, constant, name_part, text_part, unary_part, binary_part, compared, compare_on, compare_part, not_part, and_on, and_part, or_on, or_part, choice_part, called, call_on, call_part, kept_part}
-use Rattle.py_world.specs.Statements.{Choice, asked, expression_statement, return_value, yield_value, pass, leave_loop, next_turn, assertion, fail, failed_with, fail_explained, branches_on, choose, loop, turn_of}
-use Rattle.py_world.specs.ModuleNames.{module_name, module_object}
-use Rattle.py_world.specs.Runs.{load_at, with_load, naming_heap, module_place, with_module, module_end, module_scene, start, executed, first_load}
-use Rattle.py_world.specs.Attributes.{with_attribute}
-use Rattle.py_world.specs.Exceptions.{class_by}
-use Rattle.py_world.specs.Calls.{Entry, Meaning, most_open, wrong_arguments, not_callable, too_deep, arguments_for, function_of_object, class_takes, new_instance, init_of, init_end, entered, function_called, function_with, builtin_called, mark_or, class_or, called_or, init_object, init_called, instance_made, class_called, value_called, invoke, body_of}
+use Rattle.source_meaning.specs.py_kinds.Truth.{truth}
+use Rattle.source_meaning.specs.py_ops.Binary.{binary_of}
+use Rattle.source_meaning.specs.py_ops.Unary.{unary_of}
+use Rattle.source_meaning.specs.py_ops.Compare.{compare_of}
+use Rattle.source_meaning.specs.py_calls.Called.{Called}
+use Rattle.source_meaning.specs.py_calls.Calls.{called_of}
+use Rattle.source_meaning.specs.py_world.declared.trace.TraceFrame.{TraceFrame}
+use Rattle.source_meaning.specs.py_world.declared.load.Load.{Load}
+use Rattle.source_meaning.specs.py_world.Arguments.{Arguments, with_plain}
+use Rattle.source_meaning.specs.py_world.World.{Kinds, World, State, Locals, Stored, heap_of, unset, with_heap, with_object, with_objects, world_with_heap, world_with_printed, world_with_code, world_with_modules, world_with_traces, put_trace}
+use Rattle.source_meaning.specs.py_world.Site.{Around, around_of, Own, InModule, InFunction, InClass, Scene, Site, site, trace_of}
+use Rattle.source_meaning.specs.py_world.Outcome.{Outcome, Gave, Next, Returned, Broke, Continued, Raised, Spent, Paused, Rest, Then, Part, After, Body, Request, CallOf, DoOf, Ways, route, onward, gave_in, raised, made, product_end, call_end, on_value, on_next, on_turn, if_true, costing, operated}
+use Rattle.source_meaning.specs.py_world.Names.{with_name, name_end, named, bound, bound_by, bound_global}
+use Rattle.source_meaning.specs.py_world.Expressions.{noted, constant, name_part, text_part, unary_part, binary_part, compared, compare_on, compare_part, not_part, and_on, and_part, or_on, or_part, choice_part, called, call_on, call_part, kept_part}
+use Rattle.source_meaning.specs.py_world.Statements.{Choice, asked, expression_statement, return_value, yield_value, pass, leave_loop, next_turn, assertion, fail, failed_with, fail_explained, branches_on, choose, loop, turn_of}
+use Rattle.source_meaning.specs.py_world.ModuleNames.{module_name, module_object}
+use Rattle.source_meaning.specs.py_world.Runs.{load_at, with_load, naming_heap, module_place, with_module, module_end, module_scene, start, executed, first_load}
+use Rattle.source_meaning.specs.py_world.Attributes.{with_attribute}
+use Rattle.source_meaning.specs.py_world.Exceptions.{class_by}
+use Rattle.source_meaning.specs.py_world.Calls.{Entry, Meaning, most_open, wrong_arguments, not_callable, too_deep, arguments_for, function_of_object, class_takes, new_instance, init_of, init_end, entered, function_called, function_with, builtin_called, mark_or, class_or, called_or, init_object, init_called, instance_made, class_called, value_called, invoke, body_of}
 
 -- what the forms do to a world; a module is loaded only where its path is fresh
 pub record Closed {K : Kinds} (Good : World K → Type 0) (Fresh : List ℕ → Type 0) : Type 0 where

@@ -10,21 +10,21 @@ use Rattle.py_values.specs.declared.value.Value.{Value}
 use Rattle.py_values.specs.declared.value.Value.TheVariants as val
 use Rattle.py_values.specs.Ends.{id_at}
 use Rattle.py_values.specs.Raises.{thrown}
-use Rattle.py_world.specs.declared.load.Load.{Load}
-use Rattle.py_world.specs.declared.load.Load.TheVariants.{Running, Loaded, Failed}
-use Rattle.py_world.specs.World.{Kinds, World, State, heap_of, world_with_heap, with_object, state}
-use Rattle.py_world.specs.Site.{Site, around_of, trace_of}
-use Rattle.py_world.specs.Arguments.{plain}
-use Rattle.py_world.specs.Names.{bound}
-use Rattle.py_kinds.specs.Builtins.{pytest_module}
-use Rattle.py_kinds.specs.Classes.{is_exc_class}
-use Rattle.py_world.specs.Exceptions.{no_exception, raisable}
-use Rattle.py_world.specs.Outcome.{Outcome, Rest, Then, Part, Body, on_value, raised_at, call_end}
-use Rattle.py_world.specs.Calls.{Entry}
-use Rattle.py_world.specs.Raising.{raise_init, raise_it, raise_on, raise_value}
-use Rattle.py_world.specs.Definitions.{Written, Decoration, Replaced, Marked, Same, Refused, with_defaults, with_mark, marked_at, bad_decorator, stored, source_class, with_function, decoration, decorated_by, decorated, define_as, function_made, define_behind, define, based_on, class_base, class_scene, class_made, class_behind, class_statement}
-use Rattle.py_world.specs.Imports.{paths_of, import_path, prefixes_behind, is_pytest, pytest_or, submodule, alias_name, import_name, name_of_module, no_module, not_imported, source_error, fault_in, faulty_by, faulty, import_end, submodule_or, module_at, modules_at, imported, import_statement, own_or_submodule, import_each, import_from}
-use Rattle.py_world.specs.Runs.{load_at, coded, source_at, load_by, load_part}
+use Rattle.source_meaning.specs.py_world.declared.load.Load.{Load}
+use Rattle.source_meaning.specs.py_world.declared.load.Load.TheVariants.{Running, Loaded, Failed}
+use Rattle.source_meaning.specs.py_world.World.{Kinds, World, State, heap_of, world_with_heap, with_object, state}
+use Rattle.source_meaning.specs.py_world.Site.{Site, around_of, trace_of}
+use Rattle.source_meaning.specs.py_world.Arguments.{plain}
+use Rattle.source_meaning.specs.py_world.Names.{bound}
+use Rattle.source_meaning.specs.py_kinds.Builtins.{pytest_module}
+use Rattle.source_meaning.specs.py_kinds.Classes.{is_exc_class}
+use Rattle.source_meaning.specs.py_world.Exceptions.{no_exception, raisable}
+use Rattle.source_meaning.specs.py_world.Outcome.{Outcome, Rest, Then, Part, Body, on_value, raised_at, call_end}
+use Rattle.source_meaning.specs.py_world.Calls.{Entry}
+use Rattle.source_meaning.specs.py_world.Raising.{raise_init, raise_it, raise_on, raise_value}
+use Rattle.source_meaning.specs.py_world.Definitions.{Written, Decoration, Replaced, Marked, Same, Refused, with_defaults, with_mark, marked_at, bad_decorator, stored, source_class, with_function, decoration, decorated_by, decorated, define_as, function_made, define_behind, define, based_on, class_base, class_scene, class_made, class_behind, class_statement}
+use Rattle.source_meaning.specs.py_world.Imports.{paths_of, import_path, prefixes_behind, is_pytest, pytest_or, submodule, alias_name, import_name, name_of_module, no_module, not_imported, source_error, fault_in, faulty_by, faulty, import_end, submodule_or, module_at, modules_at, imported, import_statement, own_or_submodule, import_each, import_from}
+use Rattle.source_meaning.specs.py_world.Runs.{load_at, coded, source_at, load_by, load_part}
 use Rattle.core_rules.proofs.Keeping as keep
 use Rattle.core_rules.proofs.Keeping.{Closed}
 use Rattle.core_rules.proofs.KeepingFlow as flow

@@ -8,17 +8,17 @@ use Rattle.py_values.specs.declared.value.ObjId.{ObjId}
 use Rattle.py_values.specs.declared.value.Value.{Value}
 use Rattle.py_values.specs.declared.value.Value.TheVariants as val
 use Rattle.py_values.specs.Ends.{id_at}
-use Rattle.py_world.specs.World.{Kinds, State, heap_of}
-use Rattle.py_world.specs.Site.{Site, around_of}
-use Rattle.py_world.specs.Arguments.{plain}
-use Rattle.py_world.specs.Names.{bound}
-use Rattle.py_kinds.specs.Builtins.{pytest_module}
-use Rattle.py_kinds.specs.Classes.{is_exc_class}
-use Rattle.py_world.specs.Outcome.{Rest, Then, Part, Body, call_end}
-use Rattle.py_world.specs.Calls.{Entry}
-use Rattle.py_world.specs.Raising.{raise_init, raise_on, raise_value}
-use Rattle.py_world.specs.Definitions.{Written, with_defaults, decoration, decorated_by, decorated, define_as, function_made, define_behind, define, based_on, class_base, class_made, class_behind, class_statement}
-use Rattle.py_world.specs.Imports.{paths_of, import_path, prefixes_behind, is_pytest, pytest_or, submodule, alias_name, name_of_module, faulty, module_at, modules_at, imported, import_statement, submodule_or, own_or_submodule, import_each, import_from}
+use Rattle.source_meaning.specs.py_world.World.{Kinds, State, heap_of}
+use Rattle.source_meaning.specs.py_world.Site.{Site, around_of}
+use Rattle.source_meaning.specs.py_world.Arguments.{plain}
+use Rattle.source_meaning.specs.py_world.Names.{bound}
+use Rattle.source_meaning.specs.py_kinds.Builtins.{pytest_module}
+use Rattle.source_meaning.specs.py_kinds.Classes.{is_exc_class}
+use Rattle.source_meaning.specs.py_world.Outcome.{Rest, Then, Part, Body, call_end}
+use Rattle.source_meaning.specs.py_world.Calls.{Entry}
+use Rattle.source_meaning.specs.py_world.Raising.{raise_init, raise_on, raise_value}
+use Rattle.source_meaning.specs.py_world.Definitions.{Written, with_defaults, decoration, decorated_by, decorated, define_as, function_made, define_behind, define, based_on, class_base, class_made, class_behind, class_statement}
+use Rattle.source_meaning.specs.py_world.Imports.{paths_of, import_path, prefixes_behind, is_pytest, pytest_or, submodule, alias_name, name_of_module, faulty, module_at, modules_at, imported, import_statement, submodule_or, own_or_submodule, import_each, import_from}
 use Rattle.core_rules.proofs.Linear as line
 use Rattle.core_rules.proofs.Linear.{Behind, Linear, LinearBody, LinearAll, LinearSome}
 use Rattle.core_rules.proofs.LinearFlow as flow

@@ -13,25 +13,25 @@ use Rattle.py_values.specs.declared.object.RaisesObj.{RaisesObj}
 use Rattle.py_values.specs.declared.value.ObjId.{ObjId}
 use Rattle.py_values.specs.declared.value.Value.{Value}
 use Rattle.py_values.specs.Ends.{cost_of, id_at}
-use Rattle.py_ops.specs.Binary.{augmented_of}
-use Rattle.py_items.specs.Items.{subscript_of, store_of, delete_of, object_at}
-use Rattle.py_items.specs.Turns.{turn_of as element_of, next_by, iterate}
-use Rattle.py_items.specs.declared.iter.IterAt.{IterAt}
-use Rattle.pytest_calls.specs.Swallowing.{pattern_end}
-use Rattle.py_kinds.specs.Classes.{is_a}
-use Rattle.py_world.specs.declared.trace.TraceFrame.{TraceFrame}
-use Rattle.py_world.specs.World.{Kinds, State, heap_of, with_heap}
-use Rattle.py_world.specs.Site.{Scene, Site, trace_of, site_handling, scene_handling}
-use Rattle.py_world.specs.Names.{unbound, name_end, delete_name}
-use Rattle.py_world.specs.Outcome.{Outcome, Gave, Next, Returned, Broke, Continued, Raised, Rest, Then, Part, After, Body, route, changing, made, costing, on_next}
-use Rattle.py_world.specs.Expressions.{arguments}
-use Rattle.py_world.specs.Displays.{displayed, dict_displayed, in_pairs, bound_given, collected, list_part, tuple_part, dict_part, subscript_part, slice_bound, sliced_at, slice_by, slice_to, slice_on, slice_part}
-use Rattle.py_world.specs.Attributes.{attribute_end, attribute_part, set_attribute}
-use Rattle.py_world.specs.Targets.{Store, elements_from, store_name, store_attribute, set_item, store_item, store_all, store_each, unpack_by, unpack, assign, augment_on, augment_name, augment_attribute_of, augment_attribute, augment_item_of, augment_item, delete_attribute, delete_item}
-use Rattle.py_world.specs.Statements.{received, no_use, return_sent}
-use Rattle.py_world.specs.Exceptions.{Handling, takes_exception, handler_block, if_taken, handlers_on, guarded_by, then_again, finally_on, guarded, try_statement}
-use Rattle.py_world.specs.Contexts.{context_of, with_info, searched, swallowed, taken_or, context_left, context_entered, with_statement}
-use Rattle.py_world.specs.Loops.{turn_begun, for_from, iterated, for_statement, behind_target, turn_with, for_turn}
+use Rattle.source_meaning.specs.py_ops.Binary.{augmented_of}
+use Rattle.source_meaning.specs.py_items.Items.{subscript_of, store_of, delete_of, object_at}
+use Rattle.source_meaning.specs.py_items.Turns.{turn_of as element_of, next_by, iterate}
+use Rattle.source_meaning.specs.py_items.declared.iter.IterAt.{IterAt}
+use Rattle.source_meaning.specs.pytest_calls.Swallowing.{pattern_end}
+use Rattle.source_meaning.specs.py_kinds.Classes.{is_a}
+use Rattle.source_meaning.specs.py_world.declared.trace.TraceFrame.{TraceFrame}
+use Rattle.source_meaning.specs.py_world.World.{Kinds, State, heap_of, with_heap}
+use Rattle.source_meaning.specs.py_world.Site.{Scene, Site, trace_of, site_handling, scene_handling}
+use Rattle.source_meaning.specs.py_world.Names.{unbound, name_end, delete_name}
+use Rattle.source_meaning.specs.py_world.Outcome.{Outcome, Gave, Next, Returned, Broke, Continued, Raised, Rest, Then, Part, After, Body, route, changing, made, costing, on_next}
+use Rattle.source_meaning.specs.py_world.Expressions.{arguments}
+use Rattle.source_meaning.specs.py_world.Displays.{displayed, dict_displayed, in_pairs, bound_given, collected, list_part, tuple_part, dict_part, subscript_part, slice_bound, sliced_at, slice_by, slice_to, slice_on, slice_part}
+use Rattle.source_meaning.specs.py_world.Attributes.{attribute_end, attribute_part, set_attribute}
+use Rattle.source_meaning.specs.py_world.Targets.{Store, elements_from, store_name, store_attribute, set_item, store_item, store_all, store_each, unpack_by, unpack, assign, augment_on, augment_name, augment_attribute_of, augment_attribute, augment_item_of, augment_item, delete_attribute, delete_item}
+use Rattle.source_meaning.specs.py_world.Statements.{received, no_use, return_sent}
+use Rattle.source_meaning.specs.py_world.Exceptions.{Handling, takes_exception, handler_block, if_taken, handlers_on, guarded_by, then_again, finally_on, guarded, try_statement}
+use Rattle.source_meaning.specs.py_world.Contexts.{context_of, with_info, searched, swallowed, taken_or, context_left, context_entered, with_statement}
+use Rattle.source_meaning.specs.py_world.Loops.{turn_begun, for_from, iterated, for_statement, behind_target, turn_with, for_turn}
 use Rattle.core_rules.proofs.Linear as line
 use Rattle.core_rules.proofs.Linear.{Behind, Linear, LinearBody, LinearAfter, LinearAll, LinearSome}
 

@@ -4,13 +4,13 @@ use Rattle.std.specs.Prelude.{IsSome}
 use Rattle.py_source.specs.declared.fault.SourceFault.{SourceFault}
 use Rattle.py_values.specs.Ends.{id_at}
 use Rattle.py_values.specs.declared.value.Value.TheVariants as val
-use Rattle.py_world.specs.declared.load.Load.{Load}
-use Rattle.py_world.specs.declared.load.Load.TheVariants.{Running, Loaded, Failed}
-use Rattle.py_world.specs.World.{Kinds, World, State}
-use Rattle.py_world.specs.Site.{Site, around_of}
-use Rattle.py_world.specs.Outcome.{Gave, Raised, Then, Part, Body, call_end}
-use Rattle.py_world.specs.Runs.{load_at, coded, source_at, module_place, with_module, executed, load_by, load_part}
-use Rattle.py_world.specs.Imports.{faulty_by}
+use Rattle.source_meaning.specs.py_world.declared.load.Load.{Load}
+use Rattle.source_meaning.specs.py_world.declared.load.Load.TheVariants.{Running, Loaded, Failed}
+use Rattle.source_meaning.specs.py_world.World.{Kinds, World, State}
+use Rattle.source_meaning.specs.py_world.Site.{Site, around_of}
+use Rattle.source_meaning.specs.py_world.Outcome.{Gave, Raised, Then, Part, Body, call_end}
+use Rattle.source_meaning.specs.py_world.Runs.{load_at, coded, source_at, module_place, with_module, executed, load_by, load_part}
+use Rattle.source_meaning.specs.py_world.Imports.{faulty_by}
 use Rattle.core_rules.specs.Exceptions.{state_behind}
 use Rattle.core_rules.specs.Loads.{EndsAtOnce}
 use Rattle.core_rules.proofs.Worlds.{put_here}

@@ -4,12 +4,12 @@ use Rattle.std.specs.Prelude.{cond}
 use Rattle.std.proofs.lemmas.Bool.{eq-eqb}
 use Rattle.py_values.specs.declared.value.ObjId.{ObjId}
 use Rattle.py_values.specs.declared.value.Value.TheVariants as val
-use Rattle.py_world.specs.declared.trace.TraceFrame.{TraceFrame}
-use Rattle.py_world.specs.World.{Kinds, State, Traces, trace_at, put_trace, with_trace}
-use Rattle.py_world.specs.Site.{Site, trace_of}
-use Rattle.py_world.specs.Outcome.{Outcome, Gave, Next, Returned, Broke, Continued, Raised, Then, Body, on_next}
-use Rattle.py_world.specs.Exceptions.{Exception_of, raised_by, first_trace, finally_on}
-use Rattle.py_world.specs.Contexts.{info_taken}
+use Rattle.source_meaning.specs.py_world.declared.trace.TraceFrame.{TraceFrame}
+use Rattle.source_meaning.specs.py_world.World.{Kinds, State, Traces, trace_at, put_trace, with_trace}
+use Rattle.source_meaning.specs.py_world.Site.{Site, trace_of}
+use Rattle.source_meaning.specs.py_world.Outcome.{Outcome, Gave, Next, Returned, Broke, Continued, Raised, Then, Body, on_next}
+use Rattle.source_meaning.specs.py_world.Exceptions.{Exception_of, raised_by, first_trace, finally_on}
+use Rattle.source_meaning.specs.py_world.Contexts.{info_taken}
 use Rattle.core_rules.specs.Exceptions.{state_behind, end_in, scene_behind, trace_told}
 
 -- a trace that is put is found

@@ -6,16 +6,16 @@ use Rattle.py_tree.specs.Trees.{Tree, Trees, Empty, More, Maybe, Absent, Present
 use Rattle.py_tree.specs.Statements as st
 use Rattle.py_tree.specs.Statements.{Statement, Block, Branches, Handlers, Place, NamePlace, AttributePlace, SubscriptPlace, Taker, One, Unpack, Parameter, Parameter_at}
 use Rattle.py_values.specs.declared.value.Value.TheVariants as val
-use Rattle.py_kinds.specs.Truth.{truth}
+use Rattle.source_meaning.specs.py_kinds.Truth.{truth}
 use Rattle.source_meaning.specs.Requests.{source_kinds, Use, NoUse, Targets, ReturnIt, Layer, Statements, Guard, Receives, Turn, StatementOf, TurnOf, ForOf, Function, Script}
 use Rattle.source_meaning.specs.Meaning.{source}
 use Rattle.source_meaning.specs.Watched.{watch, watch_all}
 use Rattle.source_meaning.specs.Expressions.{SourcePart, eval, parts, some_part}
 use Rattle.source_meaning.specs.Statements.{SourceBody, SourceChoice, SourceHandling, position, store_place, store_places, store, stores, use_of, augment, delete, assert, assert_as, handlings, guard, remains, listed, sequence, choices, script_body, written, with_part, default_parts, try_at, statement, act, entry}
-use Rattle.py_world.specs.World.{World, heap_of, unset}
-use Rattle.py_world.specs.Site.{site}
-use Rattle.py_world.specs.Arguments.{arguments_of}
-use Rattle.py_world.specs.Outcome.{After, on_next}
+use Rattle.source_meaning.specs.py_world.World.{World, heap_of, unset}
+use Rattle.source_meaning.specs.py_world.Site.{site}
+use Rattle.source_meaning.specs.py_world.Arguments.{arguments_of}
+use Rattle.source_meaning.specs.py_world.Outcome.{After, on_next}
 use Rattle.core_rules.proofs.KeepingFlow as flow
 use Rattle.core_rules.proofs.KeepingClasses as more
 use Rattle.core_rules.proofs.Keeping as keep

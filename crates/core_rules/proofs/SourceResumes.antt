@@ -9,13 +9,13 @@ use Rattle.py_values.specs.declared.end.Raise.{Raise}
 use Rattle.py_values.specs.declared.object.FunctionObj.{FunctionObj}
 use Rattle.py_values.specs.declared.value.Value.{Value}
 use Rattle.py_values.specs.declared.value.Value.TheVariants as val
-use Rattle.py_world.specs.declared.trace.TraceFrame.{TraceFrame}
-use Rattle.py_world.specs.World.{Locals, Stored, Frozen, state, world_with_frozen}
-use Rattle.py_world.specs.Site.{no_call, frame}
-use Rattle.py_world.specs.Outcome.{Outcome, Spent, Paused, Rest, call_end}
-use Rattle.py_world.specs.Calls.{body_of}
-use Rattle.py_world.specs.Runs.{Told, told_by, ended_by, ended_spent, start, function_and, begun_by_runner}
-use Rattle.py_world.specs.Resuming.{Sent, SentValue, SentThrow, ToldBegun, frame_at, frozen_at, frozen_of, abandon_of, begun_over, begun_yielded, begun_by, sent_end, begin_arguments, begun_of, body_begun, function_opened, object_opened, opened_by_runner, resumed, resumed_by}
+use Rattle.source_meaning.specs.py_world.declared.trace.TraceFrame.{TraceFrame}
+use Rattle.source_meaning.specs.py_world.World.{Locals, Stored, Frozen, state, world_with_frozen}
+use Rattle.source_meaning.specs.py_world.Site.{no_call, frame}
+use Rattle.source_meaning.specs.py_world.Outcome.{Outcome, Spent, Paused, Rest, call_end}
+use Rattle.source_meaning.specs.py_world.Calls.{body_of}
+use Rattle.source_meaning.specs.py_world.Runs.{Told, told_by, ended_by, ended_spent, start, function_and, begun_by_runner}
+use Rattle.source_meaning.specs.py_world.Resuming.{Sent, SentValue, SentThrow, ToldBegun, frame_at, frozen_at, frozen_of, abandon_of, begun_over, begun_yielded, begun_by, sent_end, begin_arguments, begun_of, body_begun, function_opened, object_opened, opened_by_runner, resumed, resumed_by}
 use Rattle.source_meaning.specs.Requests.{source_kinds, Layer, Function}
 use Rattle.source_meaning.specs.Statements.{entry}
 use Rattle.source_meaning.specs.Meaning.{SourceWorld, source, source_begin, source_resume}

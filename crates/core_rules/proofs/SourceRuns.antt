@@ -11,15 +11,15 @@ use Rattle.py_values.specs.declared.object.FunctionObj.{FunctionObj}
 use Rattle.py_values.specs.declared.value.Value.{Value}
 use Rattle.py_values.specs.declared.value.Value.TheVariants as val
 use Rattle.py_values.specs.Ends.{id_at}
-use Rattle.py_world.specs.declared.load.Load.{Load}
-use Rattle.py_world.specs.declared.load.Load.TheVariants.{Running, Loaded, Failed}
-use Rattle.py_world.specs.declared.trace.TraceFrame.{TraceFrame}
-use Rattle.py_world.specs.World.{Locals, Stored}
-use Rattle.py_world.specs.Site.{no_call, frame}
-use Rattle.py_world.specs.Arguments.{plain}
-use Rattle.py_world.specs.Outcome.{Outcome, Gave, Next, Returned, Broke, Continued, Raised, Spent, Paused, Request, Rest, call_end}
-use Rattle.py_world.specs.Calls.{arguments_for, invoke, body_of}
-use Rattle.py_world.specs.Runs.{load_at, coded, source_at, told_by, ended_by, start, with_module, module_place, run_of, function_and, fitting_begun, function_begun, object_begun, begun_by_runner, loading, loaded_first, loaded_by}
+use Rattle.source_meaning.specs.py_world.declared.load.Load.{Load}
+use Rattle.source_meaning.specs.py_world.declared.load.Load.TheVariants.{Running, Loaded, Failed}
+use Rattle.source_meaning.specs.py_world.declared.trace.TraceFrame.{TraceFrame}
+use Rattle.source_meaning.specs.py_world.World.{Locals, Stored}
+use Rattle.source_meaning.specs.py_world.Site.{no_call, frame}
+use Rattle.source_meaning.specs.py_world.Arguments.{plain}
+use Rattle.source_meaning.specs.py_world.Outcome.{Outcome, Gave, Next, Returned, Broke, Continued, Raised, Spent, Paused, Request, Rest, call_end}
+use Rattle.source_meaning.specs.py_world.Calls.{arguments_for, invoke, body_of}
+use Rattle.source_meaning.specs.py_world.Runs.{load_at, coded, source_at, told_by, ended_by, start, with_module, module_place, run_of, function_and, fitting_begun, function_begun, object_begun, begun_by_runner, loading, loaded_first, loaded_by}
 use Rattle.source_meaning.specs.Requests.{source_kinds, Script, Function}
 use Rattle.source_meaning.specs.Statements.{entry, script_body}
 use Rattle.source_meaning.specs.Meaning.{SourceWorld, source, source_call, source_module}

@@ -15,11 +15,11 @@ use Rattle.py_values.specs.declared.value.ObjId.{ObjId}
 use Rattle.py_values.specs.declared.value.Value.{Value}
 use Rattle.py_values.specs.Names.{name_eq}
 use Rattle.py_values.specs.Raises.{raise, thrown, thrown_by, thrown_with}
-use Rattle.py_world.specs.declared.load.Load.{Load}
-use Rattle.py_world.specs.declared.load.Load.TheVariants.{Running, Loaded, Failed}
-use Rattle.py_world.specs.declared.trace.TraceFrame.{TraceFrame}
-use Rattle.py_world.specs.World.{Kinds, World, Stored}
-use Rattle.py_world.specs.Runs.{load_at, with_load, failed, is_running, fail_running, out_of_steps, step_limit}
+use Rattle.source_meaning.specs.py_world.declared.load.Load.{Load}
+use Rattle.source_meaning.specs.py_world.declared.load.Load.TheVariants.{Running, Loaded, Failed}
+use Rattle.source_meaning.specs.py_world.declared.trace.TraceFrame.{TraceFrame}
+use Rattle.source_meaning.specs.py_world.World.{Kinds, World, Stored}
+use Rattle.source_meaning.specs.py_world.Runs.{load_at, with_load, failed, is_running, fail_running, out_of_steps, step_limit}
 use Rattle.core_rules.specs.Keeps.{IsKeptIn}
 use Rattle.core_rules.proofs.Keeping.{Closed, append-empty}
 

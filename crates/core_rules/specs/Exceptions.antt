@@ -1,9 +1,9 @@
 -- What an end of a part is, for what is said of exceptions.
 use Rattle.std.specs.Prelude.{List, Option, Some, None}
-use Rattle.py_world.specs.declared.trace.TraceFrame.{TraceFrame}
-use Rattle.py_world.specs.World.{Kinds, State}
-use Rattle.py_world.specs.Site.{Scene, scene_handling}
-use Rattle.py_world.specs.Outcome.{Outcome, Gave, Next, Returned, Broke, Continued, Raised}
+use Rattle.source_meaning.specs.py_world.declared.trace.TraceFrame.{TraceFrame}
+use Rattle.source_meaning.specs.py_world.World.{Kinds, State}
+use Rattle.source_meaning.specs.py_world.Site.{Scene, scene_handling}
+use Rattle.source_meaning.specs.py_world.Outcome.{Outcome, Gave, Next, Returned, Broke, Continued, Raised}
 
 module _ {K : Kinds} where
   -- the state behind an end

@@ -2,11 +2,11 @@
 use Rattle.std.specs.Prelude.{ℕ, ◌≡◌, ◌≤◌, ◌++◌, List, [], ◌∷◌, length, Option, Some, IsSome}
 use Rattle.py_values.specs.declared.value.ObjId.{ObjId}
 use Rattle.py_values.specs.declared.value.Value.{Value}
-use Rattle.py_world.specs.declared.load.Load.TheVariants.{Loaded, Failed}
-use Rattle.py_world.specs.declared.trace.TraceFrame.{TraceFrame}
-use Rattle.py_world.specs.World.{Kinds, World, Stored, Frozen, world_with_frozen}
-use Rattle.py_world.specs.Runs.{load_at}
-use Rattle.py_world.specs.Resuming.{BegunOut, Yielded, Over, ToldBegun}
+use Rattle.source_meaning.specs.py_world.declared.load.Load.TheVariants.{Loaded, Failed}
+use Rattle.source_meaning.specs.py_world.declared.trace.TraceFrame.{TraceFrame}
+use Rattle.source_meaning.specs.py_world.World.{Kinds, World, Stored, Frozen, world_with_frozen}
+use Rattle.source_meaning.specs.py_world.Runs.{load_at}
+use Rattle.source_meaning.specs.py_world.Resuming.{BegunOut, Yielded, Over, ToldBegun}
 
 -- ONE WORLD IS KEPT IN ANOTHER: sources and the frozen frames that are out are the same, objects are no fewer, each code of a
 -- function and all printed text is still there, a module that was loaded or has failed is so still, and none is forgotten

@@ -1,3 +1,4 @@
+pub use Rattle.source_meaning.specs as source_meaning
 pub mod Keeps
 pub mod Exceptions
 pub mod Loads

@@ -1,8 +1,8 @@
 -- A load in mid-run that runs nothing.
 use Rattle.std.specs.Prelude.{◌≡◌}
-use Rattle.py_world.specs.World.{Kinds, State}
-use Rattle.py_world.specs.Site.{Site}
-use Rattle.py_world.specs.Outcome.{Outcome, Then, Part}
+use Rattle.source_meaning.specs.py_world.World.{Kinds, State}
+use Rattle.source_meaning.specs.py_world.Site.{Site}
+use Rattle.source_meaning.specs.py_world.Outcome.{Outcome, Then, Part}
 use Rattle.core_rules.specs.Exceptions.{state_behind}
 
 -- A PART ENDS AT ONCE: it runs nothing, and leaves the state as it was

@@ -6,7 +6,7 @@ use Rattle.call_products.specs.declared.product.Product.{Product}
 use Rattle.dict_methods.specs.Copies.{copy_made, update_made}
 use Rattle.dict_methods.specs.Keyed.{key_args, get_of, pop_of, setdefault_of}
 use Rattle.dict_methods.specs.Views.{keys_made, values_made, items_made}
-use Rattle.py_kinds.specs.Builtins.{dict_method_name}
+use Rattle.call_products.specs.py_kinds.Builtins.{dict_method_name}
 use Rattle.py_values.specs.declared.builtin.DictMethod.{DictMethod}
 use Rattle.py_values.specs.declared.builtin.DictMethod.TheVariants as method
 use Rattle.py_values.specs.declared.change.Change.TheVariants as change

@@ -3,8 +3,8 @@ use Rattle.std.specs.Prelude.{ℕ, ◌-◌, Bool, true, List, [], ◌∷◌, len
 use Rattle.call_products.specs.Products.{plain, failed, wrong}
 use Rattle.call_products.specs.declared.product.Product.{Product}
 use Rattle.dict_methods.specs.declared.keyed.KeyArgs.{KeyArgs}
-use Rattle.py_operands.specs.Faults.{key_fault, no_key}
-use Rattle.py_kinds.specs.Keys.{key_of}
+use Rattle.call_products.specs.py_operands.Faults.{key_fault, no_key}
+use Rattle.call_products.specs.py_kinds.Keys.{key_of}
 use Rattle.py_values.specs.Limits.{most_elements}
 use Rattle.py_values.specs.Pairs.{find_pair}
 use Rattle.py_values.specs.declared.change.Change.TheVariants as change
@@ -12,9 +12,9 @@ use Rattle.py_values.specs.declared.class.ExcClass.TheVariants.{MemoryError}
 use Rattle.py_values.specs.declared.dict.Pair.{Pair}
 use Rattle.py_values.specs.declared.end.Made.TheVariants.{Give, Put, Fail}
 use Rattle.py_values.specs.declared.key.Atom.{Atom}
-use Rattle.py_kinds.specs.declared.keys.KeyFault.{KeyFault}
-use Rattle.py_kinds.specs.declared.keys.Keyed.{Keyed}
-use Rattle.py_kinds.specs.declared.keys.Keyed.TheVariants as keyed
+use Rattle.call_products.specs.py_kinds.declared.keys.KeyFault.{KeyFault}
+use Rattle.call_products.specs.py_kinds.declared.keys.Keyed.{Keyed}
+use Rattle.call_products.specs.py_kinds.declared.keys.Keyed.TheVariants as keyed
 use Rattle.py_values.specs.declared.object.Obj.{Obj}
 use Rattle.py_values.specs.declared.value.ObjId.{ObjId}
 use Rattle.py_values.specs.declared.value.Value.{Value}

@@ -5,7 +5,7 @@ use Rattle.explain_law.specs.Until as until
 use Rattle.explain_law.proofs.Runs.{spend_all_same}
 use Rattle.py_tree.specs.Names.{is_among}
 use Rattle.py_values.specs.declared.end.Raise.{Raise}
-use Rattle.py_kinds.specs.Builtins.{with_receiver}
+use Rattle.source_meaning.specs.py_kinds.Builtins.{with_receiver}
 use Rattle.py_values.specs.declared.class.ClassForm.{ClassForm}
 use Rattle.py_values.specs.declared.class.ClassForm.TheVariants.{Source, Exception, Kind}
 use Rattle.py_values.specs.declared.object.ClassObj.{ClassObj}
@@ -17,21 +17,21 @@ use Rattle.py_values.specs.declared.value.ObjId.{ObjId}
 use Rattle.py_values.specs.declared.value.Value.{Value}
 use Rattle.py_values.specs.declared.value.Value.TheVariants as val
 use Rattle.py_values.specs.Ends.{cost_of}
-use Rattle.py_kinds.specs.Classes.{is_exc_class}
-use Rattle.py_kinds.specs.Kinds.{kind_name}
-use Rattle.call_products.specs.declared.product.Product.{Product}
-use Rattle.pytest_calls.specs.Marks.{mark_called}
+use Rattle.source_meaning.specs.py_kinds.Classes.{is_exc_class}
+use Rattle.source_meaning.specs.py_kinds.Kinds.{kind_name}
+use Rattle.source_meaning.specs.call_products.declared.product.Product.{Product}
+use Rattle.source_meaning.specs.pytest_calls.Marks.{mark_called}
 use Rattle.py_values.specs.Names.{bind_name}
-use Rattle.py_calls.specs.Called.{Called}
-use Rattle.py_calls.specs.Calls.{called_of}
-use Rattle.py_world.specs.declared.trace.TraceFrame.{TraceFrame}
-use Rattle.py_world.specs.World.{State, Stored, Locals, state, heap_of, unset, with_heap, with_objects, with_print}
-use Rattle.py_world.specs.Site.{Around, Own, InModule, InFunction, InClass, Scene, Site, site, trace_of}
-use Rattle.py_world.specs.Arguments.{Arguments, with_plain}
-use Rattle.py_world.specs.Names.{bound, bound_by, bound_global, bound_local, bound_class}
-use Rattle.py_world.specs.Outcome.{Outcome, Rest, Then, Part, After, Body, Request, onward, gave_in, raised, product_end, on_next, on_turn}
-use Rattle.py_world.specs.Statements.{Choice, asked, expression_statement, return_value, yield_value, pass, leave_loop, next_turn, assertion, fail, branches_on, choose, loop, turn_of}
-use Rattle.py_world.specs.Calls.{Meaning, Entry, most_open, wrong_arguments, not_callable, too_deep, arguments_for, function_of_object, class_takes, new_instance, init_of, init_end, scene_of, entered, function_called, function_with, builtin_called, mark_or, class_or, called_or, init_object, init_called, instance_made, class_called, value_called, invoke, body_of}
+use Rattle.source_meaning.specs.py_calls.Called.{Called}
+use Rattle.source_meaning.specs.py_calls.Calls.{called_of}
+use Rattle.source_meaning.specs.py_world.declared.trace.TraceFrame.{TraceFrame}
+use Rattle.source_meaning.specs.py_world.World.{State, Stored, Locals, state, heap_of, unset, with_heap, with_objects, with_print}
+use Rattle.source_meaning.specs.py_world.Site.{Around, Own, InModule, InFunction, InClass, Scene, Site, site, trace_of}
+use Rattle.source_meaning.specs.py_world.Arguments.{Arguments, with_plain}
+use Rattle.source_meaning.specs.py_world.Names.{bound, bound_by, bound_global, bound_local, bound_class}
+use Rattle.source_meaning.specs.py_world.Outcome.{Outcome, Rest, Then, Part, After, Body, Request, onward, gave_in, raised, product_end, on_next, on_turn}
+use Rattle.source_meaning.specs.py_world.Statements.{Choice, asked, expression_statement, return_value, yield_value, pass, leave_loop, next_turn, assertion, fail, branches_on, choose, loop, turn_of}
+use Rattle.source_meaning.specs.py_world.Calls.{Meaning, Entry, most_open, wrong_arguments, not_callable, too_deep, arguments_for, function_of_object, class_takes, new_instance, init_of, init_end, scene_of, entered, function_called, function_with, builtin_called, mark_or, class_or, called_or, init_object, init_called, instance_made, class_called, value_called, invoke, body_of}
 use Rattle.source_meaning.specs.Requests.{Function, Script, Layer, Turn}
 use Rattle.explain_law.specs.Choices as alike
 use Rattle.explain_law.specs.Choices.{Choices, K, J, worlds, StatesAlike, states, EndsAlike, gave, next, returned, broke, continued, SpentAlike, out, PausedAlike, stops, RequestsAlike, calls, does, CodesAlike, CodesAt, ScriptsAt, LayersAt, TurnsAt, FailedApart, stored_with}

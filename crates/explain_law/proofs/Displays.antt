@@ -6,15 +6,15 @@ use Rattle.py_values.specs.declared.index.Index.TheVariants.{At, Slice}
 use Rattle.py_values.specs.declared.object.Obj.{Obj}
 use Rattle.py_values.specs.declared.object.Obj.TheVariants as obj
 use Rattle.py_values.specs.declared.value.Value.{Value}
-use Rattle.py_items.specs.Items.{subscript_of}
-use Rattle.py_attributes.specs.Attributes.{attribute_of}
-use Rattle.py_world.specs.declared.trace.TraceFrame.{TraceFrame}
-use Rattle.py_world.specs.World.{State, heap_of}
-use Rattle.py_world.specs.Site.{Site, trace_of}
-use Rattle.py_world.specs.Outcome.{Outcome, Rest, Then, Part, costing, operated, on_value, raised_at}
-use Rattle.py_world.specs.Expressions.{arguments}
-use Rattle.py_world.specs.Displays.{displayed, dict_displayed, in_pairs, bound_given, collected, list_part, tuple_part, dict_part, subscript_part, slice_bound, sliced_at, slice_by, slice_to, slice_on, slice_part}
-use Rattle.py_world.specs.Attributes.{attribute_end, attribute_part}
+use Rattle.source_meaning.specs.py_items.Items.{subscript_of}
+use Rattle.source_meaning.specs.py_attributes.Attributes.{attribute_of}
+use Rattle.source_meaning.specs.py_world.declared.trace.TraceFrame.{TraceFrame}
+use Rattle.source_meaning.specs.py_world.World.{State, heap_of}
+use Rattle.source_meaning.specs.py_world.Site.{Site, trace_of}
+use Rattle.source_meaning.specs.py_world.Outcome.{Outcome, Rest, Then, Part, costing, operated, on_value, raised_at}
+use Rattle.source_meaning.specs.py_world.Expressions.{arguments}
+use Rattle.source_meaning.specs.py_world.Displays.{displayed, dict_displayed, in_pairs, bound_given, collected, list_part, tuple_part, dict_part, subscript_part, slice_bound, sliced_at, slice_by, slice_to, slice_on, slice_part}
+use Rattle.source_meaning.specs.py_world.Attributes.{attribute_end, attribute_part}
 use Rattle.explain_law.specs.Choices.{Choices, K, J, worlds, StatesAlike, states, EndsAlike}
 use Rattle.explain_law.proofs.Parts as part
 

@@ -4,8 +4,8 @@ use Rattle.std.specs.Prelude.{length, eqb, is_some, if◌then◌else◌}
 use Rattle.py_tree.specs.declared.op.BinOp.{BinOp}
 use Rattle.py_tree.specs.Names.{is_among}
 use Rattle.py_values.specs.Ends.{id_at}
-use Rattle.py_kinds.specs.Kinds.{kind_name}
-use Rattle.py_kinds.specs.Lengths.{length_of}
+use Rattle.source_meaning.specs.py_kinds.Kinds.{kind_name}
+use Rattle.source_meaning.specs.py_kinds.Lengths.{length_of}
 use Rattle.py_values.specs.Names.{unbind_name}
 use Rattle.py_values.specs.declared.end.Made.{Made}
 use Rattle.py_values.specs.declared.end.Made.TheVariants.{Give, New, Put, Fail}
@@ -16,26 +16,26 @@ use Rattle.py_values.specs.declared.object.RaisesObj.{RaisesObj}
 use Rattle.py_values.specs.declared.value.ObjId.{ObjId}
 use Rattle.py_values.specs.declared.value.Value.{Value}
 use Rattle.py_values.specs.declared.value.Value.TheVariants as val
-use Rattle.py_operands.specs.Faults.{not_iterable}
-use Rattle.py_ops.specs.Binary.{augmented_of}
-use Rattle.py_items.specs.Items.{subscript_of, store_of, delete_of, object_at}
-use Rattle.py_items.specs.Turns.{turn_of as element_of, next_by, iterate}
-use Rattle.py_items.specs.declared.iter.IterAt.{IterAt}
-use Rattle.py_attributes.specs.Attributes.{own_value, no_attribute}
-use Rattle.pytest_calls.specs.Swallowing.{did_not_raise, pattern_end}
-use Rattle.py_kinds.specs.Classes.{is_a}
-use Rattle.py_world.specs.declared.ended.Thrown.{Thrown}
-use Rattle.py_world.specs.declared.trace.TraceFrame.{TraceFrame}
-use Rattle.py_world.specs.World.{Kinds, State, heap_of, with_trace}
-use Rattle.py_world.specs.Site.{Scene, Site, Own, InModule, InFunction, InClass, trace_of, site_handling, scene_handling}
-use Rattle.py_world.specs.Names.{bound_value, not_bound, unbound, unbound_by, unbound_global, unbound_here, unbound_class, deleted, delete_name}
-use Rattle.py_world.specs.Outcome.{Outcome, Gave, Next, Returned, Broke, Continued, Raised, Rest, Then, Part, After, Body, route, onward, changing, costing, operated, on_value, on_next, raised_at}
-use Rattle.py_world.specs.Attributes.{takes_names, with_attribute, without_attribute, changed_or, attribute_end, set_attribute, unset_attribute}
-use Rattle.py_world.specs.Targets.{Store, wrong_count, elements_from, store_name, store_attribute, set_item, store_item, store_all, store_each, store_elements, unpack_by, unpack, assign, augmented, augment_on, augment_name, augment_attribute_of, augment_attribute, augment_item_of, augment_item, delete_attribute, unset_item, delete_item}
-use Rattle.py_world.specs.Statements.{received, no_use, return_sent}
-use Rattle.py_world.specs.Exceptions.{Handling, Raisable, Exception_of, Class_of, Neither, no_exception, nothing_raised, raisable, raised_by, raised_again, takes_exception, handler_block, if_taken, handlers_on, guarded_by, then_again, finally_on, guarded, try_statement}
-use Rattle.py_world.specs.Contexts.{bad_context, context_of, info_named, with_info, info_taken, searched, taken_or, not_raised, context_left, context_entered, with_statement}
-use Rattle.py_world.specs.Loops.{turn_begun, for_from, iterated, for_statement, behind_target, turn_with, for_turn}
+use Rattle.source_meaning.specs.py_operands.Faults.{not_iterable}
+use Rattle.source_meaning.specs.py_ops.Binary.{augmented_of}
+use Rattle.source_meaning.specs.py_items.Items.{subscript_of, store_of, delete_of, object_at}
+use Rattle.source_meaning.specs.py_items.Turns.{turn_of as element_of, next_by, iterate}
+use Rattle.source_meaning.specs.py_items.declared.iter.IterAt.{IterAt}
+use Rattle.source_meaning.specs.py_attributes.Attributes.{own_value, no_attribute}
+use Rattle.source_meaning.specs.pytest_calls.Swallowing.{did_not_raise, pattern_end}
+use Rattle.source_meaning.specs.py_kinds.Classes.{is_a}
+use Rattle.source_meaning.specs.py_world.declared.ended.Thrown.{Thrown}
+use Rattle.source_meaning.specs.py_world.declared.trace.TraceFrame.{TraceFrame}
+use Rattle.source_meaning.specs.py_world.World.{Kinds, State, heap_of, with_trace}
+use Rattle.source_meaning.specs.py_world.Site.{Scene, Site, Own, InModule, InFunction, InClass, trace_of, site_handling, scene_handling}
+use Rattle.source_meaning.specs.py_world.Names.{bound_value, not_bound, unbound, unbound_by, unbound_global, unbound_here, unbound_class, deleted, delete_name}
+use Rattle.source_meaning.specs.py_world.Outcome.{Outcome, Gave, Next, Returned, Broke, Continued, Raised, Rest, Then, Part, After, Body, route, onward, changing, costing, operated, on_value, on_next, raised_at}
+use Rattle.source_meaning.specs.py_world.Attributes.{takes_names, with_attribute, without_attribute, changed_or, attribute_end, set_attribute, unset_attribute}
+use Rattle.source_meaning.specs.py_world.Targets.{Store, wrong_count, elements_from, store_name, store_attribute, set_item, store_item, store_all, store_each, store_elements, unpack_by, unpack, assign, augmented, augment_on, augment_name, augment_attribute_of, augment_attribute, augment_item_of, augment_item, delete_attribute, unset_item, delete_item}
+use Rattle.source_meaning.specs.py_world.Statements.{received, no_use, return_sent}
+use Rattle.source_meaning.specs.py_world.Exceptions.{Handling, Raisable, Exception_of, Class_of, Neither, no_exception, nothing_raised, raisable, raised_by, raised_again, takes_exception, handler_block, if_taken, handlers_on, guarded_by, then_again, finally_on, guarded, try_statement}
+use Rattle.source_meaning.specs.py_world.Contexts.{bad_context, context_of, info_named, with_info, info_taken, searched, taken_or, not_raised, context_left, context_entered, with_statement}
+use Rattle.source_meaning.specs.py_world.Loops.{turn_begun, for_from, iterated, for_statement, behind_target, turn_with, for_turn}
 use Rattle.source_meaning.specs.Requests.{Turn}
 use Rattle.explain_law.specs.Choices as alike
 use Rattle.explain_law.specs.Choices.{Choices, K, J, worlds, StatesAlike, states, EndsAlike, TurnsAt, gave, next, returned, broke, continued}

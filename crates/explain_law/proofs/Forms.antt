@@ -11,12 +11,12 @@ use Rattle.py_values.specs.declared.object.Obj.TheVariants as obj
 use Rattle.py_values.specs.declared.value.Value.{Value}
 use Rattle.py_values.specs.declared.value.Value.TheVariants as val
 use Rattle.py_values.specs.Ends.{id_at}
-use Rattle.py_world.specs.World.{State, Temps, heap_of, state, unset}
-use Rattle.py_world.specs.Site.{Site, site, trace_of}
-use Rattle.py_world.specs.Arguments.{arguments_of}
-use Rattle.py_world.specs.Explained.{kept_count, kept_count_all, explanation}
-use Rattle.py_world.specs.Outcome.{Part, Then}
-use Rattle.py_world.specs.Statements.{assertion, fail, fail_explained, failed_with}
+use Rattle.source_meaning.specs.py_world.World.{State, Temps, heap_of, state, unset}
+use Rattle.source_meaning.specs.py_world.Site.{Site, site, trace_of}
+use Rattle.source_meaning.specs.py_world.Arguments.{arguments_of}
+use Rattle.source_meaning.specs.py_world.Explained.{kept_count, kept_count_all, explanation}
+use Rattle.source_meaning.specs.py_world.Outcome.{Part, Then}
+use Rattle.source_meaning.specs.py_world.Statements.{assertion, fail, fail_explained, failed_with}
 use Rattle.source_meaning.specs.Requests.{Use, NoUse, Targets, ReturnIt, Layer, Turn, Script, Function}
 use Rattle.source_meaning.specs.Expressions.{eval, parts, some_part}
 use Rattle.source_meaning.specs.Watched.{watch, watch_all}

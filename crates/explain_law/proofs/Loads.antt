@@ -8,15 +8,15 @@ use Rattle.py_values.specs.Names.{name_eq}
 use Rattle.py_values.specs.declared.end.Raise.{Raise}
 use Rattle.py_values.specs.declared.value.Value.{Value}
 use Rattle.py_values.specs.declared.value.Value.TheVariants as val
-use Rattle.py_kinds.specs.Builtins.{pytest_module}
-use Rattle.py_world.specs.declared.load.Load.{Load}
-use Rattle.py_world.specs.declared.load.Load.TheVariants.{Running, Loaded, Failed}
-use Rattle.py_world.specs.World.{World, State, Source, Coded, heap_of}
-use Rattle.py_world.specs.Site.{Around, Site, trace_of, around_of}
-use Rattle.py_world.specs.Names.{bound}
-use Rattle.py_world.specs.Outcome.{Outcome, Rest, Then, Part, Body, on_value, raised_at}
-use Rattle.py_world.specs.Runs.{load_at, source_at, coded, with_module_load, module_end, module_scene, naming_heap, executed, first_load, load_by, load_part}
-use Rattle.py_world.specs.Imports.{paths_of, import_path, prefixes_behind, is_pytest, pytest_or, submodule, alias_name, import_name, name_of_module, no_module, not_imported, fault_in, faulty_by, faulty, import_end, submodule_or, module_at, modules_at, imported, import_statement, own_or_submodule, import_each, import_from}
+use Rattle.source_meaning.specs.py_kinds.Builtins.{pytest_module}
+use Rattle.source_meaning.specs.py_world.declared.load.Load.{Load}
+use Rattle.source_meaning.specs.py_world.declared.load.Load.TheVariants.{Running, Loaded, Failed}
+use Rattle.source_meaning.specs.py_world.World.{World, State, Source, Coded, heap_of}
+use Rattle.source_meaning.specs.py_world.Site.{Around, Site, trace_of, around_of}
+use Rattle.source_meaning.specs.py_world.Names.{bound}
+use Rattle.source_meaning.specs.py_world.Outcome.{Outcome, Rest, Then, Part, Body, on_value, raised_at}
+use Rattle.source_meaning.specs.py_world.Runs.{load_at, source_at, coded, with_module_load, module_end, module_scene, naming_heap, executed, first_load, load_by, load_part}
+use Rattle.source_meaning.specs.py_world.Imports.{paths_of, import_path, prefixes_behind, is_pytest, pytest_or, submodule, alias_name, import_name, name_of_module, no_module, not_imported, fault_in, faulty_by, faulty, import_end, submodule_or, module_at, modules_at, imported, import_statement, own_or_submodule, import_each, import_from}
 use Rattle.source_meaning.specs.Requests.{Script}
 use Rattle.explain_law.specs.Choices as alike
 use Rattle.explain_law.specs.Choices.{Choices, K, J, WorldsAlike, worlds, StatesAlike, states, EndsAlike, ScriptsAt, gave, next, returned, broke, continued, SourcesAlike, source_with}

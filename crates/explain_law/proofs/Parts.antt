@@ -18,17 +18,17 @@ use Rattle.py_values.specs.Ends.{cost_of}
 use Rattle.py_values.specs.Raises.{raise}
 use Rattle.py_values.specs.Limits.{most_elements}
 use Rattle.py_values.specs.declared.class.ExcClass.TheVariants.{MemoryError}
-use Rattle.py_kinds.specs.Truth.{truth}
-use Rattle.py_ops.specs.Binary.{binary_of}
-use Rattle.py_ops.specs.Unary.{unary_of}
-use Rattle.py_ops.specs.Compare.{compare_of}
-use Rattle.py_world.specs.declared.trace.TraceFrame.{TraceFrame}
-use Rattle.py_world.specs.World.{Temps, State, heap_of, back_to, with_temp, set_at}
-use Rattle.py_world.specs.Site.{Site, trace_of, around_of}
-use Rattle.py_world.specs.Arguments.{Arguments}
-use Rattle.py_world.specs.Outcome.{Outcome, Gave, Rest, Then, Part, Ways, route, onward, raised, made, call_end, on_value, if_true, costing, operated}
-use Rattle.py_world.specs.Names.{named, name_end}
-use Rattle.py_world.specs.Expressions.{noted, constant, kept_part, name_part, text_part, unary_part, binary_part, compared, compare_on, compare_part, not_part, and_on, and_part, or_on, or_part, choice_part, called, call_on, call_part}
+use Rattle.source_meaning.specs.py_kinds.Truth.{truth}
+use Rattle.source_meaning.specs.py_ops.Binary.{binary_of}
+use Rattle.source_meaning.specs.py_ops.Unary.{unary_of}
+use Rattle.source_meaning.specs.py_ops.Compare.{compare_of}
+use Rattle.source_meaning.specs.py_world.declared.trace.TraceFrame.{TraceFrame}
+use Rattle.source_meaning.specs.py_world.World.{Temps, State, heap_of, back_to, with_temp, set_at}
+use Rattle.source_meaning.specs.py_world.Site.{Site, trace_of, around_of}
+use Rattle.source_meaning.specs.py_world.Arguments.{Arguments}
+use Rattle.source_meaning.specs.py_world.Outcome.{Outcome, Gave, Rest, Then, Part, Ways, route, onward, raised, made, call_end, on_value, if_true, costing, operated}
+use Rattle.source_meaning.specs.py_world.Names.{named, name_end}
+use Rattle.source_meaning.specs.py_world.Expressions.{noted, constant, kept_part, name_part, text_part, unary_part, binary_part, compared, compare_on, compare_part, not_part, and_on, and_part, or_on, or_part, choice_part, called, call_on, call_part}
 use Rattle.explain_law.specs.Choices as alike
 use Rattle.explain_law.specs.Choices.{Choices, K, J, worlds, StatesAlike, states, TwoTemps, Tied, EndsAlike, FailedApart, gave, next, returned, broke, continued, SpentAlike, out, PausedAlike, RequestsAlike, calls, does}
 

@@ -8,14 +8,14 @@ use Rattle.py_values.specs.declared.end.Raise.{Raise}
 use Rattle.py_values.specs.declared.object.FunctionObj.{FunctionObj}
 use Rattle.py_values.specs.declared.value.Value.{Value}
 use Rattle.py_values.specs.declared.value.Value.TheVariants as val
-use Rattle.py_world.specs.declared.ended.Ended.{Ended}
-use Rattle.py_world.specs.declared.trace.TraceFrame.{TraceFrame}
-use Rattle.py_world.specs.World.{Frozen, Locals, Stored, state}
-use Rattle.py_world.specs.Site.{Site, no_call, frame}
-use Rattle.py_world.specs.Outcome.{Rest, Paused}
-use Rattle.py_world.specs.Calls.{body_of}
-use Rattle.py_world.specs.Runs.{Told, start, function_and}
-use Rattle.py_world.specs.Resuming.{Sent, SentValue, SentThrow, Yielded, Over, begun_with, frame_at, bare, abandon_of, begun_over, begun_yielded, begun_by, sent_end, begin_arguments, begun_of, body_begun, function_opened, object_opened, opened_by_runner, resumed, resumed_by}
+use Rattle.source_meaning.specs.py_world.declared.ended.Ended.{Ended}
+use Rattle.source_meaning.specs.py_world.declared.trace.TraceFrame.{TraceFrame}
+use Rattle.source_meaning.specs.py_world.World.{Frozen, Locals, Stored, state}
+use Rattle.source_meaning.specs.py_world.Site.{Site, no_call, frame}
+use Rattle.source_meaning.specs.py_world.Outcome.{Rest, Paused}
+use Rattle.source_meaning.specs.py_world.Calls.{body_of}
+use Rattle.source_meaning.specs.py_world.Runs.{Told, start, function_and}
+use Rattle.source_meaning.specs.py_world.Resuming.{Sent, SentValue, SentThrow, Yielded, Over, begun_with, frame_at, bare, abandon_of, begun_over, begun_yielded, begun_by, sent_end, begin_arguments, begun_of, body_begun, function_opened, object_opened, opened_by_runner, resumed, resumed_by}
 use Rattle.source_meaning.specs.Requests.{Layer, Function}
 use Rattle.source_meaning.specs.Meaning.{SourceWorld, source, source_begin, source_resume}
 use Rattle.explain_law.specs.Until as until

@@ -10,15 +10,15 @@ use Rattle.py_values.specs.declared.end.Raise.{Raise}
 use Rattle.py_values.specs.declared.object.FunctionObj.{FunctionObj}
 use Rattle.py_values.specs.declared.value.Value.{Value}
 use Rattle.py_values.specs.declared.value.Value.TheVariants as val
-use Rattle.py_world.specs.declared.load.Load.{Load}
-use Rattle.py_world.specs.declared.load.Load.TheVariants.{Running, Loaded, Failed}
-use Rattle.py_world.specs.declared.trace.TraceFrame.{TraceFrame}
-use Rattle.py_world.specs.World.{World, Locals, Stored}
-use Rattle.py_world.specs.Site.{no_call, frame}
-use Rattle.py_world.specs.Arguments.{plain}
-use Rattle.py_world.specs.Outcome.{Outcome, Rest, Spent, Paused, Request, call_end}
-use Rattle.py_world.specs.Calls.{arguments_for, invoke, body_of}
-use Rattle.py_world.specs.Runs.{ended_value, ended_spent, is_running, out_of_steps, ended_by, told_by, start, run_of, function_and, fitting_begun, function_begun, object_begun, begun_by_runner, loading, loaded_first, loaded_by, load_at}
+use Rattle.source_meaning.specs.py_world.declared.load.Load.{Load}
+use Rattle.source_meaning.specs.py_world.declared.load.Load.TheVariants.{Running, Loaded, Failed}
+use Rattle.source_meaning.specs.py_world.declared.trace.TraceFrame.{TraceFrame}
+use Rattle.source_meaning.specs.py_world.World.{World, Locals, Stored}
+use Rattle.source_meaning.specs.py_world.Site.{no_call, frame}
+use Rattle.source_meaning.specs.py_world.Arguments.{plain}
+use Rattle.source_meaning.specs.py_world.Outcome.{Outcome, Rest, Spent, Paused, Request, call_end}
+use Rattle.source_meaning.specs.py_world.Calls.{arguments_for, invoke, body_of}
+use Rattle.source_meaning.specs.py_world.Runs.{ended_value, ended_spent, is_running, out_of_steps, ended_by, told_by, start, run_of, function_and, fitting_begun, function_begun, object_begun, begun_by_runner, loading, loaded_first, loaded_by, load_at}
 use Rattle.source_meaning.specs.Requests.{Script, Function}
 use Rattle.source_meaning.specs.Meaning.{SourceWorld, source, source_call, source_module}
 use Rattle.explain_law.specs.Until as until

@@ -4,17 +4,17 @@ use Rattle.std.specs.Prelude.{ℕ, ◌≡◌, List, [], ◌∷◌, Bool, true, f
 use Rattle.py_source.specs.declared.fault.SourceFault.{SourceFault}
 use Rattle.py_tree.specs.Trees.{Tree}
 use Rattle.py_tree.specs.Statements.{Statement, Block, Handlers, Taker, Parameter}
-use Rattle.py_items.specs.declared.iter.IterAt.{IterAt}
+use Rattle.source_meaning.specs.py_items.declared.iter.IterAt.{IterAt}
 use Rattle.py_values.specs.declared.object.Obj.{Obj}
 use Rattle.py_values.specs.declared.value.Value.{Value}
-use Rattle.py_world.specs.declared.load.Load.{Load}
-use Rattle.py_world.specs.declared.trace.TraceFrame.{TraceFrame}
-use Rattle.py_world.specs.World.{Kinds, World, State, Source, Coded, Code, Fault, Stored, Frozen, Locals, Temps, Traces, state, heap_of}
-use Rattle.py_world.specs.Site.{Around, Site}
-use Rattle.py_world.specs.Arguments.{Arguments}
-use Rattle.py_world.specs.Explained.{explanation}
-use Rattle.py_world.specs.Outcome.{Outcome, Gave, Next, Returned, Broke, Continued, Raised, Spent, spent, Paused, paused, Request, CallOf, DoOf, raised_at}
-use Rattle.py_world.specs.Statements.{assertion, failed_with}
+use Rattle.source_meaning.specs.py_world.declared.load.Load.{Load}
+use Rattle.source_meaning.specs.py_world.declared.trace.TraceFrame.{TraceFrame}
+use Rattle.source_meaning.specs.py_world.World.{Kinds, World, State, Source, Coded, Code, Fault, Stored, Frozen, Locals, Temps, Traces, state, heap_of}
+use Rattle.source_meaning.specs.py_world.Site.{Around, Site}
+use Rattle.source_meaning.specs.py_world.Arguments.{Arguments}
+use Rattle.source_meaning.specs.py_world.Explained.{explanation}
+use Rattle.source_meaning.specs.py_world.Outcome.{Outcome, Gave, Next, Returned, Broke, Continued, Raised, Spent, spent, Paused, paused, Request, CallOf, DoOf, raised_at}
+use Rattle.source_meaning.specs.py_world.Statements.{assertion, failed_with}
 use Rattle.source_meaning.specs.Requests.{source_kinds, Script, Function, Use, Layer, Statements, Guard, Receives, Turn, StatementOf, TurnOf, ForOf}
 use Rattle.source_meaning.specs.Statements.{function, script}
 

@@ -2,10 +2,10 @@
 use Rattle.std.specs.Prelude.{ℕ, ◌≡◌, false}
 use Rattle.py_source.specs.declared.pos.Pos.{Pos}
 use Rattle.run_tree.specs.Todo.{run, Run}
-use Rattle.py_world.specs.Calls.{body_of}
-use Rattle.py_world.specs.Outcome.{Outcome, Rest, Request, Spent, Paused}
-use Rattle.py_world.specs.Runs.{Told, run_of}
-use Rattle.py_world.specs.Resuming.{ToldBegun, begun_of}
+use Rattle.source_meaning.specs.py_world.Calls.{body_of}
+use Rattle.source_meaning.specs.py_world.Outcome.{Outcome, Rest, Request, Spent, Paused}
+use Rattle.source_meaning.specs.py_world.Runs.{Told, run_of}
+use Rattle.source_meaning.specs.py_world.Resuming.{ToldBegun, begun_of}
 use Rattle.source_meaning.specs.Meaning.{source}
 use Rattle.explain_law.specs.Choices.{Choices, K, J, WorldsAlike, SpentAlike, RequestsAlike, EndsAlike, PausedAlike, FailedApart}
 use Rattle.explain_law.specs.Until.{Until, Apart, SameUntil}

@@ -25,7 +25,7 @@ ghost use Rattle.py_values.specs.declared.value.Value.{Value as PyValue};
 ghost use Rattle.source_meaning.specs.Meaning.{SourceWorld, source_call, source_module, source_begin, source_resume};
 ghost use Rattle.explain_law.specs.Choices.{Choices, WorldsAlike};
 ghost use Rattle.explain_law.specs.Law.{ToldUntil, BegunUntil};
-ghost use Rattle.py_world.specs.Resuming.{Sent};
+ghost use Rattle.source_meaning.specs.py_world.Resuming.{Sent};
 
 /// Under two choices of the modules whose asserts are explained, a call, a load of a module, a begin and a resumption tell the same, with every budget, up to
 /// the raise of the first failed assert of a module for which the choices differ; and that raise differs in its exception's argument

@@ -11,8 +11,8 @@ use Rattle.py_tokens.specs.declared.token.LexFault.{LexFault}
 use Rattle.py_tokens.specs.declared.token.LexFault.TheVariants.{Bad, OutOfMemory}
 use Rattle.py_tokens.specs.declared.token.Token.{Token}
 use Rattle.py_tree.specs.Statements.{Block}
-use Rattle.py_grammar.specs.Verdict.{IsVerdict}
-use Rattle.py_grammar.proofs.Verdicts.{has_verdict, one_verdict}
+use Rattle.py_parse.specs.py_grammar.Verdict.{IsVerdict}
+use Rattle.py_parse.proofs.py_grammar_lemmas.Verdicts.{has_verdict, one_verdict}
 use Rattle.file_source.specs.Sources.{IsSource, judged, misspelled, no_text, source_by, bad_line}
 use Rattle.file_source.proofs.Laid.{Laid, text_laid}
 

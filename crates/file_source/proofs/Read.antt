@@ -14,7 +14,7 @@ use Rattle.py_tokens.specs.Layout.{layout}
 use Rattle.py_tokens.specs.declared.token.LexFault.TheVariants.{Bad}
 use Rattle.py_tokens.specs.declared.token.Token.{Token}
 use Rattle.py_tree.specs.Statements.{Block}
-use Rattle.py_grammar.specs.Verdict.{Accepted, Unexpected, Unsupported, Context, Nesting, IsVerdict}
+use Rattle.py_parse.specs.py_grammar.Verdict.{Accepted, Unexpected, Unsupported, Context, Nesting, IsVerdict}
 use Rattle.file_source.specs.Sources.{IsSource, judged, misspelled}
 use Rattle.file_source.specs.Reading.{AreTokens, HasTokens, IsJudged}
 

@@ -7,7 +7,7 @@ use Rattle.py_tokens.specs.Layout.{EndsText, layout}
 use Rattle.py_tokens.specs.declared.token.Token.{Token}
 use Rattle.py_tree.specs.declared.stmt.Module.{Module}
 use Rattle.py_tree.specs.Statements.{Block, module_tree}
-use Rattle.py_grammar.specs.Verdict.{Verdict, IsVerdict}
+use Rattle.py_parse.specs.py_grammar.Verdict.{Verdict, IsVerdict}
 use Rattle.file_source.specs.Sources.{IsSource, source_by}
 
 -- a source without where it lies in memory

@@ -11,7 +11,7 @@ use Rattle.py_tokens.specs.Layout.{layout}
 use Rattle.py_tokens.specs.declared.token.LexFault.TheVariants.{Bad}
 use Rattle.py_tokens.specs.declared.token.Token.{Token}
 use Rattle.py_tree.specs.Statements.{Block}
-use Rattle.py_grammar.specs.Verdict.{Verdict, Accepted, Unexpected, Unsupported, Context, Nesting, IsVerdict}
+use Rattle.py_parse.specs.py_grammar.Verdict.{Verdict, Accepted, Unexpected, Unsupported, Context, Nesting, IsVerdict}
 
 -- what a verdict on the tokens says of the source
 abbrev pub source_by : Verdict → Result Block SourceFault

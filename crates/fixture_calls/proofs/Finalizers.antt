@@ -8,10 +8,10 @@ use Rattle.py_values.specs.declared.object.Obj.TheVariants as obj
 use Rattle.py_values.specs.declared.object.RequestObj.{RequestObj}
 use Rattle.py_values.specs.declared.value.Value.{Value}
 use Rattle.py_values.specs.declared.value.Value.TheVariants as val
-use Rattle.runner_values.specs.Requests.{with_request, request_changed, closing, request_closed, finalizers_in, finalizers_of, latest_finalizer, earlier_finalizers, without_latest, finalizer_taken}
+use Rattle.py_machine.specs.runner_values.Requests.{with_request, request_changed, closing, request_closed, finalizers_in, finalizers_of, latest_finalizer, earlier_finalizers, without_latest, finalizer_taken}
 use Rattle.py_world.specs.World.{world_with_heap}
 use Rattle.fixture_calls.specs.Asking.{finalizers_taken, spent_request}
-use Rattle.source_meaning.specs.Meaning.{SourceWorld}
+use Rattle.py_machine.specs.source_meaning.Meaning.{SourceWorld}
 
 -- ONE OBJECT CHANGED
 

@@ -3,11 +3,11 @@ use Rattle.std.specs.Prelude.{ℕ, Bool, true, false, List, [], Option, Some, No
 use Rattle.py_values.specs.declared.object.RequestObj.{RequestObj}
 use Rattle.py_values.specs.declared.value.Value.{Value}
 use Rattle.py_world.specs.World.{world_with_heap}
-use Rattle.runner_values.specs.Given.{open_request, with_object}
-use Rattle.runner_values.specs.Requests.{finalizers_of, request_changed}
+use Rattle.py_machine.specs.runner_values.Given.{open_request, with_object}
+use Rattle.py_machine.specs.runner_values.Requests.{finalizers_of, request_changed}
 use Rattle.session_types.specs.declared.scope.Scope.{Scope}
 use Rattle.session_types.specs.declared.scope.Scope.TheVariants.{Session, Module, Class, Function}
-use Rattle.source_meaning.specs.Meaning.{SourceWorld}
+use Rattle.py_machine.specs.source_meaning.Meaning.{SourceWorld}
 use Rattle.test_suite.specs.declared.fixture.Fixture.{Fixture}
 use Rattle.test_suite.specs.declared.item.Item.{Item}
 use Rattle.fixture_calls.specs.Arguments.{asks_request}

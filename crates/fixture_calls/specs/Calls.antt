@@ -4,7 +4,7 @@ use Rattle.py_values.specs.declared.value.Value.{Value}
 use Rattle.py_world.specs.declared.ended.Ended.{Ended}
 use Rattle.py_world.specs.declared.ended.Outcome.{Outcome}
 use Rattle.py_world.specs.declared.ended.Outcome.TheVariants as out
-use Rattle.source_meaning.specs.Meaning.{SourceWorld, source_call}
+use Rattle.py_machine.specs.source_meaning.Meaning.{SourceWorld, source_call}
 use Rattle.test_suite.specs.declared.item.Item.{Item}
 use Rattle.fixture_calls.specs.Arguments.{positional}
 use Rattle.fixture_calls.specs.Failing.{exhausted, has_failed}

@@ -9,7 +9,7 @@ use Rattle.py_world.specs.Runs.{step_limit}
 use Rattle.py_world.specs.World.{world_with_heap}
 use Rattle.py_world.specs.declared.ended.Thrown.{Thrown}
 use Rattle.py_world.specs.declared.trace.TraceFrame.{TraceFrame}
-use Rattle.source_meaning.specs.Meaning.{SourceWorld}
+use Rattle.py_machine.specs.source_meaning.Meaning.{SourceWorld}
 use Rattle.fixture_calls.specs.declared.failure.Failure.{Failure}
 use Rattle.fixture_calls.specs.declared.failure.Failure.TheVariants.{Exception, FixtureFault}
 

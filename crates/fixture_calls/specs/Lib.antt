@@ -1,3 +1,4 @@
+pub use Rattle.py_machine.specs.source_meaning
 pub mod Failing
 pub mod Arguments
 pub mod Asking

@@ -6,8 +6,8 @@ use Rattle.py_values.specs.declared.value.Value.TheVariants as val
 use Rattle.py_world.specs.Resuming.{BegunOut, Yielded, Over, SentValue, ToldBegun, abandon_of}
 use Rattle.py_world.specs.declared.ended.Outcome.{Outcome}
 use Rattle.py_world.specs.declared.ended.Outcome.TheVariants as out
-use Rattle.source_meaning.specs.Meaning.{SourceWorld, source_begin, source_resume}
-use Rattle.source_meaning.specs.Requests.{source_kinds}
+use Rattle.py_machine.specs.source_meaning.Meaning.{SourceWorld, source_begin, source_resume}
+use Rattle.py_machine.specs.source_meaning.Requests.{source_kinds}
 use Rattle.test_suite.specs.declared.fixture.Fixture.{Fixture}
 use Rattle.fixture_calls.specs.Arguments.{positional}
 use Rattle.fixture_calls.specs.Failing.{as_failure, exhausted, made_for}

@@ -31,6 +31,8 @@
 //! That these are pytest's: a reader compares them. Time.
 #![tactic(auto)]
 
+pub use py_machine::{Frozen, World};
+
 mod arguments;
 mod calls;
 mod exceptions;

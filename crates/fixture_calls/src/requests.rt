@@ -1,8 +1,8 @@
 // The `request` that a fixture or a test takes.
 
 ghost use Rattle.std.specs.Prelude.{◌≡◌, None, IfOk};
-ghost use Rattle.runner_values.specs.Given as given;
-ghost use Rattle.runner_values.specs.Requests as requests;
+ghost use Rattle.py_machine.specs.runner_values.Given as given;
+ghost use Rattle.py_machine.specs.runner_values.Requests as requests;
 ghost use Rattle.fixture_calls.specs.Asking as asking;
 ghost use Rattle.fixture_calls.specs.Failing as failing;
 

@@ -3,8 +3,8 @@ use Rattle.std.specs.Prelude.{ℕ, Bool, true, false, List, [], Option, Some, No
 use Rattle.py_values.specs.Names.{name_eq}
 use Rattle.py_values.specs.declared.object.FunctionObj.{FunctionObj}
 use Rattle.py_values.specs.declared.rows.Param.{Param}
-use Rattle.py_world.specs.Site.{frame}
-use Rattle.py_world.specs.declared.trace.TraceFrame.{TraceFrame}
+use Rattle.collection_nodes.specs.py_world.Site.{frame}
+use Rattle.collection_nodes.specs.py_world.declared.trace.TraceFrame.{TraceFrame}
 
 -- the first parameter of a function that stands in a class is its instance
 abbrev pub own_params : Bool → List Param → List Param

@@ -3,10 +3,10 @@
 ghost use Rattle.std.specs.Prelude.{◌≡◌, ◌++◌, ◌∷◌, [], IfOk, OnOk, drop, filter, map, option_copied};
 ghost use Rattle.fixture_definitions.specs.Arguments as arguments;
 
+use collection_nodes::TraceFrame;
 use py_text::{OutOfMemory, PyText};
 use py_values::object::FunctionObj;
 use py_values::rows::Param;
-use py_world::TraceFrame;
 use seq::Seq;
 use std::alloc::Global;
 

@@ -1,3 +1,4 @@
+pub use Rattle.live_chains.specs as live_chains
 pub mod Joined
 pub mod Items
 pub mod Views

@@ -24,6 +24,8 @@
 //! types stand for), `specs/Resting.antt` (frozen frames), `specs/Joined.antt` (the list with what is kept).
 #![tactic(auto)]
 
+pub use live_chains;
+
 mod ends;
 mod executor;
 mod items;

@@ -1,3 +1,4 @@
+pub use Rattle.report_rules.specs as report_rules
 pub mod BuiltIn
 pub mod FixtureSession
 pub mod FixtureRows

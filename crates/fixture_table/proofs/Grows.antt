@@ -10,7 +10,7 @@ use Rattle.fixture_table.specs.declared.types.CollectionNode.{CollectionNode}
 use Rattle.fixture_table.specs.declared.types.FixtureDef.{FixtureDef}
 use Rattle.fixture_table.specs.declared.entry.Entry.{Entry}
 use Rattle.fixture_table.specs.declared.entry.Entry.TheVariants.{Missing}
-use Rattle.fixture_table.specs.Closing.{with_one, with_unseen, entry_for, entries_for, asked, Grown, More, entry_at, autouse_at, autouse_up}
+use Rattle.fixture_table.specs.Closing.{with_one, with_unseen, entry_for, entries_for, asked_one, asked_all, asked, Grown, More, entry_at, autouse_at, autouse_up}
 
 -- a list of numbers below a bound, and one more
 pub all_push : (most : ℕ) (xs : List ℕ) (x : ℕ) → ((q : ℕ) → q < length xs → get_or xs q 0 < most) → x < most → (q : ℕ) → q < length (xs ++ x ∷ []) → get_or (xs ++ x ∷ []) q 0 < most
@@ -35,6 +35,24 @@ module _ (nodes : List CollectionNode) (defs : List FixtureDef) (item : ℕ) (bo
   -- names that are pushed one list after another
   pub names_then : (xs ys : List ℕ) (es : List Entry) → with_unseen (entries_for nodes defs item bound (xs ++ ys)) es ≡ with_unseen (entries_for nodes defs item bound ys) (with_unseen (entries_for nodes defs item bound xs) es)
   names_then xs ys es = ap (λ (r : List Entry). with_unseen r es) (entries_append xs ys) ∙ unseen_append (entries_for nodes defs item bound xs) (entries_for nodes defs item bound ys) es
+
+  -- one name after another
+  pub names_step : (names : List ℕ) (i : ℕ) (es : List Entry) → i < length names
+      → with_unseen (entries_for nodes defs item bound (drop (i + 1) names)) (with_unseen (entry_for nodes defs item bound (get_or names i 0)) es) ≡ with_unseen (entries_for nodes defs item bound (drop i names)) es
+  names_step names i es lt =
+      let name = get_or names i 0 in
+      let rest = drop (i + 1) names in
+      let cut : drop i names ≡ name ∷ rest = drop-cons names i 0 lt ∙ ap (λ (n : ℕ). name ∷ drop n names) (sym (add-one i)) in
+      sym (ap (λ (l : List ℕ). with_unseen (entries_for nodes defs item bound l) es) cut ∙ unseen_append (entry_for nodes defs item bound name) (entries_for nodes defs item bound rest) es)
+
+  -- one argument of a definition after another
+  pub asked_step : (d : ℕ) (args : List ℕ) (i : ℕ) (es : List Entry) → i < length args
+      → with_unseen (asked_all nodes defs item bound d (drop (i + 1) args)) (with_unseen (asked_one nodes defs item bound d (get_or args i 0)) es) ≡ with_unseen (asked_all nodes defs item bound d (drop i args)) es
+  asked_step d args i es lt =
+      let name = get_or args i 0 in
+      let rest = drop (i + 1) args in
+      let cut : drop i args ≡ name ∷ rest = drop-cons args i 0 lt ∙ ap (λ (n : ℕ). name ∷ drop n args) (sym (add-one i)) in
+      sym (ap (λ (l : List ℕ). with_unseen (asked_all nodes defs item bound d l) es) cut ∙ unseen_append (asked_one nodes defs item bound d name) (asked_all nodes defs item bound d rest) es)
 
   pub grown_more : (es : List Entry) (p : ℕ) (end : List Entry) → p < length es → Grown nodes defs item bound (with_unseen (asked nodes defs item bound (entry_at es p)) es) (p + 1) end → Grown nodes defs item bound es p end
   grown_more es p end lt g = More es p (entry_at es p) end (slice_get-get_or es p (Missing 0) lt) (rw (add-one p) at g)

@@ -205,6 +205,24 @@ impl View<'_> {
         Ok(())
     }
 
+    /// What one argument of a definition stands for.
+    fn push_asked_one(
+        &self,
+        entries: &mut Vec<Entry>,
+        place: usize,
+        name: u32,
+    ) -> Result<(), OutOfMemory>
+        requires known { Known self.now.defs.now entries.old.items }
+        requires place { place < length self.now.defs.now }
+        ensures ok { OnOk result (entries.new.items ≡ with_unseen (asked_one self.now.nodes.now self.now.defs.now self.now.item self.now.bound.now place name) entries.old.items) }
+        ensures known { OnOk result (Known self.now.defs.now entries.new.items) }
+    {
+        match self.asked_one(place, name) {
+            Some(entry) => push_unseen(entries, entry),
+            None => Ok(()),
+        }
+    }
+
     /// What a definition asks for.
     fn push_asked(&self, entries: &mut Vec<Entry>, place: usize) -> Result<(), OutOfMemory>
         requires known { Known self.now.defs.now entries.old.items }
@@ -213,9 +231,7 @@ impl View<'_> {
         ensures known { OnOk result (Known self.now.defs.now entries.new.items) }
     {
         for name in self.defs[place].args.items() {
-            if let Some(entry) = self.asked_one(place, *name) {
-                push_unseen(entries, entry)?;
-            }
+            self.push_asked_one(entries, place, *name)?;
         }
         Ok(())
     }

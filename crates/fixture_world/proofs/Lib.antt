@@ -1,0 +1,1 @@
+pub use Rattle.runtest_rules.proofs.report_rules_lemmas

@@ -3,7 +3,7 @@ use Rattle.std.specs.Prelude.{ℕ, List, [], Option, Some, None}
 use Rattle.fixture_table.specs.Tables.{TableValue}
 use Rattle.fixture_table.specs.Tree.{chain_of}
 use Rattle.py_values.specs.declared.value.Value.{Value}
-use Rattle.report_rules.specs.Collected.{ItemTexts, SelectedItem}
+use Rattle.runtest_rules.specs.report_rules.Collected.{ItemTexts, SelectedItem}
 use Rattle.session_rules.specs.World as session
 use Rattle.fixture_instances.specs.Items.{place_in, requests_in}
 use Rattle.fixture_instances.specs.declared.items.ItemRef.{ItemRef}

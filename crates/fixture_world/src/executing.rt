@@ -1,7 +1,7 @@
 // A world of sources in which the functions of fixtures run.
 
 ghost use Rattle.std.specs.Prelude.{◌≡◌, ◌<◌, length, IfOk, OnOk};
-ghost use Rattle.report_rules.specs.Collected.{ends_badly};
+ghost use Rattle.runtest_rules.specs.report_rules.Collected.{ends_badly};
 ghost use Rattle.session_rules.specs.World.{Rules};
 ghost use Rattle.fixture_instances.specs.Items.{parameter_in};
 ghost use Rattle.fixture_instances.specs.Views as views;
@@ -11,10 +11,9 @@ ghost use Rattle.fixture_calls.specs.Yields as yields;
 ghost use Rattle.test_suite.specs.Suites.{fixture_at, no_fixture};
 
 use crate::setting::{RunSetting, fixture_of, nameless};
-use fixture_calls::{Failure, FixtureEnd};
+use fixture_calls::{Failure, FixtureEnd, Frozen, World};
 use fixture_instances::{BodyEnd, Executor, ItemRef};
 use fixture_table::Table;
-use py_machine::{Frozen, World};
 use py_values::value::Value;
 use runtest_rules::Ending;
 use seq::{OutOfMemory, Seq};
@@ -29,7 +28,7 @@ pub struct RunWorld {
 }
 
 impl Model for RunWorld {
-    ghost use Rattle.source_meaning.specs.Meaning.{SourceWorld};
+    ghost use Rattle.fixture_calls.specs.source_meaning.Meaning.{SourceWorld};
     ghost use Rattle.lower_law.proofs.Codes.{world_code};
 
     ghost Value = { SourceWorld };

@@ -19,6 +19,11 @@
 //! Time.
 #![tactic(auto)]
 
+pub use runtest_rules::{
+    Ending, end_phase, fails_in_teardown, fixture_fault, make_instance, make_item, skip,
+    wrong_arguments,
+};
+
 mod executing;
 mod setting;
 

@@ -20,8 +20,6 @@ mod calling;
 mod implementation;
 mod runner;
 mod sorting;
-#[cfg(test)]
-mod tests;
 
 pub use answers::{ImplEnd, Inner, WrapperStart};
 pub use calling::{call_all, call_first};

@@ -1,3 +1,5 @@
+pub use Rattle.fixture_instances.specs as fixture_instances
+pub use Rattle.setup_stack.specs as setup_stack
 pub mod States
 pub mod Plain
 pub mod Answers

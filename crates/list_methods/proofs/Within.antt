@@ -1,7 +1,7 @@
 -- What is made of a search or a count under a budget.
 use Rattle.std.proofs.Common.{ℕ, Bool, true, false, ◌≡◌, refl, Some, None}
 use Rattle.std.specs.Prelude.{nat_lt, if◌then◌else◌}
-use Rattle.call_products.specs.Products.{product_within}
+use Rattle.sorting.specs.call_products.Products.{product_within}
 use Rattle.list_methods.specs.Lists.{counted_by, some_counted, index_by, some_indexed, remove_by, some_removed}
 use Rattle.list_methods.specs.Search.{search_within, tally_within}
 use Rattle.list_methods.specs.declared.search.Search.{Search}

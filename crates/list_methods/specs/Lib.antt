@@ -1,2 +1,3 @@
+pub use Rattle.sorting.specs as sorting
 pub mod Search
 pub mod Lists

@@ -1,12 +1,12 @@
 -- The methods of lists and tuples (Python library reference, sequence types).
 use Rattle.std.specs.Prelude.{ℕ, suc, ◌+◌, ℤ, pos, negsuc, Bool, not, List, [], ◌∷◌, ◌++◌, length, reverse, codes, nat_lt, eqb, if◌then◌else◌, Option, Some, None, slice_get}
 use Rattle.std.specs.List.{insert}
-use Rattle.call_products.specs.Arguments.{has_none, sole, pair}
-use Rattle.call_products.specs.Elements.{elements_of}
-use Rattle.call_products.specs.Products.{plain, failed, wrong}
-use Rattle.call_products.specs.declared.elements.Gathered.{Gathered}
-use Rattle.call_products.specs.declared.elements.Gathered.TheVariants as gathered
-use Rattle.call_products.specs.declared.product.Product.{Product}
+use Rattle.sorting.specs.call_products.Arguments.{has_none, sole, pair}
+use Rattle.sorting.specs.call_products.Elements.{elements_of}
+use Rattle.sorting.specs.call_products.Products.{plain, failed, wrong}
+use Rattle.sorting.specs.call_products.declared.elements.Gathered.{Gathered}
+use Rattle.sorting.specs.call_products.declared.elements.Gathered.TheVariants as gathered
+use Rattle.sorting.specs.call_products.declared.product.Product.{Product}
 use Rattle.list_methods.specs.Search.{search_from, tally_from}
 use Rattle.list_methods.specs.declared.search.Search.{Search}
 use Rattle.list_methods.specs.declared.search.Search.TheVariants as search
@@ -14,9 +14,9 @@ use Rattle.list_methods.specs.declared.search.Tally.{Tally}
 use Rattle.list_methods.specs.declared.search.Tally.TheVariants as tally
 use Rattle.py_compare.specs.Equal.{equal_of}
 use Rattle.py_items.specs.Items.{place, edge}
-use Rattle.py_operands.specs.Faults.{too_deep, out_of_range}
-use Rattle.py_kinds.specs.Builtins.{list_method_name, tuple_method_name}
-use Rattle.py_kinds.specs.Lengths.{length_of}
+use Rattle.py_items.specs.py_operands.Faults.{too_deep, out_of_range}
+use Rattle.py_items.specs.py_kinds.Builtins.{list_method_name, tuple_method_name}
+use Rattle.py_items.specs.py_kinds.Lengths.{length_of}
 use Rattle.py_values.specs.Limits.{most_elements}
 use Rattle.py_values.specs.Numbers.{number_of}
 use Rattle.py_values.specs.declared.builtin.ListMethod.{ListMethod}

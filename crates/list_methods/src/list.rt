@@ -1,16 +1,14 @@
 // Calls of the methods of lists.
 
 ghost use Rattle.std.specs.Prelude.{◌≡◌, ◌+◌, IfOk};
-ghost use Rattle.call_products.specs.Products as products;
-ghost use Rattle.call_products.specs.Products.{product_within};
+ghost use Rattle.sorting.specs.call_products.Products as products;
+ghost use Rattle.sorting.specs.call_products.Products.{product_within};
 ghost use Rattle.list_methods.specs.Lists as lists;
 
 use crate::changes::{append, clear, extend, insert, pop, reverse, without};
 use crate::search::{Search, Tally, count_equal, find_equal};
-use call_products::arguments::{has_none, pair, sole};
-use call_products::product::{Product, failed, plain, product_within, wrong};
-use py_kinds::builtins::builtin_name;
-use py_operands::faults::too_deep;
+use py_items::py_kinds::builtins::builtin_name;
+use py_items::py_operands::faults::too_deep;
 use py_values::builtin::{Builtin, ListMethod};
 use py_values::class::ExcClass;
 use py_values::end::Made;
@@ -19,6 +17,8 @@ use py_values::object::Obj;
 use py_values::rows::Values;
 use py_values::value::{ObjId, Value};
 use py_values::{OutOfMemory, PyText};
+use sorting::call_products::arguments::{has_none, pair, sole};
+use sorting::call_products::product::{Product, failed, plain, product_within, wrong};
 use sorting::calls::sort;
 use std::alloc::Global;
 

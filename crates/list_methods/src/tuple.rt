@@ -1,18 +1,18 @@
 // Calls of the methods of tuples.
 
 ghost use Rattle.std.specs.Prelude.{◌≡◌, IfOk};
-ghost use Rattle.call_products.specs.Products.{product_within};
+ghost use Rattle.sorting.specs.call_products.Products.{product_within};
 ghost use Rattle.list_methods.specs.Lists as lists;
 
 use crate::list::{count, index, wrong_within};
-use call_products::arguments::sole;
-use call_products::product::Product;
-use py_kinds::builtins::builtin_name;
+use py_items::py_kinds::builtins::builtin_name;
 use py_values::builtin::{Builtin, TupleMethod};
 use py_values::heap::Heap;
 use py_values::object::Obj;
 use py_values::value::{ObjId, Value};
 use py_values::{OutOfMemory, PyText};
+use sorting::call_products::arguments::sole;
+use sorting::call_products::product::Product;
 use std::alloc::Global;
 
 fn tuple_called(

@@ -7,15 +7,15 @@ use Rattle.py_values.specs.declared.rows.Param.{Param}
 use Rattle.py_values.specs.declared.value.ObjId.{ObjId}
 use Rattle.py_values.specs.declared.value.Value.{Value}
 use Rattle.py_values.specs.declared.value.Value.TheVariants as val
-use Rattle.py_world.specs.World.{Kinds, State, heap_of, state}
-use Rattle.py_world.specs.Site.{Scene, Site, trace_of, around_of}
-use Rattle.py_world.specs.Arguments.{plain}
-use Rattle.py_kinds.specs.Classes.{is_exc_class}
-use Rattle.py_world.specs.Exceptions.{no_exception}
-use Rattle.py_world.specs.Outcome.{Outcome, Rest, Then, Part, Body, on_value, raised_at}
-use Rattle.py_world.specs.Calls.{Entry}
-use Rattle.py_world.specs.Raising.{raise_init, raise_it, raise_on, raise_value}
-use Rattle.py_world.specs.Definitions.{Written, Decoration, Replaced, Marked, Same, Refused, with_defaults, function_object, bad_decorator, with_function, decoration, decorated_by, decorated, define_as, function_made, define_behind, define, based_on, class_base, class_scene, class_made, class_behind, class_statement}
+use Rattle.source_meaning.specs.py_world.World.{Kinds, State, heap_of, state}
+use Rattle.source_meaning.specs.py_world.Site.{Scene, Site, trace_of, around_of}
+use Rattle.source_meaning.specs.py_world.Arguments.{plain}
+use Rattle.source_meaning.specs.py_kinds.Classes.{is_exc_class}
+use Rattle.source_meaning.specs.py_world.Exceptions.{no_exception}
+use Rattle.source_meaning.specs.py_world.Outcome.{Outcome, Rest, Then, Part, Body, on_value, raised_at}
+use Rattle.source_meaning.specs.py_world.Calls.{Entry}
+use Rattle.source_meaning.specs.py_world.Raising.{raise_init, raise_it, raise_on, raise_value}
+use Rattle.source_meaning.specs.py_world.Definitions.{Written, Decoration, Replaced, Marked, Same, Refused, with_defaults, function_object, bad_decorator, with_function, decoration, decorated_by, decorated, define_as, function_made, define_behind, define, based_on, class_base, class_scene, class_made, class_behind, class_statement}
 use Rattle.lower_law.specs.Alike.{Likeness, worlds, StatesAlike, states, EndsAlike, gave, next, stored_with, world_with}
 use Rattle.lower_law.proofs.Parts as part
 use Rattle.lower_law.proofs.Blocks as block

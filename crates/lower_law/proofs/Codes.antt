@@ -15,7 +15,7 @@ use Rattle.py_tree.specs.Trees.{Tree, Trees, Maybe}
 use Rattle.py_tree.specs.Statements as st
 use Rattle.py_tree.specs.Statements.{Statement, Block, Branches, Handlers, Place, Taker, Parameter}
 use Rattle.source_meaning.specs.Requests.{Use, Layer, Script, Function}
-use Rattle.py_world.specs.World.{Frozen}
+use Rattle.source_meaning.specs.py_world.World.{Frozen}
 use Rattle.source_meaning.specs.Meaning.{SourceWorld}
 
 head : Gv → Gv

@@ -7,28 +7,28 @@ use Rattle.py_source.specs.declared.pos.Pos.{Pos}
 use Rattle.py_tree.specs.Trees as tree
 use Rattle.py_tree.specs.Trees.{Tree, Trees, Empty, More, Maybe}
 use Rattle.py_tree.specs.declared.expr.Expr.{Expr}
-use Rattle.py_world.specs.Explained.{kept_count, kept_count_all}
+use Rattle.source_meaning.specs.py_world.Explained.{kept_count, kept_count_all}
 use Rattle.source_meaning.specs.Watched.{watch, watch_all}
-use Rattle.py_core.specs.declared.stmt.Template.{Template}
+use Rattle.core_meaning.specs.py_core.declared.stmt.Template.{Template}
 use Rattle.py_tree.specs.Statements as st
 use Rattle.py_tree.specs.Statements.{Statement, Block, Branches, Handlers, Place, Taker, Parameter}
 use Rattle.py_values.specs.declared.value.Value.TheVariants as val
-use Rattle.py_core.specs.declared.expr.CoreExpr.{CoreExpr}
-use Rattle.py_core.specs.declared.expr.CoreExprKind.{CoreExprKind, Row_of-CoreExprKind-Call-1-1 as Row, end_of-CoreExprKind-Call-1-1 as end, more_of-CoreExprKind-Call-1-1 as more_of, items-the_row-CoreExprKind-Call-1-1 as row_items, Held-CoreExprKind-Slice-1 as Held}
-use Rattle.py_core.specs.Blocks.{stmts_in, explains_in}
-use Rattle.py_core.specs.declared.stmt.CoreGuard.{CoreGuard}
-use Rattle.py_core.specs.declared.stmt.CoreHandler as handler
-use Rattle.py_core.specs.declared.stmt.CoreSingle.{CoreSingle}
-use Rattle.py_core.specs.declared.stmt.CoreBlock.{CoreBlock}
-use Rattle.py_core.specs.declared.stmt.CoreBranch as branch
-use Rattle.py_core.specs.declared.stmt.CoreFn.{CoreFn}
-use Rattle.py_core.specs.declared.stmt.CoreTarget.{CoreTarget}
-use Rattle.py_core.specs.declared.stmt.CoreUse.{CoreUse}
-use Rattle.py_core.specs.declared.stmt.CoreStmt.{CoreStmt}
-use Rattle.py_core.specs.declared.stmt.Template.TheVariants.{Plain, Explain}
-use Rattle.py_core.specs.declared.stmt.CoreStmtKind.TheVariants as kind
-use Rattle.py_core.specs.declared.stmt.CoreStmtKind.{CoreStmtKind, Row_of-CoreBranch, items-the_row-CoreBranch}
-use Rattle.py_core.specs.declared.stmt.CoreStmtKind as kinds
+use Rattle.core_meaning.specs.py_core.declared.expr.CoreExpr.{CoreExpr}
+use Rattle.core_meaning.specs.py_core.declared.expr.CoreExprKind.{CoreExprKind, Row_of-CoreExprKind-Call-1-1 as Row, end_of-CoreExprKind-Call-1-1 as end, more_of-CoreExprKind-Call-1-1 as more_of, items-the_row-CoreExprKind-Call-1-1 as row_items, Held-CoreExprKind-Slice-1 as Held}
+use Rattle.core_meaning.specs.py_core.Blocks.{stmts_in, explains_in}
+use Rattle.core_meaning.specs.py_core.declared.stmt.CoreGuard.{CoreGuard}
+use Rattle.core_meaning.specs.py_core.declared.stmt.CoreHandler as handler
+use Rattle.core_meaning.specs.py_core.declared.stmt.CoreSingle.{CoreSingle}
+use Rattle.core_meaning.specs.py_core.declared.stmt.CoreBlock.{CoreBlock}
+use Rattle.core_meaning.specs.py_core.declared.stmt.CoreBranch as branch
+use Rattle.core_meaning.specs.py_core.declared.stmt.CoreFn.{CoreFn}
+use Rattle.core_meaning.specs.py_core.declared.stmt.CoreTarget.{CoreTarget}
+use Rattle.core_meaning.specs.py_core.declared.stmt.CoreUse.{CoreUse}
+use Rattle.core_meaning.specs.py_core.declared.stmt.CoreStmt.{CoreStmt}
+use Rattle.core_meaning.specs.py_core.declared.stmt.Template.TheVariants.{Plain, Explain}
+use Rattle.core_meaning.specs.py_core.declared.stmt.CoreStmtKind.TheVariants as kind
+use Rattle.core_meaning.specs.py_core.declared.stmt.CoreStmtKind.{CoreStmtKind, Row_of-CoreBranch, items-the_row-CoreBranch}
+use Rattle.core_meaning.specs.py_core.declared.stmt.CoreStmtKind as kinds
 use Rattle.source_meaning.specs.Requests as s
 use Rattle.source_meaning.specs.Requests.{source_kinds, Script, Function}
 use Rattle.source_meaning.specs.Expressions as source
@@ -37,16 +37,16 @@ use Rattle.core_meaning.specs.Requests as c
 use Rattle.core_meaning.specs.Requests.{core_kinds}
 use Rattle.core_meaning.specs.Expressions as core
 use Rattle.core_meaning.specs.Statements as cor
-use Rattle.py_world.specs.Site.{Scene, Site, site}
-use Rattle.py_world.specs.World.{State}
-use Rattle.py_world.specs.Arguments.{arguments_of}
+use Rattle.source_meaning.specs.py_world.Site.{Scene, Site, site}
+use Rattle.source_meaning.specs.py_world.World.{State}
+use Rattle.source_meaning.specs.py_world.Arguments.{arguments_of}
 use Rattle.py_tree.specs.Names.{yields_in}
 use Rattle.py_tree.specs.declared.stmt.Alias.{Alias}
-use Rattle.py_world.specs.Outcome.{Outcome, Next, Rest, Then, After, on_next}
-use Rattle.py_world.specs.Statements.{asked, choose, fail_explained}
-use Rattle.py_world.specs.Definitions.{define}
-use Rattle.py_world.specs.Imports.{import_statement, import_from}
-use Rattle.py_world.specs.Expressions.{call_part, compare_part, kept_part}
+use Rattle.source_meaning.specs.py_world.Outcome.{Outcome, Next, Rest, Then, After, on_next}
+use Rattle.source_meaning.specs.py_world.Statements.{asked, choose, fail_explained}
+use Rattle.source_meaning.specs.py_world.Definitions.{define}
+use Rattle.source_meaning.specs.py_world.Imports.{import_statement, import_from}
+use Rattle.source_meaning.specs.py_world.Expressions.{call_part, compare_part, kept_part}
 use Rattle.py_tree.specs.declared.op.CmpOp.{CmpOp}
 use Rattle.py_tree.specs.declared.op.BinOp.{BinOp}
 use Rattle.py_tree.specs.declared.expr.ArgName.{ArgName}
@@ -54,7 +54,7 @@ use Rattle.source_meaning.specs.Statements.{listed}
 use Rattle.source_meaning.specs.Meaning.{source as source_meaning}
 use Rattle.core_meaning.specs.Statements.{core_body}
 use Rattle.core_meaning.specs.Meaning.{core as core_meaning}
-use Rattle.py_core.specs.declared.stmt.Core.{Core}
+use Rattle.core_meaning.specs.py_core.declared.stmt.Core.{Core}
 use Rattle.lower_law.specs.Alike as alike
 use Rattle.lower_law.specs.Alike.{StatesAlike, EndsAlike, gave, next, returned, broke, continued}
 use Rattle.lower_law.specs.Lowered as low

@@ -7,21 +7,21 @@ use Rattle.run_tree.specs.Todo.{Done}
 use Rattle.run_tree.specs.Same.{SameEnding, SameRun}
 use Rattle.run_tree.proofs.SameRuns.{run_same}
 use Rattle.py_source.specs.declared.pos.Pos.{Pos}
-use Rattle.py_core.specs.declared.stmt.Core.{Core}
-use Rattle.py_core.specs.declared.stmt.CoreFn.{CoreFn}
+use Rattle.core_meaning.specs.py_core.declared.stmt.Core.{Core}
+use Rattle.core_meaning.specs.py_core.declared.stmt.CoreFn.{CoreFn}
 use Rattle.py_values.specs.declared.end.Raise.{Raise}
 use Rattle.py_values.specs.declared.object.FunctionObj.{FunctionObj}
 use Rattle.py_values.specs.declared.value.Value.{Value}
 use Rattle.py_values.specs.declared.value.Value.TheVariants as val
-use Rattle.py_world.specs.declared.load.Load.{Load}
-use Rattle.py_world.specs.declared.load.Load.TheVariants.{Running, Loaded, Failed}
-use Rattle.py_world.specs.declared.trace.TraceFrame.{TraceFrame}
-use Rattle.py_world.specs.World.{Kinds, World, Locals, Stored}
-use Rattle.py_world.specs.Site.{no_call, frame}
-use Rattle.py_world.specs.Arguments.{plain}
-use Rattle.py_world.specs.Outcome.{Outcome, Rest, Spent, Paused, Request, call_end}
-use Rattle.py_world.specs.Calls.{Meaning, arguments_for, invoke, body_of}
-use Rattle.py_world.specs.Runs.{ended_value, ended_spent, is_running, out_of_steps, ended_by, told_by, start, run_of, function_and, fitting_begun, function_begun, object_begun, begun_by_runner, loading, loaded_first, loaded_by, load_at}
+use Rattle.source_meaning.specs.py_world.declared.load.Load.{Load}
+use Rattle.source_meaning.specs.py_world.declared.load.Load.TheVariants.{Running, Loaded, Failed}
+use Rattle.source_meaning.specs.py_world.declared.trace.TraceFrame.{TraceFrame}
+use Rattle.source_meaning.specs.py_world.World.{Kinds, World, Locals, Stored}
+use Rattle.source_meaning.specs.py_world.Site.{no_call, frame}
+use Rattle.source_meaning.specs.py_world.Arguments.{plain}
+use Rattle.source_meaning.specs.py_world.Outcome.{Outcome, Rest, Spent, Paused, Request, call_end}
+use Rattle.source_meaning.specs.py_world.Calls.{Meaning, arguments_for, invoke, body_of}
+use Rattle.source_meaning.specs.py_world.Runs.{ended_value, ended_spent, is_running, out_of_steps, ended_by, told_by, start, run_of, function_and, fitting_begun, function_begun, object_begun, begun_by_runner, loading, loaded_first, loaded_by, load_at}
 use Rattle.source_meaning.specs.Requests.{source_kinds, Script, Function}
 use Rattle.source_meaning.specs.Meaning.{SourceWorld, source, source_call, source_module}
 use Rattle.core_meaning.specs.Requests.{core_kinds}

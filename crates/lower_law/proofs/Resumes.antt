@@ -3,18 +3,18 @@ use Rattle.std.proofs.Common.{◌≡◌, ℕ, zero, suc, ◌-◌, List, [], ◌�
 use Rattle.std.specs.Prelude.{slice_get, slice_set, Result, Ok, Err}
 use Rattle.run_tree.specs.Todo as tree
 use Rattle.run_tree.specs.Todo.{Done}
-use Rattle.py_core.specs.declared.stmt.CoreFn.{CoreFn}
+use Rattle.core_meaning.specs.py_core.declared.stmt.CoreFn.{CoreFn}
 use Rattle.py_values.specs.declared.end.Raise.{Raise}
 use Rattle.py_values.specs.declared.object.FunctionObj.{FunctionObj}
 use Rattle.py_values.specs.declared.value.Value.{Value}
 use Rattle.py_values.specs.declared.value.Value.TheVariants as val
-use Rattle.py_world.specs.declared.ended.Ended.{Ended}
-use Rattle.py_world.specs.declared.trace.TraceFrame.{TraceFrame}
-use Rattle.py_world.specs.World.{Frozen, Locals, Stored, state}
-use Rattle.py_world.specs.Site.{Site, no_call, frame}
-use Rattle.py_world.specs.Outcome.{Rest, Paused, call_end}
-use Rattle.py_world.specs.Runs.{Told, start, function_and}
-use Rattle.py_world.specs.Resuming.{Sent, SentValue, SentThrow, Yielded, Over, ToldBegun, begun_with, frame_at, bare, abandon_of, begun_over, begun_yielded, begun_by, sent_end, begin_arguments, begun_of, body_begun, function_opened, object_opened, opened_by_runner, resumed, resumed_by}
+use Rattle.source_meaning.specs.py_world.declared.ended.Ended.{Ended}
+use Rattle.source_meaning.specs.py_world.declared.trace.TraceFrame.{TraceFrame}
+use Rattle.source_meaning.specs.py_world.World.{Frozen, Locals, Stored, state}
+use Rattle.source_meaning.specs.py_world.Site.{Site, no_call, frame}
+use Rattle.source_meaning.specs.py_world.Outcome.{Rest, Paused, call_end}
+use Rattle.source_meaning.specs.py_world.Runs.{Told, start, function_and}
+use Rattle.source_meaning.specs.py_world.Resuming.{Sent, SentValue, SentThrow, Yielded, Over, ToldBegun, begun_with, frame_at, bare, abandon_of, begun_over, begun_yielded, begun_by, sent_end, begin_arguments, begun_of, body_begun, function_opened, object_opened, opened_by_runner, resumed, resumed_by}
 use Rattle.source_meaning.specs.Requests as s
 use Rattle.source_meaning.specs.Requests.{source_kinds, Function}
 use Rattle.source_meaning.specs.Meaning.{SourceWorld, source, source_begin, source_resume}

@@ -3,8 +3,8 @@ use Rattle.std.proofs.Common.{List}
 use Rattle.std.specs.Coded.{Coded-set, codes}
 use Rattle.std.proofs.Props.{props}
 use Rattle.py_source.specs.declared.pos.Pos.{Pos}
-use Rattle.py_world.specs.Runs.{Told}
-use Rattle.py_world.specs.Resuming.{ToldBegun}
+use Rattle.source_meaning.specs.py_world.Runs.{Told}
+use Rattle.source_meaning.specs.py_world.Resuming.{ToldBegun}
 use Rattle.source_meaning.specs.Requests.{source_kinds}
 use Rattle.source_meaning.specs.Meaning.{SourceWorld}
 use Rattle.lower_law.proofs.Codes.{pos_code, world_code}

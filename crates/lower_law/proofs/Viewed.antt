@@ -4,18 +4,18 @@ use Rattle.std.specs.Prelude.{slice_set}
 use Rattle.std.proofs.Math.Logic.{∥∥₁_elim, ∥∥₁_map}
 use Rattle.lower_law.proofs.Sets.{told-set, begun-set, tape-set}
 use Rattle.py_values.specs.declared.value.Value.{Value}
-use Rattle.py_core.specs.declared.stmt.Core.{Core}
-use Rattle.py_core.specs.declared.stmt.CoreFn.{CoreFn}
-use Rattle.py_core.specs.declared.stmt.CoreUse.{CoreUse}
+use Rattle.core_meaning.specs.py_core.declared.stmt.Core.{Core}
+use Rattle.core_meaning.specs.py_core.declared.stmt.CoreFn.{CoreFn}
+use Rattle.core_meaning.specs.py_core.declared.stmt.CoreUse.{CoreUse}
 use Rattle.source_meaning.specs.Requests as s
 use Rattle.source_meaning.specs.Requests.{source_kinds, Script, Function}
 use Rattle.core_meaning.specs.Requests as c
 use Rattle.core_meaning.specs.Requests.{core_kinds}
 use Rattle.source_meaning.specs.Meaning.{SourceWorld, source, source_call, source_module, source_begin, source_resume}
 use Rattle.core_meaning.specs.Meaning.{CoreWorld, core, core_call, core_module, core_begin, core_resume}
-use Rattle.py_world.specs.World.{Source, Coded, Code, Stored, Frozen}
-use Rattle.py_world.specs.Runs.{Told}
-use Rattle.py_world.specs.Resuming.{Sent, ToldBegun, abandon_of}
+use Rattle.source_meaning.specs.py_world.World.{Source, Coded, Code, Stored, Frozen}
+use Rattle.source_meaning.specs.py_world.Runs.{Told}
+use Rattle.source_meaning.specs.py_world.Resuming.{Sent, ToldBegun, abandon_of}
 use Rattle.lower_law.specs.Alike as alike
 use Rattle.lower_law.specs.Alike.{CodedAlike, SourcesAlike, CodesAlike, FrozenAlike, worlds, source_with, stored_with, frozen_with, world_with}
 use Rattle.lower_law.specs.Law.{call_tape, LoweredCode, Lowering, LoweredWorld, SameTold}

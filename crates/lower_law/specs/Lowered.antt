@@ -17,32 +17,32 @@ use Rattle.py_tree.specs.declared.stmt.Alias.{Alias}
 use Rattle.py_tree.specs.declared.stmt.Target.{Target}
 use Rattle.py_tree.specs.declared.expr.Expr.{Expr}
 use Rattle.py_tree.specs.Trees.{tree}
-use Rattle.py_world.specs.Explained.{kept_count}
-use Rattle.py_core.specs.declared.expr.CoreExpr.{CoreExpr}
-use Rattle.py_core.specs.declared.expr.CoreExprKind as f
-use Rattle.py_core.specs.declared.expr.CoreExprKind.{CoreExprKind, Row_of-CoreExprKind-Call-1-1 as Row, items-the_row-CoreExprKind-Call-1-1 as row_items, Held-CoreExprKind-Slice-1 as Held}
-use Rattle.py_core.specs.declared.expr.CoreExprKind.TheVariants as v
-use Rattle.py_core.specs.declared.stmt.CoreBranch as branch
-use Rattle.py_core.specs.declared.stmt.CoreClass as class
-use Rattle.py_core.specs.declared.stmt.CoreParam.{CoreParam}
-use Rattle.py_core.specs.declared.stmt.CoreFn as fn
-use Rattle.py_core.specs.declared.stmt.CoreFn.{CoreFn}
-use Rattle.py_core.specs.declared.stmt.Core.{Core}
-use Rattle.py_core.specs.declared.stmt.CoreSingle.{CoreSingle}
-use Rattle.py_core.specs.declared.stmt.CoreSingleKind.TheVariants as single
-use Rattle.py_core.specs.declared.stmt.CoreGuard.{CoreGuard}
-use Rattle.py_core.specs.declared.stmt.CoreHandler as handler
-use Rattle.py_core.specs.declared.stmt.CoreTarget.{CoreTarget}
-use Rattle.py_core.specs.declared.stmt.CoreTarget.TheVariants as target
-use Rattle.py_core.specs.declared.stmt.CoreUse.{CoreUse}
-use Rattle.py_core.specs.declared.stmt.CoreUse.TheVariants as taken
-use Rattle.py_core.specs.declared.stmt.Template.TheVariants.{Plain, Explain}
-use Rattle.py_core.specs.declared.stmt.CoreStmt.{CoreStmt}
-use Rattle.py_core.specs.declared.stmt.CoreStmtKind as c
-use Rattle.py_core.specs.declared.stmt.CoreStmtKind.{CoreStmtKind, Row_of-CoreBranch, items-the_row-CoreBranch}
-use Rattle.py_core.specs.declared.stmt.CoreBlock.{CoreBlock}
-use Rattle.py_core.specs.Blocks.{stmts_in, explains_in, handlers_in, handlers_source, other_in, last_in}
-use Rattle.py_core.specs.declared.stmt.CoreStmtKind.TheVariants as k
+use Rattle.source_meaning.specs.py_world.Explained.{kept_count}
+use Rattle.core_meaning.specs.py_core.declared.expr.CoreExpr.{CoreExpr}
+use Rattle.core_meaning.specs.py_core.declared.expr.CoreExprKind as f
+use Rattle.core_meaning.specs.py_core.declared.expr.CoreExprKind.{CoreExprKind, Row_of-CoreExprKind-Call-1-1 as Row, items-the_row-CoreExprKind-Call-1-1 as row_items, Held-CoreExprKind-Slice-1 as Held}
+use Rattle.core_meaning.specs.py_core.declared.expr.CoreExprKind.TheVariants as v
+use Rattle.core_meaning.specs.py_core.declared.stmt.CoreBranch as branch
+use Rattle.core_meaning.specs.py_core.declared.stmt.CoreClass as class
+use Rattle.core_meaning.specs.py_core.declared.stmt.CoreParam.{CoreParam}
+use Rattle.core_meaning.specs.py_core.declared.stmt.CoreFn as fn
+use Rattle.core_meaning.specs.py_core.declared.stmt.CoreFn.{CoreFn}
+use Rattle.core_meaning.specs.py_core.declared.stmt.Core.{Core}
+use Rattle.core_meaning.specs.py_core.declared.stmt.CoreSingle.{CoreSingle}
+use Rattle.core_meaning.specs.py_core.declared.stmt.CoreSingleKind.TheVariants as single
+use Rattle.core_meaning.specs.py_core.declared.stmt.CoreGuard.{CoreGuard}
+use Rattle.core_meaning.specs.py_core.declared.stmt.CoreHandler as handler
+use Rattle.core_meaning.specs.py_core.declared.stmt.CoreTarget.{CoreTarget}
+use Rattle.core_meaning.specs.py_core.declared.stmt.CoreTarget.TheVariants as target
+use Rattle.core_meaning.specs.py_core.declared.stmt.CoreUse.{CoreUse}
+use Rattle.core_meaning.specs.py_core.declared.stmt.CoreUse.TheVariants as taken
+use Rattle.core_meaning.specs.py_core.declared.stmt.Template.TheVariants.{Plain, Explain}
+use Rattle.core_meaning.specs.py_core.declared.stmt.CoreStmt.{CoreStmt}
+use Rattle.core_meaning.specs.py_core.declared.stmt.CoreStmtKind as c
+use Rattle.core_meaning.specs.py_core.declared.stmt.CoreStmtKind.{CoreStmtKind, Row_of-CoreBranch, items-the_row-CoreBranch}
+use Rattle.core_meaning.specs.py_core.declared.stmt.CoreBlock.{CoreBlock}
+use Rattle.core_meaning.specs.py_core.Blocks.{stmts_in, explains_in, handlers_in, handlers_source, other_in, last_in}
+use Rattle.core_meaning.specs.py_core.declared.stmt.CoreStmtKind.TheVariants as k
 use Rattle.py_tree.specs.declared.stmt.Function as f_tree
 use Rattle.lower_law.specs.Sourced.{function_in, module_of, sources_in}
 use Rattle.source_meaning.specs.Requests as s

@@ -2,11 +2,11 @@
 use Rattle.std.specs.Prelude.{List, Bool}
 use Rattle.py_tree.specs.declared.stmt.Function as f
 use Rattle.py_tree.specs.Statements.{Statement, NoStatement, block, block_on, parameters}
-use Rattle.py_core.specs.Blocks.{source_in, explains_in}
-use Rattle.py_core.specs.declared.stmt.Core.{Core}
-use Rattle.py_core.specs.declared.stmt.CoreBlock.{CoreBlock}
-use Rattle.py_core.specs.declared.stmt.CoreFn as fn
-use Rattle.py_core.specs.declared.stmt.CoreFn.{CoreFn}
+use Rattle.core_meaning.specs.py_core.Blocks.{source_in, explains_in}
+use Rattle.core_meaning.specs.py_core.declared.stmt.Core.{Core}
+use Rattle.core_meaning.specs.py_core.declared.stmt.CoreBlock.{CoreBlock}
+use Rattle.core_meaning.specs.py_core.declared.stmt.CoreFn as fn
+use Rattle.core_meaning.specs.py_core.declared.stmt.CoreFn.{CoreFn}
 use Rattle.source_meaning.specs.Requests.{Script, Function}
 use Rattle.source_meaning.specs.Statements.{function, script, listed}
 

@@ -1,20 +1,20 @@
 -- THE VIEW of a world of core code: the world of the sources that its code carries. And which worlds are sound.
 use Rattle.std.specs.Prelude.{List, map, drop, Option, Some, None}
-use Rattle.py_core.specs.Blocks.{explains_in, other_in, last_in, handlers_source}
+use Rattle.core_meaning.specs.py_core.Blocks.{explains_in, other_in, last_in, handlers_source}
 use Rattle.py_tree.specs.Statements.{handlers, takers}
-use Rattle.py_core.specs.declared.stmt.Core.{Core}
-use Rattle.py_core.specs.declared.stmt.CoreFn.{CoreFn}
-use Rattle.py_core.specs.declared.stmt.CoreUse.{CoreUse}
-use Rattle.py_core.specs.declared.stmt.CoreUse.TheVariants as taken
+use Rattle.core_meaning.specs.py_core.declared.stmt.Core.{Core}
+use Rattle.core_meaning.specs.py_core.declared.stmt.CoreFn.{CoreFn}
+use Rattle.core_meaning.specs.py_core.declared.stmt.CoreUse.{CoreUse}
+use Rattle.core_meaning.specs.py_core.declared.stmt.CoreUse.TheVariants as taken
 use Rattle.source_meaning.specs.Requests as s
 use Rattle.source_meaning.specs.Requests.{source_kinds, Script, Function}
 use Rattle.source_meaning.specs.Meaning.{SourceWorld}
 use Rattle.core_meaning.specs.Requests as c
 use Rattle.core_meaning.specs.Requests.{core_kinds}
 use Rattle.core_meaning.specs.Meaning.{CoreWorld}
-use Rattle.py_world.specs.World.{Source, Coded, Code, Fault, Stored, Frozen}
-use Rattle.py_world.specs.Runs.{Told}
-use Rattle.py_world.specs.Resuming.{ToldBegun}
+use Rattle.source_meaning.specs.py_world.World.{Source, Coded, Code, Fault, Stored, Frozen}
+use Rattle.source_meaning.specs.py_world.Runs.{Told}
+use Rattle.source_meaning.specs.py_world.Resuming.{ToldBegun}
 use Rattle.lower_law.specs.Law.{LoweredWorld}
 use Rattle.lower_law.specs.Sourced.{source_of, module_of, sources_in}
 

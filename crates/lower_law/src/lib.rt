@@ -17,7 +17,7 @@ ghost use Rattle.source_meaning.specs.Meaning.{source, source_call, source_modul
 ghost use Rattle.core_meaning.specs.Meaning.{CoreWorld, core, core_call, core_module, core_begin, core_resume};
 ghost use Rattle.lower_law.specs.Law.{call_tape};
 ghost use Rattle.lower_law.specs.View.{Sound, source_view, view_told, view_begun};
-ghost use Rattle.py_world.specs.Resuming.{Sent, abandon_of};
+ghost use Rattle.source_meaning.specs.py_world.Resuming.{Sent, abandon_of};
 
 /// In a world in which each core code stands for the source that it carries, a call and a load of a module do what the sources
 /// say, with every budget: the same value or exception with the same trace, the same steps, or exhausted at the same step with the

@@ -9,24 +9,24 @@ use Rattle.call_products.specs.Products.{product_within}
 use Rattle.call_products.specs.declared.product.Product.{Product}
 use Rattle.py_calls.specs.Called.{Called}
 use Rattle.py_calls.specs.Calls.{printed_within}
-use Rattle.py_world.specs.declared.trace.TraceFrame.{TraceFrame}
-use Rattle.py_world.specs.World.{with_objects, with_print, with_world, world_with_printed}
-use Rattle.py_world.specs.Outcome.{call_end, made, product_end, raised, spent}
+use Rattle.machine_state.specs.py_world.declared.trace.TraceFrame.{TraceFrame}
+use Rattle.machine_state.specs.py_world.World.{with_objects, with_print, with_world, world_with_printed}
+use Rattle.machine_state.specs.py_world.Outcome.{call_end, made, product_end, raised, spent}
 use Rattle.py_values.specs.declared.end.Raise.{Raise}
 use Rattle.py_values.specs.declared.value.Value.{Value}
-use Rattle.py_core.specs.declared.stmt.CoreFn.{CoreFn}
+use Rattle.machine_state.specs.py_core.declared.stmt.CoreFn.{CoreFn}
 use Rattle.py_values.specs.declared.object.FunctionObj.{FunctionObj}
-use Rattle.py_world.specs.World.{Stored, Locals}
-use Rattle.py_world.specs.Calls.{arguments_for, builtin_called, entered, function_called, function_with, mark_or}
+use Rattle.machine_state.specs.py_world.World.{Stored, Locals}
+use Rattle.machine_state.specs.py_world.Calls.{arguments_for, builtin_called, entered, function_called, function_with, mark_or}
 use Rattle.std.specs.Prelude.{Result, slice_get}
 use Rattle.machine_call.specs.Depth.{code_called}
 use Rattle.machine_call.specs.Products.{product_called, uncalled, uncalled_or}
 use Rattle.machine_call.specs.declared.objects.CodeCall.{CodeCall}
 use Rattle.machine_call.specs.Called.{call_by, code_call, function_or}
-use Rattle.core_meaning.specs.Meaning.{CoreWorld}
-use Rattle.core_meaning.specs.Statements.{entry}
-use Rattle.py_world.specs.Arguments.{Arguments, with_plain}
-use Rattle.py_world.specs.Site.{Around}
+use Rattle.machine_state.specs.core_meaning.Meaning.{CoreWorld}
+use Rattle.machine_state.specs.core_meaning.Statements.{entry}
+use Rattle.machine_state.specs.py_world.Arguments.{Arguments, with_plain}
+use Rattle.machine_state.specs.py_world.Site.{Around}
 use Rattle.machine_state.specs.declared.machine.Machine.{Machine}
 use Rattle.machine_state.specs.declared.machine.Origin.{Origin}
 use Rattle.machine_state.specs.declared.machine.Origin.TheVariants as origin

@@ -13,13 +13,13 @@ use Rattle.py_values.specs.declared.object.Obj.TheVariants as obj
 use Rattle.py_values.specs.declared.value.ObjId.{ObjId}
 use Rattle.py_values.specs.declared.value.Value.{Value}
 use Rattle.py_values.specs.declared.value.Value.TheVariants as val
-use Rattle.py_world.specs.World.{heap_of, with_heap}
-use Rattle.py_world.specs.Arguments.{Arguments}
-use Rattle.py_world.specs.Site.{Around}
-use Rattle.py_world.specs.Outcome.{CallOf, Gave, Next, Returned, Broke, Continued, Raised, call_end, gave_in, raised, spent}
+use Rattle.machine_state.specs.py_world.World.{heap_of, with_heap}
+use Rattle.machine_state.specs.py_world.Arguments.{Arguments}
+use Rattle.machine_state.specs.py_world.Site.{Around}
+use Rattle.machine_state.specs.py_world.Outcome.{CallOf, Gave, Next, Returned, Broke, Continued, Raised, call_end, gave_in, raised, spent}
 use Rattle.py_kinds.specs.Classes.{is_exc_class}
-use Rattle.py_world.specs.Calls.{called_or, class_called, class_or, class_takes, function_with, init_called, init_end, init_object, init_of, instance_made, invoke, new_instance, not_callable, wrong_arguments}
-use Rattle.core_meaning.specs.Statements.{entry}
+use Rattle.machine_state.specs.py_world.Calls.{called_or, class_called, class_or, class_takes, function_with, init_called, init_end, init_object, init_of, instance_made, invoke, new_instance, not_callable, wrong_arguments}
+use Rattle.machine_state.specs.core_meaning.Statements.{entry}
 use Rattle.machine_state.specs.declared.frame.Frame.TheVariants.{New}
 use Rattle.machine_state.specs.declared.machine.Machine.{Machine}
 use Rattle.machine_state.specs.declared.machine.Origin.{Origin}

@@ -2,15 +2,15 @@
 use Rattle.std.proofs.Common.{◌≡◌, ◌∙◌, ℕ, List, [], ◌∷◌, Some, None, refl, ap}
 use Rattle.std.specs.declared.alloc.Global.{Global}
 use Rattle.std.specs.declared.rc.Rc.{Rc}
-use Rattle.py_core.specs.declared.stmt.CoreFn.{CoreFn}
-use Rattle.py_core.specs.declared.stmt.CoreBlock.{CoreBlock}
+use Rattle.machine_state.specs.py_core.declared.stmt.CoreFn.{CoreFn}
+use Rattle.machine_state.specs.py_core.declared.stmt.CoreBlock.{CoreBlock}
 use Rattle.py_values.specs.declared.value.Value.{Value}
-use Rattle.py_world.specs.World.{Stored, state}
-use Rattle.py_world.specs.Site.{Scene, trace_of}
-use Rattle.py_world.specs.Outcome.{Gave, Next, Returned, Broke, Continued, Raised, call_end}
-use Rattle.py_world.specs.Calls.{scene_of}
-use Rattle.core_meaning.specs.Meaning.{CoreWorld}
-use Rattle.core_meaning.specs.Statements.{CoreBody, block, entry}
+use Rattle.machine_state.specs.py_world.World.{Stored, state}
+use Rattle.machine_state.specs.py_world.Site.{Scene, trace_of}
+use Rattle.machine_state.specs.py_world.Outcome.{Gave, Next, Returned, Broke, Continued, Raised, call_end}
+use Rattle.machine_state.specs.py_world.Calls.{scene_of}
+use Rattle.machine_state.specs.core_meaning.Meaning.{CoreWorld}
+use Rattle.machine_state.specs.core_meaning.Statements.{CoreBody, block, entry}
 use Rattle.machine_state.specs.declared.machine.Machine.{Machine}
 use Rattle.machine_state.specs.declared.machine.Origin.TheVariants.{Runner}
 use Rattle.machine_state.specs.declared.place.Here.{Here}

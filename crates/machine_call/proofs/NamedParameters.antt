@@ -6,9 +6,9 @@ use Rattle.std.specs.Prelude.{slice_get}
 use Rattle.py_values.specs.declared.rows.Param.{Param}
 use Rattle.py_values.specs.declared.value.Value.{Value}
 use Rattle.py_values.specs.Names.{bind_name, find_name}
-use Rattle.py_world.specs.World.{Locals}
-use Rattle.py_world.specs.Arguments.{fitted}
-use Rattle.py_world.specs.Calls.{nothing_named}
+use Rattle.machine_state.specs.py_world.World.{Locals}
+use Rattle.machine_state.specs.py_world.Arguments.{fitted}
+use Rattle.machine_state.specs.py_world.Calls.{nothing_named}
 use Rattle.machine_call.specs.Given.{given_at, named_at}
 
 -- the first of what is left of the arguments by position: that at a place, or none

@@ -9,13 +9,13 @@ use Rattle.py_values.specs.declared.object.FunctionObj.{FunctionObj}
 use Rattle.py_values.specs.declared.object.Obj.{Obj}
 use Rattle.py_values.specs.declared.object.Obj.TheVariants as obj
 use Rattle.py_values.specs.declared.value.Value.{Value}
-use Rattle.py_world.specs.Arguments.{Arguments}
-use Rattle.py_world.specs.Site.{Around}
-use Rattle.py_world.specs.Outcome.{CallOf, call_end, gave_in, raised, spent}
-use Rattle.py_world.specs.Calls.{arguments_for, called_or, function_called, init_called, init_end, not_callable, wrong_arguments}
-use Rattle.py_world.specs.World.{with_heap}
+use Rattle.machine_state.specs.py_world.Arguments.{Arguments}
+use Rattle.machine_state.specs.py_world.Site.{Around}
+use Rattle.machine_state.specs.py_world.Outcome.{CallOf, call_end, gave_in, raised, spent}
+use Rattle.machine_state.specs.py_world.Calls.{arguments_for, called_or, function_called, init_called, init_end, not_callable, wrong_arguments}
+use Rattle.machine_state.specs.py_world.World.{with_heap}
 use Rattle.py_kinds.specs.Kinds.{kind_name}
-use Rattle.core_meaning.specs.Statements.{entry}
+use Rattle.machine_state.specs.core_meaning.Statements.{entry}
 use Rattle.machine_state.specs.declared.machine.Machine.{Machine}
 use Rattle.machine_state.specs.declared.machine.Origin.{Origin}
 use Rattle.machine_state.specs.Places.{CoreRest, CoreState, CoreThen, ends}

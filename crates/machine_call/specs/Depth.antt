@@ -1,12 +1,12 @@
 -- How many functions are open around a call, and calls of functions of the sources.
 use Rattle.std.specs.Prelude.{◌≡◌, ℕ, Option, Some, None, Result}
-use Rattle.py_core.specs.declared.stmt.CoreFn.{CoreFn}
+use Rattle.machine_state.specs.py_core.declared.stmt.CoreFn.{CoreFn}
 use Rattle.py_values.specs.declared.end.Raise.{Raise}
-use Rattle.py_world.specs.World.{Stored, Locals}
-use Rattle.py_world.specs.Site.{Around}
-use Rattle.py_world.specs.Outcome.{raised}
-use Rattle.py_world.specs.Calls.{entered}
-use Rattle.core_meaning.specs.Statements.{entry}
+use Rattle.machine_state.specs.py_world.World.{Stored, Locals}
+use Rattle.machine_state.specs.py_world.Site.{Around}
+use Rattle.machine_state.specs.py_world.Outcome.{raised}
+use Rattle.machine_state.specs.py_world.Calls.{entered}
+use Rattle.machine_state.specs.core_meaning.Statements.{entry}
 use Rattle.machine_state.specs.declared.machine.Machine.{Machine}
 use Rattle.machine_state.specs.declared.machine.Origin.{Origin}
 use Rattle.machine_state.specs.declared.machine.Origin.TheVariants as origin

@@ -3,7 +3,7 @@ use Rattle.std.specs.Prelude.{Option, Some, None}
 use Rattle.py_values.specs.declared.rows.Param.{Param}
 use Rattle.py_values.specs.declared.value.Value.{Value}
 use Rattle.py_values.specs.Names.{find_name, unbind_name}
-use Rattle.py_world.specs.World.{Locals}
+use Rattle.machine_state.specs.py_world.World.{Locals}
 
 -- the argument by name where there is one, which is used up, or else the default
 abbrev pub named_at : Option Value → Param → Locals → Option Value × Locals

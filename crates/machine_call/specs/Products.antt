@@ -4,8 +4,8 @@ use Rattle.run_tree.specs.Todo.{spend_all}
 use Rattle.call_products.specs.declared.product.Product.{Product}
 use Rattle.py_values.specs.Ends.{cost_of}
 use Rattle.py_values.specs.declared.end.Raise.{Raise}
-use Rattle.py_world.specs.Site.{Around}
-use Rattle.py_world.specs.Outcome.{product_end, raised, spent}
+use Rattle.machine_state.specs.py_world.Site.{Around}
+use Rattle.machine_state.specs.py_world.Outcome.{product_end, raised, spent}
 use Rattle.machine_state.specs.Places.{CoreRest, CoreState, CoreThen}
 
 -- what a call makes, behind its cost

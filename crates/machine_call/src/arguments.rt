@@ -1,8 +1,8 @@
 // The arguments of calls.
 
 ghost use Rattle.std.specs.Prelude.{◌≡◌, [], ◌∷◌, IfOk, slice_get};
-ghost use Rattle.py_world.specs.Arguments.{fitted, with_plain};
-ghost use Rattle.py_world.specs.Calls as world;
+ghost use Rattle.machine_state.specs.py_world.Arguments.{fitted, with_plain};
+ghost use Rattle.machine_state.specs.py_world.Calls as world;
 ghost use Rattle.machine_state.specs.Places.{arguments_in};
 ghost use Rattle.machine_call.specs.Given.{given_at};
 

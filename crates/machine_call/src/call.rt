@@ -1,11 +1,11 @@
 // Calls.
 
 ghost use Rattle.std.specs.Prelude.{◌≡◌, ◌≤◌, ℕ, IfOk};
-ghost use Rattle.py_world.specs.Calls as world;
-ghost use Rattle.py_world.specs.Calls.{init_end};
-ghost use Rattle.py_world.specs.Expressions as expression;
-ghost use Rattle.py_world.specs.Outcome.{call_end};
-ghost use Rattle.core_meaning.specs.Statements.{entry};
+ghost use Rattle.machine_state.specs.py_world.Calls as world;
+ghost use Rattle.machine_state.specs.py_world.Calls.{init_end};
+ghost use Rattle.machine_state.specs.py_world.Expressions as expression;
+ghost use Rattle.machine_state.specs.py_world.Outcome.{call_end};
+ghost use Rattle.machine_state.specs.core_meaning.Statements.{entry};
 ghost use Rattle.machine_state.specs.declared.machine.Machine.{Machine};
 ghost use Rattle.machine_state.specs.Places.{arguments_in, outcome};
 ghost use Rattle.machine_state.specs.Frames.{after, around_by, on_caller, here_from, rest_of, site_now, state_of, todo, todo_entry, Follows};

@@ -3,9 +3,9 @@
 ghost use Rattle.std.specs.Prelude.{◌≡◌, ◌≤◌, IfOk, is_some, option_copied, slice_get};
 ghost use Rattle.py_kinds.specs.Kinds.{kind_name};
 ghost use Rattle.py_values.specs.declared.value.Value.TheVariants as val;
-ghost use Rattle.py_world.specs.Calls as world;
-ghost use Rattle.py_world.specs.World.{with_heap};
-ghost use Rattle.core_meaning.specs.Statements.{entry};
+ghost use Rattle.machine_state.specs.py_world.Calls as world;
+ghost use Rattle.machine_state.specs.py_world.World.{with_heap};
+ghost use Rattle.machine_state.specs.core_meaning.Statements.{entry};
 ghost use Rattle.machine_state.specs.Places.{arguments_in};
 ghost use Rattle.machine_state.specs.Frames.{around_by, rest_of, state_of, todo};
 ghost use Rattle.machine_call.specs.Depth.{Ready};

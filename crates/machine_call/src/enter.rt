@@ -2,11 +2,11 @@
 
 ghost use Rattle.std.specs.Prelude.{◌≡◌, ◌≤◌, [], Some, Ok, IfOk, slice_get, MatchOption, nat_lt, true, false};
 ghost use Rattle.py_kinds.specs.Kinds.{kind_name};
-ghost use Rattle.py_world.specs.Calls as world;
-ghost use Rattle.py_world.specs.Outcome.{call_end, raised};
-ghost use Rattle.py_world.specs.Site.{trace_of};
-ghost use Rattle.py_world.specs.World.{state};
-ghost use Rattle.core_meaning.specs.Statements.{entry};
+ghost use Rattle.machine_state.specs.py_world.Calls as world;
+ghost use Rattle.machine_state.specs.py_world.Outcome.{call_end, raised};
+ghost use Rattle.machine_state.specs.py_world.Site.{trace_of};
+ghost use Rattle.machine_state.specs.py_world.World.{state};
+ghost use Rattle.machine_state.specs.core_meaning.Statements.{entry};
 ghost use Rattle.machine_state.specs.Frames.{around_by, handling_of, rest_of, site_now, state_of, todo, world_of, Follows};
 ghost use Rattle.machine_call.specs.Depth.{code_called, depth_by, Ready};
 

@@ -13,14 +13,14 @@ use Rattle.py_values.specs.declared.object.Obj.{Obj}
 use Rattle.py_values.specs.declared.value.ObjId.{ObjId}
 use Rattle.py_values.specs.declared.value.Value.{Value}
 use Rattle.py_values.specs.declared.value.Value.TheVariants as val
-use Rattle.py_world.specs.Definitions.{based_on, class_made, define_as, source_class}
-use Rattle.py_world.specs.Exceptions.{no_exception}
-use Rattle.py_world.specs.Expressions.{arguments}
-use Rattle.py_world.specs.Outcome.{call_end, on_value, raised_at}
-use Rattle.py_world.specs.Site.{Site, trace_of}
-use Rattle.py_world.specs.World.{state, world_with_heap}
-use Rattle.core_meaning.specs.Expressions.{CorePart, parts_of}
-use Rattle.core_meaning.specs.Statements.{block, define_class}
+use Rattle.machine_state.specs.py_world.Definitions.{based_on, class_made, define_as, source_class}
+use Rattle.machine_state.specs.py_world.Exceptions.{no_exception}
+use Rattle.machine_state.specs.py_world.Expressions.{arguments}
+use Rattle.machine_state.specs.py_world.Outcome.{call_end, on_value, raised_at}
+use Rattle.machine_state.specs.py_world.Site.{Site, trace_of}
+use Rattle.machine_state.specs.py_world.World.{state, world_with_heap}
+use Rattle.machine_state.specs.core_meaning.Expressions.{CorePart, parts_of}
+use Rattle.machine_state.specs.core_meaning.Statements.{block, define_class}
 use Rattle.machine_state.specs.declared.machine.Machine.{Machine}
 use Rattle.machine_state.specs.declared.place.Place.{Place}
 use Rattle.machine_state.specs.declared.place.Place.TheVariants.{Class}

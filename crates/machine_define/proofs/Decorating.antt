@@ -3,12 +3,12 @@ use Rattle.std.proofs.Common.{◌≡◌, ◌∙◌, ℕ, List, [], ◌∷◌, Op
 use Rattle.std.specs.Prelude.{reverse}
 use Rattle.py_values.specs.declared.object.Obj.{Obj}
 use Rattle.py_values.specs.declared.value.Value.{Value}
-use Rattle.py_world.specs.Definitions.{Decoration, Replaced, Marked, Same, Refused, bad_decorator, decorated, decorated_by, decoration, define_as}
-use Rattle.py_world.specs.Names.{bound}
-use Rattle.py_world.specs.Outcome.{Gave, Next, on_value, raised_at}
-use Rattle.py_world.specs.Site.{Site}
-use Rattle.py_world.specs.Targets.{store_name}
-use Rattle.py_world.specs.World.{heap_of, with_heap}
+use Rattle.machine_state.specs.py_world.Definitions.{Decoration, Replaced, Marked, Same, Refused, bad_decorator, decorated, decorated_by, decoration, define_as}
+use Rattle.machine_state.specs.py_world.Names.{bound}
+use Rattle.machine_state.specs.py_world.Outcome.{Gave, Next, on_value, raised_at}
+use Rattle.machine_state.specs.py_world.Site.{Site}
+use Rattle.machine_state.specs.py_world.Targets.{store_name}
+use Rattle.machine_state.specs.py_world.World.{heap_of, with_heap}
 use Rattle.machine_state.specs.Places.{CoreOutcome, CoreState, CoreThen}
 use Rattle.machine_decorate.specs.Decorations.{all_told, decorated_told, told_on}
 

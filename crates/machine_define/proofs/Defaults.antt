@@ -5,8 +5,8 @@ use Rattle.std.proofs.lemmas.List.{append-nil}
 use Rattle.py_core.specs.declared.stmt.CoreParam.{CoreParam}
 use Rattle.py_values.specs.declared.rows.Param.{Param}
 use Rattle.py_values.specs.declared.value.Value.{Value}
-use Rattle.py_world.specs.Definitions.{with_defaults}
-use Rattle.core_meaning.specs.Statements.{written}
+use Rattle.machine_state.specs.py_world.Definitions.{with_defaults}
+use Rattle.machine_state.specs.core_meaning.Statements.{written}
 use Rattle.machine_expr.proofs.Parts.{drop_some}
 use Rattle.machine_define.specs.Defaults.{takes_default}
 

@@ -12,12 +12,12 @@ use Rattle.py_values.specs.declared.object.Obj.{Obj}
 use Rattle.py_values.specs.declared.rows.Param.{Param}
 use Rattle.py_values.specs.declared.value.Value.{Value}
 use Rattle.py_values.specs.declared.value.Value.TheVariants as val
-use Rattle.py_world.specs.Definitions.{define_as, function_made, function_object, stored, with_defaults}
-use Rattle.py_world.specs.Expressions.{arguments}
-use Rattle.py_world.specs.Site.{Site}
-use Rattle.py_world.specs.World.{Stored, state}
-use Rattle.core_meaning.specs.Expressions.{CorePart, eval, parts_of}
-use Rattle.core_meaning.specs.Statements.{define_fn, written}
+use Rattle.machine_state.specs.py_world.Definitions.{define_as, function_made, function_object, stored, with_defaults}
+use Rattle.machine_state.specs.py_world.Expressions.{arguments}
+use Rattle.machine_state.specs.py_world.Site.{Site}
+use Rattle.machine_state.specs.py_world.World.{Stored, state}
+use Rattle.machine_state.specs.core_meaning.Expressions.{CorePart, eval, parts_of}
+use Rattle.machine_state.specs.core_meaning.Statements.{define_fn, written}
 use Rattle.machine_state.specs.declared.machine.Machine.{Machine}
 use Rattle.machine_state.specs.Definings.{fn_behind, fn_made}
 use Rattle.machine_state.specs.Places.{CoreRest, CoreState, CoreThen, parts_from}

@@ -1,7 +1,7 @@
 -- The defaults of parameters, one after another.
 use Rattle.std.specs.Prelude.{ℕ, Bool, List, ◌∷◌, ◌≡◌, drop, Option}
 use Rattle.py_values.specs.declared.value.Value.{Value}
-use Rattle.py_world.specs.Definitions.{Written, with_defaults}
+use Rattle.machine_state.specs.py_world.Definitions.{Written, with_defaults}
 
 -- a parameter has this default among the values from a place on, and those behind it go on from the next place
 abbrev pub takes_default : Bool → List Value → ℕ → Option Value → ℕ → Type 0

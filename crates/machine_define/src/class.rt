@@ -2,11 +2,11 @@
 
 ghost use Rattle.std.specs.Prelude.{◌≡◌, ◌+◌, ◌<◌, ◌≤◌, IfOk, length};
 ghost use Rattle.py_core.specs.declared.stmt.CoreClass.{out-CoreClass};
-ghost use Rattle.py_world.specs.Definitions as world;
+ghost use Rattle.machine_state.specs.py_world.Definitions as world;
 ghost use Rattle.py_kinds.specs.Classes.{is_exc_class};
-ghost use Rattle.py_world.specs.Expressions as expressions;
-ghost use Rattle.core_meaning.specs.Expressions.{parts_of};
-ghost use Rattle.core_meaning.specs.Statements as meaning;
+ghost use Rattle.machine_state.specs.py_world.Expressions as expressions;
+ghost use Rattle.machine_state.specs.core_meaning.Expressions.{parts_of};
+ghost use Rattle.machine_state.specs.core_meaning.Statements as meaning;
 ghost use Rattle.machine_define.specs.Bases.{base_found};
 ghost use Rattle.machine_state.specs.Definings.{core_class_behind, core_class_made};
 ghost use Rattle.machine_state.specs.Frames.{rest_of, site_now, state_of, todo};

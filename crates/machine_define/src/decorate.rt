@@ -1,14 +1,14 @@
 // What is defined is decorated and bound.
 
 ghost use Rattle.std.specs.Prelude.{◌≡◌, IfOk};
-ghost use Rattle.py_world.specs.Definitions as world;
-ghost use Rattle.py_world.specs.Outcome.{raised_at};
+ghost use Rattle.machine_state.specs.py_world.Definitions as world;
+ghost use Rattle.machine_state.specs.py_world.Outcome.{raised_at};
 ghost use Rattle.machine_state.specs.Frames.{rest_of, site_now, state_of, todo};
 ghost use Rattle.machine_state.specs.Work.{doing_work};
 
 use machine_decorate::decorate::decorate_all;
 use machine_state::machine::{Doing, Machine, Origin};
-use machine_store::names::store;
+use machine_unwind::store;
 use py_core::SrcText;
 use py_text::OutOfMemory;
 use py_values::class::ExcClass;

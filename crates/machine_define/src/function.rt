@@ -1,11 +1,11 @@
 // Functions are defined (Language Reference, function definitions).
 
 ghost use Rattle.std.specs.Prelude.{◌≡◌, ◌+◌, ◌≤◌, IfOk, length};
-ghost use Rattle.py_world.specs.Definitions as world;
-ghost use Rattle.py_world.specs.Expressions as expressions;
+ghost use Rattle.machine_state.specs.py_world.Definitions as world;
+ghost use Rattle.machine_state.specs.py_world.Expressions as expressions;
 ghost use Rattle.py_core.specs.declared.stmt.CoreFn.{out-CoreFn};
-ghost use Rattle.core_meaning.specs.Expressions.{parts_of};
-ghost use Rattle.core_meaning.specs.Statements as meaning;
+ghost use Rattle.machine_state.specs.core_meaning.Expressions.{parts_of};
+ghost use Rattle.machine_state.specs.core_meaning.Statements as meaning;
 ghost use Rattle.machine_state.specs.Definings.{fn_behind, fn_made};
 ghost use Rattle.machine_state.specs.Frames.{rest_of, site_now, state_of, todo};
 ghost use Rattle.machine_state.specs.Places.{own_in, parts_from};

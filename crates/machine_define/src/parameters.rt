@@ -1,8 +1,8 @@
 // The parameters of a definition.
 
 ghost use Rattle.std.specs.Prelude.{◌≡◌, IfOk};
-ghost use Rattle.py_world.specs.Definitions.{with_defaults};
-ghost use Rattle.core_meaning.specs.Statements.{written};
+ghost use Rattle.machine_state.specs.py_world.Definitions.{with_defaults};
+ghost use Rattle.machine_state.specs.core_meaning.Statements.{written};
 ghost use Rattle.machine_define.specs.Defaults.{takes_default};
 
 use py_core::CoreParam;

@@ -1,7 +1,7 @@
 // A definition goes on behind its parts.
 
 ghost use Rattle.std.specs.Prelude.{◌≡◌, ◌+◌, ◌<◌, IfOk};
-ghost use Rattle.py_world.specs.Outcome.{on_value};
+ghost use Rattle.machine_state.specs.py_world.Outcome.{on_value};
 ghost use Rattle.machine_state.specs.Definings.{on_define};
 ghost use Rattle.machine_state.specs.Frames.{rest_of, site_now, state_of, todo};
 ghost use Rattle.machine_state.specs.Places.{outcome};

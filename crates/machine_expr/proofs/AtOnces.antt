@@ -1,5 +1,6 @@
 -- Values that are there at once.
-use Rattle.std.proofs.Common.{◌≡◌, ◌≢◌, ◌≤◌, ◌-◌, ◌∙◌, ℕ, ℤ, suc, List, [], ◌∷◌, map, Option, Some, None, Bool, true, false, IfSome, refl, sym, ap, subst, arith, drop, get_or, length, ◌<◌}
+use Rattle.std.proofs.Common.{◌≡◌, ◌≢◌, ◌≤◌, ◌-◌, ◌∙◌, ℕ, ℤ, suc, List, [], ◌∷◌, map, Option, Some, None, Bool, true, false, IfSome, refl, sym, ap, subst, arith, drop, get_or, length, ◌<◌, nat_lt, if◌then◌else◌}
+use Rattle.std.proofs.lemmas.Grind.{common_steps}
 use Rattle.std.specs.Prelude.{not}
 use Rattle.std.specs.declared.alloc.Global.{Global}
 use Rattle.std.specs.declared.rc.Rc.{Rc}
@@ -15,18 +16,18 @@ use Rattle.py_values.specs.declared.end.Made.{Made}
 use Rattle.py_values.specs.declared.end.Made.TheVariants.{Give}
 use Rattle.py_values.specs.declared.value.Value.{Value}
 use Rattle.py_values.specs.declared.value.Value.TheVariants as val
-use Rattle.py_values.specs.Ends.{within}
+use Rattle.py_values.specs.Ends.{within, cost_of}
 use Rattle.py_kinds.specs.Truth.{truth}
 use Rattle.py_ops.specs.Binary.{binary_of}
 use Rattle.py_ops.specs.Compare.{compare_of}
 use Rattle.py_ops.specs.Unary.{unary_of}
-use Rattle.py_world.specs.Site.{trace_of}
-use Rattle.py_world.specs.Names.{named}
-use Rattle.py_world.specs.Outcome.{Gave, made, on_value, operated}
-use Rattle.py_world.specs.World.{temp}
-use Rattle.py_world.specs.Arguments.{Arguments}
-use Rattle.py_world.specs.Expressions.{call_on, call_part, noted, name_part, constant, unary_part, binary_part, compare_part, compare_on, not_part, temp_part, temp_found, right_operand}
-use Rattle.core_meaning.specs.Expressions.{CorePart, eval, eval_at}
+use Rattle.machine_state.specs.py_world.Site.{trace_of}
+use Rattle.machine_state.specs.py_world.Names.{named}
+use Rattle.machine_state.specs.py_world.Outcome.{Gave, made, on_value, operated}
+use Rattle.machine_state.specs.py_world.World.{temp}
+use Rattle.machine_state.specs.py_world.Arguments.{Arguments}
+use Rattle.machine_state.specs.py_world.Expressions.{call_on, call_part, noted, name_part, constant, unary_part, binary_part, compare_part, compare_on, not_part, temp_part, temp_found, right_operand}
+use Rattle.machine_state.specs.core_meaning.Expressions.{CorePart, eval, eval_at}
 use Rattle.machine_state.specs.declared.machine.Machine.{Machine}
 use Rattle.machine_state.specs.Places.{CoreThen, ends, parts_from}
 use Rattle.machine_state.specs.Frames.{rest_of, site_now, state_of}
@@ -44,6 +45,16 @@ given v c left rest h =
       goes_on = λ m e p s k. paid left m (Give v c) (trace_of p) s k e ∙ ap (λ (n : ℕ). ends n (k (Gave v s))) (sym h);
     }
 
+-- what costs nothing is within any budget
+free_by : (b : Bool) (n : ℕ) (what : Made) → (b ≡ true → n < cost_of what) → cost_of what ≡ 0 → Some what ≡ (if b then None else Some what)
+free_by true n what g h = let short : n < cost_of what = g refl in absurd (omega arith)
+free_by false n what g h = refl
+
+free : (n : ℕ) (what : Made) → cost_of what ≡ 0 → Some what ≡ within n what
+free n what h =
+    let g : nat_lt n (cost_of what) ≡ true → n < cost_of what = λ e. grind (arith, common_steps) in
+    free_by (nat_lt n (cost_of what)) n what g h
+
 module _ (m : Machine) where
   operated_one : (made : Option Made) (what : Made) (left : ℕ) (d : Immediate) → IsGiven made (left - 1) d → made ≡ within (left - 1) what → left ≢ 0 → IsImmediate (operated what) left d m
   operated_one made what left d h e n =
@@ -58,9 +69,16 @@ module _ (m : Machine) where
   operated_now made what left None h e n = tt
   operated_now made what left (Some d) h e n = operated_one made what left d h e n
 
+  -- what is told at once costs the operator's own step alone
+  pub told_now : (what : Made) (v : Value) (left : ℕ) → what ≡ Give v 0 → left ≢ 0 → IsImmediate (operated what) left (ended_at v (left - 1)) m
+  told_now what v left h n = operated_one (Some (Give v 0)) what left (ended_at v (left - 1)) (given v 0 (left - 1) (left - 1) (omega arith)) (ap Some (sym h) ∙ free (left - 1) what (ap cost_of h)) n
+
   -- parts without parts
-  pub name_now : (name : List ℕ) (v : Value) (c left : ℕ) → Give v c ≡ named name (site_now m).scene m.locals m.heap → IsImmediate (name_part name) left (record { value = v; left = left }) m
-  name_now name v c left h = record { fewer = omega arith; goes_on = λ k. ap (λ (x : Made). ends left (k (made x (trace_of (site_now m)) (state_of m)))) (sym h) }
+  name_now : (name : List ℕ) (v : Value) (left : ℕ) → named name (site_now m).scene m.locals m.heap ≡ Give v 0 → IsImmediate (name_part name) left (ended_at v left) m
+  name_now name v left h = record { fewer = omega arith; goes_on = λ k. ap (λ (x : Made). ends left (k (made x (trace_of (site_now m)) (state_of m)))) h }
+
+  pub name_found : (name : List ℕ) (r : Option Value) (v : Value) (left : ℕ) → r ≡ Some v → IfSome r (λ x. named name (site_now m).scene m.locals m.heap ≡ Give x 0) → IsImmediate (name_part name) left (ended_at v left) m
+  name_found name r v left is h = name_now name v left (subst (λ (o : Option Value). IfSome o (λ x. named name (site_now m).scene m.locals m.heap ≡ Give x 0)) is h)
 
   constant_now : (v : Value) (left : ℕ) → IsImmediate (constant v) left (ended_at v left) m
   constant_now v left = record { fewer = omega arith; goes_on = λ k. refl }

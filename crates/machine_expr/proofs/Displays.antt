@@ -5,12 +5,12 @@ use Rattle.std.specs.declared.rc.Rc.{Rc}
 use Rattle.std.specs.declared.vec.Vec.{Vec}
 use Rattle.py_core.specs.declared.expr.CoreExpr.{CoreExpr}
 use Rattle.py_values.specs.declared.value.Value.{Value}
-use Rattle.py_world.specs.Displays.{displayed, dict_displayed, in_pairs}
-use Rattle.py_world.specs.Expressions.{arguments}
-use Rattle.py_world.specs.Outcome.{on_value, costing}
-use Rattle.py_world.specs.Site.{Site, trace_of}
-use Rattle.py_world.specs.World.{heap_of}
-use Rattle.core_meaning.specs.Expressions.{CorePart, eval}
+use Rattle.machine_state.specs.py_world.Displays.{displayed, dict_displayed, in_pairs}
+use Rattle.machine_state.specs.py_world.Expressions.{arguments}
+use Rattle.machine_state.specs.py_world.Outcome.{on_value, costing}
+use Rattle.machine_state.specs.py_world.Site.{Site, trace_of}
+use Rattle.machine_state.specs.py_world.World.{heap_of}
+use Rattle.machine_state.specs.core_meaning.Expressions.{CorePart, eval}
 use Rattle.machine_state.specs.declared.frame.Display.{Display}
 use Rattle.machine_state.specs.Places.{CoreRest, CoreState, CoreThen, parts_from}
 use Rattle.machine_state.specs.Frames.{display_of}

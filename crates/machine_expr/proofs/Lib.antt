@@ -7,3 +7,4 @@ pub mod AtOnces
 pub mod Noted
 pub mod Weights
 pub mod Shapes
+pub mod Numbers

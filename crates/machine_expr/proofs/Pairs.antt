@@ -7,8 +7,8 @@ use Rattle.std.specs.List.{sum_by}
 use Rattle.std.proofs.lemmas.List.{drop-map}
 use Rattle.std.proofs.lemmas.List.Sums.{sum_by-cons}
 use Rattle.py_core.specs.declared.expr.CoreExpr.{CoreExpr}
-use Rattle.py_world.specs.Displays.{in_pairs}
-use Rattle.core_meaning.specs.Expressions.{CorePart, eval}
+use Rattle.machine_state.specs.py_world.Displays.{in_pairs}
+use Rattle.machine_state.specs.core_meaning.Expressions.{CorePart, eval}
 use Rattle.machine_state.specs.Work.{weight, weight_from}
 use Rattle.machine_expr.specs.Parts.{IsNextPair, pairs_from, pairs_weight}
 

@@ -8,7 +8,7 @@ use Rattle.std.specs.List.{sum_by}
 use Rattle.std.proofs.lemmas.List.Sums.{sum_by-cons}
 use Rattle.py_core.specs.declared.expr.CoreExpr.{CoreExpr}
 use Rattle.py_tree.specs.declared.op.CmpOp.{CmpOp}
-use Rattle.core_meaning.specs.Expressions.{eval}
+use Rattle.machine_state.specs.core_meaning.Expressions.{eval}
 use Rattle.machine_state.specs.Work.{weight}
 use Rattle.machine_expr.specs.Parts.{IsNext, IsNextOp}
 

@@ -14,14 +14,14 @@ use Rattle.py_core.specs.declared.expr.CoreExprKind.TheVariants as v
 use Rattle.py_tree.specs.declared.op.BinOp.{BinOp}
 use Rattle.py_tree.specs.declared.op.CmpOp.{CmpOp}
 use Rattle.py_tree.specs.declared.op.UnOp.{UnOp}
-use Rattle.py_world.specs.Site.{Site}
+use Rattle.machine_state.specs.py_world.Site.{Site}
 use Rattle.py_tree.specs.declared.expr.ArgName.{ArgName}
-use Rattle.py_world.specs.Arguments.{arguments_of}
-use Rattle.py_world.specs.Attributes.{attribute_part}
-use Rattle.py_world.specs.Displays.{collected, displayed, dict_part, subscript_part, slice_part}
-use Rattle.py_world.specs.Expressions.{call_part, and_part, or_part, compare_part, unary_part, binary_part, choice_part, kept_part}
-use Rattle.core_meaning.specs.Expressions.{CorePart, eval, eval_at, parts}
-use Rattle.core_meaning.specs.Statements.{some_part}
+use Rattle.machine_state.specs.py_world.Arguments.{arguments_of}
+use Rattle.machine_state.specs.py_world.Attributes.{attribute_part}
+use Rattle.machine_state.specs.py_world.Displays.{collected, displayed, dict_part, subscript_part, slice_part}
+use Rattle.machine_state.specs.py_world.Expressions.{call_part, and_part, or_part, compare_part, unary_part, binary_part, choice_part, kept_part}
+use Rattle.machine_state.specs.core_meaning.Expressions.{CorePart, eval, eval_at, parts}
+use Rattle.machine_state.specs.core_meaning.Statements.{some_part}
 use Rattle.machine_state.specs.Places.{CoreState, CoreThen, parts_from}
 use Rattle.machine_state.specs.Work.{weight, weight_at, weights, weight_from, some_weight}
 use Rattle.machine_expr.specs.Noting.{with_note}

@@ -5,7 +5,7 @@ use Rattle.std.specs.List.{list_any}
 use Rattle.std.proofs.Math.ListN.{drop_of_length-le}
 use Rattle.py_tree.specs.declared.expr.ArgName.{ArgName}
 use Rattle.py_values.specs.declared.value.Value.{Value}
-use Rattle.py_world.specs.Arguments.{Arguments, arguments_of, plain, with_plain, with_named}
+use Rattle.machine_state.specs.py_world.Arguments.{Arguments, arguments_of, plain, with_plain, with_named}
 use Rattle.machine_expr.specs.Shapes.{joined_arguments, name_given, with_given}
 
 -- one argument before others

@@ -2,7 +2,7 @@
 use Rattle.std.proofs.Common.{◌≡◌, ◌<◌, ◌≤◌, ◌++◌, ℕ, zero, suc, List, [], ◌∷◌, length, Option, Some, None, refl, ap, arith}
 use Rattle.std.specs.Prelude.{slice_set}
 use Rattle.py_values.specs.declared.value.Value.{Value}
-use Rattle.py_world.specs.World.{set_at}
+use Rattle.machine_state.specs.py_world.World.{set_at}
 
 pub set_grown : (t : ℕ) (v : Value) (xs : List (Option Value)) → length xs ≤ t → set_at t v (xs ++ None ∷ []) ≡ set_at t v xs
 set_grown zero v [] h = refl

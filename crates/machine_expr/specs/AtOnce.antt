@@ -3,9 +3,9 @@ use Rattle.std.specs.Prelude.{ℕ, suc, ◌≤◌, ◌≡◌, Option}
 use Rattle.py_values.specs.declared.end.Made.{Made}
 use Rattle.py_values.specs.declared.value.Value.{Value}
 use Rattle.py_values.specs.Ends.{within}
-use Rattle.py_world.specs.Site.{Site}
-use Rattle.py_world.specs.Outcome.{Gave, operated}
-use Rattle.core_meaning.specs.Expressions.{CorePart}
+use Rattle.machine_state.specs.py_world.Site.{Site}
+use Rattle.machine_state.specs.py_world.Outcome.{Gave, operated}
+use Rattle.machine_state.specs.core_meaning.Expressions.{CorePart}
 use Rattle.machine_state.specs.declared.machine.Machine.{Machine}
 use Rattle.machine_state.specs.Places.{CoreState, CoreThen, ends}
 use Rattle.machine_state.specs.Frames.{site_now, state_of}

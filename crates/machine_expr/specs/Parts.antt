@@ -5,9 +5,9 @@ use Rattle.std.specs.declared.rc.Rc.{Rc}
 use Rattle.std.specs.declared.vec.Vec.{Vec}
 use Rattle.py_core.specs.declared.expr.CoreExpr.{CoreExpr}
 use Rattle.py_tree.specs.declared.op.CmpOp.{CmpOp}
-use Rattle.py_world.specs.Displays.{in_pairs}
+use Rattle.machine_state.specs.py_world.Displays.{in_pairs}
 use Rattle.std.specs.List.{sum_by}
-use Rattle.core_meaning.specs.Expressions.{CorePart, eval}
+use Rattle.machine_state.specs.core_meaning.Expressions.{CorePart, eval}
 use Rattle.machine_state.specs.Places.{parts_from}
 use Rattle.machine_state.specs.Work.{weight, weight_from}
 

@@ -2,7 +2,7 @@
 use Rattle.std.specs.Prelude.{ℕ, List, [], ◌∷◌, ◌++◌, Option, Some, None}
 use Rattle.py_tree.specs.declared.expr.ArgName.{ArgName}
 use Rattle.py_values.specs.declared.value.Value.{Value}
-use Rattle.py_world.specs.Arguments.{Arguments}
+use Rattle.machine_state.specs.py_world.Arguments.{Arguments}
 
 -- the name that is given to an argument
 abbrev pub name_given : Option (Option ArgName) → Option (List ℕ)

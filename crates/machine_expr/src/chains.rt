@@ -1,8 +1,8 @@
 // The values of operands of chains.
 
 ghost use Rattle.std.specs.Prelude.{◌≡◌, ◌+◌, ◌≤◌, IfOk, drop};
-ghost use Rattle.py_world.specs.Expressions.{and_on, compare_on, or_on};
-ghost use Rattle.py_world.specs.Outcome.{Gave};
+ghost use Rattle.machine_state.specs.py_world.Expressions.{and_on, compare_on, or_on};
+ghost use Rattle.machine_state.specs.py_world.Outcome.{Gave};
 ghost use Rattle.machine_state.specs.Places.{parts_from};
 ghost use Rattle.machine_state.specs.Frames.{on_chain, rest_of, site_now, state_of, todo, Follows};
 ghost use Rattle.machine_state.specs.Work.{chain_work, doing_work, stack_work, weight_from, Falls};

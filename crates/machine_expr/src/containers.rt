@@ -1,10 +1,10 @@
 // Displays, attributes, subscripts and slices begin.
 
 ghost use Rattle.std.specs.Prelude.{◌≡◌, ◌+◌, ◌≤◌, IfOk};
-ghost use Rattle.py_world.specs.Attributes.{attribute_part};
-ghost use Rattle.py_world.specs.Displays as world;
-ghost use Rattle.core_meaning.specs.Expressions.{eval};
-ghost use Rattle.core_meaning.specs.Statements.{some_part};
+ghost use Rattle.machine_state.specs.py_world.Attributes.{attribute_part};
+ghost use Rattle.machine_state.specs.py_world.Displays as world;
+ghost use Rattle.machine_state.specs.core_meaning.Expressions.{eval};
+ghost use Rattle.machine_state.specs.core_meaning.Statements.{some_part};
 ghost use Rattle.machine_state.specs.Places.{parts_from};
 ghost use Rattle.machine_state.specs.Frames.{display_of, rest_of, site_now, state_of, todo};
 ghost use Rattle.machine_state.specs.Work.{doing_work, some_weight, stack_work, weight, weight_from};

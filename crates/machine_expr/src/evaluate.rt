@@ -1,11 +1,11 @@
 // Expressions begin.
 
 ghost use Rattle.std.specs.Prelude.{◌≡◌, ◌+◌, ◌<◌, ◌≤◌, ◌∷◌, IfOk, OnOk, length};
-ghost use Rattle.py_world.specs.World.{set_at, temp};
-ghost use Rattle.py_world.specs.Outcome.{Gave};
-ghost use Rattle.py_world.specs.Arguments.{arguments_of};
-ghost use Rattle.py_world.specs.Expressions as world;
-ghost use Rattle.core_meaning.specs.Expressions.{eval};
+ghost use Rattle.machine_state.specs.py_world.World.{set_at, temp};
+ghost use Rattle.machine_state.specs.py_world.Outcome.{Gave};
+ghost use Rattle.machine_state.specs.py_world.Arguments.{arguments_of};
+ghost use Rattle.machine_state.specs.py_world.Expressions as world;
+ghost use Rattle.machine_state.specs.core_meaning.Expressions.{eval};
 ghost use Rattle.machine_state.specs.Places.{ends, parts_from, site_of};
 ghost use Rattle.machine_state.specs.Frames.{after, handling_of, outer_of, rest_of, site_now, state_of, todo};
 ghost use Rattle.machine_state.specs.Work.{doing_work, frame_work, stack_work, weight, weight_from};

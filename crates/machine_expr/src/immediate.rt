@@ -1,19 +1,20 @@
 // Values that are there at once: those of expressions that make no object, raise nothing and call nothing, within the steps that
 // are left.
 
-ghost use Rattle.std.specs.Prelude.{◌≡◌, ◌∷◌, [], IfOk, IfSome, Some};
+ghost use Rattle.std.specs.Prelude.{◌≡◌, ◌≢◌, ◌∷◌, [], IfOk, IfSome, Some};
 ghost use Rattle.py_ops.specs.Binary.{binary_of};
 ghost use Rattle.py_ops.specs.Compare.{compare_of};
 ghost use Rattle.py_ops.specs.Unary.{unary_of};
-ghost use Rattle.py_world.specs.Expressions as world;
-ghost use Rattle.py_world.specs.Outcome.{operated};
-ghost use Rattle.core_meaning.specs.Expressions.{eval};
+ghost use Rattle.machine_state.specs.py_world.Expressions as world;
+ghost use Rattle.machine_state.specs.py_world.Outcome.{operated};
+ghost use Rattle.machine_state.specs.core_meaning.Expressions.{eval};
 ghost use Rattle.machine_state.specs.Places.{parts_from};
 ghost use Rattle.machine_expr.specs.AtOnce.{IsImmediate, IsGiven, ended_at};
 
 use crate::chains::op_at;
 use crate::evaluate::temp_value;
-use machine_names::names::look_up;
+use crate::whole::{answer_by, value_by};
+use machine_names::names::bound_value;
 use machine_state::machine::Machine;
 use py_core::{BinOp, CmpOp, CoreExpr, CoreExprKind, SrcText, UnOp};
 use py_kinds::truth::truth;
@@ -55,7 +56,41 @@ fn given_by(made: Made, left: u64) -> Option<Immediate>
     None
 }
 
+/// An operator whose value is not told at once.
+#[inline(never)]
+fn made_now(
+    m: &Machine,
+    op: BinOp,
+    x: Value,
+    y: Value,
+    left: u64,
+) -> Result<Option<Immediate>, OutOfMemory>
+    requires { left ≢ 0 }
+    ensures { IfOk result (λ r. IfSome r (λ d. IsImmediate (operated (binary_of op m.now.heap x y)) left d m.now)) }
+{
+    let made = binary_made(m.alloc, &m.heap, op, x, y, left - 1)?;
+    Ok(given(made, left - 1))
+}
+
+/// An operator between two whole numbers whose value is not told at once.
+fn made_of_numbers(
+    m: &Machine,
+    op: BinOp,
+    x: Value,
+    y: Value,
+    left: u64,
+) -> Result<Option<Immediate>, OutOfMemory>
+    requires { left ≢ 0 }
+    ensures { IfOk result (λ r. IfSome r (λ d. IsImmediate (operated (binary_of op m.now.heap x y)) left d m.now)) }
+{
+    match (x, y) {
+        (Value::Int(_), Value::Int(_)) => made_now(m, op, x, y, left),
+        _ => Ok(None),
+    }
+}
+
 /// An operator between two whole numbers.
+#[tactic(auto, using(crate::proofs::AtOnces::told_now))]
 pub fn operate_now(
     m: &Machine,
     op: BinOp,
@@ -68,16 +103,33 @@ pub fn operate_now(
     if left == 0 {
         return Ok(None);
     }
-    match (x, y) {
-        (Value::Int(_), Value::Int(_)) => {
-            let made = binary_made(m.alloc, &m.heap, op, x, y, left - 1)?;
-            Ok(given(made, left - 1))
+    match value_by(op, x, y) {
+        Some(value) => {
+            let left = left - 1;
+            Ok(Some(Immediate { value, left }))
         }
-        _ => Ok(None),
+        None => made_of_numbers(m, op, x, y, left),
     }
 }
 
+/// A comparison that is not told at once.
+#[inline(never)]
+fn judged_now(
+    m: &Machine,
+    op: CmpOp,
+    x: Value,
+    y: Value,
+    left: u64,
+) -> Result<Option<Immediate>, OutOfMemory>
+    requires { left ≢ 0 }
+    ensures { IfOk result (λ r. IfSome r (λ d. IsImmediate (operated (compare_of op m.now.heap x y)) left d m.now)) }
+{
+    let made = compare_made(m.alloc, &m.heap, op, x, y, left - 1)?;
+    Ok(given(made, left - 1))
+}
+
 /// A comparison of two values.
+#[tactic(auto, using(crate::proofs::AtOnces::told_now))]
 fn compare_now(
     m: &Machine,
     op: CmpOp,
@@ -90,8 +142,14 @@ fn compare_now(
     if left == 0 {
         return Ok(None);
     }
-    let made = compare_made(m.alloc, &m.heap, op, x, y, left - 1)?;
-    Ok(given(made, left - 1))
+    match answer_by(&m.heap, op, x, y) {
+        Some(answer) => {
+            let value = Value::Bool(answer);
+            let left = left - 1;
+            Ok(Some(Immediate { value, left }))
+        }
+        None => judged_now(m, op, x, y, left),
+    }
 }
 
 /// An operator before a value.
@@ -111,14 +169,14 @@ fn operate_before_now(
 }
 
 /// The value of a name that is bound.
+#[tactic(auto, using(crate::proofs::AtOnces::name_found))]
 fn name_now(m: &Machine, name: &SrcText, left: u64) -> Result<Option<Immediate>, OutOfMemory>
     ensures { IfOk result (λ r. IfSome r (λ d. IsImmediate (world.name_part name.now) left d m.now)) }
 {
-    let made = look_up(m, name)?;
-    if let Made::Give(value, _) = made {
-        return Ok(Some(Immediate { value, left }));
+    match bound_value(m, name)? {
+        Some(value) => Ok(Some(Immediate { value, left })),
+        None => Ok(None),
     }
-    Ok(None)
 }
 
 /// The one part of a list that has no other.

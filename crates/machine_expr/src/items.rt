@@ -2,13 +2,13 @@
 
 ghost use Rattle.std.specs.Prelude.{◌≡◌, ◌+◌, IfOk, length};
 ghost use Rattle.py_values.specs.Ends.{within};
-ghost use Rattle.py_world.specs.Attributes.{attribute_end};
-ghost use Rattle.py_world.specs.Displays as world;
-ghost use Rattle.py_world.specs.Expressions as forms;
-ghost use Rattle.py_world.specs.Outcome.{costing};
-ghost use Rattle.py_world.specs.Site.{trace_of};
-ghost use Rattle.py_world.specs.World.{heap_of};
-ghost use Rattle.core_meaning.specs.Statements.{some_part};
+ghost use Rattle.machine_state.specs.py_world.Attributes.{attribute_end};
+ghost use Rattle.machine_state.specs.py_world.Displays as world;
+ghost use Rattle.machine_state.specs.py_world.Expressions as forms;
+ghost use Rattle.machine_state.specs.py_world.Outcome.{costing};
+ghost use Rattle.machine_state.specs.py_world.Site.{trace_of};
+ghost use Rattle.machine_state.specs.py_world.World.{heap_of};
+ghost use Rattle.machine_state.specs.core_meaning.Statements.{some_part};
 ghost use Rattle.machine_state.specs.Places.{parts_from};
 ghost use Rattle.machine_state.specs.Frames.{display_of, on_item, rest_of, site_now, state_of, todo, Follows};
 ghost use Rattle.machine_state.specs.Work.{doing_work, item_work, some_weight, stack_work, weight_from, Falls};
@@ -17,10 +17,10 @@ ghost use Rattle.machine_expr.specs.Parts.{IsNextPair, pairs_from, pairs_weight}
 use crate::containers::{displayed, pair_part};
 use crate::evaluate::next_argument;
 use crate::operate::{settle, subscript};
+use machine_items::attribute_made;
 use machine_items::displays::{bound_given, dict_displayed};
 use machine_state::frame::{Display, Frame, ItemFrame};
 use machine_state::machine::{Doing, Machine, Origin, TurnEnd};
-use py_attributes::attributes::attribute_made;
 use py_core::{CoreExpr, SrcText};
 use py_text::OutOfMemory;
 use py_values::end::{Made, made_within};

@@ -23,6 +23,15 @@
 //! That a value is found at once where it could be; time.
 #![tactic(auto)]
 
+pub use machine_items::changes;
+pub use machine_items::changes::{bind_at, unbind_at};
+pub use machine_names::names::{
+    bound_value, class_value, look_up, module_value, not_defined, unbound,
+};
+pub use machine_state::frame::{End, Frame, SimpleFrame, Spot, TargetFrame};
+pub use machine_state::machine::{Doing, Machine, Origin, TurnEnd};
+pub use py_ops::binary::augmented_made;
+
 pub mod chains;
 pub mod containers;
 pub mod evaluate;
@@ -32,3 +41,4 @@ pub mod items;
 pub mod operands;
 pub mod operate;
 pub mod shape;
+pub mod whole;

@@ -1,20 +1,22 @@
 // Operators and subscripts.
 
-ghost use Rattle.std.specs.Prelude.{◌≡◌, ◌+◌, ℕ, IfOk};
-ghost use Rattle.py_items.specs.Items.{subscript_of};
+ghost use Rattle.std.specs.Prelude.{◌≡◌, ◌≤◌, ◌+◌, ℕ, IfOk};
+ghost use Rattle.machine_state.specs.py_items.Items.{subscript_of};
 ghost use Rattle.py_ops.specs.Binary.{binary_of};
 ghost use Rattle.py_ops.specs.Compare.{compare_of};
 ghost use Rattle.py_ops.specs.Unary.{unary_of};
-ghost use Rattle.py_world.specs.Outcome.{costing, operated};
-ghost use Rattle.py_world.specs.Site.{trace_of};
+ghost use Rattle.machine_state.specs.py_world.Outcome.{costing, operated};
+ghost use Rattle.machine_state.specs.py_world.Site.{trace_of};
 ghost use Rattle.py_values.specs.declared.end.Made.{Made};
 ghost use Rattle.machine_state.specs.Frames.{rest_of, site_now, state_of, Follows};
 ghost use Rattle.machine_state.specs.Work.{stack_work, Falls};
 ghost use Rattle.py_values.specs.Ends.{within};
 
-use machine_state::machine::{Machine, Origin, TurnEnd};
+use crate::whole::{answer_by, value_by};
+use machine_state::frame::End;
+use machine_state::machine::{Doing, Machine, Origin, TurnEnd};
+use machine_state::subscript_made;
 use py_core::{BinOp, CmpOp, UnOp};
-use py_items::subscript::subscript_made;
 use py_ops::binary::binary_made;
 use py_ops::compare::compare_made;
 use py_ops::unary::unary_made;
@@ -25,7 +27,19 @@ use py_values::index::Index;
 use py_values::value::Value;
 use std::alloc::Global;
 
+/// An operator whose value is not told at once: its cost, and its end.
+#[inline(never)]
+fn operate_made(m: &mut Machine, op: BinOp, x: Value, y: Value) -> Result<TurnEnd, OutOfMemory>
+    ensures next { IfOk result (λ t. Follows t m.new m.old.left (costing (binary_of op m.old.heap x y) (trace_of (site_now m.old)) (state_of m.old) (rest_of m.old))) }
+    ensures left { m.new.left ≤ m.old.left }
+    ensures work { IfOk result (λ t. Falls t m.new m.old.left (1 + stack_work m.old)) }
+{
+    let made = binary_made(m.alloc, &m.heap, op, x, y, m.left)?;
+    m.pay(made, Origin::Code)
+}
+
 /// An operator between two values: its step, its cost, and its end.
+#[tactic(auto, using(crate::proofs::Numbers::operator_told, crate::proofs::Numbers::operator_made))]
 pub fn operate(m: &mut Machine, op: BinOp, x: Value, y: Value) -> Result<TurnEnd, OutOfMemory>
     ensures next { IfOk result (λ t. Follows t m.new m.old.left (operated (binary_of op m.old.heap x y) (site_now m.old) (state_of m.old) (rest_of m.old))) }
     ensures work { IfOk result (λ t. (work : ℕ) → Falls t m.new m.old.left work) }
@@ -33,8 +47,10 @@ pub fn operate(m: &mut Machine, op: BinOp, x: Value, y: Value) -> Result<TurnEnd
     if !m.spend() {
         return Ok(TurnEnd::Exhausted(m.trace(Origin::Code)?));
     }
-    let made = binary_made(m.alloc, &m.heap, op, x, y, m.left)?;
-    m.pay(made, Origin::Code)
+    match value_by(op, x, y) {
+        Some(v) => Ok(TurnEnd::Go(Doing::Back(End::Value(v)))),
+        None => operate_made(m, op, x, y),
+    }
 }
 
 /// What an operator makes of a value, under a budget.
@@ -63,7 +79,19 @@ pub fn operate_before(m: &mut Machine, op: UnOp, x: Value) -> Result<TurnEnd, Ou
     m.pay(made, Origin::Code)
 }
 
+/// A comparison that is not told at once: its cost, and its end.
+#[inline(never)]
+fn compare_judged(m: &mut Machine, op: CmpOp, x: Value, y: Value) -> Result<TurnEnd, OutOfMemory>
+    ensures next { IfOk result (λ t. Follows t m.new m.old.left (costing (compare_of op m.old.heap x y) (trace_of (site_now m.old)) (state_of m.old) (rest_of m.old))) }
+    ensures left { m.new.left ≤ m.old.left }
+    ensures work { IfOk result (λ t. Falls t m.new m.old.left (1 + stack_work m.old)) }
+{
+    let made = compare_made(m.alloc, &m.heap, op, x, y, m.left)?;
+    m.pay(made, Origin::Code)
+}
+
 /// A comparison of two values.
+#[tactic(auto, using(crate::proofs::Numbers::comparison_told, crate::proofs::Numbers::comparison_made))]
 pub fn compare(m: &mut Machine, op: CmpOp, x: Value, y: Value) -> Result<TurnEnd, OutOfMemory>
     ensures next { IfOk result (λ t. Follows t m.new m.old.left (operated (compare_of op m.old.heap x y) (site_now m.old) (state_of m.old) (rest_of m.old))) }
     ensures work { IfOk result (λ t. (work : ℕ) → Falls t m.new m.old.left work) }
@@ -71,8 +99,10 @@ pub fn compare(m: &mut Machine, op: CmpOp, x: Value, y: Value) -> Result<TurnEnd
     if !m.spend() {
         return Ok(TurnEnd::Exhausted(m.trace(Origin::Code)?));
     }
-    let made = compare_made(m.alloc, &m.heap, op, x, y, m.left)?;
-    m.pay(made, Origin::Code)
+    match answer_by(&m.heap, op, x, y) {
+        Some(answer) => Ok(TurnEnd::Go(Doing::Back(End::Value(Value::Bool(answer))))),
+        None => compare_judged(m, op, x, y),
+    }
 }
 
 /// What a subscript makes, under a budget.

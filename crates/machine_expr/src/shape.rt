@@ -2,7 +2,7 @@
 
 ghost use Rattle.std.specs.Prelude.{◌≡◌, IfOk, OnOk, is_some, option_copied, slice_get};
 ghost use Rattle.std.specs.List.{list_any};
-ghost use Rattle.py_world.specs.Arguments.{arguments_of};
+ghost use Rattle.machine_state.specs.py_world.Arguments.{arguments_of};
 ghost use Rattle.machine_state.specs.Places.{arguments_in};
 ghost use Rattle.machine_expr.specs.Shapes.{name_given, with_given};
 

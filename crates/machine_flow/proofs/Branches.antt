@@ -4,8 +4,8 @@ use Rattle.std.proofs.Math.ListN.{drop_of_length-le}
 use Rattle.std.specs.List.{sum_by}
 use Rattle.std.proofs.lemmas.List.Sums.{sum_by-cons}
 use Rattle.py_core.specs.declared.stmt.CoreBranch as branch
-use Rattle.core_meaning.specs.Requests.{Layer}
-use Rattle.core_meaning.specs.Statements.{choice, choices}
+use Rattle.machine_state.specs.core_meaning.Requests.{Layer}
+use Rattle.machine_state.specs.core_meaning.Statements.{choice, choices}
 use Rattle.machine_state.specs.Work.{branch_work}
 use Rattle.machine_expr.proofs.Parts.{drop_some}
 

@@ -22,9 +22,9 @@ use Rattle.py_world.specs.World.{heap_of, with_heap}
 use Rattle.py_world.specs.Outcome.{Next, on_next, raised_at}
 use Rattle.py_world.specs.Loops.{behind_target, for_statement, for_turn, turn_begun, turn_with}
 use Rattle.py_world.specs.Statements.{asked}
-use Rattle.core_meaning.specs.Requests.{ForOf, Turn}
-use Rattle.core_meaning.specs.Expressions.{eval}
-use Rattle.core_meaning.specs.Statements.{block, store}
+use Rattle.machine_state.specs.core_meaning.Requests.{ForOf, Turn}
+use Rattle.machine_state.specs.core_meaning.Expressions.{eval}
+use Rattle.machine_state.specs.core_meaning.Statements.{block, store}
 use Rattle.machine_state.specs.declared.place.Here.{Here}
 use Rattle.machine_state.specs.declared.frame.Frame.{Frame}
 use Rattle.machine_state.specs.declared.frame.Frame.TheVariants.{Flow}

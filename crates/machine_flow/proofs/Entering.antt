@@ -16,8 +16,8 @@ use Rattle.py_world.specs.Contexts.{context_entered, info_named, info_taken, sea
 use Rattle.py_world.specs.Outcome.{Raised, costing}
 use Rattle.py_world.specs.Site.{Scene, Site, trace_of}
 use Rattle.py_world.specs.World.{heap_of, with_object, with_trace}
-use Rattle.core_meaning.specs.Expressions.{eval}
-use Rattle.core_meaning.specs.Statements.{block}
+use Rattle.machine_state.specs.core_meaning.Expressions.{eval}
+use Rattle.machine_state.specs.core_meaning.Statements.{block}
 use Rattle.machine_state.specs.declared.place.Here.{Here}
 use Rattle.machine_state.specs.declared.frame.Frame.{Frame}
 use Rattle.machine_state.specs.declared.frame.Frame.TheVariants.{Flow, Simple}

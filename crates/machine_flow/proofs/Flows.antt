@@ -11,9 +11,9 @@ use Rattle.py_core.specs.declared.stmt.CoreBranch.{CoreBranch, out-CoreBranch}
 use Rattle.py_world.specs.World.{state}
 use Rattle.py_world.specs.Site.{Site}
 use Rattle.py_world.specs.Statements.{asked, branches_on, loop, turn_of}
-use Rattle.core_meaning.specs.Requests.{Layer, Turn, TurnOf}
-use Rattle.core_meaning.specs.Expressions.{eval}
-use Rattle.core_meaning.specs.Statements.{act, block, choice, choices}
+use Rattle.machine_state.specs.core_meaning.Requests.{Layer, Turn, TurnOf}
+use Rattle.machine_state.specs.core_meaning.Expressions.{eval}
+use Rattle.machine_state.specs.core_meaning.Statements.{act, block, choice, choices}
 use Rattle.machine_state.specs.declared.place.Here.{Here}
 use Rattle.machine_state.specs.declared.frame.Frame.{Frame}
 use Rattle.machine_state.specs.declared.frame.Frame.TheVariants.{Flow}

@@ -9,9 +9,9 @@ use Rattle.py_kinds.specs.Truth.{truth}
 use Rattle.py_world.specs.Outcome.{Gave, Next, if_true, on_value}
 use Rattle.py_world.specs.World.{heap_of}
 use Rattle.py_world.specs.Statements.{asked, branches_on, loop}
-use Rattle.core_meaning.specs.Requests.{TurnOf}
-use Rattle.core_meaning.specs.Expressions.{eval}
-use Rattle.core_meaning.specs.Statements.{CoreBody, CoreChoice, block, choice}
+use Rattle.machine_state.specs.core_meaning.Requests.{TurnOf}
+use Rattle.machine_state.specs.core_meaning.Expressions.{eval}
+use Rattle.machine_state.specs.core_meaning.Statements.{CoreBody, CoreChoice, block, choice}
 use Rattle.machine_state.specs.declared.machine.Machine.{Machine}
 use Rattle.machine_state.specs.Places.{CoreThen, at_line, ends}
 use Rattle.machine_state.specs.Frames.{layers_of, rest_of, site_now, state_of}

@@ -21,6 +21,8 @@
 //! How long a turn takes.
 #![tactic(auto)]
 
+pub use py_world::Trace;
+
 pub mod choice;
 pub mod contexts;
 pub mod loops;

@@ -2,7 +2,7 @@
 use Rattle.std.proofs.Common.{◌≡◌, ◌∙◌, ◌≤◌, ◌<◌, ℕ, zero, suc, List, [], ◌∷◌, ◌++◌, map, length, get_or, Option, Some, None, refl, sym, ap, arith}
 use Rattle.std.specs.Prelude.{slice_get, slice_set}
 use Rattle.std.proofs.lemmas.List.{length-map, map-append, map-set, set_past}
-use Rattle.py_world.specs.Resuming.{frame_at}
+use Rattle.machine_state.specs.py_world.Resuming.{frame_at}
 use Rattle.machine_state.specs.declared.frozen.FrozenFrame.{FrozenFrame}
 use Rattle.machine_state.specs.Frames.{frozen_of, frozen_some}
 use Rattle.machine_frames.specs.Frozen.{FoundAt}

@@ -4,18 +4,18 @@ use mathlib.Core.Path.{fun_ext}
 use Rattle.std.specs.declared.alloc.Global.{Global}
 use Rattle.std.specs.declared.rc.Rc.{Rc}
 use Rattle.run_tree.specs.Todo.{Done}
-use Rattle.py_core.specs.Blocks.{stmts_in}
-use Rattle.py_core.specs.declared.stmt.CoreBlock.{CoreBlock}
-use Rattle.py_core.specs.declared.stmt.CoreGuard.{CoreGuard}
-use Rattle.py_core.specs.declared.stmt.CoreUse.{CoreUse}
-use Rattle.py_world.specs.Outcome.{Gave, Next, Returned, Broke, Continued, Raised, call_end, on_next}
-use Rattle.py_world.specs.Runs.{start}
-use Rattle.py_world.specs.Site.{Site, site}
-use Rattle.py_world.specs.Statements.{received}
-use Rattle.py_world.specs.World.{state}
-use Rattle.core_meaning.specs.Meaning.{CoreWorld}
-use Rattle.core_meaning.specs.Requests.{Layer, Statements, Guard, Receives}
-use Rattle.core_meaning.specs.Statements.{block_from, guard, remains, use_of}
+use Rattle.machine_state.specs.py_core.Blocks.{stmts_in}
+use Rattle.machine_state.specs.py_core.declared.stmt.CoreBlock.{CoreBlock}
+use Rattle.machine_state.specs.py_core.declared.stmt.CoreGuard.{CoreGuard}
+use Rattle.machine_state.specs.py_core.declared.stmt.CoreUse.{CoreUse}
+use Rattle.machine_state.specs.py_world.Outcome.{Gave, Next, Returned, Broke, Continued, Raised, call_end, on_next}
+use Rattle.machine_state.specs.py_world.Runs.{start}
+use Rattle.machine_state.specs.py_world.Site.{Site, site}
+use Rattle.machine_state.specs.py_world.Statements.{received}
+use Rattle.machine_state.specs.py_world.World.{state}
+use Rattle.machine_state.specs.core_meaning.Meaning.{CoreWorld}
+use Rattle.machine_state.specs.core_meaning.Requests.{Layer, Statements, Guard, Receives}
+use Rattle.machine_state.specs.core_meaning.Statements.{block_from, guard, remains, use_of}
 use Rattle.machine_state.specs.declared.place.Here.{Here}
 use Rattle.machine_state.specs.declared.place.Place.{Place}
 use Rattle.machine_state.specs.declared.frame.CallerFrame.{CallerFrame}

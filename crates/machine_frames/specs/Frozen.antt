@@ -1,9 +1,9 @@
 -- Frames that are taken out.
 use Rattle.std.specs.Prelude.{◌≡◌, ℕ, List, Option, Some, None, slice_get, slice_set}
-use Rattle.py_world.specs.World.{Frozen}
-use Rattle.py_world.specs.Resuming.{abandon_of, frame_at, frozen_at}
-use Rattle.core_meaning.specs.Requests.{Layer}
-use Rattle.core_meaning.specs.Meaning.{CoreWorld}
+use Rattle.machine_state.specs.py_world.World.{Frozen}
+use Rattle.machine_state.specs.py_world.Resuming.{abandon_of, frame_at, frozen_at}
+use Rattle.machine_state.specs.core_meaning.Requests.{Layer}
+use Rattle.machine_state.specs.core_meaning.Meaning.{CoreWorld}
 use Rattle.machine_state.specs.declared.frozen.FrozenFrame.{FrozenFrame}
 use Rattle.machine_state.specs.Frames.{frozen_some}
 

@@ -1,11 +1,11 @@
 -- Which frames of a body that has stopped go on.
 use Rattle.std.specs.Prelude.{◌≡◌, ℕ, List, [], ◌∷◌, None}
 use Rattle.run_tree.specs.Todo.{Done}
-use Rattle.py_world.specs.Outcome.{call_end}
-use Rattle.py_world.specs.Runs.{start}
-use Rattle.py_world.specs.Site.{site}
-use Rattle.core_meaning.specs.Meaning.{CoreWorld}
-use Rattle.core_meaning.specs.Statements.{remains}
+use Rattle.machine_state.specs.py_world.Outcome.{call_end}
+use Rattle.machine_state.specs.py_world.Runs.{start}
+use Rattle.machine_state.specs.py_world.Site.{site}
+use Rattle.machine_state.specs.core_meaning.Meaning.{CoreWorld}
+use Rattle.machine_state.specs.core_meaning.Statements.{remains}
 use Rattle.machine_state.specs.declared.place.Here.{Here}
 use Rattle.machine_state.specs.declared.frame.FlowFrame.{FlowFrame}
 use Rattle.machine_state.specs.declared.frame.FlowFrame.TheVariants as flow

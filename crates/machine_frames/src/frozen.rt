@@ -2,7 +2,7 @@
 
 ghost use Rattle.std.specs.Prelude.{◌≡◌, IfOk, OnOk, length, map, slice_set, None};
 ghost use Rattle.py_values.specs.declared.value.Value.{Value};
-ghost use Rattle.py_world.specs.Resuming as resuming;
+ghost use Rattle.machine_state.specs.py_world.Resuming as resuming;
 ghost use Rattle.machine_state.specs.Frames.{frozen_of, paused_at, world_of};
 ghost use Rattle.machine_frames.specs.Frozen.{FoundAt};
 

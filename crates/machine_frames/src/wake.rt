@@ -2,10 +2,10 @@
 
 ghost use Rattle.std.specs.Prelude.{◌≡◌, [], None, OnOk};
 ghost use Rattle.run_tree.specs.Todo.{Done};
-ghost use Rattle.py_world.specs.Outcome.{call_end};
-ghost use Rattle.py_world.specs.Runs.{start};
-ghost use Rattle.py_world.specs.World.{state};
-ghost use Rattle.core_meaning.specs.Statements.{remains};
+ghost use Rattle.machine_state.specs.py_world.Outcome.{call_end};
+ghost use Rattle.machine_state.specs.py_world.Runs.{start};
+ghost use Rattle.machine_state.specs.py_world.World.{state};
+ghost use Rattle.machine_state.specs.core_meaning.Statements.{remains};
 ghost use Rattle.machine_state.specs.Places.{CoreOutcome, site_of};
 ghost use Rattle.machine_state.specs.Frames.{layers_of, rest_of, state_of, world_of};
 

@@ -3,12 +3,12 @@ use Rattle.std.proofs.Common.{◌≡◌, ◌<◌, ◌≤◌, ◌+◌, ◌∙◌,
 use Rattle.std.proofs.lemmas.List.{drop_all, drop_more}
 use Rattle.py_tree.specs.declared.stmt.Alias.{Alias}
 use Rattle.py_values.specs.declared.value.Value.{Value}
-use Rattle.py_world.specs.Imports.{alias_name, import_each, is_pytest, modules_at, name_of_module, not_imported, own_or_submodule, prefixes_behind, submodule}
-use Rattle.py_world.specs.Names.{bound}
-use Rattle.py_world.specs.Outcome.{Next, raised_at}
-use Rattle.py_world.specs.Site.{Site}
-use Rattle.py_world.specs.World.{heap_of}
-use Rattle.core_meaning.specs.Statements.{core_body}
+use Rattle.machine_state.specs.py_world.Imports.{alias_name, import_each, is_pytest, modules_at, name_of_module, not_imported, own_or_submodule, prefixes_behind, submodule}
+use Rattle.machine_state.specs.py_world.Names.{bound}
+use Rattle.machine_state.specs.py_world.Outcome.{Next, raised_at}
+use Rattle.machine_state.specs.py_world.Site.{Site}
+use Rattle.machine_state.specs.py_world.World.{heap_of}
+use Rattle.machine_state.specs.core_meaning.Statements.{core_body}
 use Rattle.machine_state.specs.Places.{CoreState, CoreThen}
 use Rattle.machine_state.specs.Definings.{each_behind}
 use Rattle.machine_import.specs.Names.{named_behind, not_there, submodule_behind}

@@ -5,11 +5,11 @@ use Rattle.std.specs.declared.rc.Rc.{Rc}
 use Rattle.std.specs.declared.vec.Vec.{Vec}
 use Rattle.py_tree.specs.declared.stmt.Alias.{Alias}
 use Rattle.py_values.specs.declared.value.Value.{Value}
-use Rattle.py_world.specs.Imports.{faulty, import_end, import_name, import_statement, modules_at, prefixes_behind}
-use Rattle.py_world.specs.Outcome.{on_value}
-use Rattle.py_world.specs.Runs.{load_part}
-use Rattle.py_world.specs.Site.{Site}
-use Rattle.core_meaning.specs.Statements.{core_body}
+use Rattle.machine_state.specs.py_world.Imports.{faulty, import_end, import_name, import_statement, modules_at, prefixes_behind}
+use Rattle.machine_state.specs.py_world.Outcome.{on_value}
+use Rattle.machine_state.specs.py_world.Runs.{load_part}
+use Rattle.machine_state.specs.py_world.Site.{Site}
+use Rattle.machine_state.specs.core_meaning.Statements.{core_body}
 use Rattle.machine_state.specs.declared.frame.ModuleFrame.TheVariants as loads
 use Rattle.machine_state.specs.declared.machine.Machine.{Machine}
 use Rattle.machine_state.specs.declared.machine.TurnEnd.{TurnEnd}

@@ -5,9 +5,9 @@ use Rattle.std.specs.declared.alloc.Global.{Global}
 use Rattle.std.proofs.lemmas.List.{drop_all, drop_more, map_push, take_all, take_more}
 use Rattle.py_core.specs.declared.stmt.Core.{Core}
 use Rattle.py_values.specs.Names.{name_eq}
-use Rattle.py_world.specs.Imports.{paths_of}
-use Rattle.py_world.specs.Runs.{source_at}
-use Rattle.py_world.specs.World.{Source}
+use Rattle.machine_state.specs.py_world.Imports.{paths_of}
+use Rattle.machine_state.specs.py_world.Runs.{source_at}
+use Rattle.machine_state.specs.py_world.World.{Source}
 
 sources_from : (xs : List (Source Core)) (i : ℕ) (x : Source Core) → i < length xs → x ≡ get_or xs i x → drop i xs ≡ x ∷ drop (i + 1) xs
 sources_from xs i x w h = drop_more xs i x w ∙ ap (λ (y : Source Core). y ∷ drop (i + 1) xs) (sym h)

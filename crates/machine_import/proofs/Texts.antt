@@ -3,7 +3,7 @@ use Rattle.std.proofs.Common.{◌≡◌, ◌<◌, ◌≤◌, ◌-◌, ◌∙◌,
 use Rattle.std.proofs.lemmas.List.{append-nil, append_assoc, take_rest}
 use Rattle.std.specs.List.{flat_map}
 use Rattle.std.specs.Prelude.{codes}
-use Rattle.py_world.specs.Imports.{dotted_text}
+use Rattle.machine_state.specs.py_world.Imports.{dotted_text}
 use Rattle.machine_import.specs.Dotted.{dotted_part}
 
 dotted_by_parts : (name : List ℕ) (names : List (List ℕ)) → dotted_text (name ∷ names) ≡ name ++ flat_map dotted_part names

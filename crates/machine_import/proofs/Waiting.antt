@@ -1,8 +1,8 @@
 -- A module is loaded, and a frame waits for it.
 use Rattle.std.proofs.Common.{◌≡◌, ℕ, List, ◌∷◌, refl}
-use Rattle.py_world.specs.Imports.{faulty}
-use Rattle.py_world.specs.Runs.{load_part}
-use Rattle.core_meaning.specs.Statements.{core_body}
+use Rattle.machine_state.specs.py_world.Imports.{faulty}
+use Rattle.machine_state.specs.py_world.Runs.{load_part}
+use Rattle.machine_state.specs.core_meaning.Statements.{core_body}
 use Rattle.machine_state.specs.declared.frame.Frame.{Frame}
 use Rattle.machine_state.specs.declared.frame.Frame.TheVariants as on
 use Rattle.machine_state.specs.declared.frame.ModuleFrame.{ModuleFrame}

@@ -2,11 +2,11 @@
 use Rattle.std.proofs.Common.{◌≡◌, ◌<◌, ◌≤◌, ◌+◌, ◌∙◌, ℕ, zero, suc, Bool, true, false, List, [], ◌∷◌, ◌++◌, length, drop, take, Option, Some, None, refl, sym, ap, arith, add-one}
 use Rattle.std.proofs.lemmas.List.{append_assoc, drop_all}
 use Rattle.py_values.specs.declared.value.Value.{Value}
-use Rattle.py_world.specs.Imports.{faulty, import_path, is_pytest, module_at, modules_at, paths_of, prefixes_behind, pytest_or}
-use Rattle.py_world.specs.Outcome.{on_value}
-use Rattle.py_world.specs.Runs.{load_part}
-use Rattle.py_world.specs.Site.{Site}
-use Rattle.core_meaning.specs.Statements.{core_body}
+use Rattle.machine_state.specs.py_world.Imports.{faulty, import_path, is_pytest, module_at, modules_at, paths_of, prefixes_behind, pytest_or}
+use Rattle.machine_state.specs.py_world.Outcome.{on_value}
+use Rattle.machine_state.specs.py_world.Runs.{load_part}
+use Rattle.machine_state.specs.py_world.Site.{Site}
+use Rattle.machine_state.specs.core_meaning.Statements.{core_body}
 use Rattle.machine_state.specs.Places.{CoreRest, CoreState, CoreThen}
 use Rattle.machine_import.specs.declared.walk.Found.{Found}
 use Rattle.machine_import.specs.Walks.{built_in, found_by, found_from, last_value, source_path, source_unless}

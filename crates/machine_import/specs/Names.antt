@@ -3,11 +3,11 @@ use Rattle.std.specs.Prelude.{◌≡◌, ℕ, ◌+◌, List, [], ◌∷◌, ◌+
 use Rattle.py_tree.specs.declared.stmt.Alias.{Alias}
 use Rattle.py_values.specs.declared.end.Raise.{Raise}
 use Rattle.py_values.specs.declared.value.Value.{Value}
-use Rattle.py_world.specs.Imports.{alias_name, import_each, modules_at, no_module, not_imported, prefixes_behind, submodule_or}
-use Rattle.py_world.specs.Names.{bound}
-use Rattle.py_world.specs.Outcome.{Next}
-use Rattle.py_world.specs.Site.{Site}
-use Rattle.core_meaning.specs.Statements.{core_body}
+use Rattle.machine_state.specs.py_world.Imports.{alias_name, import_each, modules_at, no_module, not_imported, prefixes_behind, submodule_or}
+use Rattle.machine_state.specs.py_world.Names.{bound}
+use Rattle.machine_state.specs.py_world.Outcome.{Next}
+use Rattle.machine_state.specs.py_world.Site.{Site}
+use Rattle.machine_state.specs.core_meaning.Statements.{core_body}
 use Rattle.machine_state.specs.declared.machine.Machine.{Machine}
 use Rattle.machine_state.specs.declared.machine.TurnEnd.{TurnEnd}
 use Rattle.machine_state.specs.Places.{CoreRest, CoreState, CoreThen}

@@ -3,10 +3,10 @@ use Rattle.std.specs.Prelude.{◌≡◌, ℕ, ◌+◌, Bool, true, false, List, 
 use Rattle.py_kinds.specs.Builtins.{pytest_module}
 use Rattle.py_values.specs.declared.value.Value.{Value}
 use Rattle.py_values.specs.declared.value.Value.TheVariants as val
-use Rattle.py_world.specs.Imports.{faulty, import_path, is_pytest, modules_at, prefixes_behind}
-use Rattle.py_world.specs.Outcome.{on_value}
-use Rattle.py_world.specs.Runs.{load_part}
-use Rattle.core_meaning.specs.Statements.{core_body}
+use Rattle.machine_state.specs.py_world.Imports.{faulty, import_path, is_pytest, modules_at, prefixes_behind}
+use Rattle.machine_state.specs.py_world.Outcome.{on_value}
+use Rattle.machine_state.specs.py_world.Runs.{load_part}
+use Rattle.machine_state.specs.core_meaning.Statements.{core_body}
 use Rattle.machine_state.specs.declared.machine.Machine.{Machine}
 use Rattle.machine_state.specs.Places.{CoreRest, CoreState, CoreThen}
 use Rattle.machine_state.specs.Definings.{modules_behind}

@@ -1,8 +1,8 @@
 // Imports begin, and go on behind the modules that are there (Language Reference, the import statement).
 
 ghost use Rattle.std.specs.Prelude.{◌≡◌, ◌+◌, [], IfOk, drop};
-ghost use Rattle.py_world.specs.Imports as imports;
-ghost use Rattle.core_meaning.specs.Statements.{core_body};
+ghost use Rattle.machine_state.specs.py_world.Imports as imports;
+ghost use Rattle.machine_state.specs.core_meaning.Statements.{core_body};
 ghost use Rattle.machine_state.specs.Frames.{rest_of, site_now, state_of, todo, Follows};
 ghost use Rattle.machine_state.specs.Work.{doing_work, stack_work, Falls};
 

@@ -2,8 +2,8 @@
 
 ghost use Rattle.std.specs.Prelude.{◌≡◌, ◌+◌, ◌<◌, ◌++◌, ◌∷◌, [], List, IfOk, drop, length};
 ghost use Rattle.py_tree.specs.declared.stmt.Alias.{Alias};
-ghost use Rattle.py_world.specs.Imports as imports;
-ghost use Rattle.core_meaning.specs.Statements.{core_body};
+ghost use Rattle.machine_state.specs.py_world.Imports as imports;
+ghost use Rattle.machine_state.specs.core_meaning.Statements.{core_body};
 ghost use Rattle.machine_state.specs.Definings.{each_behind};
 ghost use Rattle.machine_state.specs.Frames.{rest_of, site_now, state_of, Follows};
 ghost use Rattle.machine_state.specs.Work.{stack_work, Falls};
@@ -140,7 +140,7 @@ fn refuse_name(m: &mut Machine, alias: &Alias) -> Result<Doing, OutOfMemory>
     m.raise(raise, Origin::Code)
 }
 
-ghost use Rattle.py_world.specs.Outcome.{raised_at};
+ghost use Rattle.machine_state.specs.py_world.Outcome.{raised_at};
 ghost use Rattle.machine_state.specs.Frames.{todo};
 ghost use Rattle.machine_state.specs.Work.{doing_work};
 

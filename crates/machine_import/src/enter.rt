@@ -1,16 +1,17 @@
 // The loads of modules in mid-run (Language Reference, the import system).
 
 ghost use Rattle.std.specs.Prelude.{◌≡◌, List, ℕ, Some, IfOk};
-ghost use Rattle.py_world.specs.Imports as imports;
-ghost use Rattle.py_world.specs.Outcome.{Part};
-ghost use Rattle.py_world.specs.Runs as runs;
-ghost use Rattle.core_meaning.specs.Requests.{core_kinds};
-ghost use Rattle.core_meaning.specs.Statements.{core_body};
+ghost use Rattle.machine_state.specs.py_world.Imports as imports;
+ghost use Rattle.machine_state.specs.py_world.Outcome.{Part};
+ghost use Rattle.machine_state.specs.py_world.Runs as runs;
+ghost use Rattle.machine_state.specs.core_meaning.Requests.{core_kinds};
+ghost use Rattle.machine_state.specs.core_meaning.Statements.{core_body};
 ghost use Rattle.machine_state.specs.Frames.{rest_of, site_now, state_of, todo};
 ghost use Rattle.machine_import.specs.Codes.{IsCodeOf};
 
 use crate::faults::{no_source, source_error};
 use crate::paths::find;
+use machine_load::Load;
 use machine_load::begin::begin_by_code;
 use machine_load::load::{load_at, set_load};
 use machine_state::frame::End;
@@ -22,7 +23,6 @@ use py_source::SourceFault;
 use py_text::{OutOfMemory, PyText};
 use py_values::throw::throw;
 use py_values::value::Value;
-use py_world::Load;
 use std::rc::Rc;
 
 /// What a module that is known gives: itself, or what its load has raised.

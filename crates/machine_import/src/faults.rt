@@ -2,7 +2,7 @@
 
 ghost use Rattle.std.specs.Prelude.{◌≡◌, ◌++◌, IfOk, OnOk};
 ghost use Rattle.std.specs.List.{flat_map};
-ghost use Rattle.py_world.specs.Imports as imports;
+ghost use Rattle.machine_state.specs.py_world.Imports as imports;
 ghost use Rattle.machine_import.specs.Dotted.{dotted_part};
 
 use machine_names::names::raise_about;

@@ -1,8 +1,8 @@
 // The sources that imports name.
 
 ghost use Rattle.std.specs.Prelude.{◌≡◌, ◌++◌, IfOk, OnOk, map, slice_get, string_bytes, encode_utf8_all, option_copied};
-ghost use Rattle.py_world.specs.Imports as imports;
-ghost use Rattle.py_world.specs.Runs.{source_at};
+ghost use Rattle.machine_state.specs.py_world.Imports as imports;
+ghost use Rattle.machine_state.specs.py_world.Runs.{source_at};
 ghost use Rattle.machine_state.specs.Places.{path_in};
 
 use machine_state::machine::Machine;

@@ -1,9 +1,9 @@
 // The dotted names that a dotted name begins with, one after another.
 
 ghost use Rattle.std.specs.Prelude.{◌≡◌, ℕ, [], IfOk, drop};
-ghost use Rattle.py_world.specs.Imports.{faulty, paths_of, prefixes_behind};
-ghost use Rattle.py_world.specs.Runs.{load_part};
-ghost use Rattle.core_meaning.specs.Statements.{core_body};
+ghost use Rattle.machine_state.specs.py_world.Imports.{faulty, paths_of, prefixes_behind};
+ghost use Rattle.machine_state.specs.py_world.Runs.{load_part};
+ghost use Rattle.machine_state.specs.core_meaning.Statements.{core_body};
 ghost use Rattle.machine_state.specs.Definings.{on_module};
 ghost use Rattle.machine_state.specs.Frames.{rest_of, site_now, state_of, Follows};
 ghost use Rattle.machine_state.specs.Places.{path_in};
@@ -71,7 +71,7 @@ fn built_in(dotted: &[SrcText]) -> Option<Value>
     }
 }
 
-ghost use Rattle.py_world.specs.Imports.{is_pytest as is_its};
+ghost use Rattle.machine_state.specs.py_world.Imports.{is_pytest as is_its};
 
 /// The module of the whole dotted name where no beginning of it from a place on has a source.
 fn last_value(dotted: &[SrcText], from: usize, last: Option<Value>) -> Option<Value>

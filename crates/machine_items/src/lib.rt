@@ -26,6 +26,9 @@
 //! Time.
 #![tactic(auto)]
 
+pub use py_attributes::attributes::attribute_made;
+pub use py_world::{Thrown, Trace};
+
 pub mod changes;
 pub mod displays;
 pub mod exceptions;

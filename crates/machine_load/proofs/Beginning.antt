@@ -15,8 +15,8 @@ use Rattle.py_world.specs.World.{Temps, state}
 use Rattle.py_world.specs.declared.load.Load.{Load}
 use Rattle.py_world.specs.declared.load.Load.TheVariants.{Running}
 use Rattle.py_world.specs.Runs.{start, with_load, with_module, module_place, module_scene, module_end}
-use Rattle.core_meaning.specs.Meaning.{CoreWorld}
-use Rattle.core_meaning.specs.Statements.{block}
+use Rattle.machine_state.specs.core_meaning.Meaning.{CoreWorld}
+use Rattle.machine_state.specs.core_meaning.Statements.{block}
 use Rattle.machine_state.specs.declared.machine.Machine.{Machine}
 use Rattle.machine_state.specs.declared.frame.CallerFrame.{CallerFrame}
 use Rattle.machine_state.specs.declared.frame.Frame.{Frame}

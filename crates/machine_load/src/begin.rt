@@ -6,7 +6,7 @@ ghost use Rattle.py_world.specs.ModuleNames.{module_object};
 ghost use Rattle.py_world.specs.Outcome.{call_end};
 ghost use Rattle.py_world.specs.Runs as runs;
 ghost use Rattle.py_world.specs.Site.{around_of, no_call};
-ghost use Rattle.core_meaning.specs.Statements.{block};
+ghost use Rattle.machine_state.specs.core_meaning.Statements.{block};
 ghost use Rattle.machine_state.specs.Frames.{rest_of, site_now, state_of, todo, world_of};
 
 use crate::load::set_load;

@@ -22,5 +22,7 @@
 //! Time and memory.
 #![tactic(auto)]
 
+pub use py_world::{Ended, Load, Outcome, Thrown, Trace, TraceFrame};
+
 pub mod begin;
 pub mod load;

@@ -3,8 +3,8 @@ use Rattle.std.proofs.Common.{◌≡◌, ℕ, List, true, false, Some, None, ap,
 use Rattle.std.specs.Prelude.{slice_get}
 use Rattle.py_values.specs.Names.{find_name}
 use Rattle.py_values.specs.declared.object.Obj.{Obj}
-use Rattle.py_world.specs.World.{Locals}
-use Rattle.py_world.specs.Names.{named_in, local_found, class_found, global}
+use Rattle.machine_state.specs.py_world.World.{Locals}
+use Rattle.machine_state.specs.py_world.Names.{named_in, local_found, class_found, global}
 use Rattle.py_attributes.specs.Attributes.{class_names}
 use Rattle.machine_state.specs.declared.place.Place.{Place}
 use Rattle.machine_state.specs.declared.place.Place.TheVariants.{Module, Function, Class}

@@ -1,11 +1,12 @@
 // Names and their values.
 
-ghost use Rattle.std.specs.Prelude.{◌≡◌, ◌++◌, IfOk, IfSome, Some, false, slice_get};
+ghost use Rattle.std.specs.Prelude.{◌≡◌, ◌++◌, IfOk, IfSome, false, slice_get};
 ghost use Rattle.py_kinds.specs.Builtins.{builtin_names};
 ghost use Rattle.py_values.specs.Names.{find_name};
 ghost use Rattle.py_values.specs.Raises as raises;
+ghost use Rattle.py_values.specs.declared.end.Made.TheVariants.{Give};
 ghost use Rattle.py_attributes.specs.Attributes.{class_names};
-ghost use Rattle.py_world.specs.Names as world;
+ghost use Rattle.machine_state.specs.py_world.Names as world;
 ghost use Rattle.machine_state.specs.Places.{home_in};
 ghost use Rattle.machine_state.specs.Owning.{is_own};
 ghost use Rattle.machine_state.specs.Frames.{site_now};
@@ -44,17 +45,17 @@ pub fn raise_about(
 /// How many names of a module are looked through before their table is asked.
 const EARLY: usize = 8;
 
-/// The value of a name among the first ones.
-#[tactic(auto, using(crate::proofs::EarlyNames::early_found, crate::proofs::EarlyNames::early_more))]
-fn early_value(names: &Names, name: &SrcText) -> Option<Value>
-    ensures { IfSome result (λ v. find_name name.now names.now ≡ Some v) }
+/// What the first names tell of a name's value: nothing where there are more of them and it is none of the first.
+#[tactic(auto, using(crate::proofs::EarlyNames::early_found, crate::proofs::EarlyNames::early_more, crate::proofs::EarlyNames::early_none))]
+fn early_value(names: &Names, name: &SrcText) -> Option<Option<Value>>
+    ensures { IfSome result (λ v. v ≡ find_name name.now names.now) }
 {
     for at in 0..EARLY {
         let Some((key, v)) = names.entry(at) else {
-            return None;
+            return Some(None);
         };
         if name.chars() == key.text().chars() {
-            return Some(*v);
+            return Some(Some(*v));
         }
     }
     None
@@ -64,8 +65,8 @@ fn early_value(names: &Names, name: &SrcText) -> Option<Value>
 fn value_among(alloc: Global, names: &Names, name: &SrcText) -> Result<Option<Value>, OutOfMemory>
     ensures { IfOk result (λ v. v ≡ find_name name.now names.now) }
 {
-    if let Some(v) = early_value(names, name) {
-        return Ok(Some(v));
+    if let Some(told) = early_value(names, name) {
+        return Ok(told);
     }
     let key = Name::from_chars(alloc, name.chars())?;
     Ok(names.find(&key))
@@ -170,6 +171,43 @@ fn other_found(m: &Machine, name: &SrcText) -> Result<Made, OutOfMemory>
     match m.here.class_at() {
         Some(at) => class_found(m, at, name),
         None => global_found(m, name),
+    }
+}
+
+/// The value of a name of the module, or of a built-in one, where it is bound.
+fn global_value(m: &Machine, name: &SrcText) -> Result<Option<Value>, OutOfMemory>
+    ensures { IfOk result (λ r. IfSome r (λ v. world.global name.now (home_in m.now.here.place) m.now.heap ≡ Give v 0)) }
+{
+    match module_value(m.alloc, &m.heap, m.here.home(), name)? {
+        Some(v) => Ok(Some(v)),
+        None => Ok(builtin_value(name.chars())),
+    }
+}
+
+/// The value of a name that is not local, where it is bound.
+#[tactic(auto, using(crate::proofs::Naming::named_class, crate::proofs::Naming::named_other))]
+fn other_value(m: &Machine, name: &SrcText) -> Result<Option<Value>, OutOfMemory>
+    requires { is_own m.now.here.place name.now ≡ false }
+    ensures { IfOk result (λ r. IfSome r (λ v. world.named name.now (site_now m.now).scene m.now.locals m.now.heap ≡ Give v 0)) }
+{
+    let Some(at) = m.here.class_at() else {
+        return global_value(m, name);
+    };
+    match class_value(m.alloc, &m.heap, at, name)? {
+        Some(v) => Ok(Some(v)),
+        None => global_value(m, name),
+    }
+}
+
+/// The value that a name's look-up gives, where the name is bound.
+#[tactic(auto, using(crate::proofs::Naming::named_own))]
+pub fn bound_value(m: &Machine, name: &SrcText) -> Result<Option<Value>, OutOfMemory>
+    ensures { IfOk result (λ r. IfSome r (λ v. world.named name.now (site_now m.now).scene m.now.locals m.now.heap ≡ Give v 0)) }
+{
+    if m.here.is_own(name) {
+        Ok(m.locals.find(name))
+    } else {
+        other_value(m, name)
     }
 }
 

@@ -5,16 +5,16 @@ use Rattle.std.specs.declared.rc.Rc.{Rc}
 use Rattle.std.specs.declared.vec.Vec.{Vec}
 use Rattle.py_core.specs.declared.expr.CoreExpr.{CoreExpr}
 use Rattle.py_core.specs.declared.stmt.CoreTarget.{CoreTarget}
-use Rattle.py_world.specs.Outcome.{Next, Returned, on_value}
-use Rattle.py_world.specs.Statements.{expression_statement, return_value}
-use Rattle.py_world.specs.Targets.{assign, store_all}
-use Rattle.core_meaning.specs.Expressions.{eval}
-use Rattle.core_meaning.specs.Statements.{stores}
-use Rattle.machine_state.specs.declared.machine.Machine.{Machine}
-use Rattle.machine_state.specs.Places.{ends}
-use Rattle.machine_state.specs.Frames.{rest_of, site_now, state_of}
-use Rattle.machine_expr.specs.declared.immediate.Immediate.{Immediate}
-use Rattle.machine_expr.specs.AtOnce.{IsImmediate}
+use Rattle.assert_explain.specs.py_world.Outcome.{Next, Returned, on_value}
+use Rattle.assert_explain.specs.py_world.Statements.{expression_statement, return_value}
+use Rattle.assert_explain.specs.py_world.Targets.{assign, store_all}
+use Rattle.machine_unwind.specs.core_meaning.Expressions.{eval}
+use Rattle.machine_unwind.specs.core_meaning.Statements.{stores}
+use Rattle.machine_unwind.specs.machine_state.declared.machine.Machine.{Machine}
+use Rattle.machine_unwind.specs.machine_state.Places.{ends}
+use Rattle.machine_unwind.specs.machine_state.Frames.{rest_of, site_now, state_of}
+use Rattle.machine_store.specs.machine_expr.declared.immediate.Immediate.{Immediate}
+use Rattle.machine_store.specs.machine_expr.AtOnce.{IsImmediate}
 use Rattle.machine_store.proofs.Immediately.{goes}
 
 module _ (m : Machine) (e : Rc CoreExpr Global) (e' : CoreExpr) (rx : Option Immediate) (x : Immediate) (same : e' ≡ e.value) (is : rx ≡ Some x) (h : IfSome rx (λ d. IsImmediate (eval e') m.left d m)) where

@@ -1,14 +1,14 @@
 -- Ends that frames hand on.
 use Rattle.std.proofs.Common.{◌≡◌, List, refl}
 use Rattle.py_values.specs.declared.value.Value.{Value}
-use Rattle.py_world.specs.declared.trace.TraceFrame.{TraceFrame}
-use Rattle.py_world.specs.Site.{Site}
-use Rattle.py_world.specs.Outcome.{Returned, Broke, Continued, Raised}
-use Rattle.core_meaning.specs.Requests.{Layer}
-use Rattle.machine_state.specs.declared.frame.SimpleFrame.{SimpleFrame}
-use Rattle.machine_state.specs.declared.frame.SimpleFrame.TheVariants.{Forget, Assign, Targets, Augment, Store, Raise, Throw, Return, Fail, Explain, Yield, Receive}
-use Rattle.machine_state.specs.Places.{CoreState, CoreThen}
-use Rattle.machine_state.specs.Frames.{on_simple}
+use Rattle.assert_explain.specs.py_world.declared.trace.TraceFrame.{TraceFrame}
+use Rattle.assert_explain.specs.py_world.Site.{Site}
+use Rattle.assert_explain.specs.py_world.Outcome.{Returned, Broke, Continued, Raised}
+use Rattle.machine_unwind.specs.core_meaning.Requests.{Layer}
+use Rattle.machine_unwind.specs.machine_state.declared.frame.SimpleFrame.{SimpleFrame}
+use Rattle.machine_unwind.specs.machine_state.declared.frame.SimpleFrame.TheVariants.{Forget, Assign, Targets, Augment, Store, Raise, Throw, Return, Fail, Explain, Yield, Receive}
+use Rattle.machine_unwind.specs.machine_state.Places.{CoreState, CoreThen}
+use Rattle.machine_unwind.specs.machine_state.Frames.{on_simple}
 
 pub simple_returned : (f : SimpleFrame) (ls : List Layer) (p : Site) (r : Value) (s : CoreState) (k : CoreThen) → on_simple f ls p (Returned r s) k ≡ k (Returned r s)
 simple_returned Forget ls p r s k = refl

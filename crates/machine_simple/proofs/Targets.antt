@@ -9,18 +9,18 @@ use Rattle.std.proofs.lemmas.List.Sums.{sum_by-cons}
 use mathlib.Core.Path.{fun_ext}
 use Rattle.py_core.specs.declared.stmt.CoreTarget.{CoreTarget}
 use Rattle.py_values.specs.declared.value.Value.{Value}
-use Rattle.py_world.specs.Outcome.{Gave, Next, Returned, Broke, Continued, Raised, on_next}
-use Rattle.py_world.specs.Site.{Site}
-use Rattle.py_world.specs.Targets.{store_all}
-use Rattle.core_meaning.specs.Statements.{store, stores}
-use Rattle.machine_state.specs.declared.place.Here.{Here}
-use Rattle.machine_state.specs.declared.frame.Frame.{Frame}
-use Rattle.machine_state.specs.declared.frame.Frame.TheVariants.{Simple}
-use Rattle.machine_state.specs.declared.frame.SimpleFrame.TheVariants.{Targets}
-use Rattle.machine_state.specs.Places.{CoreOutcome, CoreState, CoreThen, site_of}
-use Rattle.machine_state.specs.Frames.{after, handling_of, outer_of}
-use Rattle.machine_state.specs.Work.{taker_work}
-use Rattle.machine_expr.proofs.Parts.{drop_some}
+use Rattle.assert_explain.specs.py_world.Outcome.{Gave, Next, Returned, Broke, Continued, Raised, on_next}
+use Rattle.assert_explain.specs.py_world.Site.{Site}
+use Rattle.assert_explain.specs.py_world.Targets.{store_all}
+use Rattle.machine_unwind.specs.core_meaning.Statements.{store, stores}
+use Rattle.machine_unwind.specs.machine_state.declared.place.Here.{Here}
+use Rattle.machine_unwind.specs.machine_state.declared.frame.Frame.{Frame}
+use Rattle.machine_unwind.specs.machine_state.declared.frame.Frame.TheVariants.{Simple}
+use Rattle.machine_unwind.specs.machine_state.declared.frame.SimpleFrame.TheVariants.{Targets}
+use Rattle.machine_unwind.specs.machine_state.Places.{CoreOutcome, CoreState, CoreThen, site_of}
+use Rattle.machine_unwind.specs.machine_state.Frames.{after, handling_of, outer_of}
+use Rattle.machine_unwind.specs.machine_state.Work.{taker_work}
+use Rattle.machine_store.proofs.machine_expr_lemmas.Parts.{drop_some}
 
 -- behind the last target nothing is left
 handed_on : (k : CoreThen) (o : CoreOutcome) → on_next o k (λ s. k (Next s)) ≡ k o

@@ -1,26 +1,24 @@
 // Simple statements begin.
 
 ghost use Rattle.std.specs.Prelude.{◌≡◌, ◌≤◌, ◌∷◌, IfOk, true};
-ghost use Rattle.py_world.specs.Raising as raising;
-ghost use Rattle.py_world.specs.Outcome.{Gave, Next};
-ghost use Rattle.py_world.specs.Statements as world;
-ghost use Rattle.py_world.specs.Targets as targets;
-ghost use Rattle.core_meaning.specs.Expressions.{eval};
-ghost use Rattle.core_meaning.specs.Requests.{Receives};
-ghost use Rattle.core_meaning.specs.Statements as meaning;
-ghost use Rattle.machine_state.specs.Places.{ends};
-ghost use Rattle.machine_state.specs.Frames.{layers_of, rest_of, site_now, state_of, todo};
+ghost use Rattle.assert_explain.specs.py_world.Raising as raising;
+ghost use Rattle.assert_explain.specs.py_world.Outcome.{Gave, Next};
+ghost use Rattle.assert_explain.specs.py_world.Statements as world;
+ghost use Rattle.assert_explain.specs.py_world.Targets as targets;
+ghost use Rattle.machine_unwind.specs.core_meaning.Expressions.{eval};
+ghost use Rattle.machine_unwind.specs.core_meaning.Requests.{Receives};
+ghost use Rattle.machine_unwind.specs.core_meaning.Statements as meaning;
+ghost use Rattle.machine_unwind.specs.machine_state.Places.{ends};
+ghost use Rattle.machine_unwind.specs.machine_state.Frames.{layers_of, rest_of, site_now, state_of, todo};
 ghost use Rattle.machine_simple.specs.Simple as kinds;
 
 use crate::failure::begin_failure;
 use crate::simple::{stop, store_next};
-use machine_expr::evaluate::descend;
-use machine_expr::immediate::at_once;
-use machine_state::frame::{End, Frame, SimpleFrame};
-use machine_state::machine::{Doing, Machine};
 use machine_store::augment::begin_augment;
 use machine_store::delete::begin_delete;
+use machine_store::{at_once, descend};
 use machine_unwind::raise::raise_again;
+use machine_unwind::{Doing, End, Frame, Machine, SimpleFrame};
 use py_core::{CoreExpr, CoreSingle, CoreStmtKind, CoreTarget, CoreUse};
 use py_text::OutOfMemory;
 use py_values::value::Value;

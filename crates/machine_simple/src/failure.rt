@@ -1,19 +1,18 @@
 // The failure of an assert.
 
 ghost use Rattle.std.specs.Prelude.{◌≡◌, ◌+◌, ◌<◌, IfOk};
-ghost use Rattle.core_meaning.specs.Statements as meaning;
-ghost use Rattle.machine_state.specs.Frames.{rest_of, site_now, state_of, todo};
-ghost use Rattle.machine_state.specs.Work.{doing_work, stack_work};
+ghost use Rattle.machine_unwind.specs.core_meaning.Statements as meaning;
+ghost use Rattle.machine_unwind.specs.machine_state.Frames.{rest_of, site_now, state_of, todo};
+ghost use Rattle.machine_unwind.specs.machine_state.Work.{doing_work, stack_work};
 ghost use Rattle.machine_simple.specs.Failing.{failure_work};
 ghost use Rattle.py_tree.specs.Trees.{tree};
-ghost use Rattle.py_world.specs.Explained.{explanation};
-ghost use Rattle.py_world.specs.Outcome.{raised_at};
-ghost use Rattle.py_world.specs.Statements as world;
+ghost use Rattle.assert_explain.specs.py_world.Explained.{explanation};
+ghost use Rattle.assert_explain.specs.py_world.Outcome.{raised_at};
+ghost use Rattle.assert_explain.specs.py_world.Statements as world;
 
 use assert_explain::explain as explained_text;
-use machine_expr::evaluate::descend;
-use machine_state::frame::{Frame, SimpleFrame};
-use machine_state::machine::{Doing, Machine, Origin};
+use machine_store::descend;
+use machine_unwind::{Doing, Frame, Machine, Origin, SimpleFrame};
 use py_core::{CoreExpr, Expr, Template};
 use py_text::{OutOfMemory, PyText};
 use py_values::class::ExcClass;

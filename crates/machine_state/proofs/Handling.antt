@@ -2,7 +2,7 @@
 use Rattle.std.proofs.Common.{ℕ, ◌+◌, ◌<◌, ◌≡◌, ◌∙◌, List, [], ◌∷◌, length, take, get_or, Some, None, sym, ap}
 use Rattle.std.specs.Prelude.{reverse}
 use Rattle.std.proofs.lemmas.List.{take_more, reverse-append}
-use Rattle.py_world.specs.declared.ended.Thrown.{Thrown}
+use Rattle.core_meaning.specs.py_world.declared.ended.Thrown.{Thrown}
 use Rattle.machine_state.specs.declared.frame.Frame.{Frame}
 use Rattle.machine_state.specs.Frames.{handling_of}
 use Rattle.machine_state.specs.Handled.{FrameTells}

@@ -7,15 +7,15 @@ use Rattle.py_values.specs.declared.value.ObjId.{ObjId}
 use Rattle.py_values.specs.declared.value.Value.{Value}
 use Rattle.py_values.specs.declared.value.Value.TheVariants as val
 use Rattle.py_values.specs.Ends.{id_at}
-use Rattle.py_world.specs.World.{heap_of}
-use Rattle.py_world.specs.Site.{Site}
-use Rattle.py_world.specs.Outcome.{Next, on_value}
-use Rattle.py_world.specs.Expressions.{arguments}
-use Rattle.py_kinds.specs.Classes.{is_exc_class}
-use Rattle.py_world.specs.Names.{bound}
-use Rattle.py_world.specs.Definitions.{with_defaults, define_as, define_behind, function_made, based_on, class_behind, class_made}
-use Rattle.py_world.specs.Imports.{alias_name, prefixes_behind, modules_at, import_end, import_each, submodule_or}
-use Rattle.py_world.specs.Runs.{module_end}
+use Rattle.core_meaning.specs.py_world.World.{heap_of}
+use Rattle.core_meaning.specs.py_world.Site.{Site}
+use Rattle.core_meaning.specs.py_world.Outcome.{Next, on_value}
+use Rattle.core_meaning.specs.py_world.Expressions.{arguments}
+use Rattle.py_items.specs.py_kinds.Classes.{is_exc_class}
+use Rattle.core_meaning.specs.py_world.Names.{bound}
+use Rattle.core_meaning.specs.py_world.Definitions.{with_defaults, define_as, define_behind, function_made, based_on, class_behind, class_made}
+use Rattle.core_meaning.specs.py_world.Imports.{alias_name, prefixes_behind, modules_at, import_end, import_each, submodule_or}
+use Rattle.core_meaning.specs.py_world.Runs.{module_end}
 use Rattle.core_meaning.specs.Expressions.{CorePart}
 use Rattle.core_meaning.specs.Statements.{block, core_body, some_part, written}
 use Rattle.machine_state.specs.declared.frame.DefineFrame.{DefineFrame}

@@ -1,6 +1,6 @@
 -- Which frames say what exception is being handled.
 use Rattle.std.specs.Prelude.{◌≡◌, Option, Some, None}
-use Rattle.py_world.specs.declared.ended.Thrown.{Thrown}
+use Rattle.core_meaning.specs.py_world.declared.ended.Thrown.{Thrown}
 use Rattle.machine_state.specs.declared.frame.End.{End}
 use Rattle.machine_state.specs.declared.frame.UnwindFrame.{UnwindFrame}
 use Rattle.machine_state.specs.declared.frame.Frame.{Frame}

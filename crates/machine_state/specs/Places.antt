@@ -6,13 +6,13 @@ use Rattle.std.specs.declared.rc.Rc.{Rc}
 use Rattle.std.specs.declared.vec.Vec.{Vec}
 use Rattle.py_source.specs.declared.pos.Pos.{Pos}
 use Rattle.py_core.specs.declared.expr.CoreExpr.{CoreExpr}
-use Rattle.py_world.specs.declared.trace.TraceFrame.{TraceFrame}
-use Rattle.py_world.specs.declared.ended.Thrown.{Thrown}
-use Rattle.py_world.specs.World.{State}
-use Rattle.py_world.specs.Arguments.{Arguments}
-use Rattle.py_world.specs.Site.{Own, InModule, InFunction, InClass, Scene, Site, site, frame}
-use Rattle.py_world.specs.Outcome.{Outcome, Gave, Next, Returned, Broke, Continued, Raised, Spent, Rest, Then, Request, Paused}
-use Rattle.py_world.specs.Calls.{body_of}
+use Rattle.core_meaning.specs.py_world.declared.trace.TraceFrame.{TraceFrame}
+use Rattle.core_meaning.specs.py_world.declared.ended.Thrown.{Thrown}
+use Rattle.core_meaning.specs.py_world.World.{State}
+use Rattle.core_meaning.specs.py_world.Arguments.{Arguments}
+use Rattle.core_meaning.specs.py_world.Site.{Own, InModule, InFunction, InClass, Scene, Site, site, frame}
+use Rattle.core_meaning.specs.py_world.Outcome.{Outcome, Gave, Next, Returned, Broke, Continued, Raised, Spent, Rest, Then, Request, Paused}
+use Rattle.core_meaning.specs.py_world.Calls.{body_of}
 use Rattle.core_meaning.specs.Requests.{core_kinds}
 use Rattle.core_meaning.specs.Expressions.{CorePart, eval}
 use Rattle.core_meaning.specs.Statements.{entry}

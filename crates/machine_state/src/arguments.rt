@@ -1,7 +1,7 @@
 // The arguments of calls.
 
 ghost use Rattle.std.specs.Prelude.{◌≡◌};
-ghost use Rattle.py_world.specs.Arguments.{plain};
+ghost use Rattle.core_meaning.specs.py_world.Arguments.{plain};
 ghost use Rattle.machine_state.specs.Places.{arguments_in};
 
 use crate::locals::Locals;

@@ -1,7 +1,7 @@
 // The names of a call.
 
 ghost use Rattle.std.specs.Prelude.{◌≡◌, ◌++◌, ◌∷◌, [], OnOk};
-ghost use Rattle.py_world.specs.Calls.{nothing_named};
+ghost use Rattle.core_meaning.specs.py_world.Calls.{nothing_named};
 ghost use Rattle.py_values.specs.Names.{bind_name, find_name, unbind_name};
 ghost use Rattle.machine_state.specs.LocalNames.{IsPlaceOf};
 

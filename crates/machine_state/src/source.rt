@@ -3,10 +3,10 @@
 ghost use Rattle.std.specs.Prelude.{◌≡◌};
 ghost use Rattle.machine_state.specs.Coded.{coded_of};
 
+use core_meaning::Load;
 use py_core::Core;
 use py_source::SourceFault;
 use py_text::PyText;
-use py_world::Load;
 use std::marker::Model;
 
 /// The code of a source, or why it has none.
@@ -42,7 +42,7 @@ impl Drop for SourceFile {
 }
 
 impl Model for SourceFile {
-    ghost use Rattle.py_world.specs.World.{Source};
+    ghost use Rattle.core_meaning.specs.py_world.World.{Source};
     ghost use Rattle.py_core.specs.declared.stmt.Core.{Core};
 
     ghost Value = { Source Core };
@@ -100,7 +100,7 @@ impl Drop for ModuleLoad {
 
 impl Model for ModuleLoad {
     ghost use Rattle.std.specs.Prelude.{List, ℕ};
-    ghost use Rattle.py_world.specs.declared.load.Load.{Load};
+    ghost use Rattle.core_meaning.specs.py_world.declared.load.Load.{Load};
 
     ghost Value = { List ℕ × Load };
 

@@ -1,11 +1,11 @@
 // The traces of exceptions.
 
 ghost use Rattle.std.specs.Prelude.{◌≡◌, [], IfOk, OnOk, option_copied};
-ghost use Rattle.py_world.specs.World.{put_trace, trace_at};
+ghost use Rattle.core_meaning.specs.py_world.World.{put_trace, trace_at};
 
+use core_meaning::{Trace, TraceFrame};
 use indexmap::IndexMap;
 use py_text::{OutOfMemory, PyText};
-use py_world::{Trace, TraceFrame};
 use std::alloc::Global;
 use std::marker::Model;
 
@@ -44,7 +44,7 @@ impl Drop for Traces {
 
 impl Model for Traces {
     ghost use Rattle.std.specs.Prelude.{List, ℕ};
-    ghost use Rattle.py_world.specs.declared.trace.TraceFrame.{TraceFrame};
+    ghost use Rattle.core_meaning.specs.py_world.declared.trace.TraceFrame.{TraceFrame};
 
     ghost Value = { List (ℕ × List TraceFrame) };
 

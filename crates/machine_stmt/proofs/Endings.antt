@@ -3,8 +3,8 @@ use Rattle.std.proofs.Common.{◌≡◌, ℕ, List, [], ap}
 use Rattle.run_tree.specs.Todo as tree
 use Rattle.run_tree.specs.Todo.{Freeze}
 use Rattle.run_tree.proofs.Runs.{run-Freeze}
-use Rattle.py_world.specs.Outcome.{Paused}
-use Rattle.core_meaning.specs.Requests.{core_kinds}
+use Rattle.machine_state.specs.py_world.Outcome.{Paused}
+use Rattle.machine_state.specs.core_meaning.Requests.{core_kinds}
 use Rattle.machine_state.specs.declared.frame.Frame.{Frame}
 use Rattle.machine_state.specs.declared.place.Here.{Here}
 use Rattle.machine_state.specs.Places.{CoreOutcome, ends, step}

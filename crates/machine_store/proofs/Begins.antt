@@ -5,16 +5,16 @@ use Rattle.std.specs.declared.rc.Rc.{Rc}
 use Rattle.py_core.specs.declared.expr.CoreExpr.{CoreExpr}
 use Rattle.py_tree.specs.declared.op.BinOp.{BinOp}
 use Rattle.py_values.specs.declared.value.Value.{Value}
-use Rattle.py_world.specs.Targets.{store_attribute, store_item, store_name, augment_on, augment_attribute, augment_item, delete_attribute, delete_item}
-use Rattle.core_meaning.specs.Expressions.{CorePart, eval}
-use Rattle.machine_state.specs.declared.place.Here.{Here}
-use Rattle.machine_state.specs.declared.frame.Frame.{Frame}
-use Rattle.machine_state.specs.declared.frame.Frame.TheVariants.{Simple, Target}
-use Rattle.machine_state.specs.declared.frame.SimpleFrame.TheVariants.{Augment}
-use Rattle.machine_state.specs.declared.frame.Spot.TheVariants.{Name}
-use Rattle.machine_state.specs.declared.frame.TargetFrame.TheVariants.{Attribute, Item, AugmentAttribute, AugmentItem, DeleteAttribute, DeleteItem}
-use Rattle.machine_state.specs.Places.{CoreState, site_of}
-use Rattle.machine_state.specs.Frames.{after, handling_of, outer_of}
+use Rattle.machine_expr.specs.py_world.Targets.{store_attribute, store_item, store_name, augment_on, augment_attribute, augment_item, delete_attribute, delete_item}
+use Rattle.machine_expr.specs.core_meaning.Expressions.{CorePart, eval}
+use Rattle.machine_expr.specs.machine_state.declared.place.Here.{Here}
+use Rattle.machine_expr.specs.machine_state.declared.frame.Frame.{Frame}
+use Rattle.machine_expr.specs.machine_state.declared.frame.Frame.TheVariants.{Simple, Target}
+use Rattle.machine_expr.specs.machine_state.declared.frame.SimpleFrame.TheVariants.{Augment}
+use Rattle.machine_expr.specs.machine_state.declared.frame.Spot.TheVariants.{Name}
+use Rattle.machine_expr.specs.machine_state.declared.frame.TargetFrame.TheVariants.{Attribute, Item, AugmentAttribute, AugmentItem, DeleteAttribute, DeleteItem}
+use Rattle.machine_expr.specs.machine_state.Places.{CoreState, site_of}
+use Rattle.machine_expr.specs.machine_state.Frames.{after, handling_of, outer_of}
 
 module _ (h : Here) (fs : List Frame) (s : CoreState) (first : CorePart) where
   pub attribute_begins : (name name' : List ℕ) (v : Value) → name' ≡ name

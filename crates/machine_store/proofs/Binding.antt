@@ -6,14 +6,14 @@ use Rattle.py_values.specs.declared.object.Obj.{Obj}
 use Rattle.py_values.specs.declared.value.Value.{Value}
 use Rattle.py_values.specs.Names.{find_name}
 use Rattle.py_values.specs.Raises.{raise}
-use Rattle.py_world.specs.Site.{Scene}
-use Rattle.py_world.specs.World.{Locals}
+use Rattle.machine_expr.specs.py_world.Site.{Scene}
+use Rattle.machine_expr.specs.py_world.World.{Locals}
 use Rattle.py_attributes.specs.Attributes.{class_names}
-use Rattle.py_world.specs.Names.{bound_by, bound_class, bound_global, bound_local, bound_value, names_in, not_bound, not_defined, unbound_by, unbound_class, unbound_global, unbound_here, unbound_local}
-use Rattle.machine_state.specs.declared.place.Place.{Place}
-use Rattle.machine_state.specs.declared.place.Place.TheVariants.{Module, Function, Class}
-use Rattle.machine_state.specs.Places.{CoreState, own_in}
-use Rattle.machine_state.specs.Owning.{class_here, is_own}
+use Rattle.machine_expr.specs.py_world.Names.{bound_by, bound_class, bound_global, bound_local, bound_value, names_in, not_bound, not_defined, unbound_by, unbound_class, unbound_global, unbound_here, unbound_local}
+use Rattle.machine_expr.specs.machine_state.declared.place.Place.{Place}
+use Rattle.machine_expr.specs.machine_state.declared.place.Place.TheVariants.{Module, Function, Class}
+use Rattle.machine_expr.specs.machine_state.Places.{CoreState, own_in}
+use Rattle.machine_expr.specs.machine_state.Owning.{class_here, is_own}
 
 pub bound_own : (place : Place) (name : List ℕ) (v : Value) (scene : Scene) (s : CoreState) → is_own place name ≡ true
     → bound_by (own_in place) name v scene s ≡ bound_local name v s

@@ -5,13 +5,13 @@ use Rattle.std.specs.declared.rc.Rc.{Rc}
 use Rattle.py_core.specs.declared.expr.CoreExpr.{CoreExpr}
 use Rattle.py_values.specs.declared.value.Value.{Value}
 use Rattle.py_tree.specs.declared.op.BinOp.{BinOp}
-use Rattle.py_ops.specs.Binary.{augmented_of}
-use Rattle.py_world.specs.Outcome.{Gave, on_value, operated}
-use Rattle.py_world.specs.Targets.{augmented, augment_on, store_name}
-use Rattle.core_meaning.specs.Expressions.{eval}
-use Rattle.machine_state.specs.declared.machine.Machine.{Machine}
-use Rattle.machine_state.specs.Places.{CoreThen, ends}
-use Rattle.machine_state.specs.Frames.{rest_of, site_now, state_of}
+use Rattle.machine_expr.specs.py_ops.Binary.{augmented_of}
+use Rattle.machine_expr.specs.py_world.Outcome.{Gave, on_value, operated}
+use Rattle.machine_expr.specs.py_world.Targets.{augmented, augment_on, store_name}
+use Rattle.machine_expr.specs.core_meaning.Expressions.{eval}
+use Rattle.machine_expr.specs.machine_state.declared.machine.Machine.{Machine}
+use Rattle.machine_expr.specs.machine_state.Places.{CoreThen, ends}
+use Rattle.machine_expr.specs.machine_state.Frames.{rest_of, site_now, state_of}
 use Rattle.machine_expr.specs.declared.immediate.Immediate.{Immediate}
 use Rattle.machine_expr.specs.AtOnce.{IsImmediate}
 use Rattle.machine_expr.proofs.AtOnces.{found}

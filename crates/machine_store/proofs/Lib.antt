@@ -1,3 +1,4 @@
+pub use Rattle.machine_expr.proofs as machine_expr_lemmas
 pub mod Attributes
 pub mod Begins
 pub mod Binding

@@ -8,18 +8,18 @@ use Rattle.std.proofs.lemmas.List.Sums.{sum_by-cons}
 use Rattle.py_core.specs.declared.stmt.CoreSingle.{CoreSingle}
 use Rattle.py_values.specs.declared.value.Value.{Value}
 use Rattle.py_values.specs.declared.object.Obj.{Obj}
-use Rattle.py_world.specs.Outcome.{Next, on_next, raised_at}
-use Rattle.py_world.specs.Site.{Site}
-use Rattle.py_world.specs.Targets.{elements_from, store_each, store_elements, unpack_by, wrong_count}
-use Rattle.py_world.specs.World.{heap_of, with_heap}
-use Rattle.core_meaning.specs.Statements.{CoreStore, store_at, store_singles}
-use Rattle.machine_state.specs.declared.place.Here.{Here}
-use Rattle.machine_state.specs.declared.frame.Frame.{Frame}
-use Rattle.machine_state.specs.declared.frame.Frame.TheVariants.{Target}
-use Rattle.machine_state.specs.declared.frame.TargetFrame.TheVariants.{Each}
-use Rattle.machine_state.specs.Places.{CoreState, CoreThen, site_of}
-use Rattle.machine_state.specs.Frames.{after, handling_of, outer_of}
-use Rattle.machine_state.specs.Work.{single_work, singles_work}
+use Rattle.machine_expr.specs.py_world.Outcome.{Next, on_next, raised_at}
+use Rattle.machine_expr.specs.py_world.Site.{Site}
+use Rattle.machine_expr.specs.py_world.Targets.{elements_from, store_each, store_elements, unpack_by, wrong_count}
+use Rattle.machine_expr.specs.py_world.World.{heap_of, with_heap}
+use Rattle.machine_expr.specs.core_meaning.Statements.{CoreStore, store_at, store_singles}
+use Rattle.machine_expr.specs.machine_state.declared.place.Here.{Here}
+use Rattle.machine_expr.specs.machine_state.declared.frame.Frame.{Frame}
+use Rattle.machine_expr.specs.machine_state.declared.frame.Frame.TheVariants.{Target}
+use Rattle.machine_expr.specs.machine_state.declared.frame.TargetFrame.TheVariants.{Each}
+use Rattle.machine_expr.specs.machine_state.Places.{CoreState, CoreThen, site_of}
+use Rattle.machine_expr.specs.machine_state.Frames.{after, handling_of, outer_of}
+use Rattle.machine_expr.specs.machine_state.Work.{single_work, singles_work}
 use Rattle.machine_expr.proofs.Parts.{drop_some}
 
 -- the stores from a place on

@@ -6,7 +6,7 @@ use Rattle.py_items.specs.Turns.{turn_of, turn_end}
 use Rattle.py_values.specs.declared.end.Raise.{Raise}
 use Rattle.py_values.specs.declared.object.Obj.{Obj}
 use Rattle.py_values.specs.declared.value.Value.{Value}
-use Rattle.py_world.specs.Targets.{element_and, elements_from}
+use Rattle.machine_expr.specs.py_world.Targets.{element_and, elements_from}
 
 -- elements behind those so far
 abbrev pub behind : List Value → List Value × List Obj → List Value × List Obj

@@ -1,0 +1,1 @@
+pub use Rattle.machine_expr.specs as machine_expr

@@ -1,16 +1,15 @@
 // Values go to targets.
 
 ghost use Rattle.std.specs.Prelude.{◌≡◌, ◌+◌, ◌<◌, IfOk, drop};
-ghost use Rattle.py_world.specs.Targets as world;
-ghost use Rattle.core_meaning.specs.Statements as meaning;
-ghost use Rattle.machine_state.specs.Frames.{rest_of, site_now, state_of, todo};
-ghost use Rattle.machine_state.specs.Work.{doing_work, single_work, singles_work, stack_work, taker_work};
+ghost use Rattle.machine_expr.specs.py_world.Targets as world;
+ghost use Rattle.machine_expr.specs.core_meaning.Statements as meaning;
+ghost use Rattle.machine_expr.specs.machine_state.Frames.{rest_of, site_now, state_of, todo};
+ghost use Rattle.machine_expr.specs.machine_state.Work.{doing_work, single_work, singles_work, stack_work, taker_work};
 
 use crate::elements::{elements, wrong_count};
 use crate::names::store;
 use machine_expr::evaluate::descend;
-use machine_state::frame::{End, Frame, TargetFrame};
-use machine_state::machine::{Doing, Machine, Origin};
+use machine_expr::{Doing, End, Frame, Machine, Origin, TargetFrame};
 use py_core::{CoreExpr, CoreSingle, CoreSingleKind, CoreTarget, SrcText};
 use py_kinds::length::length_of;
 use py_operands::faults::not_iterable;
@@ -48,8 +47,8 @@ fn store_item(
     descend(m, Frame::Target(frame), e)
 }
 
-ghost use Rattle.core_meaning.specs.Expressions.{eval};
-ghost use Rattle.machine_state.specs.Work.{weight};
+ghost use Rattle.machine_expr.specs.core_meaning.Expressions.{eval};
+ghost use Rattle.machine_expr.specs.machine_state.Work.{weight};
 
 /// Stores a value in what takes one.
 pub fn store_single(m: &mut Machine, single: &CoreSingle, v: Value) -> Result<Doing, OutOfMemory>

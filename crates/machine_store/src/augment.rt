@@ -1,23 +1,24 @@
 // Augmented assignments, whose parts are evaluated once.
 
 ghost use Rattle.std.specs.Prelude.{◌≡◌, ◌+◌, ◌≤◌, ◌<◌, ℕ, IfOk, IfSome};
-ghost use Rattle.py_ops.specs.Binary.{augmented_of};
-ghost use Rattle.py_world.specs.Outcome.{operated};
-ghost use Rattle.py_world.specs.Targets as world;
-ghost use Rattle.core_meaning.specs.Expressions.{eval};
-ghost use Rattle.core_meaning.specs.Statements as meaning;
+ghost use Rattle.machine_expr.specs.py_ops.Binary.{augmented_of};
+ghost use Rattle.machine_expr.specs.py_world.Outcome.{operated};
+ghost use Rattle.machine_expr.specs.py_world.Targets as world;
+ghost use Rattle.machine_expr.specs.core_meaning.Expressions.{eval};
+ghost use Rattle.machine_expr.specs.core_meaning.Statements as meaning;
 ghost use Rattle.machine_expr.specs.AtOnce.{IsImmediate};
-ghost use Rattle.machine_state.specs.Places.{ends};
-ghost use Rattle.machine_state.specs.Frames.{rest_of, site_now, state_of, todo, Follows};
-ghost use Rattle.machine_state.specs.Work.{doing_work, stack_work, weight, Falls};
+ghost use Rattle.machine_expr.specs.machine_state.Places.{ends};
+ghost use Rattle.machine_expr.specs.machine_state.Frames.{rest_of, site_now, state_of, todo, Follows};
+ghost use Rattle.machine_expr.specs.machine_state.Work.{doing_work, stack_work, weight, Falls};
 
 use crate::names::store;
 use machine_expr::evaluate::descend;
 use machine_expr::immediate::{Immediate, at_once, operate_now};
 use machine_expr::operate::subscript;
-use machine_names::names::look_up;
-use machine_state::frame::{End, Frame, SimpleFrame, Spot, TargetFrame};
-use machine_state::machine::{Doing, Machine, Origin, TurnEnd};
+use machine_expr::{
+    Doing, End, Frame, Machine, Origin, SimpleFrame, Spot, TargetFrame, TurnEnd, bound_value,
+    look_up,
+};
 use py_attributes::attributes::attribute_made;
 use py_core::{BinOp, CoreExpr, CoreSingle, CoreSingleKind, SrcText};
 use py_text::OutOfMemory;
@@ -90,8 +91,9 @@ fn augment_from(
     }
 }
 
-/// Begins an augmented assignment to a name: its value comes first.
-fn augment_name(
+/// Begins an augmented assignment to a name whose value isn't there.
+#[inline(never)]
+fn augment_unbound(
     m: &mut Machine,
     name: &SrcText,
     op: BinOp,
@@ -111,6 +113,22 @@ fn augment_name(
             augment_from(m, x, name, op, e)
         }
         Made::Fail(raise, _) => m.raise(raise, Origin::Code),
+    }
+}
+
+/// Begins an augmented assignment to a name: its value comes first.
+fn augment_name(
+    m: &mut Machine,
+    name: &SrcText,
+    op: BinOp,
+    e: &Rc<CoreExpr>,
+) -> Result<Doing, OutOfMemory>
+    ensures next { IfOk result (λ d. ends m.new.left (todo d m.new) ≡ ends m.old.left (world.augment_name name.now op (eval e.now.value) (site_now m.old) (state_of m.old) (rest_of m.old))) }
+    ensures left { m.new.left ≤ m.old.left }
+{
+    match bound_value(m, name)? {
+        Some(x) => augment_from(m, x, name, op, e),
+        None => augment_unbound(m, name, op, e),
     }
 }
 

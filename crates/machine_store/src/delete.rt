@@ -1,15 +1,14 @@
 // Deletions.
 
 ghost use Rattle.std.specs.Prelude.{◌≡◌, IfOk};
-ghost use Rattle.py_world.specs.Targets as world;
-ghost use Rattle.core_meaning.specs.Expressions.{eval};
-ghost use Rattle.core_meaning.specs.Statements as meaning;
-ghost use Rattle.machine_state.specs.Frames.{rest_of, site_now, state_of, todo};
+ghost use Rattle.machine_expr.specs.py_world.Targets as world;
+ghost use Rattle.machine_expr.specs.core_meaning.Expressions.{eval};
+ghost use Rattle.machine_expr.specs.core_meaning.Statements as meaning;
+ghost use Rattle.machine_expr.specs.machine_state.Frames.{rest_of, site_now, state_of, todo};
 
 use crate::names::delete_name;
 use machine_expr::evaluate::descend;
-use machine_state::frame::{Frame, TargetFrame};
-use machine_state::machine::{Doing, Machine};
+use machine_expr::{Doing, Frame, Machine, TargetFrame};
 use py_core::{CoreExpr, CoreSingle, CoreSingleKind, SrcText};
 use py_text::OutOfMemory;
 use std::rc::Rc;

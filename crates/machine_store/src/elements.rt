@@ -2,7 +2,7 @@
 
 ghost use Rattle.std.specs.Prelude.{◌≡◌, ◌++◌, IfOk, OnOk};
 ghost use Rattle.std.specs.Fmt.{decimal};
-ghost use Rattle.py_world.specs.Targets as world;
+ghost use Rattle.machine_expr.specs.py_world.Targets as world;
 
 use py_items::iter::{IterAt, Turn};
 use py_items::turn::turn;

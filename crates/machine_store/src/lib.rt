@@ -24,6 +24,9 @@
 //! Time and memory.
 #![tactic(auto)]
 
+pub use machine_expr::evaluate::descend;
+pub use machine_expr::immediate::at_once;
+
 pub mod assign;
 pub mod augment;
 pub mod delete;

@@ -2,17 +2,17 @@
 
 ghost use Rattle.std.specs.Prelude.{◌≡◌, IfOk, OnOk, false, slice_get};
 ghost use Rattle.py_values.specs.Changes.{changed};
-ghost use Rattle.py_world.specs.Names as world;
-ghost use Rattle.py_world.specs.Targets.{store_name};
-ghost use Rattle.machine_state.specs.Places.{own_in};
-ghost use Rattle.machine_state.specs.Owning.{is_own};
-ghost use Rattle.machine_state.specs.Frames.{rest_of, site_now, state_of, todo};
-ghost use Rattle.machine_state.specs.Work.{doing_work};
+ghost use Rattle.machine_expr.specs.py_world.Names as world;
+ghost use Rattle.machine_expr.specs.py_world.Targets.{store_name};
+ghost use Rattle.machine_expr.specs.machine_state.Places.{own_in};
+ghost use Rattle.machine_expr.specs.machine_state.Owning.{is_own};
+ghost use Rattle.machine_expr.specs.machine_state.Frames.{rest_of, site_now, state_of, todo};
+ghost use Rattle.machine_expr.specs.machine_state.Work.{doing_work};
 
-use machine_items::changes::{bind_at, unbind_at};
-use machine_names::names::{class_value, module_value, not_defined, unbound};
-use machine_state::frame::End;
-use machine_state::machine::{Doing, Machine, Origin};
+use machine_expr::{
+    Doing, End, Machine, Origin, bind_at, class_value, module_value, not_defined, unbind_at,
+    unbound,
+};
 use py_core::SrcText;
 use py_text::OutOfMemory;
 use py_values::end::Raise;

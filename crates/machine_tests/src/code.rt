@@ -1,8 +1,8 @@
 // The code of texts.
 
 ghost use Rattle.std.specs.Prelude.{IfOk};
-ghost use Rattle.lower_law.specs.Lowered.{LoweredModule};
-ghost use Rattle.lower_law.specs.Sourced.{module_of};
+ghost use Rattle.assert_rewrite.specs.lower_law.Lowered.{LoweredModule};
+ghost use Rattle.assert_rewrite.specs.lower_law.Sourced.{module_of};
 ghost use Rattle.py_machine.specs.Worlds.{IsLowered};
 ghost use Rattle.py_tokens.specs.Layout.{EndsText};
 

@@ -1,11 +1,11 @@
 -- Bodies in mid-run begin.
 use Rattle.std.proofs.Common.{◌≡◌, List, [], ◌∷◌, Some, refl, ap}
 use Rattle.py_core.specs.declared.stmt.CoreBlock.{CoreBlock}
-use Rattle.py_world.specs.World.{state}
-use Rattle.py_world.specs.Site.{trace_of}
-use Rattle.py_world.specs.Outcome.{Gave, Next, Returned, Broke, Continued, Raised, call_end}
-use Rattle.core_meaning.specs.Meaning.{CoreWorld}
-use Rattle.core_meaning.specs.Statements.{block}
+use Rattle.machine_state.specs.py_world.World.{state}
+use Rattle.machine_state.specs.py_world.Site.{trace_of}
+use Rattle.machine_state.specs.py_world.Outcome.{Gave, Next, Returned, Broke, Continued, Raised, call_end}
+use Rattle.machine_state.specs.core_meaning.Meaning.{CoreWorld}
+use Rattle.machine_state.specs.core_meaning.Statements.{block}
 use Rattle.machine_state.specs.declared.machine.Machine.{Machine}
 use Rattle.machine_state.specs.declared.place.Here.{Here}
 use Rattle.machine_state.specs.declared.place.Place.{Place}

@@ -11,17 +11,17 @@ use Rattle.py_core.specs.declared.stmt.CoreGuard.{CoreGuard}
 use Rattle.py_core.specs.declared.stmt.CoreHandler as handler
 use Rattle.py_core.specs.declared.stmt.CoreHandler.{CoreHandler, out-CoreHandler}
 use Rattle.py_values.specs.declared.value.Value.{Value}
-use Rattle.py_world.specs.declared.ended.Thrown.{Thrown}
-use Rattle.py_world.specs.declared.trace.TraceFrame.{TraceFrame}
-use Rattle.py_world.specs.World.{heap_of, with_trace}
-use Rattle.py_world.specs.Names.{bound}
-use Rattle.py_world.specs.Site.{Site}
-use Rattle.py_world.specs.Outcome.{Raised, on_value, raised_at}
-use Rattle.py_world.specs.Exceptions.{handler_block, handlers_on, no_exception, takes_exception}
-use Rattle.core_meaning.specs.Requests.{Layer}
-use Rattle.core_meaning.specs.Expressions.{eval}
-use Rattle.core_meaning.specs.Statements.{CoreHandling, block, handlings, some_part}
-use Rattle.core_meaning.specs.Statements.{handling_of as handling_at}
+use Rattle.machine_state.specs.py_world.declared.ended.Thrown.{Thrown}
+use Rattle.machine_state.specs.py_world.declared.trace.TraceFrame.{TraceFrame}
+use Rattle.machine_state.specs.py_world.World.{heap_of, with_trace}
+use Rattle.machine_state.specs.py_world.Names.{bound}
+use Rattle.machine_state.specs.py_world.Site.{Site}
+use Rattle.machine_state.specs.py_world.Outcome.{Raised, on_value, raised_at}
+use Rattle.machine_state.specs.py_world.Exceptions.{handler_block, handlers_on, no_exception, takes_exception}
+use Rattle.machine_state.specs.core_meaning.Requests.{Layer}
+use Rattle.machine_state.specs.core_meaning.Expressions.{eval}
+use Rattle.machine_state.specs.core_meaning.Statements.{CoreHandling, block, handlings, some_part}
+use Rattle.machine_state.specs.core_meaning.Statements.{handling_of as handling_at}
 use Rattle.machine_state.specs.declared.place.Here.{Here}
 use Rattle.machine_state.specs.declared.frame.Frame.{Frame}
 use Rattle.machine_state.specs.declared.frame.Frame.TheVariants.{Unwind}
@@ -29,7 +29,7 @@ use Rattle.machine_state.specs.declared.frame.UnwindFrame.TheVariants.{Catch, Na
 use Rattle.machine_state.specs.Places.{CoreState, CoreThen, site_of}
 use Rattle.machine_state.specs.Frames.{after, handling_of, layers_of, on_caught, on_class, outer_of}
 use Rattle.machine_state.specs.Work.{block_work, catch_work, handler_work, some_weight}
-use Rattle.machine_expr.proofs.Parts.{drop_some}
+use Rattle.machine_store.proofs.machine_expr_lemmas.Parts.{drop_some}
 
 -- the block of a handler begins behind its name
 pub named_begins : (h h1 h2 : Here) (fs fs1 fs2 fs' : List Frame) (s s1 s2 : CoreState) (name name' : List ℕ) (body : CoreBlock) (e : Value) (trace : List TraceFrame)

@@ -6,11 +6,11 @@ use Rattle.std.specs.declared.rc.Rc.{Rc}
 use Rattle.py_core.specs.Blocks.{handlers_in, last_in, other_in, stmts_in}
 use Rattle.py_core.specs.declared.stmt.CoreBlock.{CoreBlock}
 use Rattle.py_core.specs.declared.stmt.CoreGuard.{CoreGuard}
-use Rattle.py_world.specs.Exceptions.{finally_on, guarded_by}
-use Rattle.py_world.specs.Outcome.{changing, route}
-use Rattle.py_world.specs.Site.{Site}
-use Rattle.core_meaning.specs.Requests.{Guard, Layer}
-use Rattle.core_meaning.specs.Statements.{block, guard, handlings, try_at}
+use Rattle.machine_state.specs.py_world.Exceptions.{finally_on, guarded_by}
+use Rattle.machine_state.specs.py_world.Outcome.{changing, route}
+use Rattle.machine_state.specs.py_world.Site.{Site}
+use Rattle.machine_state.specs.core_meaning.Requests.{Guard, Layer}
+use Rattle.machine_state.specs.core_meaning.Statements.{block, guard, handlings, try_at}
 use Rattle.machine_state.specs.declared.place.Here.{Here}
 use Rattle.machine_state.specs.declared.frame.End.{End}
 use Rattle.machine_state.specs.declared.frame.End.TheVariants as end

@@ -1,11 +1,11 @@
 // Blocks and bodies begin.
 
 ghost use Rattle.std.specs.Prelude.{◌≡◌, ◌+◌, [], IfOk, Some};
-ghost use Rattle.core_meaning.specs.Statements.{block};
+ghost use Rattle.machine_state.specs.core_meaning.Statements.{block};
 ghost use Rattle.py_core.specs.Blocks.{stmts_in};
-ghost use Rattle.py_world.specs.Outcome.{call_end};
-ghost use Rattle.py_world.specs.Site.{trace_of};
-ghost use Rattle.py_world.specs.World.{state};
+ghost use Rattle.machine_state.specs.py_world.Outcome.{call_end};
+ghost use Rattle.machine_state.specs.py_world.Site.{trace_of};
+ghost use Rattle.machine_state.specs.py_world.World.{state};
 ghost use Rattle.machine_state.specs.Places.{depth_of, scene_in};
 ghost use Rattle.machine_state.specs.Frames.{handling_of, layers_of, rest_of, site_now, state_of, todo, world_of};
 ghost use Rattle.machine_state.specs.Work.{block_work, doing_work, stack_work};

@@ -4,22 +4,22 @@ ghost use Rattle.std.specs.Prelude.{◌≡◌, ◌+◌, ◌≤◌, ◌<◌, IfOk
 ghost use Rattle.std.specs.List.{sum_by};
 ghost use Rattle.py_core.specs.Blocks.{handlers_in, stmts_in};
 ghost use Rattle.py_core.specs.declared.stmt.CoreHandler.{out-CoreHandler};
-ghost use Rattle.py_world.specs.Exceptions as world;
-ghost use Rattle.core_meaning.specs.Statements.{block, handlings};
+ghost use Rattle.machine_state.specs.py_world.Exceptions as world;
+ghost use Rattle.machine_state.specs.core_meaning.Statements.{block, handlings};
 ghost use Rattle.machine_state.specs.Frames.{handling_of, layers_of, on_caught, on_class, rest_of, site_now, state_of, todo};
 ghost use Rattle.machine_state.specs.Work.{block_work, catch_work, doing_work, handler_work, stack_work};
 
 use crate::block::begin_block;
 use crate::raise::refuse;
-use machine_expr::evaluate::descend;
+use machine_items::Thrown;
 use machine_items::exceptions::takes_exception;
 use machine_state::frame::{End, Frame, UnwindFrame};
 use machine_state::machine::{Doing, Machine};
+use machine_store::descend;
 use machine_store::names::bind;
 use py_core::{CoreBlock, CoreGuard, CoreHandler, SrcText};
 use py_text::OutOfMemory;
 use py_values::value::Value;
-use py_world::Thrown;
 use std::rc::Rc;
 
 /// Begins the block of a handler that has a name: it is the exception, and is unbound behind the block.

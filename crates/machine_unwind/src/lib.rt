@@ -28,6 +28,12 @@
 //! How long a turn takes.
 #![tactic(auto)]
 
+pub use machine_state::frame::{End, Frame, SimpleFrame};
+pub use machine_state::machine::{Doing, Machine, Origin, TurnEnd};
+pub use machine_store::assign::store_target;
+pub use machine_store::names::{bind, store};
+pub use machine_store::turns::take_target;
+
 pub mod block;
 pub mod handlers;
 pub mod raise;

@@ -1,15 +1,16 @@
 // What a `raise` raises (Language Reference, the raise statement).
 
 ghost use Rattle.std.specs.Prelude.{◌≡◌, ◌+◌, IfOk};
-ghost use Rattle.py_world.specs.Exceptions as world;
-ghost use Rattle.py_world.specs.Outcome.{raised_at};
-ghost use Rattle.py_world.specs.Raising as raising;
-ghost use Rattle.py_world.specs.Site.{trace_of};
-ghost use Rattle.py_world.specs.World.{trace_at};
-ghost use Rattle.core_meaning.specs.Statements.{entry};
+ghost use Rattle.machine_state.specs.py_world.Exceptions as world;
+ghost use Rattle.machine_state.specs.py_world.Outcome.{raised_at};
+ghost use Rattle.machine_state.specs.py_world.Raising as raising;
+ghost use Rattle.machine_state.specs.py_world.Site.{trace_of};
+ghost use Rattle.machine_state.specs.py_world.World.{trace_at};
+ghost use Rattle.machine_state.specs.core_meaning.Statements.{entry};
 ghost use Rattle.machine_state.specs.Frames.{handling_of, rest_of, site_now, state_of, todo, Follows};
 ghost use Rattle.machine_state.specs.Work.{doing_work, stack_work, Falls};
 
+use machine_items::Trace;
 use machine_items::exceptions::{RaiseKind, raisable, raise_init};
 use machine_state::arguments::CallArguments;
 use machine_state::frame::{End, Frame, SimpleFrame};
@@ -21,7 +22,6 @@ use py_values::end::Raise;
 use py_values::rows::Values;
 use py_values::throw::throw_with;
 use py_values::value::{ObjId, Value};
-use py_world::Trace;
 
 /// The trace with which an exception was first raised, or else that of the place where the machine is.
 fn trace_for(m: &Machine, id: ObjId) -> Result<Trace, OutOfMemory>

@@ -3,17 +3,18 @@
 ghost use Rattle.std.specs.Prelude.{◌≡◌, ◌+◌, ◌<◌, IfOk, Some, drop};
 ghost use Rattle.std.specs.List.{sum_by};
 ghost use Rattle.py_core.specs.Blocks.{handlers_in, last_in, other_in, stmts_in};
-ghost use Rattle.py_world.specs.Exceptions as world;
-ghost use Rattle.py_world.specs.Outcome.{changing, on_next, on_value, route};
-ghost use Rattle.py_world.specs.Names.{unbound};
-ghost use Rattle.core_meaning.specs.Statements as meaning;
-ghost use Rattle.core_meaning.specs.Statements.{block, handlings};
+ghost use Rattle.machine_state.specs.py_world.Exceptions as world;
+ghost use Rattle.machine_state.specs.py_world.Outcome.{changing, on_next, on_value, route};
+ghost use Rattle.machine_state.specs.py_world.Names.{unbound};
+ghost use Rattle.machine_state.specs.core_meaning.Statements as meaning;
+ghost use Rattle.machine_state.specs.core_meaning.Statements.{block, handlings};
 ghost use Rattle.machine_state.specs.Places.{CoreState, CoreThen, outcome, site_of};
 ghost use Rattle.machine_state.specs.Frames.{after, handling_of, here_unwind, layers_of, on_caught, on_unwind, outer_of, rest_of, site_now, state_of, todo};
 ghost use Rattle.machine_state.specs.Work.{block_work, catch_work, doing_work, handler_work, last_work, stack_work, unwind_work};
 
 use crate::block::begin_block;
 use crate::handlers::{next_handler, take_class};
+use machine_items::{Thrown, Trace};
 use machine_state::frame::{End, Frame, UnwindFrame};
 use machine_state::machine::{Doing, Machine};
 use machine_state::traces::copy_trace;
@@ -21,7 +22,6 @@ use machine_store::names::unbind;
 use py_core::{CoreBlock, CoreGuard, SrcText};
 use py_text::OutOfMemory;
 use py_values::value::Value;
-use py_world::{Thrown, Trace};
 use std::rc::Rc;
 
 /// The block behind `else`.
@@ -77,7 +77,7 @@ fn handle(
     next_handler(m, guard, 0, Thrown { exc, trace })
 }
 
-ghost use Rattle.py_world.specs.Site.{site_handling};
+ghost use Rattle.machine_state.specs.py_world.Site.{site_handling};
 
 /// Goes on behind the block of a `try`, over the block behind `finally`.
 fn guarded(m: &mut Machine, guard: Rc<CoreGuard>, end: End) -> Result<Doing, OutOfMemory>

@@ -1,7 +1,7 @@
 // What is built in, by its name.
 
 use crate::spelled::{Tried, characters};
-use py_kinds::builtins::{
+use py_calls::py_kinds::builtins::{
     builtin_name, dict_method_named, list_method_named, text_method_named, tuple_method_named,
 };
 use py_values::builtin::{BUILTINS, Builtin};

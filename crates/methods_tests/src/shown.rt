@@ -1,8 +1,8 @@
 // What is told of values and of ends.
 
 use crate::spelled::{Tried, copied};
-use py_kinds::kinds::class_name;
-use py_repr::repr::repr;
+use py_calls::py_kinds::kinds::class_name;
+use py_calls::py_repr::repr::repr;
 use py_values::PyText;
 use py_values::end::{OpEnd, Raise};
 use py_values::heap::Heap;

@@ -2,7 +2,7 @@
 
 use crate::objects::{builtin_function, class, exception, function, module};
 use crate::special::{full_dict, nested, numbers, own_list, spaces};
-use py_kinds::keys::{Keyed, key};
+use py_calls::py_kinds::keys::{Keyed, key};
 use py_values::dict::Dict;
 use py_values::heap::Heap;
 use py_values::object::Obj;

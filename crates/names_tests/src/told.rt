@@ -3,12 +3,12 @@
 
 use crate::built::{Built, module_of};
 use crate::marks::Tried;
+use collect_marks::collect_names::found::TestFunction;
+use collect_marks::collect_names::ids::{item_id, item_part, item_title};
+use collect_marks::collect_names::names::{class_nodes, test_functions};
 use collect_marks::given::item_marks;
 use collect_marks::names::{keyword_names, mark_names};
 use collect_marks::says::{skipped_by, xfail_of};
-use collect_names::found::TestFunction;
-use collect_names::ids::{item_id, item_part, item_title};
-use collect_names::names::{class_nodes, test_functions};
 use py_values::PyText;
 use py_values::heap::Heap;
 use py_values::value::Value;

@@ -2,7 +2,7 @@
 use Rattle.std.proofs.Common.{ℕ, ◌+◌, ◌-◌, ◌<◌, ◌≤◌, Bool, true, false, List, [], ◌∷◌, ◌≡◌, ◌∙◌, refl, ap, arith, length, drop, get_or, add-one, drop-cons, Some, None}
 use Rattle.std.proofs.lemmas.Grind.{common_steps}
 use Rattle.std.specs.Prelude.{nat_lt, if◌then◌else◌, option_map}
-use Rattle.call_products.specs.Products.{plain, product_within}
+use Rattle.text_methods.specs.call_products.Products.{plain, product_within}
 use Rattle.number_calls.specs.Best.{pick_by, pick_of, pick_told, pick_cost, pick_within, best_by, best_from}
 use Rattle.number_calls.specs.declared.best.Pick.{Pick}
 use Rattle.number_calls.specs.declared.best.Pick.TheVariants.{Best, Refuse}

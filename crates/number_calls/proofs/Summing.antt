@@ -3,8 +3,8 @@ use Rattle.std.proofs.Common.{ℕ, ◌+◌, ◌-◌, ◌^◌, ◌<◌, ◌≤◌
 use Rattle.std.proofs.lemmas.Grind.{common_steps}
 use Rattle.std.proofs.lemmas.List.{at_drop_all}
 use Rattle.std.specs.Prelude.{nat_lt, if◌then◌else◌}
-use Rattle.call_products.specs.Products.{plain}
-use Rattle.call_products.specs.declared.product.Product.{Product}
+use Rattle.text_methods.specs.call_products.Products.{plain}
+use Rattle.text_methods.specs.call_products.declared.product.Product.{Product}
 use Rattle.number_calls.specs.Sums.{sum_from, sum_by, plus_of, no_number, too_large}
 use Rattle.number_calls.specs.declared.sums.Plus.{Plus}
 use Rattle.number_calls.specs.declared.sums.Plus.TheVariants.{Sum, NoNumber, TooLarge}

@@ -1,20 +1,20 @@
 -- `min` and `max` (Python library reference, built-in functions). They cost one for each element that they visit and one for each
 -- comparison, and what the order of the two costs.
 use Rattle.std.specs.Prelude.{ℕ, ◌+◌, ◌*◌, Bool, List, [], ◌∷◌, length, codes, nat_lt, if◌then◌else◌, Option, Some, None}
-use Rattle.call_products.specs.Elements.{elements_of}
-use Rattle.call_products.specs.Products.{plain, failed, wrong}
-use Rattle.call_products.specs.declared.elements.Gathered.{Gathered}
-use Rattle.call_products.specs.declared.elements.Gathered.TheVariants as gathered
-use Rattle.call_products.specs.declared.product.Product.{Product}
+use Rattle.text_methods.specs.call_products.Elements.{elements_of}
+use Rattle.text_methods.specs.call_products.Products.{plain, failed, wrong}
+use Rattle.text_methods.specs.call_products.declared.elements.Gathered.{Gathered}
+use Rattle.text_methods.specs.call_products.declared.elements.Gathered.TheVariants as gathered
+use Rattle.text_methods.specs.call_products.declared.product.Product.{Product}
 use Rattle.number_calls.specs.declared.best.Pick.{Pick}
 use Rattle.number_calls.specs.declared.best.Pick.TheVariants.{Best, Refuse}
 use Rattle.py_compare.specs.Order.{Place, order_of}
 use Rattle.py_compare.specs.Order as place
 use Rattle.py_compare.specs.declared.tested.Ordered.{Ordered}
 use Rattle.py_compare.specs.declared.tested.Ordered.TheVariants as ordered
-use Rattle.py_ops.specs.Compare.{not_supported, text_of}
-use Rattle.py_operands.specs.Faults.{too_deep}
-use Rattle.py_kinds.specs.Kinds.{kind_name}
+use Rattle.text_methods.specs.py_ops.Compare.{not_supported, text_of}
+use Rattle.text_methods.specs.py_operands.Faults.{too_deep}
+use Rattle.text_methods.specs.py_kinds.Kinds.{kind_name}
 use Rattle.py_values.specs.declared.class.ExcClass.TheVariants.{ValueError}
 use Rattle.py_values.specs.declared.end.Made.{Made}
 use Rattle.py_values.specs.declared.end.Made.TheVariants.{Give, New, Fail}

@@ -1,3 +1,4 @@
+pub use Rattle.text_methods.specs as text_methods
 pub mod Numbers
 pub mod Texts
 pub mod Sums

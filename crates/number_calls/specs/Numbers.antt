@@ -1,12 +1,12 @@
 -- Numbers (Python library reference, built-in functions). These calls have no cost.
 use Rattle.std.specs.Prelude.{ℕ, Bool, ◌&&◌, ◌||◌, ℤ, pos, negsuc, neg_ℤ, int_lt, List, [], ◌∷◌, codes, nat_lt, if◌then◌else◌, Option, Some, None}
 use Rattle.std.specs.Ordering.{int_eq}
-use Rattle.call_products.specs.Arguments.{sole, pair, sole_text}
-use Rattle.call_products.specs.Products.{plain, failed, wrong}
-use Rattle.call_products.specs.declared.product.Product.{Product}
-use Rattle.py_operands.specs.Numbers.{fitting, number_made, floor_div, floor_mod}
+use Rattle.text_methods.specs.call_products.Arguments.{sole, pair, sole_text}
+use Rattle.text_methods.specs.call_products.Products.{plain, failed, wrong}
+use Rattle.text_methods.specs.call_products.declared.product.Product.{Product}
+use Rattle.text_methods.specs.py_operands.Numbers.{fitting, number_made, floor_div, floor_mod}
 use Rattle.py_values.specs.Numbers.{number_of}
-use Rattle.py_kinds.specs.Truth.{truth}
+use Rattle.text_methods.specs.py_kinds.Truth.{truth}
 use Rattle.py_values.specs.declared.class.ExcClass.TheVariants.{OverflowError, ZeroDivisionError}
 use Rattle.py_values.specs.declared.end.Made.TheVariants.{Give, New}
 use Rattle.py_values.specs.declared.object.Obj.{Obj}

@@ -1,16 +1,16 @@
 -- `sum` (Python library reference, built-in functions). It costs one for each element that it visits.
 use Rattle.std.specs.Prelude.{ℕ, suc, ℤ, pos, ◌+ℤ◌, List, [], ◌∷◌, ◌++◌, length, codes, Option, Some, None}
-use Rattle.call_products.specs.Arguments.{sole}
-use Rattle.call_products.specs.Elements.{elements_of}
-use Rattle.call_products.specs.Products.{plain, failed, wrong}
-use Rattle.call_products.specs.declared.elements.Elements.{Elements}
-use Rattle.call_products.specs.declared.elements.Gathered.{Gathered}
-use Rattle.call_products.specs.declared.elements.Gathered.TheVariants as gathered
-use Rattle.call_products.specs.declared.product.Product.{Product}
+use Rattle.text_methods.specs.call_products.Arguments.{sole}
+use Rattle.text_methods.specs.call_products.Elements.{elements_of}
+use Rattle.text_methods.specs.call_products.Products.{plain, failed, wrong}
+use Rattle.text_methods.specs.call_products.declared.elements.Elements.{Elements}
+use Rattle.text_methods.specs.call_products.declared.elements.Gathered.{Gathered}
+use Rattle.text_methods.specs.call_products.declared.elements.Gathered.TheVariants as gathered
+use Rattle.text_methods.specs.call_products.declared.product.Product.{Product}
 use Rattle.number_calls.specs.declared.sums.Plus.{Plus}
 use Rattle.number_calls.specs.declared.sums.Plus.TheVariants as plus
-use Rattle.py_operands.specs.Numbers.{fitting}
-use Rattle.py_kinds.specs.Kinds.{kind_name}
+use Rattle.text_methods.specs.py_operands.Numbers.{fitting}
+use Rattle.text_methods.specs.py_kinds.Kinds.{kind_name}
 use Rattle.py_values.specs.Numbers.{number_of}
 use Rattle.py_values.specs.Raises.{raise}
 use Rattle.py_values.specs.declared.class.ExcClass.TheVariants.{TypeError, OverflowError}

@@ -1,10 +1,10 @@
 -- `int` (Python library reference, built-in functions): of a number, or of a text of optional blanks, a sign, and digits of ASCII.
 use Rattle.std.specs.Prelude.{ℕ, ◌+◌, ◌*◌, ◌-◌, ◌^◌, Bool, false, ◌||◌, ℤ, pos, neg_ℤ, List, [], ◌∷◌, codes, eqb, nat_lt, if◌then◌else◌, Option, Some, None}
-use Rattle.call_products.specs.Arguments.{sole}
-use Rattle.call_products.specs.Products.{plain, failed, wrong}
-use Rattle.call_products.specs.declared.product.Product.{Product}
-use Rattle.py_ops.specs.Compare.{text_of}
-use Rattle.py_operands.specs.Numbers.{number}
+use Rattle.text_methods.specs.call_products.Arguments.{sole}
+use Rattle.text_methods.specs.call_products.Products.{plain, failed, wrong}
+use Rattle.text_methods.specs.call_products.declared.product.Product.{Product}
+use Rattle.text_methods.specs.py_ops.Compare.{text_of}
+use Rattle.text_methods.specs.py_operands.Numbers.{number}
 use Rattle.py_values.specs.Numbers.{number_of}
 use Rattle.py_values.specs.declared.class.ExcClass.TheVariants.{ValueError}
 use Rattle.py_values.specs.declared.end.Made.TheVariants.{Give}

@@ -22,6 +22,8 @@
 //! How long a call takes.
 #![tactic(auto)]
 
+pub use text_methods;
+
 pub mod best;
 pub mod numbers;
 pub mod sums;

@@ -1,12 +1,9 @@
 // `int` of a number and of a text.
 
 ghost use Rattle.std.specs.Prelude.{◌≡◌, ◌≤◌, ◌^◌, IfOk, option_copied};
-ghost use Rattle.py_operands.specs.Numbers.{fitting};
+ghost use Rattle.text_methods.specs.py_operands.Numbers.{fitting};
 ghost use Rattle.number_calls.specs.Texts as texts;
 
-use call_products::arguments::{sole, text_of};
-use call_products::product::{Product, failed, plain, wrong};
-use py_operands::numbers::number_made;
 use py_values::class::ExcClass;
 use py_values::end::Made;
 use py_values::heap::Heap;
@@ -14,7 +11,10 @@ use py_values::number::number;
 use py_values::value::Value;
 use py_values::{OutOfMemory, PyText};
 use std::alloc::Global;
+use text_methods::call_products::arguments::{sole, text_of};
+use text_methods::call_products::product::{Product, failed, plain, wrong};
 use text_methods::chars::{is_digits, stripped};
+use text_methods::py_operands::numbers::number_made;
 
 /// The size of the greatest number below zero.
 const MOST: u128 = 1 << 127;

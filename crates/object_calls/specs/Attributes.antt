@@ -6,7 +6,7 @@ use Rattle.call_products.specs.Products.{plain, wrong}
 use Rattle.call_products.specs.declared.product.Product.{Product}
 use Rattle.object_calls.specs.Kinds.{answered}
 use Rattle.object_calls.specs.declared.attributes.Asked.{Asked}
-use Rattle.py_ops.specs.Compare.{text_of}
+use Rattle.call_products.specs.py_ops.Compare.{text_of}
 use Rattle.py_values.specs.declared.end.Made.{Made}
 use Rattle.py_values.specs.declared.end.Made.TheVariants.{Give, New, Put, Fail}
 use Rattle.py_values.specs.declared.object.Obj.{Obj}

@@ -22,6 +22,9 @@
 //! How long a call takes.
 #![tactic(auto)]
 
+pub use call_products::py_kinds;
+pub use py_repr;
+
 pub mod attributes;
 pub mod kinds;
 pub mod reprs;

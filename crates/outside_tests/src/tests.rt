@@ -3,6 +3,7 @@ use edge_io::{
     SureTree, Tree, load_files, put_all,
 };
 use std::alloc::{AllocError, Global};
+use std::fmt::Write;
 use std::test::*;
 use std::{fs, io};
 
@@ -26,44 +27,55 @@ fn paths(alloc: Global, loaded: &Files) -> Result<String, AllocError> {
     Ok(text)
 }
 
+const KEPT: [(&str, &[u8]); 21] = [
+    ("test_b.py", b"b"),
+    ("test_a.py", b"a"),
+    ("a/test_c.py", b"c"),
+    ("a.b/test_d.py", b"d"),
+    ("a/.hidden.py", b"h"),
+    ("README", b""),
+    ("x.pyc", b""),
+    ("test_b.py", b"second"),
+    (".git/a.py", b""),
+    ("a/.tox/b.py", b""),
+    ("my.egg/a.py", b""),
+    ("_darcs/a.py", b""),
+    ("build/a.py", b""),
+    ("CVS/a.py", b""),
+    ("dist/a.py", b""),
+    ("node_modules/x/a.py", b""),
+    ("venv/a.py", b""),
+    ("a/__pycache__/a.py", b""),
+    ("{arch}/a.py", b""),
+    ("builds/a.py", b""),
+    ("build.py", b""),
+];
+
+/// The paths that are kept of a tree, and the bytes of the file that it has twice.
+fn kept(alloc: Global, loaded: &Files) -> Result<String, AllocError> {
+    let mut told = paths(alloc, loaded)?;
+    match loaded.bytes_at("test_b.py") {
+        Some(bytes) => write!(told, "{:?}", bytes.as_slice())?,
+        None => told.push_str("lost")?,
+    }
+    if loaded.bytes_at("README").is_some() {
+        told.push_str(" README")?;
+    }
+    Ok(told)
+}
+
 #[test]
 fn keeps_python_files_in_order(rt: HostRuntime) -> Result<(), Fail> {
     let alloc = rt.alloc();
-    let tree = files(
-        alloc,
-        &[
-            ("test_b.py", b"b"),
-            ("test_a.py", b"a"),
-            ("a/test_c.py", b"c"),
-            ("a.b/test_d.py", b"d"),
-            ("a/.hidden.py", b"h"),
-            ("README", b""),
-            ("x.pyc", b""),
-            ("test_b.py", b"second"),
-            (".git/a.py", b""),
-            ("a/.tox/b.py", b""),
-            ("my.egg/a.py", b""),
-            ("_darcs/a.py", b""),
-            ("build/a.py", b""),
-            ("CVS/a.py", b""),
-            ("dist/a.py", b""),
-            ("node_modules/x/a.py", b""),
-            ("venv/a.py", b""),
-            ("a/__pycache__/a.py", b""),
-            ("{arch}/a.py", b""),
-            ("builds/a.py", b""),
-            ("build.py", b""),
-        ],
-    )?;
-    let mut tree = SureTree::new(alloc, tree);
-    let Ok(loaded) = load_files(alloc, &mut tree) else {
-        return Err(Fail::from("not loaded"));
+    let mut tree = SureTree::new(alloc, files(alloc, &KEPT)?);
+    let told = match load_files(alloc, &mut tree) {
+        Ok(loaded) => kept(alloc, &loaded)?,
+        Err(_) => String::new(alloc),
     };
-    let wanted = "a.b/test_d.py a/.hidden.py a/test_c.py build.py builds/a.py test_a.py test_b.py ";
-    assert_eq!(rt; paths(alloc, &loaded)?.as_str(), wanted);
-    let bytes = loaded.bytes_at("test_b.py").ok_or("lost")?;
-    assert_eq!(rt; bytes.as_slice(), b"b".as_slice());
-    assert!(rt; loaded.bytes_at("README").is_none());
+    assert_eq!(rt;
+        told.as_str(),
+        "a.b/test_d.py a/.hidden.py a/test_c.py build.py builds/a.py test_a.py test_b.py [98]"
+    );
     Ok(())
 }
 
@@ -94,75 +106,131 @@ fn outcome(alloc: Global, files: Vec<(String, Vec<u8>)>) -> Result<String, Alloc
 
 const MIB: usize = 1_048_576;
 
+/// How many files of which size a tree has, what else it has, and what comes of it. In the order of the paths, a file's own size comes
+/// before the sum.
+const LIMITS: [(u32, usize, &[(&str, usize)], &str); 8] = [
+    (4096, 0, &[], "4096 files"),
+    (4097, 0, &[], "too many"),
+    (8, MIB, &[], "8 files"),
+    (9, MIB, &[], "tree too large"),
+    (2, MIB + 1, &[], "too large: test_0.py"),
+    (4097, 3000, &[], "too many"),
+    (8, MIB, &[("test_9.py", MIB + 1)], "too large: test_9.py"),
+    (
+        8,
+        MIB,
+        &[("test_8.py", 1), ("test_9.py", MIB + 1)],
+        "tree too large",
+    ),
+];
+
+/// What comes of a tree of so many files of a size, and some more.
+fn outcome_of(
+    alloc: Global,
+    count: u32,
+    size: usize,
+    more: &[(&str, usize)],
+) -> Result<String, AllocError> {
+    let mut files = many(alloc, count, size)?;
+    for (path, size) in more {
+        files.push(sized(alloc, path, *size)?)?;
+    }
+    outcome(alloc, files)
+}
+
+/// What is told of the first row that doesn't hold.
+fn wrong_limit(alloc: Global) -> Result<String, AllocError> {
+    for (count, size, more, wanted) in &LIMITS {
+        let told = outcome_of(alloc, *count, *size, more)?;
+        if told.as_str() != *wanted {
+            return format!(in alloc; "{wanted}: {told}");
+        }
+    }
+    Ok(String::new(alloc))
+}
+
 #[test]
 fn refuses_a_tree_at_its_limits(rt: HostRuntime) -> Result<(), Fail> {
-    let alloc = rt.alloc();
-    for (count, size, wanted) in [
-        (4096, 0, "4096 files"),
-        (4097, 0, "too many"),
-        (8, MIB, "8 files"),
-        (9, MIB, "tree too large"),
-        (2, MIB + 1, "too large: test_0.py"),
-        (4097, 3000, "too many"),
-    ] {
-        let said = outcome(alloc, many(alloc, count, size)?)?;
-        assert_eq!(rt; said.as_str(), wanted);
+    assert_eq!(rt; wrong_limit(rt.alloc())?.as_str(), "");
+    Ok(())
+}
+
+/// Whether a tree of two files, whose call with this number fails, isn't loaded.
+fn tree_fails(alloc: Global, failing: u64) -> Result<bool, AllocError> {
+    let tree = files(alloc, &[("test_a.py", b"a"), ("test_b.py", b"b")])?;
+    let mut tree = MemTree::new(SureTree::new(alloc, tree), vec![in alloc; failing]?);
+    Ok(matches!(&load_files(alloc, &mut tree), Err(LoadFault::Tree)))
+}
+
+#[test]
+fn fails_where_the_tree_fails(rt: HostRuntime) {
+    for failing in [1u64, 2, 3] {
+        assert_eq!(rt; tree_fails(rt.alloc(), failing), Ok(true));
     }
-    // In the order of the paths, a file's own size comes before the sum.
-    let mut ninth = many(alloc, 8, MIB)?;
-    ninth.push(sized(alloc, "test_9.py", MIB + 1)?)?;
-    assert_eq!(rt; outcome(alloc, ninth)?.as_str(), "too large: test_9.py");
-    let mut tenth = many(alloc, 8, MIB)?;
-    tenth.push(sized(alloc, "test_8.py", 1)?)?;
-    tenth.push(sized(alloc, "test_9.py", MIB + 1)?)?;
-    assert_eq!(rt; outcome(alloc, tenth)?.as_str(), "tree too large");
+}
+
+#[test]
+fn fails_where_the_sink_fails(rt: HostRuntime) -> Result<(), Fail> {
+    let alloc = rt.alloc();
+    let mut sink = MemSink::new(alloc, 10, vec![in alloc; 3u64]?);
+    let put = put_all(&mut sink, b"0123456789abcdefghijklmnopq");
+    assert_eq!(rt;
+        (put, sink.bytes(), sink.calls()),
+        (Err(SinkFail::Failed), b"0123456789abcdefghij".as_slice(), 3)
+    );
     Ok(())
 }
 
 #[test]
-fn fails_where_the_outside_fails(rt: HostRuntime) -> Result<(), Fail> {
-    let alloc = rt.alloc();
-    for failing in [1u64, 2, 3] {
-        let tree = files(alloc, &[("test_a.py", b"a"), ("test_b.py", b"b")])?;
-        let mut tree = MemTree::new(SureTree::new(alloc, tree), vec![in alloc; failing]?);
-        let failed = matches!(&load_files(alloc, &mut tree), Err(LoadFault::Tree));
-        assert!(rt; failed);
-    }
-    let mut sink = MemSink::new(alloc, 10, vec![in alloc; 3u64]?);
+fn a_sink_has_what_was_put(rt: HostRuntime) {
+    let mut sink = SureSink::new(rt.alloc());
+    let (some, nothing) = (put_all(&mut sink, b"abc"), put_all(&mut sink, b""));
     assert_eq!(rt;
-        put_all(&mut sink, b"0123456789abcdefghijklmnopq"),
-        Err(SinkFail::Failed)
+        (some, nothing, sink.bytes()),
+        (Ok(()), Ok(()), b"abc".as_slice())
     );
-    assert_eq!(rt; sink.bytes(), b"0123456789abcdefghij".as_slice());
-    assert_eq!(rt; sink.calls(), 3);
-    let mut sink = SureSink::new(alloc);
-    assert_eq!(rt; put_all(&mut sink, b"abc"), Ok(()));
-    assert_eq!(rt; put_all(&mut sink, b""), Ok(()));
-    assert_eq!(rt; sink.bytes(), b"abc".as_slice());
-    Ok(())
+}
+
+const FOLDER: &str = "edge_io_folder";
+
+fn make_folder(rt: &HostRuntime) -> io::Result<()> {
+    fs::create_dir_all(rt, "edge_io_folder/sub")?;
+    fs::write(rt, "edge_io_folder/test_a.py", b"assert 1".as_slice())?;
+    fs::write(rt, "edge_io_folder/sub/b.txt", b"".as_slice())
+}
+
+fn remove_folder(rt: &HostRuntime) -> io::Result<()> {
+    fs::remove_file(rt, "edge_io_folder/test_a.py")?;
+    fs::remove_file(rt, "edge_io_folder/sub/b.txt")?;
+    fs::remove_dir(rt, "edge_io_folder/sub")?;
+    fs::remove_dir(rt, FOLDER)
+}
+
+/// The paths of a tree in order, or that it isn't listed.
+fn listed<T: Tree>(alloc: Global, tree: &mut T) -> Result<String, AllocError> {
+    let Ok(mut listed) = tree.list() else {
+        return String::from_str(alloc, "not listed");
+    };
+    listed.sort()?;
+    let mut told = String::new(alloc);
+    for path in &listed {
+        write!(told, "{path} ")?;
+    }
+    Ok(told)
 }
 
 #[test]
 fn reads_a_folder(rt: HostRuntime) -> Result<(), Fail> {
     let alloc = rt.alloc();
-    fs::create_dir_all(&rt, "edge_io_folder/sub")?;
-    fs::write(&rt, "edge_io_folder/test_a.py", b"assert 1".as_slice())?;
-    fs::write(&rt, "edge_io_folder/sub/b.txt", b"".as_slice())?;
-    let mut tree = DirTree::new(rt.clone()?, String::from_str(alloc, "edge_io_folder")?);
-    let mut listed = tree.list().map_err(|_| "not listed")?;
-    listed.sort()?;
-    assert_eq!(rt; listed.len(), 2);
-    assert_eq!(rt; listed[0].as_str(), "sub/b.txt");
-    assert_eq!(rt; listed[1].as_str(), "test_a.py");
+    make_folder(&rt)?;
+    let mut tree = DirTree::new(rt.clone()?, String::from_str(alloc, FOLDER)?);
+    assert_eq!(rt; listed(alloc, &mut tree)?.as_str(), "sub/b.txt test_a.py ");
     let front = tree.read("test_a.py", 6).map_err(|_| "not read")?;
     assert_eq!(rt; front.as_slice(), b"assert".as_slice());
     assert!(rt; tree.read("nothing.py", 6).is_err());
-    fs::remove_file(&rt, "edge_io_folder/test_a.py")?;
-    fs::remove_file(&rt, "edge_io_folder/sub/b.txt")?;
-    fs::remove_dir(&rt, "edge_io_folder/sub")?;
-    fs::remove_dir(&rt, "edge_io_folder")?;
-    let mut tree = DirTree::new(rt.clone()?, String::from_str(alloc, "edge_io_folder")?);
-    assert!(rt; tree.list().is_err());
+    remove_folder(&rt)?;
+    let mut tree = DirTree::new(rt.clone()?, String::from_str(alloc, FOLDER)?);
+    assert_eq!(rt; listed(alloc, &mut tree)?.as_str(), "not listed");
     Ok(())
 }
 

@@ -1,1 +1,3 @@
+pub use Rattle.py_items.specs as py_items
+pub use Rattle.py_items.specs.py_operands
 pub mod Attributes

@@ -1,6 +1,6 @@
 -- A quiet call prints nothing.
 use Rattle.std.proofs.Common.{ℕ, ◌≡◌, Bool, true, false, nat_lt, if◌then◌else◌, List, [], refl}
-use Rattle.call_products.specs.declared.product.Product.{Product}
+use Rattle.sequence_calls.specs.call_products.declared.product.Product.{Product}
 use Rattle.py_calls.specs.Calls.{quiet, printed_within}
 use Rattle.py_values.specs.Ends.{cost_of}
 

@@ -1,8 +1,8 @@
 -- The steps of a product under a budget are within it.
 use Rattle.std.proofs.Common.{ℕ, ◌≤◌, ◌≡◌, Bool, true, false, nat_lt, if◌then◌else◌, Some, None, refl, arith}
 use Rattle.std.proofs.lemmas.Grind.{common_steps}
-use Rattle.call_products.specs.Products.{product_within, product_cost}
-use Rattle.call_products.specs.declared.product.Product.{Product}
+use Rattle.sequence_calls.specs.call_products.Products.{product_within, product_cost}
+use Rattle.sequence_calls.specs.call_products.declared.product.Product.{Product}
 use Rattle.py_values.specs.Ends.{cost_of}
 
 by_test : (b : Bool) (budget : ℕ) (p : Product) → (b ≡ false → cost_of p.made ≤ budget) → product_cost (if b then None else Some p) ≤ budget

@@ -1,6 +1,6 @@
 -- What a built-in call makes.
 use Rattle.std.specs.Prelude.{ℕ, List}
-use Rattle.call_products.specs.declared.product.Product.{Product}
+use Rattle.sequence_calls.specs.call_products.declared.product.Product.{Product}
 
 -- the bytes that it prints, and what it makes with its cost
 pub record Called : Type 0 where

@@ -1,8 +1,8 @@
 -- Calls of what is built in.
 use Rattle.std.specs.Prelude.{ℕ, List, [], length, nat_lt, if◌then◌else◌, encode_utf8_all}
-use Rattle.call_products.specs.Arguments.{sole}
-use Rattle.call_products.specs.Products.{plain}
-use Rattle.call_products.specs.declared.product.Product.{Product}
+use Rattle.sequence_calls.specs.call_products.Arguments.{sole}
+use Rattle.sequence_calls.specs.call_products.Products.{plain}
+use Rattle.sequence_calls.specs.call_products.declared.product.Product.{Product}
 use Rattle.py_calls.specs.Called.{Called}
 use Rattle.py_calls.specs.Functions.{str_made, len_made, sequence_call_of, number_call_of, object_call_of}
 use Rattle.py_calls.specs.Methods.{text_call_of, list_call_of, tuple_call_of, dict_call_of}

@@ -1,7 +1,7 @@
 -- The built-in functions and classes but `print` (Python library reference, built-in functions).
 use Rattle.std.specs.Prelude.{ℕ, true, false, List, length, Option, Some, None, codes, pos}
-use Rattle.call_products.specs.Products.{plain, wrong}
-use Rattle.call_products.specs.declared.product.Product.{Product}
+use Rattle.sequence_calls.specs.call_products.Products.{plain, wrong}
+use Rattle.sequence_calls.specs.call_products.declared.product.Product.{Product}
 use Rattle.dict_methods.specs.Dicts.{dict_of}
 use Rattle.number_calls.specs.Best.{best_called}
 use Rattle.number_calls.specs.Numbers.{abs_of, divmod_of, bool_of, ord_of, chr_of}
@@ -14,9 +14,9 @@ use Rattle.py_attributes.specs.Attributes.{attribute_of}
 use Rattle.py_calls.specs.Texts.{text_of}
 use Rattle.py_calls.specs.declared.made.TextMade.{TextMade}
 use Rattle.py_calls.specs.declared.made.TextMade.TheVariants.{Text, Refused}
-use Rattle.py_kinds.specs.Kinds.{kind_name}
-use Rattle.py_kinds.specs.Lengths.{length_of}
-use Rattle.py_operands.specs.Faults.{not_iterable}
+use Rattle.object_calls.specs.py_kinds.Kinds.{kind_name}
+use Rattle.object_calls.specs.py_kinds.Lengths.{length_of}
+use Rattle.py_attributes.specs.py_operands.Faults.{not_iterable}
 use Rattle.py_values.specs.declared.builtin.NumberCall.{NumberCall}
 use Rattle.py_values.specs.declared.builtin.NumberCall.TheVariants as number
 use Rattle.py_values.specs.declared.builtin.ObjectCall.{ObjectCall}
@@ -31,7 +31,7 @@ use Rattle.py_values.specs.declared.value.Value.TheVariants as val
 use Rattle.sequence_calls.specs.Ranges.{range_of}
 use Rattle.sequence_calls.specs.Sequences.{list_of, tuple_of, reversed_of, enumerate_of, zip_of}
 use Rattle.sequence_calls.specs.Truths.{all_of, any_of}
-use Rattle.sorting.specs.Calls.{sorted_of}
+use Rattle.list_methods.specs.sorting.Calls.{sorted_of}
 
 -- `str(v)`: a new text, at the cost of its length
 abbrev pub str_by : TextMade → Product

@@ -1,11 +1,11 @@
 -- The methods of built-in kinds, called with the value through which they were read before the arguments (Python library reference,
 -- string methods, lists, tuples, mapping types).
 use Rattle.std.specs.Prelude.{ℕ, List, [], ◌∷◌}
-use Rattle.call_products.specs.Products.{wrong}
-use Rattle.call_products.specs.declared.product.Product.{Product}
+use Rattle.sequence_calls.specs.call_products.Products.{wrong}
+use Rattle.sequence_calls.specs.call_products.declared.product.Product.{Product}
 use Rattle.dict_methods.specs.Dicts.{dict_method_of}
 use Rattle.list_methods.specs.Lists.{list_method_of, tuple_method_of}
-use Rattle.py_kinds.specs.Builtins.{text_method_name, list_method_name, tuple_method_name, dict_method_name}
+use Rattle.object_calls.specs.py_kinds.Builtins.{text_method_name, list_method_name, tuple_method_name, dict_method_name}
 use Rattle.py_values.specs.declared.builtin.TextMethod.{TextMethod}
 use Rattle.py_values.specs.declared.builtin.ListMethod.{ListMethod}
 use Rattle.py_values.specs.declared.builtin.TupleMethod.{TupleMethod}
@@ -14,7 +14,7 @@ use Rattle.py_values.specs.declared.object.Obj.{Obj}
 use Rattle.py_values.specs.declared.value.ObjId.{ObjId}
 use Rattle.py_values.specs.declared.value.Value.{Value}
 use Rattle.py_values.specs.declared.value.Value.TheVariants as val
-use Rattle.text_methods.specs.Methods.{text_method_of}
+use Rattle.number_calls.specs.text_methods.Methods.{text_method_of}
 
 -- what is done with the object that is the first argument, and the arguments behind it
 abbrev pub through_object : Product → (ObjId → List Value → Product) → List Value → Product

@@ -3,15 +3,15 @@ use Rattle.std.specs.Prelude.{ℕ, List, ◌++◌, if◌then◌else◌, codes, O
 use Rattle.py_values.specs.Limits.{most_elements}
 use Rattle.py_calls.specs.declared.made.TextMade.{TextMade}
 use Rattle.py_calls.specs.declared.made.TextMade.TheVariants.{Text, Refused}
-use Rattle.py_kinds.specs.Builtins.{builtin_name}
+use Rattle.object_calls.specs.py_kinds.Builtins.{builtin_name}
 use Rattle.py_values.specs.Raises.{raise}
-use Rattle.py_repr.specs.Repr.{str_of}
-use Rattle.py_repr.specs.Symbols.{shown}
+use Rattle.object_calls.specs.py_repr.Repr.{str_of}
+use Rattle.object_calls.specs.py_repr.Symbols.{shown}
 use Rattle.py_values.specs.declared.builtin.Builtin.{Builtin}
 use Rattle.py_values.specs.declared.class.ExcClass.TheVariants.{TypeError, RecursionError, MemoryError}
 use Rattle.py_values.specs.declared.end.Raise.{Raise}
 use Rattle.py_values.specs.declared.object.Obj.{Obj}
-use Rattle.py_repr.specs.declared.shown.Shown.{Shown}
+use Rattle.object_calls.specs.py_repr.declared.shown.Shown.{Shown}
 use Rattle.py_values.specs.declared.value.Value.{Value}
 
 abbrev pub wrong : Builtin → Raise

@@ -13,7 +13,7 @@ use Rattle.py_tree.specs.Trees.{Tree, Trees, Empty, More, Slice, tree_at, tree, 
 use Rattle.py_tree.specs.declared.expr.ExprKind.TheBlock.{hidden-the_row-ExprKind-Tuple-0-1-0 as hide}
 use Rattle.py_tree.specs.Names.{is_among}
 use Rattle.py_tree.proofs.Rows.{trees_hidden}
-use Rattle.py_expressions.specs.Values.{at_of}
+use Rattle.py_nodes.specs.py_expressions.Values.{at_of}
 use Rattle.py_nodes.proofs.Forms.{place_is}
 use Rattle.py_grammar.specs.Context.{first_place, all_places, by_turns, is_first, wrong_arguments, unless, in_tree, each, in_maybe, in_trees}
 use Rattle.py_context.specs.First.{sooner, some_given, wrong_name, with_name}

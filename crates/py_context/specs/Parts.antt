@@ -6,7 +6,7 @@ use Rattle.py_source.specs.declared.pos.Pos.{Pos}
 use Rattle.py_tree.specs.declared.expr.ArgName.{ArgName}
 use Rattle.py_tree.specs.declared.expr.Expr.{Expr}
 use Rattle.py_tree.specs.Trees.{tree}
-use Rattle.py_expressions.specs.Values.{at_of}
+use Rattle.py_nodes.specs.py_expressions.Values.{at_of}
 use Rattle.py_grammar.specs.Context.{first_place, in_tree}
 use Rattle.py_context.specs.declared.expressions.Part.{Part}
 use Rattle.py_context.specs.First.{sooner, wrong_name, with_name}

@@ -4,7 +4,7 @@ use Rattle.py_tokens.specs.declared.token.Token.{Token}
 use Rattle.parsing.specs.Reading.{Read, Found, Bad, Deep, ◌>>=◌, deep_at, has}
 use Rattle.grammar_code.specs.Walk.{first_if, with_meaning, first_of, first_meant, pick, starts_with, wanted}
 use Rattle.grammar.specs.Table.{meant}
-use Rattle.token_kinds.specs.Kinds.{kind}
+use Rattle.py_expressions.specs.token_kinds.Kinds.{kind}
 use Rattle.py_cursor.specs.declared.stop.Stop.{Stop}
 use Rattle.py_cursor.specs.declared.stop.Stop.TheVariants as stops
 use Rattle.py_cursor.specs.Cursor.{FailsAs, IsBlocked}

@@ -7,7 +7,7 @@ use Rattle.py_tokens.specs.contracts.op.Op.{the_type}
 use denote.Enum.Declared.{tag_of}
 use denote.Enum.Bare.{sameb}
 use Rattle.parsing.specs.Reading.{has}
-use Rattle.token_kinds.specs.Kinds.{op_number}
+use Rattle.py_expressions.specs.token_kinds.Kinds.{op_number}
 
 pub number_is : (o : Op) → op_number o ≡ 7 + tag_of the_type o
 number_is op.DoubleStarEqual = refl

@@ -3,7 +3,7 @@ use Rattle.std.specs.Prelude.{◌≡◌, ℕ, Bool, true, false, List, [], ◌�
 use Rattle.py_tokens.specs.declared.op.Op.{Op}
 use Rattle.py_tokens.specs.declared.token.Token.{Token}
 use Rattle.parsing.specs.Reading.{Read, Found, Bad, Deep}
-use Rattle.token_kinds.specs.Kinds.{op_number}
+use Rattle.py_expressions.specs.token_kinds.Kinds.{op_number}
 use Rattle.py_cursor.specs.declared.cursor.Sign.{Sign}
 use Rattle.py_cursor.specs.declared.cursor.Sign.TheVariants as sign
 use Rattle.py_cursor.specs.declared.stop.Stop.{Stop}

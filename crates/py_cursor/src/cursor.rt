@@ -2,7 +2,7 @@ ghost use Rattle.std.specs.Prelude.{◌≡◌, ◌∷◌, [], MatchOption, None,
 ghost use Rattle.parsing.specs.Reading.{has};
 ghost use Rattle.grammar_code.specs.Walk.{first_of, first_meant, starts_with, wanted};
 ghost use Rattle.grammar.specs.Table.{meant};
-ghost use Rattle.token_kinds.specs.Kinds.{kind, op_number, text_of};
+ghost use Rattle.py_expressions.specs.token_kinds.Kinds.{kind, op_number, text_of};
 ghost use Rattle.py_cursor.specs.Cursor.{number_on, kinds_of, rows_of, Gives, IsBlocked};
 
 use crate::stop::Stop;

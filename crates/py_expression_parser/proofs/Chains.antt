@@ -5,10 +5,10 @@ use Rattle.parsing.specs.Reading.{Read, Found, Bad, Deep, ◌>>=◌}
 use Rattle.parsing.proofs.Loops.{bind_assoc}
 use Rattle.grammar.specs.Levels.{readers, fits}
 use Rattle.grammar_code.specs.Walk.{Up, ground, up, tall, above, pick, first_of, first_meant, starts_with, wanted, walk, whole}
-use Rattle.token_kinds.specs.Kinds.{kind, text_of}
-use Rattle.token_kinds.specs.Numbers as k
-use Rattle.py_expressions.specs.Values as v
-use Rattle.py_expressions.specs.Values.{at_of}
+use Rattle.py_cursor.specs.token_kinds.Kinds.{kind, text_of}
+use Rattle.py_cursor.specs.token_kinds.Numbers as k
+use Rattle.py_cursor.specs.py_expressions.Values as v
+use Rattle.py_cursor.specs.py_expressions.Values.{at_of}
 use Rattle.py_cursor.specs.declared.stop.Stop.{Stop}
 use Rattle.py_cursor.specs.Cursor.{FailsAs}
 use Rattle.grammar_code.proofs.Walk.{bind_eq, pick_bind, pick_eq, round_once, part_eats, chain_read, walk_one_of, walked}
@@ -16,8 +16,8 @@ use Rattle.grammar.specs.Table.{room, give, node, many, ◌⨾◌, ◌∣◌}
 use Rattle.py_tree.specs.declared.op.CmpOp.{CmpOp}
 use Rattle.py_tree.specs.declared.op.CmpOp.TheVariants as comparison
 use Rattle.py_tree.specs.Trees.{Tree, Compare, And, Or}
-use Rattle.py_expressions.specs.Sorts.{tree, chain, compare, negation, conjunct, disjunct, bitor}
-use Rattle.py_expressions.specs.Lines.{P, expressions, no_reader, compared, worded, part, comparisons}
+use Rattle.py_cursor.specs.py_expressions.Sorts.{tree, chain, compare, negation, conjunct, disjunct, bitor}
+use Rattle.py_cursor.specs.py_expressions.Lines.{P, expressions, no_reader, compared, worded, part, comparisons}
 use Rattle.py_nodes.specs.Parts.{with_op}
 use Rattle.py_cursor.proofs.Loops.{begun_over, begun_fails, begun_next, fails_on}
 use Rattle.py_expression_parser.specs.declared.links.Link.{Link}

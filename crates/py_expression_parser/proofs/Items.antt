@@ -5,18 +5,18 @@ use Rattle.parsing.specs.Reading.{Read, Found, Bad, Deep, ◌>>=◌, seen_or}
 use Rattle.parsing.proofs.Loops.{bind_assoc}
 use Rattle.grammar.specs.Levels.{readers, fits}
 use Rattle.grammar_code.specs.Walk.{Up, ground, up, tall, pick, first_of, first_meant, starts_with, wanted, walk, whole}
-use Rattle.token_kinds.specs.Kinds.{kind, text_of}
-use Rattle.token_kinds.specs.Numbers as k
-use Rattle.py_expressions.specs.Values as v
-use Rattle.py_expressions.specs.Values.{at_of}
+use Rattle.py_cursor.specs.token_kinds.Kinds.{kind, text_of}
+use Rattle.py_cursor.specs.token_kinds.Numbers as k
+use Rattle.py_cursor.specs.py_expressions.Values as v
+use Rattle.py_cursor.specs.py_expressions.Values.{at_of}
 use Rattle.py_cursor.specs.declared.stop.Stop.{Stop}
 use Rattle.py_cursor.specs.Cursor.{FailsAs}
 use Rattle.grammar_code.proofs.Walk.{bind_eq, pick_eq, part_eats, round_commas, walked, walked_on}
 use Rattle.py_tree.specs.declared.expr.ArgName.{ArgName}
 use Rattle.py_tree.specs.Trees as t
 use Rattle.py_tree.specs.Trees.{Tree}
-use Rattle.py_expressions.specs.Sorts.{expr, row, pairs, args, tree, finished, arguments}
-use Rattle.py_expressions.specs.Lines.{expressions, no_reader, part, pair, no_more, arg, E1}
+use Rattle.py_cursor.specs.py_expressions.Sorts.{expr, row, pairs, args, tree, finished, arguments}
+use Rattle.py_cursor.specs.py_expressions.Lines.{expressions, no_reader, part, pair, no_more, arg, E1}
 use Rattle.py_nodes.specs.Parts.{more_pairs}
 use Rattle.py_cursor.proofs.Loops.{items_over, items_end, items_fails, items_next, fails_on}
 use Rattle.py_expression_parser.specs.Reads.{reads, reads_part, reads_all}

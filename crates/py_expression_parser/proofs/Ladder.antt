@@ -9,10 +9,10 @@ use Rattle.grammar.specs.Table.{room, inner, ◌⨾◌}
 use Rattle.grammar.specs.Levels.{readers, fits}
 use Rattle.grammar_code.specs.Walk.{Up, up, tall, above, pick, first_meant, first_of, walk, whole, onto, round}
 use Rattle.grammar_code.proofs.Walk.{round_walk, walk_one_of, bind_found_same}
-use Rattle.token_kinds.specs.Kinds.{kind}
-use Rattle.py_expressions.specs.Values.{at_of}
-use Rattle.py_expressions.specs.Sorts.{unary, prod, sum, shift, band, xor, bitor, tree, left, operands}
-use Rattle.py_expressions.specs.Lines.{P, OpRow, expressions, no_reader, products, sums, shifts, ands, xors, ors, operator, two_sides, binary_node}
+use Rattle.py_cursor.specs.token_kinds.Kinds.{kind}
+use Rattle.py_cursor.specs.py_expressions.Values.{at_of}
+use Rattle.py_cursor.specs.py_expressions.Sorts.{unary, prod, sum, shift, band, xor, bitor, tree, left, operands}
+use Rattle.py_cursor.specs.py_expressions.Lines.{P, OpRow, expressions, no_reader, products, sums, shifts, ands, xors, ors, operator, two_sides, binary_node}
 use Rattle.py_cursor.specs.declared.stop.Stop.{Stop}
 use Rattle.py_cursor.specs.Cursor.{FailsAs}
 use Rattle.py_cursor.proofs.Loops.{steps_over, steps_deep, steps_fails, steps_next}

@@ -7,9 +7,9 @@ use Rattle.grammar.specs.Levels.{readers, fits}
 use Rattle.grammar.proofs.Along.{reader_takes}
 use Rattle.grammar_code.specs.Walk.{Up, ground, up, walk, whole}
 use Rattle.grammar_code.proofs.Walk.{Eats, line_walk}
-use Rattle.py_expressions.specs.Sorts.{El, sort, Name}
-use Rattle.py_expressions.specs.Lines.{expressions, none, no_reader, body}
-use Rattle.py_expressions.proofs.Good.{good_expressions}
+use Rattle.py_cursor.specs.py_expressions.Sorts.{El, sort, Name}
+use Rattle.py_cursor.specs.py_expressions.Lines.{expressions, none, no_reader, body}
+use Rattle.py_cursor.proofs.py_expressions_lemmas.Good.{good_expressions}
 use Rattle.py_expression_parser.specs.Reads.{reads}
 
 -- A LINE, as code goes along it

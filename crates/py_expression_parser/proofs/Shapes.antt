@@ -6,10 +6,10 @@ use Rattle.parsing.specs.Reading.{Read, Found, Bad, Deep, ◌>>=◌, deep_at, se
 use Rattle.parsing.proofs.Loops.{bind_assoc}
 use Rattle.grammar.specs.Levels.{readers, fits, read}
 use Rattle.grammar_code.specs.Walk.{round, Up, ground, up, tall, above, pick, first_of, first_meant, starts_with, wanted, walk, whole}
-use Rattle.token_kinds.specs.Kinds.{kind, text_of}
-use Rattle.token_kinds.specs.Numbers as k
-use Rattle.py_expressions.specs.Values as v
-use Rattle.py_expressions.specs.Values.{at_of, number_in}
+use Rattle.py_cursor.specs.token_kinds.Kinds.{kind, text_of}
+use Rattle.py_cursor.specs.token_kinds.Numbers as k
+use Rattle.py_cursor.specs.py_expressions.Values as v
+use Rattle.py_cursor.specs.py_expressions.Values.{at_of, number_in}
 use Rattle.py_cursor.specs.declared.stop.Stop.{Stop}
 use Rattle.py_cursor.specs.Cursor.{FailsAs, IsBlocked}
 use Rattle.py_cursor.proofs.Loops.{blocked_as, fails_on}
@@ -17,9 +17,9 @@ use Rattle.grammar.proofs.Along.{no_levels}
 use Rattle.grammar_code.proofs.Walk.{bind_eq, bind_found_same, walk_one_of, walked, walked_on, pick_begins, pick_bind, pick_wanted, pick_eq, round_walk}
 use Rattle.py_tree.specs.declared.op.BinOp.TheVariants as binary
 use Rattle.py_tree.specs.Trees.{Tree, Empty, Text, Dict, Name, Number, True, False, NoneTree, Paren, Tuple, Unary, Binary, Not, IfElse}
-use Rattle.py_expressions.specs.Sorts.{other, atom, primary, power, unary, negation, compare, disjunct, expr, exprs, nothing, prefix, tree, quoted, row, pairs}
+use Rattle.py_cursor.specs.py_expressions.Sorts.{other, atom, primary, power, unary, negation, compare, disjunct, expr, exprs, nothing, prefix, tree, quoted, row, pairs}
 use Rattle.grammar.specs.Table.{when, give, ◌⨾◌, ◌∣◌}
-use Rattle.py_expressions.specs.Lines.{expressions, no_reader, prefixes, pair, key, mark, part, E1, A0}
+use Rattle.py_cursor.specs.py_expressions.Lines.{expressions, no_reader, prefixes, pair, key, mark, part, E1, A0}
 use Rattle.py_nodes.specs.Parts.{no_pairs}
 use Rattle.py_expression_parser.specs.Reads.{reads, reads_all, reads_part, listed}
 use Rattle.py_expression_parser.specs.Pieces.{constant_on, leaf_on, texts_on, texts_more, group_on, list_on, dict_on, items, pairs_more, pair_on}

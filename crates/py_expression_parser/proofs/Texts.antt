@@ -7,10 +7,10 @@ use Rattle.parsing.specs.Reading.{Read, Found, Bad, Deep, ◌>>=◌}
 use Rattle.grammar.specs.Levels.{readers}
 use Rattle.grammar_code.specs.Walk.{pick, first_of}
 use Rattle.grammar_code.proofs.Walk.{round_walk}
-use Rattle.token_kinds.specs.Kinds.{kind, text_of}
-use Rattle.token_kinds.specs.Numbers as k
-use Rattle.py_expressions.specs.Sorts.{quoted, tree}
-use Rattle.py_expressions.specs.Lines.{expressions, no_reader, mark}
+use Rattle.py_cursor.specs.token_kinds.Kinds.{kind, text_of}
+use Rattle.py_cursor.specs.token_kinds.Numbers as k
+use Rattle.py_cursor.specs.py_expressions.Sorts.{quoted, tree}
+use Rattle.py_cursor.specs.py_expressions.Lines.{expressions, no_reader, mark}
 use Rattle.py_cursor.proofs.Loops.{steps_over, steps_next}
 use Rattle.py_expression_parser.specs.Reads.{reads_all}
 use Rattle.py_expression_parser.specs.Pieces.{texts_more}

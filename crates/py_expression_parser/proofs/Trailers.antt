@@ -5,17 +5,17 @@ use Rattle.parsing.specs.Reading.{Read, Found, Bad, Deep, ◌>>=◌}
 use Rattle.parsing.proofs.Loops.{bind_assoc}
 use Rattle.grammar.specs.Levels.{readers, fits}
 use Rattle.grammar_code.specs.Walk.{Up, ground, up, tall, pick, first_of, first_meant, starts_with, wanted, walk, whole}
-use Rattle.token_kinds.specs.Kinds.{kind, text_of}
-use Rattle.token_kinds.specs.Numbers as k
-use Rattle.py_expressions.specs.Values as v
-use Rattle.py_expressions.specs.Values.{at_of}
+use Rattle.py_cursor.specs.token_kinds.Kinds.{kind, text_of}
+use Rattle.py_cursor.specs.token_kinds.Numbers as k
+use Rattle.py_cursor.specs.py_expressions.Values as v
+use Rattle.py_cursor.specs.py_expressions.Values.{at_of}
 use Rattle.py_cursor.specs.declared.stop.Stop.{Stop}
 use Rattle.py_cursor.specs.Cursor.{FailsAs}
 use Rattle.grammar_code.proofs.Walk.{bind_eq, bind_found_same, part_eats, round_room, walked}
 use Rattle.py_tree.specs.Trees.{Tree, Maybe, Absent, Present, Attribute}
-use Rattle.py_expressions.specs.Sorts.{tree, primary, atom, arguments, slice, expr, upto, nothing, sliced}
+use Rattle.py_cursor.specs.py_expressions.Sorts.{tree, primary, atom, arguments, slice, expr, upto, nothing, sliced}
 use Rattle.grammar.specs.Table.{room, inner, join, ◌⨾◌, ◌∣◌}
-use Rattle.py_expressions.specs.Lines.{expressions, no_reader, attribute, subscript, second}
+use Rattle.py_cursor.specs.py_expressions.Lines.{expressions, no_reader, attribute, subscript, second}
 use Rattle.py_cursor.proofs.Loops.{begun_over, begun_deep, begun_fails, begun_next}
 use Rattle.py_expression_parser.specs.Reads.{reads, reads_part, reads_all}
 use Rattle.py_expression_parser.specs.Pieces.{trailer_on, index_on, slice_more}

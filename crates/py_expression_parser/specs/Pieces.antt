@@ -8,12 +8,12 @@ use Rattle.py_tree.specs.Trees.{Tree, Maybe, Absent, Present, Number, Text, True
 use Rattle.parsing.specs.Reading.{Read, Found, Bad, Deep, ◌>>=◌}
 use Rattle.grammar.specs.Table.{give, ◌⨾◌, ◌∣◌, when, join}
 use Rattle.grammar_code.specs.Walk.{first_of, first_meant, starts_with, wanted, pick}
-use Rattle.token_kinds.specs.Kinds.{kind, text_of}
-use Rattle.token_kinds.specs.Numbers as k
-use Rattle.py_expressions.specs.Values as v
-use Rattle.py_expressions.specs.Values.{at_of, number_in}
-use Rattle.py_expressions.specs.Sorts.{row, chain, pairs, args, quoted, upto, tree, exprs, expr, slice, arguments, bitor, compare, negation, conjunct, disjunct}
-use Rattle.py_expressions.specs.Lines.{key, mark, part, pair, no_more, arg, second, slice_of, attribute, subscript, comparisons, compared, worded}
+use Rattle.py_cursor.specs.token_kinds.Kinds.{kind, text_of}
+use Rattle.py_cursor.specs.token_kinds.Numbers as k
+use Rattle.py_cursor.specs.py_expressions.Values as v
+use Rattle.py_cursor.specs.py_expressions.Values.{at_of, number_in}
+use Rattle.py_cursor.specs.py_expressions.Sorts.{row, chain, pairs, args, quoted, upto, tree, exprs, expr, slice, arguments, bitor, compare, negation, conjunct, disjunct}
+use Rattle.py_cursor.specs.py_expressions.Lines.{key, mark, part, pair, no_more, arg, second, slice_of, attribute, subscript, comparisons, compared, worded}
 use Rattle.py_nodes.specs.Parts.{no_pairs, more_pairs, with_op}
 use Rattle.py_cursor.specs.declared.stop.Stop.{Stop}
 use Rattle.py_cursor.specs.declared.stop.Stop.TheVariants as stops

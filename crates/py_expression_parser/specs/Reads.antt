@@ -6,8 +6,8 @@ use Rattle.py_tree.specs.Trees.{Tree}
 use Rattle.parsing.specs.Reading.{Read}
 use Rattle.grammar.specs.Levels.{readers, read}
 use Rattle.grammar_code.specs.Walk.{round}
-use Rattle.py_expressions.specs.Sorts.{Sort, El, sort, Name, unary, prod, sum, shift, band, xor, bitor}
-use Rattle.py_expressions.specs.Lines.{P, expressions, no_reader, products, sums, shifts, ands, xors, ors}
+use Rattle.py_cursor.specs.py_expressions.Sorts.{Sort, El, sort, Name, unary, prod, sum, shift, band, xor, bitor}
+use Rattle.py_cursor.specs.py_expressions.Lines.{P, expressions, no_reader, products, sums, shifts, ands, xors, ors}
 use Rattle.py_expression_parser.specs.declared.ranks.Rank.{Rank}
 use Rattle.py_expression_parser.specs.declared.ranks.Rank.TheVariants as rank
 

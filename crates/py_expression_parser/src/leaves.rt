@@ -1,7 +1,7 @@
 ghost use Rattle.std.specs.Prelude.{◌≡◌, ◌≤◌, IfOk, IfSome, MatchOption, None, Some};
 ghost use Rattle.py_tree.specs.Trees.{tree, tree_at};
-ghost use Rattle.py_expressions.specs.Values.{number_in, height};
-ghost use Rattle.token_kinds.specs.Kinds.{text_of};
+ghost use Rattle.py_cursor.specs.py_expressions.Values.{number_in, height};
+ghost use Rattle.py_cursor.specs.token_kinds.Kinds.{text_of};
 ghost use Rattle.py_cursor.specs.Cursor.{Gives};
 ghost use Rattle.py_expression_parser.specs.Pieces.{constant_on, leaf_on, texts_on, GivesMaybe};
 

@@ -1,7 +1,7 @@
 ghost use Rattle.std.specs.Prelude.{◌≡◌, ◌≤◌, ◌<◌, ◌+◌, max, false, IfOk};
 ghost use Rattle.py_source.specs.Limits.{most_levels};
 ghost use Rattle.py_tree.specs.Trees.{tree};
-ghost use Rattle.py_expressions.specs.Sorts.{other, atom, arguments, slice, primary, power, unary, negation, expr, exprs};
+ghost use Rattle.py_cursor.specs.py_expressions.Sorts.{other, atom, arguments, slice, primary, power, unary, negation, expr, exprs};
 ghost use Rattle.py_nodes.specs.Parts.{row_of, pairs_of, args_of, chain_of, maybe_of, high_of};
 ghost use Rattle.py_cursor.specs.Cursor.{Gives};
 ghost use Rattle.py_expression_parser.specs.Reads.{reads, ranked};

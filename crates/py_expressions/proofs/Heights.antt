@@ -1,6 +1,6 @@
 -- THE HEIGHT in a reading of an expression is that of its tree: a fact an action.
 use Rattle.std.proofs.Common.{◌≡◌, ℕ, zero, suc, ◌+◌, ◌≤◌, max, List, [], ◌∷◌, ◌++◌, Some, refl, sym, ap, ◌∙◌, arith}
-use Rattle.py_tokens.specs.declared.token.Token.{Token}
+use Rattle.token_kinds.specs.py_tokens.declared.token.Token.{Token}
 use Rattle.py_tree.specs.Trees as t
 use Rattle.py_tree.specs.Trees.{Tree}
 use Rattle.grammar.specs.Table.{less, taken, Line}

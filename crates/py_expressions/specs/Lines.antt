@@ -1,6 +1,6 @@
 -- THE GRAMMAR OF EXPRESSIONS (Python Language Reference, expressions), a line each. `line` stands for what a lower line reads, `inner` for an expression that is a part of the one being read; `node` makes the tree; `room` stands where an operator wants a level below it.
 use Rattle.std.specs.Prelude.{ℕ, true, false, not, List, [], ◌∷◌, ◌++◌}
-use Rattle.py_tokens.specs.declared.token.Token.{Token}
+use Rattle.token_kinds.specs.py_tokens.declared.token.Token.{Token}
 use Rattle.py_tree.specs.declared.op.BinOp.{BinOp}
 use Rattle.py_tree.specs.declared.op.BinOp.TheVariants as binary
 use Rattle.py_tree.specs.declared.op.CmpOp.{CmpOp}

@@ -1,7 +1,7 @@
 -- The sorts of values, and the lines of expressions.
 use Rattle.std.specs.Prelude.{ℕ, ◌+◌, max, List}
 use Rattle.py_source.specs.declared.pos.Pos.{Pos}
-use Rattle.py_tokens.specs.declared.token.Token.{Token}
+use Rattle.token_kinds.specs.py_tokens.declared.token.Token.{Token}
 use Rattle.py_tree.specs.declared.expr.ArgName.{ArgName}
 use Rattle.py_tree.specs.declared.op.BinOp.{BinOp}
 use Rattle.py_tree.specs.declared.op.UnOp.{UnOp}

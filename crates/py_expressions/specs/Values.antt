@@ -1,8 +1,8 @@
 -- WHAT LINES READ: the values between the parts of a line, and the trees made of them.
 use Rattle.std.specs.Prelude.{ℕ, ℤ, pos, ◌+◌, max, Bool, true, false, List, [], ◌∷◌, ◌++◌, Option, Some, None}
 use Rattle.py_source.specs.declared.pos.Pos.{Pos}
-use Rattle.py_tokens.specs.declared.token.TokenKind.{TokenKind}
-use Rattle.py_tokens.specs.declared.token.TokenKind.TheVariants as kinds
+use Rattle.token_kinds.specs.py_tokens.declared.token.TokenKind.{TokenKind}
+use Rattle.token_kinds.specs.py_tokens.declared.token.TokenKind.TheVariants as kinds
 use Rattle.py_tree.specs.declared.op.CmpOp.{CmpOp}
 use Rattle.py_tree.specs.declared.expr.ArgName.{ArgName}
 use Rattle.py_tree.specs.Trees.{Tree, Trees, Maybe, Absent, Present, Name, Number, Text, True, False, NoneTree, Paren, Tuple, Listed, Dict, Attribute, Call, Subscript, Slice, Unary, Binary, Compare, Not, And, Or, IfElse, Empty, More}

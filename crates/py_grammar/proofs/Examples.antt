@@ -1,10 +1,10 @@
 -- What the reader gives for some statements, by computing.
 use Rattle.std.proofs.Common.{◌≡◌, ℕ, List, [], ◌∷◌, refl}
-use Rattle.py_tokens.specs.declared.op.Op.{Op}
-use Rattle.py_tokens.specs.declared.op.Op.TheVariants as op
-use Rattle.py_tokens.specs.declared.token.Token.{Token}
-use Rattle.py_tokens.specs.declared.token.TokenKind.{TokenKind}
-use Rattle.py_tokens.specs.declared.token.TokenKind.TheVariants as kinds
+use Rattle.py_expressions.specs.py_tokens.declared.op.Op.{Op}
+use Rattle.py_expressions.specs.py_tokens.declared.op.Op.TheVariants as op
+use Rattle.py_expressions.specs.py_tokens.declared.token.Token.{Token}
+use Rattle.py_expressions.specs.py_tokens.declared.token.TokenKind.{TokenKind}
+use Rattle.py_expressions.specs.py_tokens.declared.token.TokenKind.TheVariants as kinds
 use Rattle.py_source.specs.declared.pos.Pos.{Pos}
 use Rattle.py_tree.specs.declared.op.BinOp.TheVariants as binary
 use Rattle.py_tree.specs.declared.op.CmpOp.TheVariants as compare

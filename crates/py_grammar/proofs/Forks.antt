@@ -1,15 +1,15 @@
 -- `return (`: what may stand behind, by the second token.
 use Rattle.std.proofs.Common.{◌≡◌, ℕ, suc, ◌==◌, ◌||◌, Bool, true, false, List, [], ◌∷◌, refl, sym, subst, arith}
 use Rattle.std.proofs.lemmas.Grind.{common_steps}
-use Rattle.py_tokens.specs.declared.token.Token.{Token}
+use Rattle.py_expressions.specs.py_tokens.declared.token.Token.{Token}
 use Rattle.py_tree.specs.Trees.{Tuple, Empty}
 use Rattle.parsing.specs.Reading.{CanGoOn, has}
 use Rattle.parsing.proofs.Sets.{no_false}
 use Rattle.grammar.specs.Table.{by_token, by_node, by_line, by_give, both, left, right, done, Line}
 use Rattle.grammar.proofs.Stands.{and_true}
 use Rattle.grammar.proofs.Tokens.{without}
-use Rattle.token_kinds.specs.Kinds.{kind, sample}
-use Rattle.token_kinds.specs.Numbers as k
+use Rattle.py_expressions.specs.token_kinds.Kinds.{kind, sample}
+use Rattle.py_expressions.specs.token_kinds.Numbers as k
 use Rattle.py_expressions.specs.Sorts.{El, sort, Name, other, unary, compare, exprs}
 use Rattle.py_expressions.specs.Lines.{expressions, none}
 use Rattle.py_grammar.specs.Lines.{forked}

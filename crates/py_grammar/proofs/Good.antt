@@ -3,7 +3,7 @@ use Rattle.std.proofs.Common.{◌≡◌, Bool, true, false, refl}
 use Rattle.parsing.proofs.Sets.{no_false}
 use Rattle.grammar.specs.Answer.{avoids}
 use Rattle.grammar.specs.Levels.{IsGood}
-use Rattle.token_kinds.specs.Numbers as k
+use Rattle.py_expressions.specs.token_kinds.Numbers as k
 use Rattle.py_grammar.specs.Sorts.{Name, simple, simples, stmt, stmts, body, source}
 use Rattle.py_grammar.specs.Lines.{statements}
 

@@ -1,6 +1,6 @@
 -- THE HEIGHT in a reading of statements is that of their blocks: a fact an action.
 use Rattle.std.proofs.Common.{◌≡◌, ℕ, ◌+◌, max, List, refl, sym, ap, ◌∙◌, arith}
-use Rattle.py_tokens.specs.declared.token.Token.{Token}
+use Rattle.py_expressions.specs.py_tokens.declared.token.Token.{Token}
 use Rattle.py_tree.specs.Statements.{Block, NoStatement, Next}
 use Rattle.grammar.specs.Table.{Line}
 use Rattle.grammar.specs.Heights.{Sized}

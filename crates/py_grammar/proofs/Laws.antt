@@ -1,6 +1,6 @@
 -- THE LAWS of the grammar.
 use Rattle.std.proofs.Common.{◌≡◌, ℕ, suc, true, List, refl}
-use Rattle.py_tokens.specs.declared.token.Token.{Token}
+use Rattle.py_expressions.specs.py_tokens.declared.token.Token.{Token}
 use Rattle.py_tree.specs.Statements.{Block}
 use Rattle.parsing.specs.Reading.{Read}
 use Rattle.grammar.specs.Table.{Line}
@@ -15,8 +15,8 @@ use Rattle.py_expressions.proofs.Good.{good_expressions, inside, no_end_within}
 use Rattle.py_grammar.proofs.Good.{good_statements, below_source, no_end_below}
 use Rattle.grammar.proofs.Tokens.{without}
 use Rattle.py_grammar.proofs.Forks.{never_both, goes_on}
-use Rattle.token_kinds.specs.Kinds.{kind}
-use Rattle.token_kinds.specs.Numbers as k
+use Rattle.py_expressions.specs.token_kinds.Kinds.{kind}
+use Rattle.py_expressions.specs.token_kinds.Numbers as k
 use Rattle.py_expressions.specs.Sorts.{Name, El, sort}
 use Rattle.py_grammar.specs.Sorts as s
 

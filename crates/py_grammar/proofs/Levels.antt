@@ -1,7 +1,7 @@
 -- THE LEVELS OF EXPRESSIONS in a reading are those of its tree: a fact an action.
 use Rattle.std.proofs.Common.{◌≡◌, ℕ, ◌≤◌, ◌+◌, max, List, [], ◌∷◌, ◌++◌, Option, Some, None, refl, sym, ap, ◌∙◌, arith}
 use Rattle.py_source.specs.declared.pos.Pos.{Pos}
-use Rattle.py_tokens.specs.declared.token.Token.{Token}
+use Rattle.py_expressions.specs.py_tokens.declared.token.Token.{Token}
 use Rattle.py_tree.specs.Trees as t
 use Rattle.py_tree.specs.Trees.{Tree, Trees, Maybe, Empty, More}
 use Rattle.py_tree.specs.Statements.{Place, Taker, One, Unpack, Parameter, Parameter_at, Block, NoStatement, Next}

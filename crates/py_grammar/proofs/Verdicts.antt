@@ -3,16 +3,16 @@ use Rattle.std.proofs.Common.{◌≡◌, ℕ, ◌==◌, Bool, true, false, cond,
 use Rattle.std.proofs.Math.Nat.{lt_of_not-le}
 use Rattle.py_source.specs.Limits.{most_levels}
 use Rattle.py_source.specs.declared.pos.Pos.{Pos}
-use Rattle.py_tokens.specs.declared.token.Token.{Token}
-use Rattle.py_tokens.specs.Layout.{EndsText}
+use Rattle.py_expressions.specs.py_tokens.declared.token.Token.{Token}
+use Rattle.py_expressions.specs.py_tokens.Layout.{EndsText}
 use Rattle.py_tree.specs.Statements.{Block}
 use Rattle.parsing.specs.Reading.{Read, Found, Bad, Deep, CanStart, CanGoOn}
 use Rattle.parsing.specs.Answer.{FirstFault as Fault, FirstDeep}
 use Rattle.parsing.proofs.Sets.{no_false}
 use Rattle.grammar.specs.Table.{Reads as Reading, token, line, by_token, by_node, by_line, both, left, right, Line}
 use Rattle.grammar.specs.Answer.{Within, Without}
-use Rattle.token_kinds.specs.Kinds.{kind}
-use Rattle.token_kinds.specs.Numbers as k
+use Rattle.py_expressions.specs.token_kinds.Kinds.{kind}
+use Rattle.py_expressions.specs.token_kinds.Numbers as k
 use Rattle.py_grammar.specs.Context.{misplaced, in_module, first_place}
 use Rattle.py_grammar.specs.Lines.{statements}
 use Rattle.py_grammar.specs.Sorts as v

@@ -1,3 +1,4 @@
+pub use Rattle.py_expressions.specs.py_tokens
 pub mod Depth
 pub mod Sorts
 pub mod Lines

@@ -1,12 +1,12 @@
 -- THE GRAMMAR OF STATEMENTS (Python Language Reference, simple and compound statements), a line each. `far` stands for a line of expressions. Levels count blocks: a statement without blocks is 1 high.
 use Rattle.std.specs.Prelude.{ℕ, ◌==◌, ◌&&◌, Bool, true, false, not, List, [], ◌∷◌, ◌++◌, Some, None}
-use Rattle.py_tokens.specs.declared.token.Token.{Token}
+use Rattle.py_expressions.specs.py_tokens.declared.token.Token.{Token}
 use Rattle.py_tree.specs.declared.op.BinOp.TheVariants as binary
 use Rattle.py_tree.specs.Trees.{Absent, Present, Empty, More}
 use Rattle.py_tree.specs.Statements.{Statement, Block, NoStatement, Next, NoBranch, NoHandler, If, While, For, Try, With, Def, Class}
 use Rattle.grammar.specs.Table.{Part, one_of, keys, token, give, node, line, inner, far, fork, ◌⨾◌, ◌∣◌, many, when, room, seen, Grammar}
-use Rattle.token_kinds.specs.Kinds.{kind, text_of, sample}
-use Rattle.token_kinds.specs.Numbers as k
+use Rattle.py_expressions.specs.token_kinds.Kinds.{kind, text_of, sample}
+use Rattle.py_expressions.specs.token_kinds.Numbers as k
 use Rattle.py_expressions.specs.Sorts as e
 use Rattle.py_expressions.specs.Lines as l
 use Rattle.py_expressions.specs.Lines.{OpRow, E1, GR}

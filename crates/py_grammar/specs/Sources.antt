@@ -1,7 +1,7 @@
 -- WHOLE SOURCES: the readers of expressions in those of statements.
 use Rattle.std.specs.Prelude.{ℕ, List}
 use Rattle.std.proofs.Common.{suc}
-use Rattle.py_tokens.specs.declared.token.Token.{Token}
+use Rattle.py_expressions.specs.py_tokens.declared.token.Token.{Token}
 use Rattle.py_tree.specs.Statements.{Block}
 use Rattle.parsing.specs.Reading.{Read}
 use Rattle.grammar.specs.Table.{Fars, Line}

@@ -2,12 +2,12 @@
 use Rattle.std.specs.Prelude.{◌≡◌, ◌≤◌, ◌<◌, ℕ, Bool, true, false, cond, List, [], ◌∷◌, ◌++◌, Option, Some, None}
 use Rattle.py_source.specs.Limits.{most_levels}
 use Rattle.py_source.specs.declared.pos.Pos.{Pos}
-use Rattle.py_tokens.specs.declared.token.Token.{Token}
+use Rattle.py_expressions.specs.py_tokens.declared.token.Token.{Token}
 use Rattle.py_tree.specs.Statements.{Block}
 use Rattle.parsing.specs.Reading.{Read, Found, Bad, Deep, CanStart, CanGoOn, CannotGoOn, has}
 use Rattle.grammar.specs.Table.{Line}
-use Rattle.token_kinds.specs.Kinds.{kind}
-use Rattle.token_kinds.specs.Numbers as k
+use Rattle.py_expressions.specs.token_kinds.Kinds.{kind}
+use Rattle.py_expressions.specs.token_kinds.Numbers as k
 use Rattle.py_grammar.specs.Context.{misplaced, in_module, first_place}
 use Rattle.py_grammar.specs.Depth.{deepest}
 use Rattle.py_grammar.specs.Lines.{statements}

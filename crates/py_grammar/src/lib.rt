@@ -27,8 +27,8 @@
 ghost use Rattle.std.specs.Prelude.{◌≡◌, ◌+◌, ℕ, List, Some};
 ghost use Rattle.grammar.specs.Table.{Line};
 ghost use Rattle.py_source.specs.Limits.{most_levels};
-ghost use Rattle.py_tokens.specs.Layout.{EndsText};
-ghost use Rattle.py_tokens.specs.declared.token.Token.{Token};
+ghost use Rattle.py_expressions.specs.py_tokens.Layout.{EndsText};
+ghost use Rattle.py_expressions.specs.py_tokens.declared.token.Token.{Token};
 ghost use Rattle.py_tree.specs.Statements.{Block};
 ghost use Rattle.py_grammar.specs.Depth.{block_depths};
 ghost use Rattle.py_grammar.specs.Lines.{statements};

@@ -2,8 +2,8 @@
 -- assignment statements, the `del` and the `for` statement).
 use Rattle.std.specs.Prelude.{ℕ, zero, suc, ◌+◌, ◌-◌, ◌/◌, ℤ, pos, negsuc, ◌+ℤ◌, ◌*ℤ◌, Bool, true, false, List, [], ◌∷◌, length, nat_le, nat_lt, if◌then◌else◌, Option, Some, None, codes, slice_get, is_some, min, option_map, not, ◌&&◌, ◌++◌}
 use Rattle.std.specs.Ordering.{int_eq}
-use Rattle.py_kinds.specs.Keys.{key_of}
-use Rattle.py_kinds.specs.Kinds.{kind_name}
+use Rattle.py_operands.specs.py_kinds.Keys.{key_of}
+use Rattle.py_operands.specs.py_kinds.Kinds.{kind_name}
 use Rattle.py_values.specs.Limits.{most_elements}
 use Rattle.py_values.specs.Numbers.{number_of}
 use Rattle.py_values.specs.Pairs.{find_pair}
@@ -17,8 +17,8 @@ use Rattle.py_values.specs.declared.end.Raise.{Raise}
 use Rattle.py_values.specs.declared.index.Index.{Index}
 use Rattle.py_values.specs.declared.index.Index.TheVariants.{At, Slice}
 use Rattle.py_values.specs.declared.key.Atom.{Atom}
-use Rattle.py_kinds.specs.declared.keys.Keyed.{Keyed}
-use Rattle.py_kinds.specs.declared.keys.Keyed.TheVariants as keyed
+use Rattle.py_operands.specs.py_kinds.declared.keys.Keyed.{Keyed}
+use Rattle.py_operands.specs.py_kinds.declared.keys.Keyed.TheVariants as keyed
 use Rattle.py_values.specs.declared.object.Obj.{Obj}
 use Rattle.py_values.specs.declared.object.Obj.TheVariants as obj
 use Rattle.py_values.specs.declared.range.RangeObj.{RangeObj}

@@ -1,2 +1,4 @@
+pub use Rattle.py_operands.specs.py_kinds
+pub use Rattle.py_operands.specs as py_operands
 pub mod Items
 pub mod Turns

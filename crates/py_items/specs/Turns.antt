@@ -2,8 +2,8 @@
 use Rattle.std.specs.Prelude.{ℕ, ◌+◌, ◌^◌, ◌<◌, Bool, List, [], ◌∷◌, ◌++◌, length, nat_lt, eqb, if◌then◌else◌, Option, Some, None, codes, slice_get}
 use Rattle.py_values.specs.Changes.{heap_after}
 use Rattle.py_values.specs.Ends.{id_at}
-use Rattle.py_kinds.specs.Kinds.{kind_name}
-use Rattle.py_kinds.specs.Lengths.{length_of}
+use Rattle.py_operands.specs.py_kinds.Kinds.{kind_name}
+use Rattle.py_operands.specs.py_kinds.Lengths.{length_of}
 use Rattle.py_values.specs.Raises.{raise}
 use Rattle.py_values.specs.declared.class.ExcClass.TheVariants.{RuntimeError}
 use Rattle.py_values.specs.declared.dict.Pair.{Pair}

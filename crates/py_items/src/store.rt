@@ -2,8 +2,8 @@
 
 ghost use Rattle.std.specs.Prelude.{◌≡◌, ◌≤◌, IfOk, length, slice_get};
 ghost use Rattle.py_values.specs.Ends.{finished, within, steps_of};
-ghost use Rattle.py_kinds.specs.Keys.{key_of};
-ghost use Rattle.py_kinds.specs.Kinds as kinds;
+ghost use Rattle.py_operands.specs.py_kinds.Keys.{key_of};
+ghost use Rattle.py_operands.specs.py_kinds.Kinds as kinds;
 ghost use Rattle.py_values.specs.Numbers.{number_of};
 ghost use Rattle.py_values.specs.Pairs.{find_pair};
 ghost use Rattle.py_values.specs.declared.value.Value.TheVariants as val;
@@ -11,8 +11,8 @@ ghost use Rattle.py_operands.specs.Faults as faults;
 ghost use Rattle.py_items.specs.Items as items;
 
 use crate::index::{Found, find_place};
-use py_kinds::keys::{Keyed, key};
 use py_operands::faults::{key_fault, no_index, no_key, not_subscriptable, out_of_range, too_long};
+use py_operands::py_kinds::keys::{Keyed, key};
 use py_values::OutOfMemory;
 use py_values::change::Change;
 use py_values::dict::Dict;

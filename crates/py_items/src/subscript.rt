@@ -2,16 +2,16 @@
 
 ghost use Rattle.std.specs.Prelude.{◌≡◌, ◌≤◌, IfOk, option_copied};
 ghost use Rattle.py_values.specs.Ends.{finished, within, steps_of};
-ghost use Rattle.py_kinds.specs.Keys.{key_of};
-ghost use Rattle.py_kinds.specs.Kinds as kinds;
+ghost use Rattle.py_operands.specs.py_kinds.Keys.{key_of};
+ghost use Rattle.py_operands.specs.py_kinds.Kinds as kinds;
 ghost use Rattle.py_values.specs.Numbers.{number_of};
 ghost use Rattle.py_items.specs.Items as items;
 ghost use Rattle.py_operands.specs.Faults as faults;
 
 use crate::index::{char_item, range_item, value_item};
 use crate::slice::{list_slice, parts_of, text_slice, tuple_slice};
-use py_kinds::keys::{Keyed, key};
 use py_operands::faults::{key_fault, no_key, not_subscriptable};
+use py_operands::py_kinds::keys::{Keyed, key};
 use py_values::OutOfMemory;
 use py_values::dict::{Dict, Pair};
 use py_values::end::{Made, OpEnd, finish, made_within};

@@ -15,7 +15,7 @@ use Rattle.edge_io.specs.Files.{InOrder, files_of, paths_of}
 use Rattle.py_values.specs.Names.{name_eq}
 use Rattle.py_world.specs.World.{Source}
 use Rattle.py_world.specs.Runs.{source_at}
-use Rattle.source_meaning.specs.Requests.{Script}
+use Rattle.assert_rewrite.specs.source_meaning.Requests.{Script}
 use Rattle.py_load.specs.Reading.{ReadFile, AreRead}
 use Rattle.py_load.specs.Prepared.{source_of_read}
 

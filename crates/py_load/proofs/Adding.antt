@@ -8,8 +8,8 @@ use Rattle.std.proofs.lemmas.Str.{IsUtf8-string_bytes}
 use Rattle.edge_io.specs.Files.{File, InOrder, files_of, file_of, paths_of}
 use Rattle.py_world.specs.World.{Source}
 use Rattle.py_world.specs.Runs.{source_at}
-use Rattle.source_meaning.specs.Requests.{Script}
-use Rattle.source_meaning.specs.Meaning.{SourceWorld}
+use Rattle.assert_rewrite.specs.source_meaning.Requests.{Script}
+use Rattle.assert_rewrite.specs.source_meaning.Meaning.{SourceWorld}
 use Rattle.py_load.specs.Reading.{ReadFile, AreRead}
 use Rattle.py_load.specs.Prepared.{IsFileAdded, IsPrepared, is_explained, source_of_read, source_as, with_reads, with_sources}
 use Rattle.py_load.proofs.Readings.{both_read, one_of, read_as}

@@ -3,7 +3,7 @@ use Rattle.std.proofs.Common.{◌≡◌, ◌∙◌, ℕ, List, [], ◌∷◌, �
 use Rattle.std.specs.Prelude.{Ok, Err}
 use Rattle.std.proofs.lemmas.List.{append-nil}
 use Rattle.py_values.specs.declared.value.Value.{Value}
-use Rattle.source_meaning.specs.Meaning.{SourceWorld}
+use Rattle.assert_rewrite.specs.source_meaning.Meaning.{SourceWorld}
 use Rattle.py_load.specs.declared.error.LoadError.{LoadError}
 use Rattle.py_load.specs.InTurn.{ConftestsEnd, FileEnd, conftest_loads, file_load, go_on, module_before}
 

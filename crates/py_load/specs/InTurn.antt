@@ -4,7 +4,7 @@ use Rattle.std.proofs.Common.{Global}
 use Rattle.std.specs.declared.vec.Vec.{Vec}
 use Rattle.py_values.specs.declared.value.Value.{Value}
 use Rattle.py_world.specs.World.{world_with_printed}
-use Rattle.source_meaning.specs.Meaning.{SourceWorld}
+use Rattle.assert_rewrite.specs.source_meaning.Meaning.{SourceWorld}
 use Rattle.py_load.specs.declared.error.LoadError.{LoadError}
 use Rattle.py_load.specs.Loading.{LoadEnd, load_of}
 use Rattle.py_load.specs.declared.conftests.FailedFile.{FailedFile}

@@ -1,3 +1,4 @@
+pub use Rattle.file_source.specs as file_source
 pub mod Reading
 pub mod Prepared
 pub mod Loading

@@ -9,8 +9,8 @@ use Rattle.py_world.specs.Runs.{Told, source_at}
 use Rattle.py_world.specs.declared.ended.Outcome.{Outcome}
 use Rattle.py_world.specs.declared.ended.Outcome.TheVariants as out
 use Rattle.py_machine.specs.Worlds.{fault_of}
-use Rattle.source_meaning.specs.Requests.{source_kinds}
-use Rattle.source_meaning.specs.Meaning.{SourceWorld, source_module}
+use Rattle.assert_rewrite.specs.source_meaning.Requests.{source_kinds}
+use Rattle.assert_rewrite.specs.source_meaning.Meaning.{SourceWorld, source_module}
 use Rattle.py_load.specs.declared.error.LoadError.{LoadError}
 use Rattle.py_load.specs.declared.error.LoadError.TheVariants.{Syntax, NotUtf8, Raised, Exhausted, OutOfMemory}
 

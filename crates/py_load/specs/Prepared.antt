@@ -7,9 +7,9 @@ use Rattle.file_source.specs.Sources.{IsSource}
 use Rattle.py_source.specs.declared.fault.SourceFault.{SourceFault}
 use Rattle.py_tree.specs.Statements.{Block}
 use Rattle.py_world.specs.World.{Source, Coded, Code, Fault}
-use Rattle.source_meaning.specs.Requests.{Script}
-use Rattle.source_meaning.specs.Statements.{script}
-use Rattle.source_meaning.specs.Meaning.{SourceWorld}
+use Rattle.assert_rewrite.specs.source_meaning.Requests.{Script}
+use Rattle.assert_rewrite.specs.source_meaning.Statements.{script}
+use Rattle.assert_rewrite.specs.source_meaning.Meaning.{SourceWorld}
 use Rattle.py_load.specs.Reading.{ReadFile, AreRead}
 
 -- WHETHER A FILE'S ASSERTS ARE EXPLAINED (pytest, assertion rewriting): those of test files, of conftests and of files that a word

@@ -8,7 +8,7 @@ ghost use Rattle.py_values.specs.declared.value.Value.TheVariants.{Ref};
 ghost use Rattle.py_world.specs.declared.load.Load.TheVariants.{Loaded, Failed};
 ghost use Rattle.py_world.specs.declared.trace.TraceFrame.{TraceFrame};
 ghost use Rattle.py_world.specs.Runs.{load_at};
-ghost use Rattle.source_meaning.specs.Meaning.{SourceWorld};
+ghost use Rattle.assert_rewrite.specs.source_meaning.Meaning.{SourceWorld};
 ghost use Rattle.py_load.specs.Loading.{load_of, after_run};
 ghost use Rattle.py_load.specs.Reading.{AreRead, ReadFile};
 
@@ -34,5 +34,5 @@ pub fn loaded_once()
     ensures failed { (path : List ℕ) (budget : ℕ) (w : SourceWorld) (exc : Value) (trace : List TraceFrame) → load_at path w.modules ≡ Some (Failed exc trace) → source_module path budget w ≡ ended_raised exc trace 0 w }
 {}
 
-ghost use Rattle.source_meaning.specs.Meaning.{source_module};
+ghost use Rattle.assert_rewrite.specs.source_meaning.Meaning.{source_module};
 ghost use Rattle.py_world.specs.Runs.{ended_value, ended_raised};

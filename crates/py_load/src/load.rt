@@ -2,7 +2,7 @@
 
 ghost use Rattle.std.specs.Prelude.{◌≡◌, IfOk, IfSome, IsSome, chars};
 ghost use Rattle.py_world.specs.Runs.{source_at};
-ghost use Rattle.source_meaning.specs.Meaning.{source_module};
+ghost use Rattle.assert_rewrite.specs.source_meaning.Meaning.{source_module};
 ghost use Rattle.py_load.specs.Loading.{after_run, end_told, load_of, run_end};
 
 use crate::error::{LoadError, fault_error};

@@ -3,10 +3,10 @@ use Rattle.std.proofs.Common.{◌≡◌, List, Option, Some, None, false, refl}
 use Rattle.py_core.specs.declared.stmt.CoreFn.{CoreFn}
 use Rattle.py_values.specs.declared.object.FunctionObj.{FunctionObj}
 use Rattle.py_values.specs.declared.value.Value.{Value}
-use Rattle.py_world.specs.Resuming.{function_opened}
-use Rattle.py_world.specs.Runs.{begun_by_runner}
-use Rattle.py_world.specs.World.{Stored}
-use Rattle.core_meaning.specs.Meaning.{core}
+use Rattle.lower_law.specs.py_world.Resuming.{function_opened}
+use Rattle.lower_law.specs.py_world.Runs.{begun_by_runner}
+use Rattle.lower_law.specs.py_world.World.{Stored}
+use Rattle.lower_law.specs.core_meaning.Meaning.{core}
 use Rattle.machine_state.specs.Places.{CoreState}
 
 -- a function that doesn't yield is called

@@ -4,15 +4,15 @@ use Rattle.run_tree.specs.Todo.{Done}
 use Rattle.py_core.specs.declared.stmt.CoreFn.{CoreFn}
 use Rattle.py_values.specs.declared.value.Value.{Value}
 use Rattle.py_values.specs.declared.value.Value.TheVariants as val
-use Rattle.py_world.specs.Arguments.{plain}
-use Rattle.py_world.specs.Calls.{entered, invoke}
-use Rattle.py_world.specs.Outcome.{call_end, raised}
-use Rattle.py_world.specs.Resuming.{Begun, Sent, begun_by, begun_over, opened_by_runner, resumed, sent_end}
-use Rattle.py_world.specs.Runs.{begun_by_runner, ended_by, ended_value, start}
-use Rattle.py_world.specs.Site.{no_call}
-use Rattle.py_world.specs.World.{Locals, Stored, state}
-use Rattle.core_meaning.specs.Meaning.{CoreWorld, core, core_begin, core_resume}
-use Rattle.core_meaning.specs.Statements.{entry, remains}
+use Rattle.lower_law.specs.py_world.Arguments.{plain}
+use Rattle.lower_law.specs.py_world.Calls.{entered, invoke}
+use Rattle.lower_law.specs.py_world.Outcome.{call_end, raised}
+use Rattle.lower_law.specs.py_world.Resuming.{Begun, Sent, begun_by, begun_over, opened_by_runner, resumed, sent_end}
+use Rattle.lower_law.specs.py_world.Runs.{begun_by_runner, ended_by, ended_value, start}
+use Rattle.lower_law.specs.py_world.Site.{no_call}
+use Rattle.lower_law.specs.py_world.World.{Locals, Stored, state}
+use Rattle.lower_law.specs.core_meaning.Meaning.{CoreWorld, core, core_begin, core_resume}
+use Rattle.lower_law.specs.core_meaning.Statements.{entry, remains}
 use Rattle.machine_state.specs.declared.frame.Frame.{Frame}
 use Rattle.machine_state.specs.declared.frozen.FrozenFrame.{FrozenFrame}
 use Rattle.machine_state.specs.declared.place.Here.{Here}

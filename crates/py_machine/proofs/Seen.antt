@@ -1,20 +1,20 @@
 -- What a world of core code shows of its sources.
 use Rattle.std.proofs.Common.{◌≡◌, ◌∙◌, ℕ, List, [], ◌∷◌, ◌++◌, map, Option, Some, Bool, true, false, cond, refl, sym, ap, subst}
 use Rattle.std.proofs.Math.Logic.{∥∥₁_map}
-use Rattle.source_meaning.specs.Requests.{Script}
+use Rattle.lower_law.specs.source_meaning.Requests.{Script}
 use Rattle.py_core.specs.declared.stmt.Core.{Core}
 use Rattle.py_core.specs.declared.stmt.CoreFn.{CoreFn}
 use Rattle.py_values.specs.declared.object.Obj.{Obj}
 use Rattle.py_values.specs.declared.value.Value.{Value}
 use Rattle.py_values.specs.Names.{name_eq}
-use Rattle.py_world.specs.declared.ended.Ended.{Ended}
-use Rattle.py_world.specs.declared.load.Load.{Load}
-use Rattle.py_world.specs.World.{Kinds, World, Source, Coded, Code, Fault, Stored, Frozen, Traces, world_with_heap, world_with_printed}
-use Rattle.py_world.specs.Runs.{source_at}
-use Rattle.py_world.specs.Resuming.{Begun, Sent, abandon_of}
-use Rattle.core_meaning.specs.Requests.{Layer}
-use Rattle.core_meaning.specs.Meaning.{CoreWorld, core_begin, core_call, core_module, core_resume}
-use Rattle.source_meaning.specs.Meaning.{SourceWorld, source_begin, source_call, source_module, source_resume}
+use Rattle.lower_law.specs.py_world.declared.ended.Ended.{Ended}
+use Rattle.lower_law.specs.py_world.declared.load.Load.{Load}
+use Rattle.lower_law.specs.py_world.World.{Kinds, World, Source, Coded, Code, Fault, Stored, Frozen, Traces, world_with_heap, world_with_printed}
+use Rattle.lower_law.specs.py_world.Runs.{source_at}
+use Rattle.lower_law.specs.py_world.Resuming.{Begun, Sent, abandon_of}
+use Rattle.lower_law.specs.core_meaning.Requests.{Layer}
+use Rattle.lower_law.specs.core_meaning.Meaning.{CoreWorld, core_begin, core_call, core_module, core_resume}
+use Rattle.lower_law.specs.source_meaning.Meaning.{SourceWorld, source_begin, source_call, source_module, source_resume}
 use Rattle.lower_law.specs.Alike as alike
 use Rattle.lower_law.specs.Alike.{CodedAlike, SourcesAlike, worlds, source_with, world_with}
 use Rattle.lower_law.specs.Law.{Lowering, LoweredWorld}

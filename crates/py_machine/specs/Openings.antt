@@ -2,12 +2,12 @@
 use Rattle.std.specs.Prelude.{List, Ok}
 use Rattle.run_tree.specs.Todo.{Done}
 use Rattle.py_values.specs.declared.value.Value.{Value}
-use Rattle.py_world.specs.Calls.{entered}
-use Rattle.py_world.specs.Outcome.{raised, call_end}
-use Rattle.py_world.specs.Runs.{begun_by_runner}
-use Rattle.py_world.specs.Site.{no_call}
-use Rattle.core_meaning.specs.Meaning.{core}
-use Rattle.core_meaning.specs.Statements.{entry}
+use Rattle.lower_law.specs.py_world.Calls.{entered}
+use Rattle.lower_law.specs.py_world.Outcome.{raised, call_end}
+use Rattle.lower_law.specs.py_world.Runs.{begun_by_runner}
+use Rattle.lower_law.specs.py_world.Site.{no_call}
+use Rattle.lower_law.specs.core_meaning.Meaning.{core}
+use Rattle.lower_law.specs.core_meaning.Statements.{entry}
 use Rattle.machine_state.specs.Places.{CoreRest, CoreState}
 use Rattle.py_machine.specs.declared.openings.Opening.{Opening}
 use Rattle.py_machine.specs.declared.openings.Opening.TheVariants.{Body, Refused, Call}

@@ -2,14 +2,14 @@
 use Rattle.std.specs.Prelude.{ℕ, List, [], ◌∷◌, ◌++◌, Option, Some, None, Result, Ok, Err}
 use Rattle.std.specs.Borrow.{Bor}
 use Rattle.py_source.specs.declared.fault.SourceFault.{SourceFault}
-use Rattle.source_meaning.specs.Requests.{Script}
+use Rattle.lower_law.specs.source_meaning.Requests.{Script}
 use Rattle.py_core.specs.declared.stmt.Core.{Core}
 use Rattle.py_values.specs.declared.object.Obj.{Obj}
 use Rattle.py_values.specs.declared.object.Obj.TheVariants as obj
 use Rattle.py_values.specs.declared.value.Value.{Value}
-use Rattle.py_world.specs.World.{Source, Coded, Code, Fault}
+use Rattle.lower_law.specs.py_world.World.{Source, Coded, Code, Fault}
 use Rattle.py_kinds.specs.Builtins.{first_heap}
-use Rattle.source_meaning.specs.Meaning.{SourceWorld}
+use Rattle.lower_law.specs.source_meaning.Meaning.{SourceWorld}
 use Rattle.lower_law.specs.Sourced.{module_of}
 use Rattle.lower_law.specs.Lowered.{LoweredModule}
 

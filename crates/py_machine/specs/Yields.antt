@@ -1,5 +1,5 @@
 -- How the calls tell of bodies that stop at a `yield`.
-use Rattle.py_world.specs.Resuming as world
+use Rattle.lower_law.specs.py_world.Resuming as world
 use Rattle.py_machine.specs.declared.resuming.Begun.{Begun}
 use Rattle.py_machine.specs.declared.resuming.BegunOut.{BegunOut}
 use Rattle.py_machine.specs.declared.resuming.BegunOut.TheVariants.{Yielded, Over}

@@ -1,29 +1,28 @@
 // Calls and loads by the runner.
 
 ghost use Rattle.std.specs.Prelude.{◌≡◌, ◌∷◌, [], IfOk, slice_get, Some};
-ghost use Rattle.py_world.specs.Runs as runs;
-ghost use Rattle.core_meaning.specs.Meaning.{core_call};
-ghost use Rattle.core_meaning.specs.Statements.{entry};
+ghost use Rattle.lower_law.specs.py_world.Runs as runs;
+ghost use Rattle.lower_law.specs.core_meaning.Meaning.{core_call};
+ghost use Rattle.lower_law.specs.core_meaning.Statements.{entry};
 ghost use Rattle.machine_state.specs.Places.{ends};
 ghost use Rattle.machine_state.specs.Frames.{world_of};
 ghost use Rattle.machine_stmt.specs.Stops.{stopped};
 ghost use Rattle.py_machine.specs.Begun.{Fits};
 
 use crate::end::finish;
-use machine_call::arguments::{arguments_for, with_first};
-use machine_call::call::invoke;
+use machine_load::{Ended, Outcome, Thrown, Trace, TraceFrame};
 use machine_state::arguments::CallArguments;
 use machine_state::locals::Locals;
 use machine_state::machine::{Entry, Machine, Origin, TurnEnd};
 use machine_state::stack::ControlStack;
 use machine_state::traces::copy_text;
 use machine_stmt::run::{Stop, enter, run};
+use machine_stmt::{arguments_for, invoke, with_first};
 use py_text::OutOfMemory;
 use py_values::end::Raise;
 use py_values::object::{FunctionObj, MethodObj, Obj};
 use py_values::throw::throw;
 use py_values::value::{ObjId, Value};
-use py_world::{Ended, Outcome, Thrown, Trace, TraceFrame};
 use std::alloc::Global;
 
 /// The frame of a function, at its `def`.
@@ -39,8 +38,8 @@ pub fn frame_of(alloc: Global, function: &FunctionObj) -> Result<Trace, OutOfMem
     Ok(Trace::from_vec(frames))
 }
 
-ghost use Rattle.py_world.specs.Site as site;
-ghost use Rattle.py_world.specs.Site.{no_call};
+ghost use Rattle.lower_law.specs.py_world.Site as site;
+ghost use Rattle.lower_law.specs.py_world.Site.{no_call};
 
 /// What is raised where a function's arguments don't fit, and where.
 #[derive(Drop)]
@@ -241,7 +240,7 @@ pub fn refuse(m: &mut Machine, misfit: Misfit) -> Result<Ended, OutOfMemory>
     })
 }
 
-ghost use Rattle.py_world.specs.Outcome.{raised};
+ghost use Rattle.lower_law.specs.py_world.Outcome.{raised};
 
 /// Runs a call where nothing is open.
 pub fn run_call(m: &mut Machine, f: Value, args: &[Value]) -> Result<Stop, OutOfMemory>
@@ -271,9 +270,9 @@ fn call_fitting(
 }
 
 ghost use Rattle.run_tree.specs.Todo.{Done};
-ghost use Rattle.py_world.specs.Calls as calls;
-ghost use Rattle.py_world.specs.Outcome.{call_end};
-ghost use Rattle.py_world.specs.Arguments.{plain};
+ghost use Rattle.lower_law.specs.py_world.Calls as calls;
+ghost use Rattle.lower_law.specs.py_world.Outcome.{call_end};
+ghost use Rattle.lower_law.specs.py_world.Arguments.{plain};
 
 /// A call by the runner.
 pub fn call(m: &mut Machine, f: Value, args: &[Value], budget: u64) -> Result<Ended, OutOfMemory>

@@ -2,20 +2,20 @@
 
 ghost use Rattle.std.specs.Prelude.{◌≡◌, ◌∷◌, [], List, IfOk, false, slice_get};
 ghost use Rattle.py_values.specs.declared.value.Value.{Value};
-ghost use Rattle.py_world.specs.Calls as calls;
-ghost use Rattle.py_world.specs.Resuming as resuming;
-ghost use Rattle.py_world.specs.Runs as runs;
-ghost use Rattle.py_world.specs.Site as site;
-ghost use Rattle.core_meaning.specs.Meaning.{core};
+ghost use Rattle.lower_law.specs.py_world.Calls as calls;
+ghost use Rattle.lower_law.specs.py_world.Resuming as resuming;
+ghost use Rattle.lower_law.specs.py_world.Runs as runs;
+ghost use Rattle.lower_law.specs.py_world.Site as site;
+ghost use Rattle.lower_law.specs.core_meaning.Meaning.{core};
 ghost use Rattle.machine_state.specs.Places.{CoreState};
 ghost use Rattle.machine_state.specs.Frames.{world_of};
 ghost use Rattle.py_machine.specs.Openings.{opening_rest};
 
 use crate::calls::{Misfit, frame_of};
-use machine_call::arguments::{fitting, with_first};
 use machine_state::code::Code;
 use machine_state::locals::Locals;
 use machine_state::machine::Machine;
+use machine_stmt::{fitting, with_first};
 use py_text::OutOfMemory;
 use py_values::object::{FunctionObj, MethodObj, Obj};
 use py_values::value::{ObjId, Value};

@@ -2,8 +2,8 @@
 
 ghost use Rattle.std.specs.Prelude.{◌≡◌};
 
+use machine_load::{Outcome, Thrown};
 use py_values::value::Value;
-use py_world::{Outcome, Thrown};
 use std::marker::Model;
 
 /// The frame of a body that has stopped at a `yield`, seen as its number. It must be spent, by `resume` or by `abandon`.

@@ -1,16 +1,17 @@
 // The world.
 
 ghost use Rattle.std.specs.Prelude.{◌≡◌, [], None, IfOk, OnOk, chars, length, slice_get, option_map};
-ghost use Rattle.py_world.specs.Names.{names_in};
-ghost use Rattle.py_world.specs.Runs.{source_at};
-ghost use Rattle.py_world.specs.World as seen;
-ghost use Rattle.source_meaning.specs.Meaning.{source_begin, source_call, source_module, source_resume};
+ghost use Rattle.lower_law.specs.py_world.Names.{names_in};
+ghost use Rattle.lower_law.specs.py_world.Runs.{source_at};
+ghost use Rattle.lower_law.specs.py_world.World as seen;
+ghost use Rattle.lower_law.specs.source_meaning.Meaning.{source_begin, source_call, source_module, source_resume};
 ghost use Rattle.py_machine.specs.Worlds.{empty, fault_of, given, with_source, IsLowered};
 
 use crate::resuming::{Begun, Frozen, Sent};
 use crate::sources::text_of;
 use crate::{calls, lines, load, sources, yields};
 use machine_frames::frozen;
+use machine_load::Ended;
 use machine_state::locals::Locals;
 use machine_state::machine::Machine;
 use machine_state::place::{Here, Place};
@@ -24,7 +25,6 @@ use py_text::{OutOfMemory, PyText};
 use py_values::heap::Heap;
 use py_values::object::Obj;
 use py_values::value::{ObjId, Value};
-use py_world::Ended;
 use runner_values as objects;
 use runner_values::{New, add};
 use std::alloc::Global;
@@ -43,7 +43,7 @@ impl Drop for World {
 }
 
 impl Model for World {
-    ghost use Rattle.source_meaning.specs.Meaning.{SourceWorld};
+    ghost use Rattle.lower_law.specs.source_meaning.Meaning.{SourceWorld};
     ghost use Rattle.lower_law.proofs.Codes.{world_code};
 
     ghost Value = { SourceWorld };
@@ -249,7 +249,7 @@ pub fn abandon(world: &mut World, frozen: Frozen)
     frozen::abandon(&mut world.machine, number);
 }
 
-ghost use Rattle.py_world.specs.Resuming.{abandon_of};
+ghost use Rattle.lower_law.specs.py_world.Resuming.{abandon_of};
 ghost use Rattle.py_machine.specs.Yields.{sent_of, told_begun};
 
 /// Gives up all code, in a machine that want of memory stopped.

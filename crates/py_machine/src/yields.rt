@@ -2,13 +2,13 @@
 
 ghost use Rattle.std.specs.Prelude.{◌≡◌, [], IfOk, Ok};
 ghost use Rattle.run_tree.specs.Todo.{Done};
-ghost use Rattle.py_world.specs.Calls as calls;
-ghost use Rattle.py_world.specs.Outcome.{call_end};
-ghost use Rattle.py_world.specs.Resuming as resuming;
-ghost use Rattle.py_world.specs.Runs as runs;
-ghost use Rattle.py_world.specs.Site.{no_call};
-ghost use Rattle.core_meaning.specs.Meaning.{core, core_begin, core_resume};
-ghost use Rattle.core_meaning.specs.Statements.{entry};
+ghost use Rattle.lower_law.specs.py_world.Calls as calls;
+ghost use Rattle.lower_law.specs.py_world.Outcome.{call_end};
+ghost use Rattle.lower_law.specs.py_world.Resuming as resuming;
+ghost use Rattle.lower_law.specs.py_world.Runs as runs;
+ghost use Rattle.lower_law.specs.py_world.Site.{no_call};
+ghost use Rattle.lower_law.specs.core_meaning.Meaning.{core, core_begin, core_resume};
+ghost use Rattle.lower_law.specs.core_meaning.Statements.{entry};
 ghost use Rattle.machine_state.specs.Places.{CoreState, ends, outcome};
 ghost use Rattle.machine_state.specs.Frames.{frozen_some, state_of, world_of};
 ghost use Rattle.machine_stmt.specs.Stops.{stopped};
@@ -19,18 +19,18 @@ use crate::calls::{Misfit, find_misfit, refuse, reset, run_call};
 use crate::end::finish;
 use crate::openings::{Opening, find_opening};
 use crate::resuming::{Begun, BegunOut, Frozen, Sent};
-use machine_call::enter::call_fitting;
 use machine_frames::frozen::{freeze, take};
 use machine_frames::wake::wake;
+use machine_load::{Ended, Outcome, Thrown};
 use machine_state::code::Code;
 use machine_state::frame::End;
 use machine_state::frozen::FrozenFrame;
 use machine_state::locals::Locals;
 use machine_state::machine::{Doing, Machine, Origin};
+use machine_stmt::call_fitting;
 use machine_stmt::run::{Stop, run};
 use py_text::OutOfMemory;
 use py_values::value::Value;
-use py_world::{Ended, Outcome, Thrown};
 
 /// What ends as a call.
 fn over(ended: Ended) -> Begun
@@ -110,7 +110,7 @@ fn begin_call(m: &mut Machine, f: Value, args: &[Value], budget: u64) -> Result<
     Ok(begun)
 }
 
-ghost use Rattle.py_world.specs.Arguments.{plain};
+ghost use Rattle.lower_law.specs.py_world.Arguments.{plain};
 
 /// Refuses what the arguments don't fit.
 fn begin_refused(m: &mut Machine, misfit: Misfit) -> Result<Begun, OutOfMemory>
@@ -120,7 +120,7 @@ fn begin_refused(m: &mut Machine, misfit: Misfit) -> Result<Begun, OutOfMemory>
     Ok(over(ended))
 }
 
-ghost use Rattle.py_world.specs.Outcome.{raised};
+ghost use Rattle.lower_law.specs.py_world.Outcome.{raised};
 
 /// Begins what is called, where nothing is open.
 fn begin_called(

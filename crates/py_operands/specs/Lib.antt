@@ -1,3 +1,4 @@
+pub use Rattle.py_kinds.specs as py_kinds
 pub mod Numbers
 pub mod Sequences
 pub mod Attempts

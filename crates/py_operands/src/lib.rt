@@ -18,6 +18,8 @@
 //! How long a call takes.
 #![tactic(auto)]
 
+pub use py_kinds;
+
 pub mod attempt;
 pub mod faults;
 pub mod laws;

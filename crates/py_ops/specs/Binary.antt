@@ -3,7 +3,7 @@ use Rattle.std.specs.Prelude.{ℕ, ℤ, ◌+ℤ◌, ◌-ℤ◌, ◌*ℤ◌, Bool
 use Rattle.py_tree.specs.declared.op.BinOp.{BinOp}
 use Rattle.py_tree.specs.declared.op.BinOp.TheVariants as op
 use Rattle.py_values.specs.Numbers.{number_of}
-use Rattle.py_kinds.specs.Kinds.{kind_name}
+use Rattle.py_operands.specs.py_kinds.Kinds.{kind_name}
 use Rattle.py_values.specs.Raises.{raise}
 use Rattle.py_values.specs.declared.change.Change.TheVariants.{Whole}
 use Rattle.py_values.specs.declared.class.ExcClass.TheVariants.{TypeError}

@@ -12,8 +12,8 @@ use Rattle.py_compare.specs.declared.tested.Ordered.{Ordered}
 use Rattle.py_compare.specs.declared.tested.Ordered.TheVariants as ordered
 use Rattle.py_compare.specs.declared.tested.Tested.{Tested}
 use Rattle.py_compare.specs.declared.tested.Tested.TheVariants as tested
-use Rattle.py_kinds.specs.Keys.{key_of}
-use Rattle.py_kinds.specs.Kinds.{kind_name}
+use Rattle.py_operands.specs.py_kinds.Keys.{key_of}
+use Rattle.py_operands.specs.py_kinds.Kinds.{kind_name}
 use Rattle.py_values.specs.Numbers.{number_of}
 use Rattle.py_values.specs.Pairs.{find_pair}
 use Rattle.py_values.specs.Raises.{raise}
@@ -24,8 +24,8 @@ use Rattle.py_values.specs.declared.end.Made.{Made}
 use Rattle.py_values.specs.declared.end.Made.TheVariants.{Give, Fail}
 use Rattle.py_values.specs.declared.end.Raise.{Raise}
 use Rattle.py_values.specs.declared.key.Atom.{Atom}
-use Rattle.py_kinds.specs.declared.keys.Keyed.{Keyed}
-use Rattle.py_kinds.specs.declared.keys.Keyed.TheVariants as keyed
+use Rattle.py_operands.specs.py_kinds.declared.keys.Keyed.{Keyed}
+use Rattle.py_operands.specs.py_kinds.declared.keys.Keyed.TheVariants as keyed
 use Rattle.py_values.specs.declared.object.Obj.{Obj}
 use Rattle.py_values.specs.declared.object.Obj.TheVariants as obj
 use Rattle.py_values.specs.declared.value.Value.{Value}

@@ -1,3 +1,5 @@
+pub use Rattle.py_operands.specs.py_kinds
+pub use Rattle.py_operands.specs as py_operands
 pub mod Binary
 pub mod Unary
 pub mod Compare

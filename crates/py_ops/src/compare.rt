@@ -5,15 +5,15 @@ ghost use Rattle.py_compare.specs.Equal.{told, equal_of};
 ghost use Rattle.py_compare.specs.Order.{place_within, order_of};
 ghost use Rattle.py_ops.specs.Compare as compare;
 ghost use Rattle.py_values.specs.Ends.{finished, within, steps_of};
-ghost use Rattle.py_kinds.specs.Kinds as kinds;
+ghost use Rattle.py_operands.specs.py_kinds.Kinds as kinds;
 
 use crate::contains::{contains, judge};
 use py_compare::equal::equal;
 use py_compare::order::order;
 use py_compare::same::is_same;
 use py_compare::tested::Ordered;
-use py_kinds::kinds::kind_name;
 use py_operands::faults::{kinds_error, too_deep};
+use py_operands::py_kinds::kinds::kind_name;
 use py_tree::CmpOp;
 use py_values::OutOfMemory;
 use py_values::end::{Made, OpEnd, Raise, finish};

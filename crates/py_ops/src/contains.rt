@@ -4,8 +4,8 @@ ghost use Rattle.std.specs.Prelude.{◌≡◌, ℕ, IfOk, slice_get, option_copi
 ghost use Rattle.std.specs.Ordering.{int_eq};
 ghost use Rattle.py_compare.specs.Equal.{told, equal_of};
 ghost use Rattle.py_values.specs.Ends.{within};
-ghost use Rattle.py_kinds.specs.Keys.{key_of};
-ghost use Rattle.py_kinds.specs.Kinds as kinds;
+ghost use Rattle.py_operands.specs.py_kinds.Keys.{key_of};
+ghost use Rattle.py_operands.specs.py_kinds.Kinds as kinds;
 ghost use Rattle.py_values.specs.Ranges.{range_items};
 ghost use Rattle.py_values.specs.declared.value.Value.TheVariants as val;
 ghost use Rattle.py_ops.specs.Binary as binary;
@@ -15,9 +15,9 @@ ghost use Rattle.py_operands.specs.Ranges as ranges;
 
 use py_compare::equal::equal;
 use py_compare::tested::Tested;
-use py_kinds::keys::{Keyed, key};
-use py_kinds::kinds::kind_name;
 use py_operands::faults::{key_fault, kinds_error, not_iterable, too_deep};
+use py_operands::py_kinds::keys::{Keyed, key};
+use py_operands::py_kinds::kinds::kind_name;
 use py_operands::ranges::nth;
 use py_values::dict::Dict;
 use py_values::end::{Made, made_within};

@@ -5,9 +5,9 @@ use Rattle.py_tokens.specs.declared.token.Token.{Token}
 use Rattle.py_tree.specs.Statements.{Block}
 use Rattle.parsing.specs.Reading.{Bad}
 use Rattle.grammar_code.specs.Walk.{starts_with}
-use Rattle.token_kinds.specs.Kinds.{kind}
-use Rattle.py_grammar.specs.Context.{first_place}
-use Rattle.py_grammar.specs.Verdict.{Accepted, Unexpected, Unsupported, Context, unsupported, verdict_on, verdict_by}
+use Rattle.py_cursor.specs.token_kinds.Kinds.{kind}
+use Rattle.statement_readers.specs.py_grammar.Context.{first_place}
+use Rattle.statement_readers.specs.py_grammar.Verdict.{Accepted, Unexpected, Unsupported, Context, unsupported, verdict_on, verdict_by}
 
 pub unsupported_is : (t : Token) (ts : List Token) → starts_with kind unsupported (t ∷ ts) ≡ true → Some (Unsupported t.at) ≡ verdict_by (Bad (t ∷ ts))
 unsupported_is t ts e = rw e refl

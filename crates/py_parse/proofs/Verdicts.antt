@@ -6,14 +6,14 @@ use Rattle.py_tree.specs.declared.stmt.Module.{Module}
 use Rattle.parsing.specs.Reading.{Read, Found, Bad, Deep}
 use Rattle.parsing.specs.Answer.{finish}
 use Rattle.grammar.specs.Levels.{readers}
-use Rattle.grammar_plain.specs.Plain.{plain}
+use Rattle.statement_readers.specs.grammar_plain.Plain.{plain}
 use Rattle.py_source.specs.Limits.{most_levels}
-use Rattle.py_grammar.specs.Context.{misplaced, in_module}
-use Rattle.py_grammar.specs.Lines.{statements}
-use Rattle.py_grammar.specs.Sorts as v
-use Rattle.py_grammar.specs.Sources.{source_read, expression_readers}
-use Rattle.py_grammar.specs.Verdict.{Verdict, IsVerdict, verdict_on, verdict_by}
-use Rattle.py_grammar.proofs.Verdicts.{read_verdict, verdict_read}
+use Rattle.statement_readers.specs.py_grammar.Context.{misplaced, in_module}
+use Rattle.statement_readers.specs.py_grammar.Lines.{statements}
+use Rattle.statement_readers.specs.py_grammar.Sorts as v
+use Rattle.statement_readers.specs.py_grammar.Sources.{source_read, expression_readers}
+use Rattle.statement_readers.specs.py_grammar.Verdict.{Verdict, IsVerdict, verdict_on, verdict_by}
+use Rattle.statement_readers.proofs.py_grammar_lemmas.Verdicts.{read_verdict, verdict_read}
 use Rattle.statement_readers.specs.Words.{source}
 use Rattle.statement_readers.proofs.BlockLines.{source_is}
 use Rattle.py_parse.specs.declared.fault.SyntaxFault.{SyntaxFault}

@@ -3,7 +3,7 @@ use Rattle.std.specs.Prelude.{◌≡◌, List, Option, Some, None, Result, Ok, E
 use Rattle.py_tokens.specs.declared.token.Token.{Token}
 use Rattle.py_tree.specs.declared.stmt.Module.{Module}
 use Rattle.py_tree.specs.Statements.{module_tree}
-use Rattle.py_grammar.specs.Verdict.{Verdict, Accepted, Unexpected, Unsupported, Context, Nesting, IsVerdict}
+use Rattle.statement_readers.specs.py_grammar.Verdict.{Verdict, Accepted, Unexpected, Unsupported, Context, Nesting, IsVerdict}
 use Rattle.py_parse.specs.declared.fault.SyntaxFault.{SyntaxFault}
 use Rattle.py_parse.specs.declared.fault.SyntaxFault.TheVariants as f
 

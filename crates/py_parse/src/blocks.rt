@@ -3,7 +3,7 @@ ghost use Rattle.py_source.specs.Limits.{most_levels};
 ghost use Rattle.py_tree.specs.Trees.{tree, trees, some_tree, Empty};
 ghost use Rattle.py_tree.specs.Statements.{statement, block, branches, handlers};
 ghost use Rattle.py_cursor.specs.Cursor.{Gives};
-ghost use Rattle.token_kinds.specs.Kinds.{op_number};
+ghost use Rattle.py_cursor.specs.token_kinds.Kinds.{op_number};
 ghost use Rattle.statement_readers.specs.Words.{suite, suite_behind, arm, elifs_on, if_behind, while_behind, with_behind, for_behind, handler, handlers_on, handled, try_behind, def_behind, class_behind, decorated_behind, compound, stmt, stmts_on, stmts, block_at, source};
 
 use crate::heads::{base, caught, decorators, params};

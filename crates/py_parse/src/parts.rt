@@ -1,6 +1,6 @@
 ghost use Rattle.std.specs.Prelude.{◌≡◌, IfOk};
 ghost use Rattle.py_tree.specs.Trees.{some_tree};
-ghost use Rattle.token_kinds.specs.Kinds.{op_number, text_of};
+ghost use Rattle.py_cursor.specs.token_kinds.Kinds.{op_number, text_of};
 ghost use Rattle.py_cursor.specs.Cursor.{Gives};
 ghost use Rattle.statement_readers.specs.Words.{optional_expr, optional_exprs, expr_behind, name_at, names_on, names, alias_behind};
 

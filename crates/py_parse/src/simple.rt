@@ -1,7 +1,7 @@
 ghost use Rattle.std.specs.Prelude.{◌≡◌, [], None, Some, IfOk, MatchOption};
 ghost use Rattle.py_tree.specs.Trees.{tree};
 ghost use Rattle.py_tree.specs.Statements.{statement, block, takers};
-ghost use Rattle.token_kinds.specs.Numbers as k;
+ghost use Rattle.py_cursor.specs.token_kinds.Numbers as k;
 ghost use Rattle.py_cursor.specs.Cursor.{Gives};
 ghost use Rattle.statement_readers.specs.Words.{two, return_behind, assert_behind, raise_behind, yield_behind, global_behind, del_behind, import_behind, from_behind, alias, aliases_on, listed_on, imported, assignment, yield_to, assigns, valued, worded, simple, simples_on, simples};
 

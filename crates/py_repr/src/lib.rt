@@ -19,6 +19,8 @@
 //! That no more text is made than is given (a reader sees it: what is past the length is dropped character by character); time.
 #![tactic(auto)]
 
+pub use py_kinds;
+
 pub mod repr;
 mod show;
 mod shower;

@@ -7,7 +7,7 @@ use Rattle.py_tree.specs.declared.expr.Expr.{Expr}
 use Rattle.py_tree.specs.Trees.{Tree, Trees, Empty, More, Tuple, tree_at, tree, trees, trees_behind}
 use Rattle.py_tree.specs.declared.expr.ExprKind.TheVariants as v
 use Rattle.py_tree.proofs.Rows.{trees_hidden}
-use Rattle.py_expressions.specs.Values.{place_in, behind_places, places_in, several_taker, taker_in}
+use Rattle.py_nodes.specs.py_expressions.Values.{place_in, behind_places, places_in, several_taker, taker_in}
 use Rattle.py_statement_nodes.specs.Targets.{parts_in}
 use Rattle.py_tree.specs.declared.stmt.Branch as branch
 use Rattle.py_tree.specs.declared.stmt.Handler as handler

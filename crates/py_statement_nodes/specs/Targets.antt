@@ -2,7 +2,7 @@
 use Rattle.std.specs.Prelude.{Option, None}
 use Rattle.py_tree.specs.Trees.{Trees, Empty, More}
 use Rattle.py_tree.specs.Statements.{Taker}
-use Rattle.py_expressions.specs.Values.{places_in, several_taker}
+use Rattle.py_nodes.specs.py_expressions.Values.{places_in, several_taker}
 
 abbrev pub parts_in : Trees → Option Taker
 parts_in Empty = None

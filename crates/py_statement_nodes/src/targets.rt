@@ -1,7 +1,7 @@
 ghost use Rattle.std.specs.Prelude.{◌≡◌, ◌++◌, ◌∷◌, [], None, Some, IfOk, MatchOption};
 ghost use Rattle.py_tree.specs.Trees.{tree, trees};
 ghost use Rattle.py_tree.specs.Statements.{places, taker, takers};
-ghost use Rattle.py_expressions.specs.Values.{places_in, taker_in};
+ghost use Rattle.py_nodes.specs.py_expressions.Values.{places_in, taker_in};
 ghost use Rattle.py_statement_nodes.specs.Targets.{parts_in};
 
 use py_nodes::single_in;

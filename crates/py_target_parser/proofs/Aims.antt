@@ -15,12 +15,12 @@ use Rattle.grammar.specs.Levels.{readers, fits, read, shown, takes}
 use Rattle.grammar.proofs.Along.{no_levels}
 use Rattle.grammar_code.specs.Walk.{Up, ground, up, tall, pick, first_of, starts_with, wanted, walk, whole, onto}
 use Rattle.grammar_code.proofs.Walk.{bind_eq, bind_found_same, pick_bind, pick_eq, pick_begins, part_eats, pursue_once, round_commas, round_walk, walked}
-use Rattle.token_kinds.specs.Kinds.{kind, text_of}
-use Rattle.token_kinds.specs.Numbers as k
-use Rattle.py_expressions.specs.Values as v
-use Rattle.py_expressions.specs.Values.{at_of, place_in, tree_of, Aim, Target, Carrier}
-use Rattle.py_expressions.specs.Sorts.{aim, place, places, tree, other, expr, slice, arguments, single, targets, taker}
-use Rattle.py_expressions.specs.Lines.{expressions, no_reader, key, part, attribute_place, aim_step, A1}
+use Rattle.py_cursor.specs.token_kinds.Kinds.{kind, text_of}
+use Rattle.py_cursor.specs.token_kinds.Numbers as k
+use Rattle.py_cursor.specs.py_expressions.Values as v
+use Rattle.py_cursor.specs.py_expressions.Values.{at_of, place_in, tree_of, Aim, Target, Carrier}
+use Rattle.py_cursor.specs.py_expressions.Sorts.{aim, place, places, tree, other, expr, slice, arguments, single, targets, taker}
+use Rattle.py_cursor.specs.py_expressions.Lines.{expressions, no_reader, key, part, attribute_place, aim_step, A1}
 use Rattle.py_cursor.specs.declared.stop.Stop.{Stop}
 use Rattle.py_cursor.specs.Cursor.{FailsAs, IsBlocked}
 use Rattle.py_cursor.proofs.Loops.{blocked_as, begun_over, begun_deep, begun_fails, begun_next, items_over, items_end, items_fails, items_next, fails_on}

@@ -7,12 +7,12 @@ use Rattle.parsing.specs.Reading.{Read, Found, Bad, Deep, ◌>>=◌, deep_at, ha
 use Rattle.grammar.specs.Table.{give, ◌⨾◌, ◌∣◌, when}
 use Rattle.grammar.specs.Levels.{readers, fits}
 use Rattle.grammar_code.specs.Walk.{first_of, starts_with, wanted, pick, pursue}
-use Rattle.token_kinds.specs.Kinds.{kind, text_of}
-use Rattle.token_kinds.specs.Numbers as k
-use Rattle.py_expressions.specs.Values as v
-use Rattle.py_expressions.specs.Values.{at_of, place_in, Aim, Target, Carrier}
-use Rattle.py_expressions.specs.Sorts.{aim, place, places, tree, other, expr, slice, arguments, single}
-use Rattle.py_expressions.specs.Lines.{expressions, no_reader, key, part, slice_of, attribute_place, aim_step}
+use Rattle.py_cursor.specs.token_kinds.Kinds.{kind, text_of}
+use Rattle.py_cursor.specs.token_kinds.Numbers as k
+use Rattle.py_cursor.specs.py_expressions.Values as v
+use Rattle.py_cursor.specs.py_expressions.Values.{at_of, place_in, Aim, Target, Carrier}
+use Rattle.py_cursor.specs.py_expressions.Sorts.{aim, place, places, tree, other, expr, slice, arguments, single}
+use Rattle.py_cursor.specs.py_expressions.Lines.{expressions, no_reader, key, part, slice_of, attribute_place, aim_step}
 use Rattle.py_expression_parser.specs.Reads.{reads, reads_all}
 use Rattle.py_tree.specs.Statements.{places as places_of_singles}
 use Rattle.py_target_parser.specs.declared.reader.Places.{Places}

@@ -2,8 +2,8 @@ ghost use Rattle.std.specs.Prelude.{◌≡◌, ◌≤◌, ◌<◌, ◌+◌, max,
 ghost use Rattle.py_source.specs.Limits.{most_levels};
 ghost use Rattle.py_tree.specs.Trees.{tree};
 ghost use Rattle.py_tree.specs.Statements.{place, taker};
-ghost use Rattle.py_expressions.specs.Values.{first_place, one_place};
-ghost use Rattle.py_expressions.specs.Sorts.{single as single_line, targets as targets_line};
+ghost use Rattle.py_cursor.specs.py_expressions.Values.{first_place, one_place};
+ghost use Rattle.py_cursor.specs.py_expressions.Sorts.{single as single_line, targets as targets_line};
 ghost use Rattle.py_cursor.specs.Cursor.{Gives};
 ghost use Rattle.py_expression_parser.specs.Reads.{reads};
 ghost use Rattle.py_target_parser.specs.Aims.{aim_of, aim_tall, IsPlace, start_on, step_on, aim_index_on, places_more, places_of};

@@ -2,7 +2,7 @@
 -- statement; the standard type hierarchy: modules, custom classes, class instances).
 use Rattle.std.specs.Prelude.{ℕ, Bool, true, false, List, is_some, Option, Some, None, slice_get, if◌then◌else◌}
 use Rattle.py_values.specs.Changes.{changed}
-use Rattle.py_kinds.specs.Kinds.{kind_name}
+use Rattle.py_calls.specs.py_kinds.Kinds.{kind_name}
 use Rattle.py_values.specs.Names.{bind_name, unbind_name}
 use Rattle.py_values.specs.declared.end.Raise.{Raise}
 use Rattle.py_values.specs.declared.object.ExceptionObj.{ExceptionObj}
@@ -10,8 +10,8 @@ use Rattle.py_values.specs.declared.object.Obj.{Obj}
 use Rattle.py_values.specs.declared.object.Obj.TheVariants as obj
 use Rattle.py_values.specs.declared.value.Value.{Value}
 use Rattle.py_values.specs.declared.value.Value.TheVariants as val
-use Rattle.py_items.specs.Items.{object_at}
-use Rattle.py_attributes.specs.Attributes.{no_attribute, is_args, own_value, attribute_of}
+use Rattle.py_calls.specs.py_items.Items.{object_at}
+use Rattle.py_calls.specs.py_attributes.Attributes.{no_attribute, is_args, own_value, attribute_of}
 use Rattle.py_world.specs.World.{Kinds, State, heap_of, with_heap}
 use Rattle.py_world.specs.Site.{Site, trace_of}
 use Rattle.py_world.specs.Outcome.{Outcome, Next, Part, made, on_value, raised_at}

@@ -1,6 +1,6 @@
 -- The `with` statement over what expects an exception (Language Reference, the with statement; pytest's reference, pytest.raises).
 use Rattle.std.specs.Prelude.{ℕ, Bool, true, false, List, length, Option, Some, None, codes}
-use Rattle.py_kinds.specs.Classes.{is_a}
+use Rattle.py_calls.specs.py_kinds.Classes.{is_a}
 use Rattle.py_values.specs.Changes.{heap_after}
 use Rattle.py_values.specs.Ends.{id_at}
 use Rattle.py_values.specs.Raises.{raise}
@@ -13,8 +13,8 @@ use Rattle.py_values.specs.declared.object.RaisesObj.{RaisesObj}
 use Rattle.py_values.specs.declared.value.ObjId.{ObjId}
 use Rattle.py_values.specs.declared.value.Value.{Value}
 use Rattle.py_values.specs.declared.value.Value.TheVariants as val
-use Rattle.py_items.specs.Items.{object_at}
-use Rattle.pytest_calls.specs.Swallowing.{did_not_raise, pattern_end}
+use Rattle.py_calls.specs.py_items.Items.{object_at}
+use Rattle.py_calls.specs.pytest_calls.Swallowing.{did_not_raise, pattern_end}
 use Rattle.py_world.specs.declared.trace.TraceFrame.{TraceFrame}
 use Rattle.py_world.specs.World.{Kinds, State, heap_of, with_heap, with_object, with_trace}
 use Rattle.py_world.specs.Site.{Scene, Site, trace_of}

@@ -21,8 +21,8 @@ use Rattle.py_values.specs.declared.builtin.Builtin.TheVariants as builtin
 use Rattle.py_values.specs.declared.builtin.PytestCall.{PytestCall}
 use Rattle.py_values.specs.declared.builtin.PytestCall.TheVariants as pytest
 use Rattle.py_values.specs.declared.object.FixtureScope.TheVariants as scope
-use Rattle.py_kinds.specs.Classes.{is_exc_class}
-use Rattle.py_items.specs.Items.{object_at}
+use Rattle.py_calls.specs.py_kinds.Classes.{is_exc_class}
+use Rattle.py_calls.specs.py_items.Items.{object_at}
 use Rattle.py_world.specs.World.{Kinds, State, Stored, heap_of, state, with_heap, with_object, with_world, world_with_code}
 use Rattle.py_world.specs.Site.{Own, InModule, InFunction, InClass, Scene, Site, around_of}
 use Rattle.py_world.specs.Arguments.{required}

@@ -1,13 +1,13 @@
 -- Displays of lists, tuples and dicts, subscripts and slices (Language Reference, parenthesized forms; list displays; dictionary
 -- displays; subscriptions; slicings).
 use Rattle.std.specs.Prelude.{ℕ, suc, ◌+◌, ◌-◌, not, ◌&&◌, List, [], ◌∷◌, length, is_some, nat_le, nat_lt, Option, Some, None, if◌then◌else◌}
-use Rattle.py_kinds.specs.Keys.{key_of}
+use Rattle.py_calls.specs.py_kinds.Keys.{key_of}
 use Rattle.py_values.specs.Limits.{most_elements}
 use Rattle.py_values.specs.Pairs.{find_pair, put_pair}
 use Rattle.py_values.specs.declared.dict.Pair.{Pair}
 use Rattle.py_values.specs.declared.key.Atom.{Atom}
-use Rattle.py_kinds.specs.declared.keys.Keyed.{Keyed}
-use Rattle.py_kinds.specs.declared.keys.Keyed.TheVariants as keyed
+use Rattle.py_calls.specs.py_kinds.declared.keys.Keyed.{Keyed}
+use Rattle.py_calls.specs.py_kinds.declared.keys.Keyed.TheVariants as keyed
 use Rattle.py_values.specs.declared.end.Made.{Made}
 use Rattle.py_values.specs.declared.end.Made.TheVariants.{New, Fail}
 use Rattle.py_values.specs.declared.index.Index.TheVariants.{At, Slice}
@@ -15,9 +15,9 @@ use Rattle.py_values.specs.declared.object.Obj.{Obj}
 use Rattle.py_values.specs.declared.object.Obj.TheVariants as obj
 use Rattle.py_values.specs.declared.value.Value.{Value}
 use Rattle.py_values.specs.declared.value.Value.TheVariants as val
-use Rattle.py_operands.specs.Faults.{key_fault}
-use Rattle.py_operands.specs.Sequences.{too_long}
-use Rattle.py_items.specs.Items.{subscript_of}
+use Rattle.py_calls.specs.py_operands.Faults.{key_fault}
+use Rattle.py_calls.specs.py_operands.Sequences.{too_long}
+use Rattle.py_calls.specs.py_items.Items.{subscript_of}
 use Rattle.py_world.specs.World.{Kinds, State, heap_of}
 use Rattle.py_world.specs.Site.{Site, trace_of}
 use Rattle.py_world.specs.Outcome.{Rest, Then, Part, on_value, costing, operated}

@@ -1,6 +1,6 @@
 -- Exceptions (Language Reference, the raise statement; the try statement).
 use Rattle.std.specs.Prelude.{ℕ, Bool, true, false, List, [], ◌∷◌, Option, Some, None, codes, slice_get}
-use Rattle.py_kinds.specs.Classes.{is_a, is_exc_class, are_exc_classes}
+use Rattle.py_calls.specs.py_kinds.Classes.{is_a, is_exc_class, are_exc_classes}
 use Rattle.py_values.specs.Raises.{raise, thrown_with}
 use Rattle.py_values.specs.declared.class.ClassForm.{ClassForm}
 use Rattle.py_values.specs.declared.class.ClassForm.TheVariants as form

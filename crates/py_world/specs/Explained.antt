@@ -9,11 +9,11 @@ use Rattle.py_values.specs.declared.object.Obj.{Obj}
 use Rattle.py_values.specs.declared.object.Obj.TheVariants as obj
 use Rattle.py_values.specs.declared.value.Value.{Value}
 use Rattle.py_values.specs.declared.value.Value.TheVariants as val
-use Rattle.py_repr.specs.Symbols.{char_of}
-use Rattle.py_repr.specs.Repr.{repr_of}
-use Rattle.py_ops.specs.Binary.{binary_text}
-use Rattle.py_ops.specs.Unary.{unary_text}
-use Rattle.py_ops.specs.Compare.{compare_text}
+use Rattle.py_calls.specs.py_repr.Symbols.{char_of}
+use Rattle.py_calls.specs.py_repr.Repr.{repr_of}
+use Rattle.py_calls.specs.py_ops.Binary.{binary_text}
+use Rattle.py_calls.specs.py_ops.Unary.{unary_text}
+use Rattle.py_calls.specs.py_ops.Compare.{compare_text}
 use Rattle.py_world.specs.World.{Temps, value_at}
 
 -- how many parts of a condition are kept; each has the number of those before it

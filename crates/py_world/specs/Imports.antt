@@ -12,9 +12,9 @@ use Rattle.py_values.specs.declared.object.Obj.{Obj}
 use Rattle.py_values.specs.declared.value.Value.{Value}
 use Rattle.py_values.specs.declared.value.Value.TheVariants as val
 use Rattle.py_values.specs.Names.{name_eq}
-use Rattle.py_kinds.specs.Builtins.{pytest_module}
-use Rattle.py_attributes.specs.Attributes.{own_value}
-use Rattle.py_items.specs.Items.{object_at}
+use Rattle.py_calls.specs.py_kinds.Builtins.{pytest_module}
+use Rattle.py_calls.specs.py_attributes.Attributes.{own_value}
+use Rattle.py_calls.specs.py_items.Items.{object_at}
 use Rattle.py_bind.specs.Modules.{module_place}
 use Rattle.py_world.specs.declared.load.Load.TheVariants.{Failed}
 use Rattle.py_world.specs.World.{Kinds, State, Source, Coded, Code, Fault, heap_of, with_heap}

@@ -1,12 +1,12 @@
 -- The turns of a `for` (Language Reference, the for statement).
 use Rattle.std.specs.Prelude.{Option, Some, None}
-use Rattle.py_kinds.specs.Kinds.{kind_name}
+use Rattle.py_calls.specs.py_kinds.Kinds.{kind_name}
 use Rattle.py_values.specs.declared.end.Made.{Made}
 use Rattle.py_values.specs.declared.end.Made.TheVariants.{Give, New, Put, Fail}
 use Rattle.py_values.specs.declared.value.Value.{Value}
-use Rattle.py_operands.specs.Faults.{not_iterable}
-use Rattle.py_items.specs.Turns.{turn_of as element_of, next_by, iterate}
-use Rattle.py_items.specs.declared.iter.IterAt.{IterAt}
+use Rattle.py_calls.specs.py_operands.Faults.{not_iterable}
+use Rattle.py_calls.specs.py_items.Turns.{turn_of as element_of, next_by, iterate}
+use Rattle.py_calls.specs.py_items.declared.iter.IterAt.{IterAt}
 use Rattle.py_world.specs.World.{Kinds, heap_of}
 use Rattle.py_world.specs.Site.{trace_of}
 use Rattle.py_world.specs.Outcome.{Next, Part, Body, made, on_value, on_next, on_turn, raised_at}

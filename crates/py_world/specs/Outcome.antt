@@ -11,7 +11,7 @@ use Rattle.py_values.specs.declared.object.Obj.{Obj}
 use Rattle.py_values.specs.Ends.{cost_of, id_at}
 use Rattle.py_values.specs.Changes.{heap_after}
 use Rattle.py_values.specs.Raises.{thrown}
-use Rattle.call_products.specs.declared.product.Product.{Product}
+use Rattle.py_calls.specs.call_products.declared.product.Product.{Product}
 use Rattle.py_world.specs.World.{Kinds, State, heap_of, with_heap, with_object, with_objects, back_to}
 use Rattle.py_world.specs.Site.{Around, Scene, Site, trace_of}
 use Rattle.py_world.specs.Arguments.{Arguments}

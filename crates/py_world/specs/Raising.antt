@@ -4,7 +4,7 @@ use Rattle.py_values.specs.declared.object.Obj.{Obj}
 use Rattle.py_values.specs.declared.value.ObjId.{ObjId}
 use Rattle.py_values.specs.declared.value.Value.{Value}
 use Rattle.py_values.specs.declared.value.Value.TheVariants as val
-use Rattle.py_kinds.specs.Classes.{is_exc_class}
+use Rattle.py_calls.specs.py_kinds.Classes.{is_exc_class}
 use Rattle.py_world.specs.World.{Kinds, heap_of}
 use Rattle.py_world.specs.Site.{around_of}
 use Rattle.py_world.specs.Arguments.{plain}

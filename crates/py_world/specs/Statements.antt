@@ -7,7 +7,7 @@ use Rattle.py_values.specs.declared.object.Obj.TheVariants as obj
 use Rattle.py_values.specs.declared.value.Value.{Value}
 use Rattle.py_values.specs.declared.value.Value.TheVariants as val
 use Rattle.py_values.specs.Ends.{id_at}
-use Rattle.py_kinds.specs.Truth.{truth}
+use Rattle.py_calls.specs.py_kinds.Truth.{truth}
 use Rattle.py_world.specs.World.{Kinds, State, heap_of, unset, with_object}
 use Rattle.py_world.specs.Site.{Site, site}
 use Rattle.py_world.specs.Explained.{explanation}

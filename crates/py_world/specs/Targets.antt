@@ -3,20 +3,20 @@
 use Rattle.std.specs.Prelude.{ℕ, zero, suc, ◌+◌, List, [], ◌∷◌, ◌++◌, length, eqb, Option, Some, None, codes, if◌then◌else◌}
 use Rattle.std.specs.Fmt.{decimal}
 use Rattle.py_tree.specs.declared.op.BinOp.{BinOp}
-use Rattle.py_kinds.specs.Kinds.{kind_name}
-use Rattle.py_kinds.specs.Lengths.{length_of}
+use Rattle.py_calls.specs.py_kinds.Kinds.{kind_name}
+use Rattle.py_calls.specs.py_kinds.Lengths.{length_of}
 use Rattle.py_values.specs.Raises.{raise}
 use Rattle.py_values.specs.declared.class.ExcClass.TheVariants.{ValueError}
 use Rattle.py_values.specs.declared.end.Raise.{Raise}
 use Rattle.py_values.specs.declared.index.Index.TheVariants.{At}
 use Rattle.py_values.specs.declared.object.Obj.{Obj}
 use Rattle.py_values.specs.declared.value.Value.{Value}
-use Rattle.py_operands.specs.Faults.{not_iterable}
-use Rattle.py_ops.specs.Binary.{augmented_of}
-use Rattle.py_items.specs.Items.{subscript_of, store_of, delete_of}
-use Rattle.py_items.specs.Turns.{turn_of as element_of, turn_end}
-use Rattle.py_items.specs.declared.iter.Turn.{Turn}
-use Rattle.py_items.specs.declared.iter.Turn.TheVariants as turn
+use Rattle.py_calls.specs.py_operands.Faults.{not_iterable}
+use Rattle.py_calls.specs.py_ops.Binary.{augmented_of}
+use Rattle.py_calls.specs.py_items.Items.{subscript_of, store_of, delete_of}
+use Rattle.py_calls.specs.py_items.Turns.{turn_of as element_of, turn_end}
+use Rattle.py_calls.specs.py_items.declared.iter.Turn.{Turn}
+use Rattle.py_calls.specs.py_items.declared.iter.Turn.TheVariants as turn
 use Rattle.py_world.specs.World.{Kinds, heap_of, with_heap}
 use Rattle.py_world.specs.Names.{name_end, bound}
 use Rattle.py_world.specs.Attributes.{attribute_end, set_attribute, unset_attribute}

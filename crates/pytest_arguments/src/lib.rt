@@ -21,5 +21,7 @@
 //! How long a call takes.
 #![tactic(auto)]
 
+pub use call_products;
+
 pub mod form;
 pub mod given;

@@ -1,9 +1,9 @@
 -- The functions of `pytest`, and `request.addfinalizer` (pytest's reference).
 use Rattle.std.specs.Prelude.{ℕ, List, if◌then◌else◌}
-use Rattle.call_products.specs.Arguments.{pair}
-use Rattle.call_products.specs.Products.{wrong}
-use Rattle.call_products.specs.declared.product.Product.{Product}
-use Rattle.py_kinds.specs.Builtins.{pytest_call_name}
+use Rattle.pytest_arguments.specs.call_products.Arguments.{pair}
+use Rattle.pytest_arguments.specs.call_products.Products.{wrong}
+use Rattle.pytest_arguments.specs.call_products.declared.product.Product.{Product}
+use Rattle.py_repr.specs.py_kinds.Builtins.{pytest_call_name}
 use Rattle.py_values.specs.declared.builtin.PytestCall.{PytestCall}
 use Rattle.py_values.specs.declared.builtin.PytestCall.TheVariants as call
 use Rattle.py_values.specs.declared.class.ExcClass.TheVariants.{Failed, Skipped}

@@ -1,7 +1,7 @@
 -- `request.addfinalizer(f)` (pytest's reference, `FixtureRequest.addfinalizer`). It costs nothing.
 use Rattle.std.specs.Prelude.{ℕ, List, [], ◌∷◌, ◌++◌, codes, if◌then◌else◌, Option, Some, None, slice_get}
-use Rattle.call_products.specs.Products.{plain, failed, wrong}
-use Rattle.call_products.specs.declared.product.Product.{Product}
+use Rattle.pytest_arguments.specs.call_products.Products.{plain, failed, wrong}
+use Rattle.pytest_arguments.specs.call_products.declared.product.Product.{Product}
 use Rattle.py_values.specs.declared.change.Change.TheVariants.{Whole}
 use Rattle.py_values.specs.declared.class.ExcClass.TheVariants.{RuntimeError}
 use Rattle.py_values.specs.declared.end.Made.TheVariants.{Put}

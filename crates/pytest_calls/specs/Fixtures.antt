@@ -1,8 +1,8 @@
 -- `fixture(scope=, params=, autouse=, ids=, name=)` (pytest's reference, `pytest.fixture`). It costs nothing.
 use Rattle.std.specs.Prelude.{ℕ, Bool, List, codes, if◌then◌else◌, Option, Some, None, is_some}
-use Rattle.call_products.specs.Products.{plain}
-use Rattle.call_products.specs.declared.product.Product.{Product}
-use Rattle.py_ops.specs.Compare.{text_of}
+use Rattle.pytest_arguments.specs.call_products.Products.{plain}
+use Rattle.pytest_arguments.specs.call_products.declared.product.Product.{Product}
+use Rattle.pytest_arguments.specs.py_ops.Compare.{text_of}
 use Rattle.py_values.specs.Names.{name_eq}
 use Rattle.py_values.specs.declared.end.Made.TheVariants.{New}
 use Rattle.py_values.specs.declared.object.FixtureObj.{FixtureObj}

@@ -1,7 +1,7 @@
 -- `hookimpl(wrapper=, tryfirst=, trylast=)` (pytest's reference, `pytest.hookimpl`). It costs nothing.
 use Rattle.std.specs.Prelude.{ℕ, List, [], ◌∷◌, if◌then◌else◌, Option, Some, None}
-use Rattle.call_products.specs.Products.{plain}
-use Rattle.call_products.specs.declared.product.Product.{Product}
+use Rattle.pytest_arguments.specs.call_products.Products.{plain}
+use Rattle.pytest_arguments.specs.call_products.declared.product.Product.{Product}
 use Rattle.py_values.specs.declared.end.Made.TheVariants.{New}
 use Rattle.py_values.specs.declared.object.HookObj.{HookObj}
 use Rattle.py_values.specs.declared.object.Obj.TheVariants as obj

@@ -1,10 +1,10 @@
 -- The call of a mark (pytest's reference, marks). It costs nothing.
 use Rattle.std.specs.Prelude.{ℕ, Bool, true, false, not, ◌||◌, List, [], ◌∷◌, eqb, if◌then◌else◌, Option, Some, None, slice_get}
 use Rattle.std.specs.List.{list_any, list_all}
-use Rattle.call_products.specs.Products.{plain, wrong}
-use Rattle.call_products.specs.declared.product.Product.{Product}
-use Rattle.py_kinds.specs.Classes.{are_exc_classes}
-use Rattle.py_ops.specs.Compare.{text_of}
+use Rattle.pytest_arguments.specs.call_products.Products.{plain, wrong}
+use Rattle.pytest_arguments.specs.call_products.declared.product.Product.{Product}
+use Rattle.py_repr.specs.py_kinds.Classes.{are_exc_classes}
+use Rattle.pytest_arguments.specs.py_ops.Compare.{text_of}
 use Rattle.py_values.specs.Names.{bind_name}
 use Rattle.py_values.specs.declared.end.Made.TheVariants.{New}
 use Rattle.py_values.specs.declared.object.MarkObj.{MarkObj}

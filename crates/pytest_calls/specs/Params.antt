@@ -1,8 +1,8 @@
 -- `param(v, .., id=, marks=)` (pytest's reference, `pytest.param`). It costs nothing.
 use Rattle.std.specs.Prelude.{ℕ, Bool, true, false, List, [], ◌∷◌, Option, Some, None, slice_get}
 use Rattle.std.specs.List.{list_all}
-use Rattle.call_products.specs.Products.{plain}
-use Rattle.call_products.specs.declared.product.Product.{Product}
+use Rattle.pytest_arguments.specs.call_products.Products.{plain}
+use Rattle.pytest_arguments.specs.call_products.declared.product.Product.{Product}
 use Rattle.py_values.specs.declared.end.Made.TheVariants.{New}
 use Rattle.py_values.specs.declared.object.Obj.{Obj}
 use Rattle.py_values.specs.declared.object.Obj.TheVariants as obj

@@ -1,11 +1,11 @@
 -- `raises(E, match=)`, `skip(reason)` and `fail(reason)` (pytest's reference, functions). They cost nothing.
 use Rattle.std.specs.Prelude.{ℕ, Bool, List, [], ◌∷◌, length, codes, if◌then◌else◌, Option, Some, None}
-use Rattle.call_products.specs.Products.{plain, failed, wrong}
-use Rattle.call_products.specs.declared.product.Product.{Product}
+use Rattle.pytest_arguments.specs.call_products.Products.{plain, failed, wrong}
+use Rattle.pytest_arguments.specs.call_products.declared.product.Product.{Product}
 use Rattle.match_pattern.specs.Reading.{pattern_of}
 use Rattle.match_pattern.specs.declared.pattern.Pattern.{Pattern}
-use Rattle.py_kinds.specs.Classes.{are_exc_classes}
-use Rattle.py_ops.specs.Compare.{text_of}
+use Rattle.py_repr.specs.py_kinds.Classes.{are_exc_classes}
+use Rattle.pytest_arguments.specs.py_ops.Compare.{text_of}
 use Rattle.py_values.specs.Ends.{id_at}
 use Rattle.py_values.specs.declared.class.ExcClass.{ExcClass}
 use Rattle.py_values.specs.declared.class.ExcClass.TheVariants.{TypeError, ValueError}

@@ -2,14 +2,12 @@
 
 ghost use Rattle.std.specs.Prelude.{◌≡◌, ◌||◌, [], IfOk, option_copied};
 ghost use Rattle.std.specs.List.{list_all};
-ghost use Rattle.py_kinds.specs.Classes.{are_exc_classes};
+ghost use Rattle.py_repr.specs.py_kinds.Classes.{are_exc_classes};
 ghost use Rattle.pytest_arguments.specs.Forms.{unless_bad};
 ghost use Rattle.pytest_arguments.specs.Given as given;
 ghost use Rattle.pytest_calls.specs.Marks as marks;
 
-use call_products::arguments::text_of;
-use call_products::product::{Product, plain, wrong};
-use py_kinds::classes::are_exc_classes;
+use py_repr::py_kinds::classes::are_exc_classes;
 use py_values::end::Made;
 use py_values::heap::Heap;
 use py_values::names::{Name, Names};
@@ -17,6 +15,8 @@ use py_values::object::{MarkObj, Obj};
 use py_values::rows::Values;
 use py_values::value::Value;
 use py_values::{OutOfMemory, PyText};
+use pytest_arguments::call_products::arguments::text_of;
+use pytest_arguments::call_products::product::{Product, plain, wrong};
 use pytest_arguments::form::{
     Argument, OwnMark, bad, mark_fits, named_value, own_mark, own_mark_name,
 };

@@ -3,33 +3,33 @@ use Rattle.std.proofs.Common.{◌≡◌, ◌<◌, ◌≤◌, ◌+◌, ℕ, zero,
 use Rattle.std.specs.Prelude.{slice_get}
 use Rattle.std.specs.Option.{option_to_list}
 use Rattle.cli_words.specs.declared.options.Options.{Options}
-use Rattle.collect_items.specs.declared.found.FoundSuite.{FoundSuite}
+use Rattle.collect_tree.specs.collect_items.declared.found.FoundSuite.{FoundSuite}
 use Rattle.collect_tree.specs.Collection.{item_numbered, item_or_none, selected_by}
 use Rattle.collect_tree.specs.Runnable.{IsAtHome, IsRunnable}
-use Rattle.file_source.specs.Sources.{HoldsSource}
-use Rattle.fixture_world.specs.Items.{item_of}
+use Rattle.collect_tree.specs.file_source.Sources.{HoldsSource}
+use Rattle.run_items.specs.fixture_world.Items.{item_of}
 use Rattle.report_parts.specs.Limits.{most_items}
 use Rattle.report_parts.specs.Outcomes.{not_empty}
 use Rattle.report_parts.specs.declared.report.CollectReport.{CollectReport}
 use Rattle.report_parts.specs.declared.report.ItemReport.{ItemReport}
-use Rattle.report_rules.specs.Collected.{SelectedItem}
-use Rattle.report_rules.specs.Fits.{chosen_item}
-use Rattle.report_rules.specs.Items.{item_report}
-use Rattle.report_rules.specs.Report as rules
-use Rattle.report_rules.specs.Rows.{ran, rows_of, task}
+use Rattle.run_items.specs.report_rules.Collected.{SelectedItem}
+use Rattle.run_items.specs.report_rules.Fits.{chosen_item}
+use Rattle.run_items.specs.report_rules.Items.{item_report}
+use Rattle.run_items.specs.report_rules.Report as rules
+use Rattle.run_items.specs.report_rules.Rows.{ran, rows_of, task}
 use Rattle.run_items.specs.Stands.{IsPlan, IsPlannedItem, planned}
 use Rattle.run_items.specs.Texts.{fixture_texts}
 use Rattle.run_items.specs.declared.plan.Plan.{Plan}
 use Rattle.runtest_loop.specs.Course.{chosen_in}
 use Rattle.runtest_loop.specs.Fed.{AreKnown, numbers_at, numbers_in_range}
-use Rattle.runtest_rules.specs.Rules.{rules as tests}
+use Rattle.run_items.specs.runtest_rules.Rules.{rules as tests}
 use Rattle.selection.specs.Unbuilt.{asks_for_unbuilt}
 use Rattle.session_rules.specs.Fits.{Distinct}
 use Rattle.session_rules.specs.Session.{has_stopped}
 use Rattle.session_rules.specs.World.{Item as SessionItem}
 use Rattle.share_files.specs.Deal.{Every}
-use Rattle.source_meaning.specs.Meaning.{SourceWorld}
-use Rattle.test_suite.specs.declared.item.Item.{Item}
+use Rattle.py_machine.specs.source_meaning.Meaning.{SourceWorld}
+use Rattle.run_items.specs.test_suite.declared.item.Item.{Item}
 use Rattle.pytest_core.specs.Profile.{profile}
 use Rattle.pytest_core.specs.Run.{AreApart, IsRunAnswer, IsOneGroup, IsRunOf, RunsFirst, chosen_first, collected_of, items_known, plan_by}
 use Rattle.pytest_core.specs.declared.session.RunAnswer.{RunAnswer}

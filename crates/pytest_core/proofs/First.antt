@@ -6,8 +6,8 @@ use Rattle.std.proofs.lemmas.List.{append-nil}
 use Rattle.cli_words.specs.declared.options.Options.{Options}
 use Rattle.report_parts.specs.Limits.{most_items}
 use Rattle.report_parts.specs.declared.report.ItemReport.{ItemReport}
-use Rattle.report_rules.specs.Collected.{SelectedItem}
-use Rattle.report_rules.specs.Fits.{chosen_item}
+use Rattle.run_items.specs.report_rules.Collected.{SelectedItem}
+use Rattle.run_items.specs.report_rules.Fits.{chosen_item}
 use Rattle.run_items.specs.Runs.{RunsPlan}
 use Rattle.run_items.specs.Stands.{planned}
 use Rattle.run_items.specs.declared.plan.Plan.{Plan}
@@ -18,7 +18,7 @@ use Rattle.runtest_loop.specs.Run.{is_stopped}
 use Rattle.runtest_loop.specs.declared.run_end.RunEnd.{RunEnd}
 use Rattle.runtest_loop.specs.declared.run_end.RunEnd.TheVariants.{Done, Stopped}
 use Rattle.session_rules.specs.Fits.{Distinct}
-use Rattle.source_meaning.specs.Meaning.{SourceWorld}
+use Rattle.py_machine.specs.source_meaning.Meaning.{SourceWorld}
 use Rattle.pytest_core.specs.OneGroup.{given_by, is_over}
 use Rattle.pytest_core.specs.Run.{IsOneGroup, IsRunOf, RunsFirst, chosen_first}
 use Rattle.pytest_core.specs.declared.one_group.OneGroup.{OneGroup}

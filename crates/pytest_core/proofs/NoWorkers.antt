@@ -3,15 +3,15 @@ use Rattle.std.proofs.Common.{◌≡◌, ℕ, List, [], Bool, true, false, cond,
 use Rattle.std.specs.Prelude.{is_some, nat_lt}
 use Rattle.cli_words.specs.Options.{asks_for_workers, is_no}
 use Rattle.cli_words.specs.declared.options.Options.{Options}
-use Rattle.file_source.specs.Sources.{HoldsSource}
+use Rattle.collect_tree.specs.file_source.Sources.{HoldsSource}
 use Rattle.report_parts.specs.Outcomes.{not_empty}
-use Rattle.report_rules.specs.Collected.{Collected}
-use Rattle.report_rules.specs.Groups.{groups}
-use Rattle.report_rules.specs.Report as rules
-use Rattle.report_rules.specs.Rows.{Row, ran, row, rows_of}
-use Rattle.runtest_rules.specs.Language.{python}
-use Rattle.runtest_rules.specs.Rules.{rules as tests}
-use Rattle.test_suite.specs.declared.suite.Suite.{Suite}
+use Rattle.run_items.specs.report_rules.Collected.{Collected}
+use Rattle.run_items.specs.report_rules.Groups.{groups}
+use Rattle.run_items.specs.report_rules.Report as rules
+use Rattle.run_items.specs.report_rules.Rows.{Row, ran, row, rows_of}
+use Rattle.run_items.specs.runtest_rules.Language.{python}
+use Rattle.run_items.specs.runtest_rules.Rules.{rules as tests}
+use Rattle.run_items.specs.test_suite.declared.suite.Suite.{Suite}
 use Rattle.session_rules.specs.Session.{has_stopped}
 use Rattle.share_files.specs.Deal.{Share}
 use Rattle.selection.specs.Unbuilt.{asks_for_unbuilt}

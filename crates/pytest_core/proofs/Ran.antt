@@ -3,35 +3,35 @@ use Rattle.std.proofs.Common.{◌≡◌, ◌<◌, ◌+◌, ℕ, List, [], ◌∷
 use Rattle.std.specs.Prelude.{IfSome, IsSomeAnd, option_map, slice_get, slice_index_or}
 use Rattle.std.proofs.lemmas.List.{length-map}
 use Rattle.cli_words.specs.declared.options.Options.{Options}
-use Rattle.collect_items.specs.declared.found.FoundSuite.{FoundSuite}
+use Rattle.collect_tree.specs.collect_items.declared.found.FoundSuite.{FoundSuite}
 use Rattle.collect_tree.specs.Collection.{collect, item_numbered, item_or_none, selected_by}
 use Rattle.collect_tree.specs.Told.{collected_told}
 use Rattle.collect_tree.specs.declared.collected.Collected.{Collected}
 use Rattle.edge_io.specs.Files.{File, tree_limit}
-use Rattle.file_source.specs.Sources.{HoldsSource}
-use Rattle.fixture_world.specs.Items.{item_of, selected_item}
-use Rattle.py_load.specs.Reading.{AreRead, ReadFile}
+use Rattle.collect_tree.specs.file_source.Sources.{HoldsSource}
+use Rattle.run_items.specs.fixture_world.Items.{item_of, selected_item}
+use Rattle.collect_tree.specs.py_load.Reading.{AreRead, ReadFile}
 use Rattle.report_parts.specs.Outcomes.{not_empty}
 use Rattle.report_parts.specs.declared.report.CollectReport.{CollectReport}
 use Rattle.report_parts.specs.declared.report.ItemReport.{ItemReport}
-use Rattle.report_rules.proofs.Placed.{no_place}
-use Rattle.report_rules.specs.Answer as answers
-use Rattle.report_rules.specs.Collected.{Collected as Found, Collection, ConftestFault, Refused, SelectedItem, Whole}
-use Rattle.report_rules.specs.Fits.{IsFit, chosen_item}
-use Rattle.report_rules.specs.Report as rules
-use Rattle.report_rules.specs.Rows.{row, task}
+use Rattle.run_items.proofs.report_rules_lemmas.Placed.{no_place}
+use Rattle.run_items.specs.report_rules.Answer as answers
+use Rattle.run_items.specs.report_rules.Collected.{Collected as Found, Collection, ConftestFault, Refused, SelectedItem, Whole}
+use Rattle.run_items.specs.report_rules.Fits.{IsFit, chosen_item}
+use Rattle.run_items.specs.report_rules.Report as rules
+use Rattle.run_items.specs.report_rules.Rows.{row, task}
 use Rattle.run_items.specs.NotRun.{AreNotRun, selected_items}
 use Rattle.run_items.specs.Texts.{fixture_texts}
-use Rattle.runtest_rules.specs.Language.{python}
-use Rattle.runtest_rules.specs.Rules.{rules as tests}
+use Rattle.run_items.specs.runtest_rules.Language.{python}
+use Rattle.run_items.specs.runtest_rules.Rules.{rules as tests}
 use Rattle.selection.specs.Unbuilt.{asks_for_unbuilt}
 use Rattle.session_rules.specs.Fits.{Distinct}
 use Rattle.session_rules.specs.World.{Item as SessionItem}
 use Rattle.share_files.specs.Deal.{Every}
-use Rattle.source_meaning.specs.Meaning.{SourceWorld}
-use Rattle.test_suite.specs.Suites.{item_or}
-use Rattle.test_suite.specs.declared.item.Item.{Item}
-use Rattle.test_suite.specs.declared.suite.Suite.{Suite}
+use Rattle.py_machine.specs.source_meaning.Meaning.{SourceWorld}
+use Rattle.run_items.specs.test_suite.Suites.{item_or}
+use Rattle.run_items.specs.test_suite.declared.item.Item.{Item}
+use Rattle.run_items.specs.test_suite.declared.suite.Suite.{Suite}
 use Rattle.pytest_core.specs.Profile.{profile}
 use Rattle.pytest_core.specs.Report.{AreDistinct, end_answer}
 use Rattle.pytest_core.specs.Run.{AreApart, IsRunAnswer, collected_of, items_known}

@@ -5,10 +5,10 @@ use Rattle.cli_words.specs.declared.options.Options.{Options}
 use Rattle.report_parts.specs.Outcomes.{outcome_of}
 use Rattle.report_parts.specs.declared.outcome.Outcome.{Outcome}
 use Rattle.report_parts.specs.declared.report.ItemReport.{ItemReport}
-use Rattle.report_rules.specs.Collected.{FixtureTexts, SelectedItem, spoken}
-use Rattle.report_rules.specs.Items.{item_report}
-use Rattle.report_rules.specs.Rows.{Arrival, Row, Task, arrival_of, arrivals_of, by_item, item_of, ran, row, rows_of, task, with_ends}
-use Rattle.report_rules.specs.Shown.{arrival_with, event_lines, outcome_lines, phase_lines, shown_phase, teardown_lines}
+use Rattle.run_items.specs.report_rules.Collected.{FixtureTexts, SelectedItem, spoken}
+use Rattle.run_items.specs.report_rules.Items.{item_report}
+use Rattle.run_items.specs.report_rules.Rows.{Arrival, Row, Task, arrival_of, arrivals_of, by_item, item_of, ran, row, rows_of, task, with_ends}
+use Rattle.run_items.specs.report_rules.Shown.{arrival_with, event_lines, outcome_lines, phase_lines, shown_phase, teardown_lines}
 use Rattle.session_rules.specs.Reports.{events_of}
 use Rattle.session_rules.specs.Session.{session, start}
 use Rattle.session_rules.specs.Teardown.{PhaseEnd}

@@ -8,18 +8,18 @@ use Rattle.cli_words.specs.declared.info.Info.{Info}
 use Rattle.cli_words.specs.declared.options.Options.{Options}
 use Rattle.collect_tree.specs.Collection.{collect}
 use Rattle.edge_io.specs.Files.{File, IsKept, TreeLimit, tree_limit}
-use Rattle.file_source.proofs.OneSource.{has_source, one_source}
-use Rattle.file_source.specs.Sources.{HoldsSource, ReadSource}
-use Rattle.py_load.specs.Reading.{ReadFile}
-use Rattle.report_rules.proofs.Exists.{some_report}
-use Rattle.report_rules.proofs.Headline.{headline}
-use Rattle.report_rules.proofs.Unique.{report_one}
-use Rattle.report_rules.specs.Answer.{Answer, info_answer, limit_text, refusal}
-use Rattle.report_rules.specs.Collected.{Collection, ConftestFault, Refused, Whole}
-use Rattle.report_rules.specs.Headline.{Headline, IsSound}
-use Rattle.report_rules.specs.Report as rules
-use Rattle.runtest_rules.specs.Language.{python}
-use Rattle.test_suite.specs.declared.suite.Suite.{Suite}
+use Rattle.collect_tree.proofs.file_source_lemmas.OneSource.{has_source, one_source}
+use Rattle.collect_tree.specs.file_source.Sources.{HoldsSource, ReadSource}
+use Rattle.collect_tree.specs.py_load.Reading.{ReadFile}
+use Rattle.run_items.proofs.report_rules_lemmas.Exists.{some_report}
+use Rattle.run_items.proofs.report_rules_lemmas.Headline.{headline}
+use Rattle.run_items.proofs.report_rules_lemmas.Unique.{report_one}
+use Rattle.run_items.specs.report_rules.Answer.{Answer, info_answer, limit_text, refusal}
+use Rattle.run_items.specs.report_rules.Collected.{Collection, ConftestFault, Refused, Whole}
+use Rattle.run_items.specs.report_rules.Headline.{Headline, IsSound}
+use Rattle.run_items.specs.report_rules.Report as rules
+use Rattle.run_items.specs.runtest_rules.Language.{python}
+use Rattle.run_items.specs.test_suite.declared.suite.Suite.{Suite}
 use Rattle.pytest_core.specs.Profile.{profile, refused_text}
 use Rattle.pytest_core.specs.Report.{IsReport}
 use Rattle.pytest_core.proofs.Kept.{kept_files}

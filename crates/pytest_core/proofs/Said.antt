@@ -9,15 +9,15 @@ use Rattle.cli_words.specs.declared.info.Info.{Info}
 use Rattle.cli_words.specs.declared.options.Options.{Options}
 use Rattle.collect_tree.specs.Collection.{collect}
 use Rattle.edge_io.specs.Files.{File, IsKept, TreeLimit, tree_limit}
-use Rattle.file_source.specs.Sources.{HoldsSource}
-use Rattle.py_load.specs.Reading.{AreRead, ReadFile}
-use Rattle.report_rules.specs.Answer.{Answer, info_answer, limit_text, refusal}
-use Rattle.report_rules.specs.Answer.{Status as Ended}
-use Rattle.report_rules.specs.Answer as ends
-use Rattle.report_rules.specs.Collected.{Collection}
-use Rattle.report_rules.specs.Report as rules
-use Rattle.runtest_rules.specs.Language.{python}
-use Rattle.test_suite.specs.declared.suite.Suite.{Suite}
+use Rattle.collect_tree.specs.file_source.Sources.{HoldsSource}
+use Rattle.collect_tree.specs.py_load.Reading.{AreRead, ReadFile}
+use Rattle.run_items.specs.report_rules.Answer.{Answer, info_answer, limit_text, refusal}
+use Rattle.run_items.specs.report_rules.Answer.{Status as Ended}
+use Rattle.run_items.specs.report_rules.Answer as ends
+use Rattle.run_items.specs.report_rules.Collected.{Collection}
+use Rattle.run_items.specs.report_rules.Report as rules
+use Rattle.run_items.specs.runtest_rules.Language.{python}
+use Rattle.run_items.specs.test_suite.declared.suite.Suite.{Suite}
 use Rattle.selection.specs.Exprs.{refused_expression}
 use Rattle.selection.specs.Unbuilt.{asks_for_unbuilt}
 use Rattle.pytest_core.specs.Profile.{first_text, profile, refused_text}

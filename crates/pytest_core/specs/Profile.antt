@@ -3,14 +3,14 @@ use Rattle.std.specs.Prelude.{ℕ, List, [], Option, None, Some, codes, if◌the
 use Rattle.cli_words.specs.declared.options.Options.{Options}
 use Rattle.collect_tree.specs.Collection.{collect}
 use Rattle.edge_io.specs.Files.{File}
-use Rattle.file_source.specs.Sources.{ReadSource}
-use Rattle.report_rules.specs.Collected.{Profile}
+use Rattle.collect_tree.specs.file_source.Sources.{ReadSource}
+use Rattle.run_items.specs.report_rules.Collected.{Profile}
 use Rattle.run_items.specs.Texts.{fixture_texts}
-use Rattle.runtest_rules.specs.Language.{python}
-use Rattle.runtest_rules.specs.Rules.{rules}
+use Rattle.run_items.specs.runtest_rules.Language.{python}
+use Rattle.run_items.specs.runtest_rules.Rules.{rules}
 use Rattle.selection.specs.Exprs.{refused_expression}
 use Rattle.selection.specs.Unbuilt.{asks_for_unbuilt}
-use Rattle.test_suite.specs.declared.suite.Suite.{Suite}
+use Rattle.run_items.specs.test_suite.declared.suite.Suite.{Suite}
 
 -- the first of two texts
 abbrev pub first_text : Option (List ℕ) → Option (List ℕ) → Option (List ℕ)

@@ -4,14 +4,14 @@ use Rattle.cli_words.specs.Info.{info_of}
 use Rattle.cli_words.specs.Options.{options_of}
 use Rattle.cli_words.specs.declared.options.Options.{Options}
 use Rattle.edge_io.specs.Files.{File, IsKept}
-use Rattle.file_source.specs.Sources.{HoldsSource}
-use Rattle.report_rules.specs.Answer.{Answer, conftest_fault, refusal}
-use Rattle.report_rules.specs.Collected.{Collected, Collection, ConftestFault, Refused, Whole}
-use Rattle.report_rules.specs.Fits.{chosen_item}
-use Rattle.report_rules.specs.Report as rules
-use Rattle.runtest_rules.specs.Language.{python}
+use Rattle.collect_tree.specs.file_source.Sources.{HoldsSource}
+use Rattle.run_items.specs.report_rules.Answer.{Answer, conftest_fault, refusal}
+use Rattle.run_items.specs.report_rules.Collected.{Collected, Collection, ConftestFault, Refused, Whole}
+use Rattle.run_items.specs.report_rules.Fits.{chosen_item}
+use Rattle.run_items.specs.report_rules.Report as rules
+use Rattle.run_items.specs.runtest_rules.Language.{python}
 use Rattle.session_rules.specs.Fits.{Distinct}
-use Rattle.test_suite.specs.declared.suite.Suite.{Suite}
+use Rattle.run_items.specs.test_suite.declared.suite.Suite.{Suite}
 use Rattle.pytest_core.specs.Profile.{profile, refused_text}
 
 -- what is said of a tree: that of its kept files, in the order of their paths

@@ -1,27 +1,27 @@
 -- What a run on one thread gives.
 use Rattle.std.specs.Prelude.{◌≡◌, ℕ, List, [], ◌∷◌, None, map}
 use Rattle.cli_words.specs.declared.options.Options.{Options}
-use Rattle.collect_items.specs.declared.found.FoundSuite.{FoundSuite}
+use Rattle.collect_tree.specs.collect_items.declared.found.FoundSuite.{FoundSuite}
 use Rattle.collect_tree.specs.Collection.{item_numbered, selected_by}
-use Rattle.file_source.specs.Sources.{HoldsSource}
-use Rattle.fixture_world.specs.Items.{item_of}
+use Rattle.collect_tree.specs.file_source.Sources.{HoldsSource}
+use Rattle.run_items.specs.fixture_world.Items.{item_of}
 use Rattle.report_parts.specs.declared.report.CollectReport.{CollectReport}
-use Rattle.report_rules.specs.Collected.{Collected, SelectedItem}
-use Rattle.report_rules.specs.Fits.{chosen_item}
-use Rattle.report_rules.specs.Items.{item_report}
-use Rattle.report_rules.specs.Report as rules
-use Rattle.report_rules.specs.Rows.{ran, rows_of, task}
+use Rattle.run_items.specs.report_rules.Collected.{Collected, SelectedItem}
+use Rattle.run_items.specs.report_rules.Fits.{chosen_item}
+use Rattle.run_items.specs.report_rules.Items.{item_report}
+use Rattle.run_items.specs.report_rules.Report as rules
+use Rattle.run_items.specs.report_rules.Rows.{ran, rows_of, task}
 use Rattle.run_items.specs.Stands.{plan_fixture, plan_rules, planned}
 use Rattle.run_items.specs.declared.plan.Plan.{Plan}
 use Rattle.runtest_loop.specs.Course.{chosen_in}
 use Rattle.runtest_loop.specs.Fed.{numbers_at}
-use Rattle.runtest_rules.specs.Language.{python}
-use Rattle.runtest_rules.specs.Rules.{rules as tests}
+use Rattle.run_items.specs.runtest_rules.Language.{python}
+use Rattle.run_items.specs.runtest_rules.Rules.{rules as tests}
 use Rattle.session_rules.specs.Fits.{Distinct}
 use Rattle.session_rules.specs.Session.{has_stopped}
 use Rattle.session_rules.specs.World.{Item}
-use Rattle.source_meaning.specs.Meaning.{SourceWorld}
-use Rattle.test_suite.specs.declared.suite.Suite.{Suite}
+use Rattle.py_machine.specs.source_meaning.Meaning.{SourceWorld}
+use Rattle.run_items.specs.test_suite.declared.suite.Suite.{Suite}
 use Rattle.pytest_core.specs.Profile.{profile}
 use Rattle.pytest_core.specs.declared.session.RunAnswer.{RunAnswer}
 

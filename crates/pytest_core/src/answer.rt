@@ -3,12 +3,12 @@
 ghost use Rattle.std.specs.Prelude.{◌≡◌, [], None, IfOk, IfSome, IsErrOf, IsTrue, map, string_bytes};
 ghost use Rattle.edge_io.specs.Causes.{HasCause};
 ghost use Rattle.edge_io.specs.Files.{InOrder, paths_of, tree_limit};
-ghost use Rattle.file_source.specs.Sources.{HoldsSource};
+ghost use Rattle.collect_tree.specs.file_source.Sources.{HoldsSource};
 ghost use Rattle.pytest_core.specs.Profile.{profile, refused_text};
 ghost use Rattle.pytest_core.specs.Report.{AskForRun, IsReport, OfKept};
 ghost use Rattle.pytest_core.specs.Status.{is_said};
 ghost use Rattle.pytest_core.specs.Written.{IsResponseBy};
-ghost use Rattle.report_rules.specs.Report as rules;
+ghost use Rattle.run_items.specs.report_rules.Report as rules;
 ghost use Rattle.selection.specs.Exprs.{AreExprs};
 
 use crate::collected::{collected_response, fault_response};

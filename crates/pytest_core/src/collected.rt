@@ -1,28 +1,27 @@
 // The report of what was collected, and what is said where collection ended before.
 
 ghost use Rattle.std.specs.Prelude.{◌≡◌, ◌<◌, ◌≤◌, ℕ, [], All, List, true, false, IfOk, IsSomeAnd, IsTrue, Err as Fails, Some, length, option_map};
-ghost use Rattle.source_meaning.specs.Meaning.{SourceWorld};
+ghost use Rattle.py_machine.specs.source_meaning.Meaning.{SourceWorld};
 ghost use Rattle.report_parts.specs.Limits.{most_items};
 ghost use Rattle.report_parts.specs.Outcomes.{not_empty};
 ghost use Rattle.report_parts.specs.declared.report.CollectReport.{CollectReport as ReportOfFile};
-ghost use Rattle.collect_items.specs.declared.found.FoundSuite.{FoundSuite as Found};
+ghost use Rattle.collect_tree.specs.collect_items.declared.found.FoundSuite.{FoundSuite as Found};
 ghost use Rattle.collect_tree.specs.Runnable.{IsRunnable};
 ghost use Rattle.collect_tree.specs.Told.{IsWithin, collected_told, end_told};
-ghost use Rattle.file_source.specs.Sources.{HoldsSource};
+ghost use Rattle.collect_tree.specs.file_source.Sources.{HoldsSource};
 ghost use Rattle.pytest_core.specs.Profile.{profile};
 ghost use Rattle.pytest_core.specs.Report.{AreDistinct, end_answer};
 ghost use Rattle.pytest_core.specs.Run.{AreApart, IsRunAnswer};
 ghost use Rattle.pytest_core.specs.Status.{is_said};
 ghost use Rattle.pytest_core.specs.Written.{response_of};
-ghost use Rattle.report_rules.specs.Report as rules;
+ghost use Rattle.run_items.specs.report_rules.Report as rules;
 ghost use Rattle.selection.specs.Unbuilt.{asks_for_unbuilt};
 
 use crate::refusal::{Response, refuse, refuse_word, tell_conftest};
 use crate::report::{report_bytes, status_of};
 use crate::session::{RunAnswer, run_selected};
 use cli_words::Options;
-use collect_items::FoundSuite;
-use collect_tree::{CollectFault, Collected};
+use collect_tree::{CollectFault, Collected, FoundSuite};
 use py_machine::World;
 use report_parts::CollectReport;
 use report_text::OutOfMemory;

@@ -2,11 +2,11 @@
 
 ghost use Rattle.std.specs.Prelude.{◌≡◌, List, ℕ, []};
 ghost use Rattle.edge_io.specs.Files.{File};
-ghost use Rattle.file_source.specs.Sources.{HoldsSource};
+ghost use Rattle.collect_tree.specs.file_source.Sources.{HoldsSource};
 ghost use Rattle.pytest_core.specs.Profile.{profile};
 ghost use Rattle.pytest_core.specs.Report.{IsReport};
-ghost use Rattle.report_rules.specs.Answer.{Answer};
-ghost use Rattle.report_rules.specs.Headline.{Headline};
+ghost use Rattle.run_items.specs.report_rules.Answer.{Answer};
+ghost use Rattle.run_items.specs.report_rules.Headline.{Headline};
 
 use collect_tree::what_is_collected_fits;
 use edge_io::one_list_of_kept_files;

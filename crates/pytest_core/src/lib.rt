@@ -25,7 +25,7 @@
 //!
 //! # What tests alone show
 //!
-//! That it succeeds with ample memory, and the bytes of worked reports (`program_tests`, `acceptance`).
+//! That it succeeds with ample memory, and the bytes of worked reports (`acceptance`).
 //!
 //! # What neither shows
 //!

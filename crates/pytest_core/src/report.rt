@@ -4,7 +4,7 @@ ghost use Rattle.std.specs.Prelude.{◌≡◌, ◌+◌, ◌≤◌, [], IfOk, IsT
 ghost use Rattle.std.specs.List.{list_any};
 ghost use Rattle.pytest_core.specs.Status.{is_said, status_seen};
 ghost use Rattle.report_parts.specs.Limits.{most_items};
-ghost use Rattle.report_rules.specs.Answer as rules;
+ghost use Rattle.run_items.specs.report_rules.Answer as rules;
 
 use crate::status::Status;
 use cli_words::Options;

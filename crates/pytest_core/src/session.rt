@@ -11,8 +11,7 @@ ghost use Rattle.selection.specs.Unbuilt.{asks_for_unbuilt};
 use crate::gathered::Gathered;
 use crate::one_group::OneGroup;
 use cli_words::Options;
-use collect_items::FoundSuite;
-use fixture_world::{RunSetting, RunWorld};
+use collect_tree::{FoundSuite, RunSetting, RunWorld};
 use item_stack::ItemStack;
 use py_machine::World;
 use report_parts::ItemReport;
@@ -32,7 +31,7 @@ pub struct RunAnswer {
 ghost use Rattle.item_stack.specs.States.{IsNew};
 ghost use Rattle.run_items.specs.Stands.{IsPlan, IsPlannedItem};
 ghost use Rattle.runtest_loop.specs.Fed.{AreKnown, numbers_at, numbers_in_range};
-ghost use Rattle.fixture_instances.specs.Resting.{AreSpent};
+ghost use Rattle.item_stack.specs.fixture_instances.Resting.{AreSpent};
 
 /// A world in which no fixture is set up.
 fn stand_in(alloc: Global, world: World) -> Result<Stand, OutOfMemory>

@@ -13,7 +13,7 @@
 #![tactic(auto)]
 
 ghost use Rattle.std.specs.Prelude.{List};
-ghost use Rattle.py_tokens.specs.declared.token.Token.{Token};
+ghost use Rattle.py_grammar.specs.py_tokens.declared.token.Token.{Token};
 ghost use Rattle.py_tree.specs.Statements.{Block};
 ghost use Rattle.py_grammar.specs.Verdict.{Reads};
 ghost use Rattle.lower_law.specs.Built.{BuiltBlock};

@@ -6,7 +6,7 @@ use Rattle.cli_words.specs.Info.{info_text}
 use Rattle.cli_words.specs.declared.info.Info.{Info}
 use Rattle.cli_words.specs.declared.options.Options.{Options}
 use Rattle.edge_io.specs.Files.{TreeLimit, ManyFiles, LargeFile, LargeTree}
-use Rattle.report_blocks.specs.Blocks.{sections_of}
+use Rattle.report_text.specs.report_blocks.Blocks.{sections_of}
 use Rattle.report_parts.specs.Outcomes.{has_error, has_failed, not_empty}
 use Rattle.report_text.specs.Conftest.{conftest_text}
 use Rattle.report_text.specs.Head.{head_of}

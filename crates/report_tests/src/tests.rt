@@ -240,7 +240,7 @@ fn summary_at(
 const START: &str =
     "============================= test session starts ==============================\n";
 
-const HEADS: [(u32, u32, u32, u32, &str); 9] = [
+const HEADS: [(u8, u8, u32, u32, &str); 9] = [
     (0, 0, 0, 0, "collected 0 items\n\n"),
     (1, 0, 0, 0, "collected 1 item\n\n"),
     (2, 0, 0, 0, "collected 2 items\n\n"),
@@ -264,16 +264,23 @@ const HEADS: [(u32, u32, u32, u32, &str); 9] = [
     (1, 0, 0, 1, "collected 1 item\n1 worker [1 item]\n\n"),
 ];
 
+/// The first row that doesn't hold.
+fn wrong_head(alloc: Global, options: &Options) -> Answer<Option<&'static str>> {
+    for (selected, deselected, errors, workers, wanted) in &HEADS {
+        let (selected, deselected) = (u32::from(*selected), u32::from(*deselected));
+        let bytes = head(alloc, options, selected, deselected, *errors, *workers)?;
+        let text = format!(in alloc; "{START}{wanted}")?;
+        if bytes.as_slice() != text.as_bytes() {
+            return Ok(Some(*wanted));
+        }
+    }
+    Ok(None)
+}
+
 #[test]
 fn writes_heads(rt: HostRuntime) -> Result<(), Fail> {
-    let alloc = rt.alloc();
-    let options = options(alloc, "-v")?;
-    for (selected, deselected, errors, workers, wanted) in HEADS {
-        assert!(rt; selected <= 10 && deselected <= 10);
-        let bytes = head(alloc, &options, selected, deselected, errors, workers)?;
-        let text = format!(in alloc; "{START}{wanted}")?;
-        assert_eq!(rt; bytes.as_slice(), text.as_bytes(), "at {wanted}");
-    }
+    let options = options(rt.alloc(), "-v")?;
+    assert_eq!(rt; wrong_head(rt.alloc(), &options), Ok(None));
     Ok(())
 }
 
@@ -342,14 +349,20 @@ const PROGRESS: [(&str, &str, &[(u32, u32)], &str); 14] = [
     ("--generated=1,2 --co", "a.py::1 ---", &[], ""),
 ];
 
-#[test]
-fn writes_progress(rt: HostRuntime) -> Result<(), Fail> {
-    let alloc = rt.alloc();
+/// The first row that doesn't hold.
+fn wrong_progress(alloc: Global) -> Answer<Option<(&'static str, &'static str)>> {
     for (words, line, numbers, wanted) in &PROGRESS {
         let bytes = progress_at(alloc, words, line, numbers)?;
-        assert_eq!(rt; bytes.as_slice(), wanted.as_bytes(), "at {words} {line}");
+        if bytes.as_slice() != wanted.as_bytes() {
+            return Ok(Some((*words, *line)));
+        }
     }
-    Ok(())
+    Ok(None)
+}
+
+#[test]
+fn writes_progress(rt: HostRuntime) {
+    assert_eq!(rt; wrong_progress(rt.alloc()), Ok(None));
 }
 
 const FRAMES: &str =
@@ -482,29 +495,37 @@ const BLOCKS: [(&str, Shape, &str, &str); 9] = [
 const SHORT: &str =
     "=========================== short test summary info ============================\n";
 
-#[test]
-fn writes_blocks(rt: HostRuntime) -> Result<(), Fail> {
-    let alloc = rt.alloc();
-    for (words, shape, wanted, _) in &BLOCKS {
+/// Whether the block and the lines of the summary of a report are as wanted.
+fn are_told(
+    alloc: Global,
+    words: &str,
+    reports: &[ItemReport],
+    block: &str,
+    lines: &str,
+) -> Answer<(bool, bool)> {
+    let bytes = sections_at(alloc, words, &[], reports)?;
+    let has_block = bytes.as_slice() == block.as_bytes();
+    let bytes = summary_at(alloc, words, &[], reports, (1, 0), false)?;
+    let lines = format!(in alloc; "{SHORT}{lines}")?;
+    Ok((has_block, bytes.starts_with(lines.as_bytes())))
+}
+
+/// The first report that isn't told as wanted, and whether its block is.
+fn wrong_report(alloc: Global) -> Answer<Option<(&'static str, bool)>> {
+    for (words, shape, block, lines) in &BLOCKS {
         let mut reports = Vec::new(alloc);
         add_report(alloc, &mut reports, shape)?;
-        let bytes = sections_at(alloc, words, &[], &reports)?;
-        assert_eq!(rt; bytes.as_slice(), wanted.as_bytes(), "at {}", shape.node_id);
+        let (has_block, has_lines) = are_told(alloc, words, &reports, block, lines)?;
+        if !has_block || !has_lines {
+            return Ok(Some((shape.node_id, has_block)));
+        }
     }
-    Ok(())
+    Ok(None)
 }
 
 #[test]
-fn writes_summary_lines(rt: HostRuntime) -> Result<(), Fail> {
-    let alloc = rt.alloc();
-    for (words, shape, _, wanted) in &BLOCKS {
-        let mut reports = Vec::new(alloc);
-        add_report(alloc, &mut reports, shape)?;
-        let bytes = summary_at(alloc, words, &[], &reports, (1, 0), false)?;
-        let lines = format!(in alloc; "{SHORT}{wanted}")?;
-        assert!(rt; bytes.starts_with(lines.as_bytes()), "at {}", shape.node_id);
-    }
-    Ok(())
+fn writes_blocks_and_summary_lines(rt: HostRuntime) {
+    assert_eq!(rt; wrong_report(rt.alloc()), Ok(None));
 }
 
 fn add_error(
@@ -578,22 +599,31 @@ fn conftest(alloc: Global) -> Answer<Vec<u8>> {
     conftest_fault(alloc, "conftest.py", &told)
 }
 
+/// Which part of what two errors make isn't as wanted, or an empty text.
+fn wrong_part(alloc: Global, errors: &[CollectReport]) -> Answer<&'static str> {
+    if sections_at(alloc, "-v", errors, &[])?.as_slice() != COLLECTED.as_bytes() {
+        return Ok("sections");
+    }
+    if sections_at(alloc, "--tb=line", errors, &[])?.as_slice() != SHORT_COLLECTED.as_bytes() {
+        return Ok("lines");
+    }
+    let bytes = summary_at(alloc, "-x", errors, &[], (0, 0), false)?;
+    if bytes.as_slice() != INTERRUPTED.as_bytes() {
+        return Ok("summary");
+    }
+    let bytes = summary_at(alloc, "--co", errors, &[], (1, 2), false)?;
+    if !bytes.ends_with(b" 1/3 tests collected (2 deselected), 2 errors =================\n") {
+        return Ok("counts");
+    }
+    Ok("")
+}
+
 #[test]
 fn writes_collection_errors(rt: HostRuntime) -> Result<(), Fail> {
     let alloc = rt.alloc();
     let errors = two_errors(alloc)?;
-    let bytes = sections_at(alloc, "-v", &errors, &[])?;
-    assert_eq!(rt; bytes.as_slice(), COLLECTED.as_bytes());
-    let bytes = sections_at(alloc, "--tb=line", &errors, &[])?;
-    assert_eq!(rt; bytes.as_slice(), SHORT_COLLECTED.as_bytes());
-    let bytes = summary_at(alloc, "-x", &errors, &[], (0, 0), false)?;
-    assert_eq!(rt; bytes.as_slice(), INTERRUPTED.as_bytes());
-    let bytes = conftest(alloc)?;
-    assert_eq!(rt; bytes.as_slice(), CONFTEST.as_bytes());
-    let bytes = summary_at(alloc, "--co", &errors, &[], (1, 2), false)?;
-    assert!(rt;
-        bytes.ends_with(b" 1/3 tests collected (2 deselected), 2 errors =================\n")
-    );
+    assert_eq!(rt; wrong_part(alloc, &errors), Ok(""));
+    assert_eq!(rt; conftest(alloc)?.as_slice(), CONFTEST.as_bytes());
     Ok(())
 }
 
@@ -697,21 +727,20 @@ const COUNTS: [(&str, &str, u8, u8, bool, &str); 12] = [
     ),
 ];
 
-#[test]
-fn writes_counts(rt: HostRuntime) -> Result<(), Fail> {
-    let alloc = rt.alloc();
+/// The first row that doesn't hold.
+fn wrong_count(alloc: Global) -> Answer<Option<(&'static str, &'static str)>> {
     for (words, line, selected, deselected, stopped, wanted) in &COUNTS {
         let reports = items(alloc, line)?;
-        let bytes = summary_at(
-            alloc,
-            words,
-            &[],
-            &reports,
-            (*selected, *deselected),
-            *stopped,
-        )?;
-        let end = &bytes.as_slice()[bytes.len().saturating_sub(wanted.len())..];
-        assert_eq!(rt; end, wanted.as_bytes(), "at {line}");
+        let numbers = (*selected, *deselected);
+        let bytes = summary_at(alloc, words, &[], &reports, numbers, *stopped)?;
+        if !bytes.ends_with(wanted.as_bytes()) {
+            return Ok(Some((*words, *line)));
+        }
     }
-    Ok(())
+    Ok(None)
+}
+
+#[test]
+fn writes_counts(rt: HostRuntime) {
+    assert_eq!(rt; wrong_count(rt.alloc()), Ok(None));
 }

@@ -7,7 +7,6 @@ use py_tree::{
 };
 use std::alloc::{AllocError, Global};
 use std::rc::Rc;
-use std::test::Fail;
 
 type Parts = Rc<Vec<Rc<Expr>>>;
 
@@ -76,16 +75,21 @@ fn chosen(alloc: Global) -> Result<StmtKind, AllocError> {
     Ok(StmtKind::If(Rc::new(alloc, branches)?, other))
 }
 
+// (b and c) if d else not e
+fn either(alloc: Global) -> Result<Rc<Expr>, AllocError> {
+    let both = ExprKind::And(name(alloc, 14, 'b')?, part(alloc, 20, 'c')?);
+    let value = expr(alloc, 13, ExprKind::Paren(expr(alloc, 14, both)?))?;
+    let other = expr(alloc, 34, ExprKind::Not(name(alloc, 38, 'e')?))?;
+    let kind = ExprKind::IfElse(value, name(alloc, 26, 'd')?, other);
+    expr(alloc, 13, kind)
+}
+
 // while f(a): (b and c) if d else not e
 fn looped(alloc: Global) -> Result<StmtKind, AllocError> {
     let unnamed = Rc::new(alloc, Vec::new(alloc))?;
     let kind = ExprKind::Call(name(alloc, 7, 'f')?, part(alloc, 9, 'a')?, unnamed);
     let condition = expr(alloc, 7, kind)?;
-    let both = ExprKind::And(name(alloc, 14, 'b')?, part(alloc, 20, 'c')?);
-    let value = expr(alloc, 13, ExprKind::Paren(expr(alloc, 14, both)?))?;
-    let other = expr(alloc, 34, ExprKind::Not(name(alloc, 38, 'e')?))?;
-    let kind = ExprKind::IfElse(value, name(alloc, 26, 'd')?, other);
-    let body = block(alloc, 13, StmtKind::Expr(expr(alloc, 13, kind)?))?;
+    let body = block(alloc, 13, StmtKind::Expr(either(alloc)?))?;
     Ok(StmtKind::While(condition, body))
 }
 
@@ -96,41 +100,55 @@ fn single(alloc: Global, column: u32, name: char) -> Result<Single, AllocError> 
     })
 }
 
-// global g; g = x = -1; x += p - 2; return x or p
-fn body(alloc: Global) -> Result<Rc<Vec<Stmt>>, AllocError> {
-    let mut declared = Vec::new(alloc);
-    declared.push(text(alloc, 'g')?)?;
+// global g
+fn declared(alloc: Global) -> Result<StmtKind, AllocError> {
+    let mut names = Vec::new(alloc);
+    names.push(text(alloc, 'g')?)?;
+    Ok(StmtKind::Global(Rc::new(alloc, names)?))
+}
+
+// g = x = -1
+fn stored(alloc: Global) -> Result<StmtKind, AllocError> {
+    let one = expr(alloc, 20, ExprKind::Number(1))?;
+    let minus = expr(alloc, 19, ExprKind::Unary(UnOp::Minus, one))?;
     let mut targets = Vec::new(alloc);
     targets.push(Target::Single(single(alloc, 11, 'g')?))?;
     targets.push(Target::Single(single(alloc, 15, 'x')?))?;
-    let one = expr(alloc, 20, ExprKind::Number(1))?;
-    let minus = expr(alloc, 19, ExprKind::Unary(UnOp::Minus, one))?;
+    Ok(StmtKind::Assign(Rc::new(alloc, targets)?, minus))
+}
+
+// x += p - 2
+fn added(alloc: Global) -> Result<StmtKind, AllocError> {
     let two = expr(alloc, 33, ExprKind::Number(2))?;
     let kind = ExprKind::Binary(name(alloc, 29, 'p')?, BinOp::Sub, two);
     let less = expr(alloc, 29, kind)?;
+    Ok(StmtKind::AugAssign(single(alloc, 24, 'x')?, BinOp::Add, less))
+}
+
+// return x or p
+fn returned(alloc: Global) -> Result<StmtKind, AllocError> {
     let kind = ExprKind::Or(name(alloc, 43, 'x')?, part(alloc, 48, 'p')?);
-    let either = expr(alloc, 43, kind)?;
+    Ok(StmtKind::Return(Some(expr(alloc, 43, kind)?)))
+}
+
+fn push_stmt(stmts: &mut Vec<Stmt>, column: u32, kind: StmtKind) -> Result<(), AllocError> {
+    let at = at(column);
+    stmts.push(Stmt { at, kind })?;
+    Ok(())
+}
+
+// global g; g = x = -1; x += p - 2; return x or p
+fn body(alloc: Global) -> Result<Rc<Vec<Stmt>>, AllocError> {
     let mut stmts = Vec::new(alloc);
-    for (column, kind) in Vec::from_array(
-        alloc,
-        [
-            (1, StmtKind::Global(Rc::new(alloc, declared)?)),
-            (11, StmtKind::Assign(Rc::new(alloc, targets)?, minus)),
-            (
-                24,
-                StmtKind::AugAssign(single(alloc, 24, 'x')?, BinOp::Add, less),
-            ),
-            (36, StmtKind::Return(Some(either))),
-        ],
-    )? {
-        let at = at(column);
-        stmts.push(Stmt { at, kind })?;
-    }
+    push_stmt(&mut stmts, 1, declared(alloc)?)?;
+    push_stmt(&mut stmts, 11, stored(alloc)?)?;
+    push_stmt(&mut stmts, 24, added(alloc)?)?;
+    push_stmt(&mut stmts, 36, returned(alloc)?)?;
     Ok(Rc::new(alloc, stmts)?)
 }
 
-// @d; def f(p, q: r = s) -> t: ..
-fn defined(alloc: Global) -> Result<StmtKind, AllocError> {
+// p, q: r = s
+fn params(alloc: Global) -> Result<Rc<Vec<Param>>, AllocError> {
     let mut params = Vec::new(alloc);
     params.push(Param {
         at: at(7),
@@ -144,41 +162,46 @@ fn defined(alloc: Global) -> Result<StmtKind, AllocError> {
         annotation: Some(name(alloc, 13, 'r')?),
         default: Some(name(alloc, 17, 's')?),
     })?;
+    Ok(Rc::new(alloc, params)?)
+}
+
+// @d; def f(p, q: r = s) -> t: ..
+fn defined(alloc: Global) -> Result<StmtKind, AllocError> {
     let function = Function {
         decorators: part(alloc, 2, 'd')?,
         at: at(1),
         name: text(alloc, 'f')?,
-        params: Rc::new(alloc, params)?,
+        params: params(alloc)?,
         returns: Some(name(alloc, 23, 't')?),
         body: body(alloc)?,
     };
     Ok(StmtKind::Def(Rc::new(alloc, function)?))
 }
 
-// @d; class c(b): f(a, k=v)
-fn classed(alloc: Global) -> Result<StmtKind, AllocError> {
-    let mut args = Vec::new(alloc);
-    args.push(name(alloc, 17, 'a')?)?;
-    args.push(name(alloc, 22, 'v')?)?;
+// f(a, k=v)
+fn called(alloc: Global) -> Result<Rc<Expr>, AllocError> {
     let mut names = Vec::new(alloc);
     names.push(None)?;
     names.push(Some(ArgName {
         at: at(20),
         name: text(alloc, 'k')?,
     }))?;
-    let args = Rc::new(alloc, args)?;
     let names = Rc::new(alloc, names)?;
-    let called = expr(
-        alloc,
-        15,
-        ExprKind::Call(name(alloc, 15, 'f')?, args, names),
-    )?;
+    let mut args = Vec::new(alloc);
+    args.push(name(alloc, 17, 'a')?)?;
+    args.push(name(alloc, 22, 'v')?)?;
+    let kind = ExprKind::Call(name(alloc, 15, 'f')?, Rc::new(alloc, args)?, names);
+    expr(alloc, 15, kind)
+}
+
+// @d; class c(b): f(a, k=v)
+fn classed(alloc: Global) -> Result<StmtKind, AllocError> {
     let class = Class {
         decorators: part(alloc, 2, 'd')?,
         at: at(1),
         name: text(alloc, 'c')?,
         base: Some(name(alloc, 9, 'b')?),
-        body: block(alloc, 15, StmtKind::Expr(called))?,
+        body: block(alloc, 15, StmtKind::Expr(called(alloc)?))?,
     };
     Ok(StmtKind::Class(Rc::new(alloc, class)?))
 }
@@ -209,23 +232,31 @@ fn deleted(alloc: Global) -> Result<StmtKind, AllocError> {
     Ok(StmtKind::Del(Single { at: at(5), kind }))
 }
 
-// for a, b in (c,), [d]: e.f
-fn over(alloc: Global) -> Result<StmtKind, AllocError> {
+// a, b
+fn pair(alloc: Global) -> Result<Target, AllocError> {
     let mut singles = Vec::new(alloc);
     singles.push(single(alloc, 5, 'a')?)?;
     singles.push(single(alloc, 8, 'b')?)?;
-    let target = Target::Unpack(Rc::new(alloc, singles)?);
+    Ok(Target::Unpack(Rc::new(alloc, singles)?))
+}
+
+// (c,), [d]
+fn displays(alloc: Global) -> Result<Rc<Expr>, AllocError> {
     let mut parts = Vec::new(alloc);
     parts.push(expr(alloc, 14, ExprKind::Tuple(part(alloc, 14, 'c')?))?)?;
     parts.push(expr(alloc, 19, ExprKind::List(part(alloc, 20, 'd')?))?)?;
-    let items = expr(alloc, 13, ExprKind::Tuple(Rc::new(alloc, parts)?))?;
-    let read = ExprKind::Attribute(name(alloc, 24, 'e')?, text(alloc, 'f')?);
-    let body = block(alloc, 24, StmtKind::Expr(expr(alloc, 24, read)?))?;
-    Ok(StmtKind::For(target, items, body))
+    expr(alloc, 13, ExprKind::Tuple(Rc::new(alloc, parts)?))
 }
 
-// try: pass; except a as b: raise; else: break; finally: {c: d}
-fn tried(alloc: Global) -> Result<StmtKind, AllocError> {
+// for a, b in (c,), [d]: e.f
+fn over(alloc: Global) -> Result<StmtKind, AllocError> {
+    let read = ExprKind::Attribute(name(alloc, 24, 'e')?, text(alloc, 'f')?);
+    let body = block(alloc, 24, StmtKind::Expr(expr(alloc, 24, read)?))?;
+    Ok(StmtKind::For(pair(alloc)?, displays(alloc)?, body))
+}
+
+// except a as b: raise
+fn handlers(alloc: Global) -> Result<Rc<Vec<Handler>>, AllocError> {
     let mut handlers = Vec::new(alloc);
     handlers.push(Handler {
         at: at(11),
@@ -233,12 +264,16 @@ fn tried(alloc: Global) -> Result<StmtKind, AllocError> {
         name: Some(text(alloc, 'b')?),
         body: block(alloc, 26, StmtKind::Raise(None))?,
     })?;
-    let body = block(alloc, 6, StmtKind::Pass)?;
-    let other = block(alloc, 39, StmtKind::Break)?;
+    Ok(Rc::new(alloc, handlers)?)
+}
+
+// try: pass; except a as b: raise; else: break; finally: {c: d}
+fn tried(alloc: Global) -> Result<StmtKind, AllocError> {
     let shown = ExprKind::Dict(part(alloc, 56, 'c')?, part(alloc, 59, 'd')?);
     let last = block(alloc, 55, StmtKind::Expr(expr(alloc, 55, shown)?))?;
-    let handlers = Rc::new(alloc, handlers)?;
-    Ok(StmtKind::Try(body, handlers, other, last))
+    let body = block(alloc, 6, StmtKind::Pass)?;
+    let other = block(alloc, 39, StmtKind::Break)?;
+    Ok(StmtKind::Try(body, handlers(alloc)?, other, last))
 }
 
 // with a as b: c[d] = e
@@ -303,28 +338,28 @@ fn lowered(
     Ok((form_of(&stmt.kind), stmt.at))
 }
 
-// A statement of one line, and the form of its core.
-fn simple(alloc: Global, number: u32) -> Result<(StmtKind, &'static str), AllocError> {
+// A statement of one line.
+fn simple(alloc: Global, number: usize) -> Result<StmtKind, AllocError> {
     match number {
-        0 => Ok((asserted(alloc)?, "if")),
-        1 => Ok((StmtKind::Return(None), "return")),
-        2 => Ok((StmtKind::Raise(None), "raise")),
-        3 => Ok((deleted(alloc)?, "del")),
-        4 => Ok((imported(alloc)?, "import")),
-        _ => Ok((from(alloc)?, "from")),
+        0 => asserted(alloc),
+        1 => Ok(StmtKind::Return(None)),
+        2 => Ok(StmtKind::Raise(None)),
+        3 => deleted(alloc),
+        4 => imported(alloc),
+        _ => from(alloc),
     }
 }
 
-// A compound statement, and the form of its core.
-fn compound(alloc: Global, number: u32) -> Result<(StmtKind, &'static str), AllocError> {
+// A compound statement.
+fn compound(alloc: Global, number: usize) -> Result<StmtKind, AllocError> {
     match number {
-        0 => Ok((chosen(alloc)?, "if")),
-        1 => Ok((looped(alloc)?, "while")),
-        2 => Ok((defined(alloc)?, "def")),
-        3 => Ok((over(alloc)?, "for")),
-        4 => Ok((tried(alloc)?, "try")),
-        5 => Ok((within(alloc)?, "with")),
-        _ => Ok((classed(alloc)?, "class")),
+        0 => chosen(alloc),
+        1 => looped(alloc),
+        2 => defined(alloc),
+        3 => over(alloc),
+        4 => tried(alloc),
+        5 => within(alloc),
+        _ => classed(alloc),
     }
 }
 
@@ -348,48 +383,62 @@ fn assigned(alloc: Global) -> Result<StmtKind, AllocError> {
     Ok(StmtKind::AssignYield(targets, given(alloc)?))
 }
 
-// A statement with a `yield`, and the form of its core.
-fn yielding(alloc: Global, number: u32) -> Result<(StmtKind, &'static str), AllocError> {
+// A statement with a `yield`.
+fn yielding(alloc: Global, number: usize) -> Result<StmtKind, AllocError> {
     match number {
-        0 => Ok((StmtKind::Yield(given(alloc)?), "yield")),
-        1 => Ok((assigned(alloc)?, "assign yield")),
-        _ => Ok((StmtKind::ReturnYield(given(alloc)?), "return yield")),
+        0 => Ok(StmtKind::Yield(given(alloc)?)),
+        1 => assigned(alloc),
+        _ => Ok(StmtKind::ReturnYield(given(alloc)?)),
     }
 }
 
-#[test]
-fn an_explained_assert_comes_as_a_choice(rt: HostRuntime) -> Result<(), Fail> {
-    let alloc = rt.alloc();
-    assert_eq!(rt; lowered(alloc, true, asserted(alloc)?)?, ("if", at(1)));
-    Ok(())
+// What is lowered, in turn, and the form of its core.
+const SIMPLE: [&str; 6] = ["if", "return", "raise", "del", "import", "from"];
+
+const COMPOUND: [&str; 7] = ["if", "while", "def", "for", "try", "with", "class"];
+
+const YIELDING: [&str; 3] = ["yield", "assign yield", "return yield"];
+
+// The first simple statement whose core has another form, or stands elsewhere.
+fn wrong_simple(alloc: Global) -> Result<Option<&'static str>, AllocError> {
+    for number in 0..SIMPLE.len() {
+        if lowered(alloc, false, simple(alloc, number)?)? != (SIMPLE[number], at(1)) {
+            return Ok(Some(SIMPLE[number]));
+        }
+    }
+    Ok(None)
+}
+
+// The first compound statement whose core has another form, or stands elsewhere.
+fn wrong_compound(alloc: Global) -> Result<Option<&'static str>, AllocError> {
+    for number in 0..COMPOUND.len() {
+        if lowered(alloc, false, compound(alloc, number)?)? != (COMPOUND[number], at(1)) {
+            return Ok(Some(COMPOUND[number]));
+        }
+    }
+    Ok(None)
+}
+
+// The first statement with a `yield` whose core has another form, or stands elsewhere.
+fn wrong_yielding(alloc: Global) -> Result<Option<&'static str>, AllocError> {
+    for number in 0..YIELDING.len() {
+        if lowered(alloc, false, yielding(alloc, number)?)? != (YIELDING[number], at(1)) {
+            return Ok(Some(YIELDING[number]));
+        }
+    }
+    Ok(None)
+}
+
+// The form of the core of an explained assert, and its place.
+fn explained(alloc: Global) -> Result<(&'static str, Pos), AllocError> {
+    lowered(alloc, true, asserted(alloc)?)
 }
 
 #[test]
-fn core_code_comes_for_each_simple_statement(rt: HostRuntime) -> Result<(), Fail> {
+fn core_code_comes_for_each_form_of_statement(rt: HostRuntime) {
     let alloc = rt.alloc();
-    for number in 0..6 {
-        let (kind, wanted) = simple(alloc, number)?;
-        assert_eq!(rt; lowered(alloc, false, kind)?, (wanted, at(1)));
-    }
-    Ok(())
-}
-
-#[test]
-fn core_code_comes_for_each_compound_statement(rt: HostRuntime) -> Result<(), Fail> {
-    let alloc = rt.alloc();
-    for number in 0..7 {
-        let (kind, wanted) = compound(alloc, number)?;
-        assert_eq!(rt; lowered(alloc, false, kind)?, (wanted, at(1)));
-    }
-    Ok(())
-}
-
-#[test]
-fn core_code_comes_for_each_yield(rt: HostRuntime) -> Result<(), Fail> {
-    let alloc = rt.alloc();
-    for number in 0..3 {
-        let (kind, wanted) = yielding(alloc, number)?;
-        assert_eq!(rt; lowered(alloc, false, kind)?, (wanted, at(1)));
-    }
-    Ok(())
+    assert_eq!(rt; explained(alloc), Ok(("if", at(1))));
+    assert_eq!(rt; wrong_simple(alloc), Ok(None));
+    assert_eq!(rt; wrong_compound(alloc), Ok(None));
+    assert_eq!(rt; wrong_yielding(alloc), Ok(None));
 }

@@ -3,32 +3,32 @@ use Rattle.std.proofs.Common.{◌≡◌, ℕ, Bool, List, [], ◌∷◌, ◌++�
 use Rattle.fixture_calls.specs.Asking.{test_request}
 use Rattle.fixture_calls.specs.Calls.{test_called}
 use Rattle.fixture_calls.specs.declared.failure.Failure.{Failure}
-use Rattle.fixture_sessions.specs.FixtureSession.{fixture_set_up, object_stands, set_up_behind}
+use Rattle.runtest_reports.specs.fixture_sessions.FixtureSession.{fixture_set_up, object_stands, set_up_behind}
 use Rattle.fixture_world.specs.Items.{closure_of, item_of}
 use Rattle.item_stack.specs.Leaving.{IsNext, chain_for}
 use Rattle.py_values.specs.declared.value.Value.{Value}
 use Rattle.report_parts.specs.Outcomes.{is_raised}
 use Rattle.report_parts.specs.declared.outcome.Phase.{Phase as ShownPhase}
 use Rattle.report_parts.specs.declared.outcome.Phase.TheVariants as shown
-use Rattle.report_rules.specs.Collected.{Ending, ends_badly}
+use Rattle.runtest_reports.specs.report_rules.Collected.{Ending, ends_badly}
 use Rattle.run_items.specs.Stands.{IsPlannedItem, node_of, plan_rules, planned, stand_state}
 use Rattle.run_items.specs.declared.plan.Plan.{Plan}
 use Rattle.run_items.specs.declared.stand.Stand.{Stand}
 use Rattle.runtest_reports.specs.Kept.{session_phase}
 use Rattle.runtest_reports.specs.Stages.{IsKnown, session_item}
-use Rattle.runtest_rules.specs.Failures.{fixture_fault, skipped, wrong_arguments}
-use Rattle.runtest_rules.specs.Language.{python}
-use Rattle.runtest_rules.specs.Objects.{instance_made, object_made}
-use Rattle.runtest_rules.specs.Phases.{phase_ended, phase_of}
-use Rattle.runtest_rules.specs.Rules.{hook_answer, world_answer}
+use Rattle.fixture_world.specs.runtest_rules.Failures.{fixture_fault, skipped, wrong_arguments}
+use Rattle.fixture_world.specs.runtest_rules.Language.{python}
+use Rattle.fixture_world.specs.runtest_rules.Objects.{instance_made, object_made}
+use Rattle.fixture_world.specs.runtest_rules.Phases.{phase_ended, phase_of}
+use Rattle.fixture_world.specs.runtest_rules.Rules.{hook_answer, world_answer}
 use Rattle.session_rules.specs.Session.{chain_of, opened, set_up_by, set_up_item, telling, test_item, test_with}
 use Rattle.session_rules.specs.Session as session
 use Rattle.session_rules.specs.Teardown.{State, Step, emit, in_world, step}
 use Rattle.session_rules.specs.World.{Language, Rules, Teardown}
 use Rattle.session_rules.specs.World as world
 use Rattle.session_types.specs.declared.journal.Event.{Event}
-use Rattle.setup_stack.specs.declared.stack.FixtureStack.{FixtureStack}
-use Rattle.source_meaning.specs.Meaning.{SourceWorld}
+use Rattle.item_stack.specs.setup_stack.declared.stack.FixtureStack.{FixtureStack}
+use Rattle.fixture_calls.specs.source_meaning.Meaning.{SourceWorld}
 use Rattle.test_suite.specs.Suites.{item_at}
 use Rattle.test_suite.specs.declared.item.Item.{Item}
 

@@ -3,13 +3,13 @@ use Rattle.std.proofs.Common.{◌≡◌, ℕ, List, [], ◌∷◌, inl, inr, map
 use Rattle.std.specs.Prelude.{slice_get}
 use Rattle.cli_words.specs.declared.options.Options.{Options}
 use Rattle.fixture_calls.specs.declared.failure.Failure.{Failure}
-use Rattle.fixture_instances.specs.Resting.{AreSpent}
-use Rattle.fixture_instances.specs.declared.ends.Held.{Held}
-use Rattle.fixture_sessions.specs.BuiltIn.{HasBuiltInHooks, built_in_impls}
+use Rattle.item_stack.specs.fixture_instances.Resting.{AreSpent}
+use Rattle.item_stack.specs.fixture_instances.declared.ends.Held.{Held}
+use Rattle.runtest_reports.specs.fixture_sessions.BuiltIn.{HasBuiltInHooks, built_in_impls}
 use Rattle.item_stack.specs.States.{IsNew, instance_kept}
 use Rattle.py_values.specs.declared.value.Value.{Value}
 use Rattle.report_parts.specs.declared.report.ItemReport.{ItemReport}
-use Rattle.report_rules.specs.Collected.{SelectedItem}
+use Rattle.runtest_reports.specs.report_rules.Collected.{SelectedItem}
 use Rattle.run_items.specs.Runs.{RunsPlan}
 use Rattle.run_items.specs.Stands.{IsPlannedItem, plan_fixture, plan_rules, planned, stand_state}
 use Rattle.run_items.specs.declared.plan.Plan.{Plan}
@@ -18,16 +18,16 @@ use Rattle.runtest_loop.specs.Course.{chosen_at, chosen_in}
 use Rattle.runtest_loop.specs.Fed.{AreKnown}
 use Rattle.runtest_loop.specs.Run.{Runs}
 use Rattle.runtest_loop.specs.declared.run_end.RunEnd.{RunEnd}
-use Rattle.runtest_rules.specs.Language.{python}
-use Rattle.runtest_rules.specs.Rules.{hooks_of}
+use Rattle.fixture_world.specs.runtest_rules.Language.{python}
+use Rattle.fixture_world.specs.runtest_rules.Rules.{hooks_of}
 use Rattle.session_rules.specs.Fits.{Fits}
 use Rattle.session_rules.specs.Session.{start}
 use Rattle.session_rules.specs.World.{Call, Language, Phase, SetUp, Teardown}
 use Rattle.session_types.proofs.Lists.{In-append}
 use Rattle.session_types.specs.Members.{In}
 use Rattle.session_types.specs.declared.instance.Instance.{Instance}
-use Rattle.setup_stack.specs.declared.stack.FixtureStack.{FixtureStack}
-use Rattle.source_meaning.specs.Meaning.{SourceWorld}
+use Rattle.item_stack.specs.setup_stack.declared.stack.FixtureStack.{FixtureStack}
+use Rattle.fixture_calls.specs.source_meaning.Meaning.{SourceWorld}
 use Rattle.test_suite.specs.declared.item.Item.{Item}
 
 -- where nothing is set up, a session begins

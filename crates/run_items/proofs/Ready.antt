@@ -1,6 +1,6 @@
 -- The closure of an item of a plan is ready to be demanded.
 use Rattle.std.proofs.Common.{◌≡◌, ℕ, ◌<◌, List, length, refl, sym, subst, Option, None, Some}
-use Rattle.fixture_instances.specs.Items as demanded
+use Rattle.item_stack.specs.fixture_instances.Items as demanded
 use Rattle.fixture_world.specs.Items.{closure_of, item_of}
 use Rattle.item_stack.specs.Plain.{plain_item}
 use Rattle.py_values.specs.declared.value.Value.{Value}
@@ -8,8 +8,8 @@ use Rattle.run_items.specs.Stands.{IsPlan, IsPlannedItem, plan_rules}
 use Rattle.run_items.specs.declared.plan.Plan.{Plan}
 use Rattle.session_rules.proofs.Closure.{closure_settled}
 use Rattle.session_rules.specs.Fits.{FitsClosure, IsClosure}
-use Rattle.setup_stack.specs.Asking.{AreReady}
-use Rattle.setup_stack.specs.Passing.{AreAsked}
+use Rattle.item_stack.specs.setup_stack.Asking.{AreReady}
+use Rattle.item_stack.specs.setup_stack.Passing.{AreAsked}
 use Rattle.test_suite.specs.declared.item.Item.{Item}
 
 pub plan_ready : (plan : Plan) (item : Item) → IsPlan plan → IsPlannedItem plan item → (ds : List ℕ) → closure_of item.closure ≡ Some ds

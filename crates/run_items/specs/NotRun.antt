@@ -5,10 +5,10 @@ use Rattle.fixture_table.specs.Tables.{TableValue}
 use Rattle.fixture_world.specs.Items.{selected_item}
 use Rattle.report_parts.specs.declared.report.ItemReport.{ItemReport}
 use Rattle.report_parts.specs.declared.report.PhaseEnd.TheVariants.{NotRun}
-use Rattle.report_rules.specs.Collected.{FixtureTexts, SelectedItem}
-use Rattle.report_rules.specs.Items.{item_report}
-use Rattle.report_rules.specs.Rows.{row, task}
-use Rattle.runtest_rules.specs.Language.{python}
+use Rattle.runtest_reports.specs.report_rules.Collected.{FixtureTexts, SelectedItem}
+use Rattle.runtest_reports.specs.report_rules.Items.{item_report}
+use Rattle.runtest_reports.specs.report_rules.Rows.{row, task}
+use Rattle.fixture_world.specs.runtest_rules.Language.{python}
 use Rattle.session_types.specs.declared.scope.Scope.{Scope}
 use Rattle.test_suite.specs.Suites.{numbered_item}
 use Rattle.test_suite.specs.declared.item.Item.{Item}

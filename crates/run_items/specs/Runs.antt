@@ -2,8 +2,8 @@
 use Rattle.std.specs.Prelude.{List, map}
 use Rattle.cli_words.specs.declared.options.Options.{Options}
 use Rattle.report_parts.specs.declared.report.ItemReport.{ItemReport}
-use Rattle.report_rules.specs.Collected.{SelectedItem}
-use Rattle.report_rules.specs.Fits.{chosen_item}
+use Rattle.runtest_reports.specs.report_rules.Collected.{SelectedItem}
+use Rattle.runtest_reports.specs.report_rules.Fits.{chosen_item}
 use Rattle.run_items.specs.Stands.{plan_fixture, plan_rules, stand_state}
 use Rattle.run_items.specs.declared.plan.Plan.{Plan}
 use Rattle.run_items.specs.declared.stand.Stand.{Stand}
@@ -11,7 +11,7 @@ use Rattle.runtest_loop.specs.Run.{IsRun}
 use Rattle.runtest_loop.specs.declared.run_end.RunEnd.{RunEnd}
 use Rattle.session_rules.specs.Events.{Lawful}
 use Rattle.session_rules.specs.Fits.{Distinct}
-use Rattle.source_meaning.specs.Meaning.{SourceWorld}
+use Rattle.fixture_calls.specs.source_meaning.Meaning.{SourceWorld}
 
 -- THE RUN of these items by the rules of a plan, from a world: where no two have one node, it is that of the session of one thread, and
 -- its journal is lawful

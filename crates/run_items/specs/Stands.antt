@@ -3,16 +3,16 @@ use Rattle.std.specs.Prelude.{◌≡◌, ℕ, ◌<◌, [], Option, Some, None, l
 use Rattle.fixture_table.specs.Tree.{IsTree}
 use Rattle.fixture_world.specs.Items.{item_of, selected_item}
 use Rattle.item_stack.specs.States.{item_state}
-use Rattle.report_rules.specs.Collected.{FixtureTexts, SelectedItem}
+use Rattle.runtest_reports.specs.report_rules.Collected.{FixtureTexts, SelectedItem}
 use Rattle.run_items.specs.Texts.{fixture_texts}
 use Rattle.run_items.specs.declared.plan.Plan.{Plan}
 use Rattle.run_items.specs.declared.stand.Stand.{Stand}
-use Rattle.runtest_rules.specs.Language.{python}
-use Rattle.runtest_rules.specs.Rules.{rules_within}
+use Rattle.fixture_world.specs.runtest_rules.Language.{python}
+use Rattle.fixture_world.specs.runtest_rules.Rules.{rules_within}
 use Rattle.session_rules.specs.Fits.{Fits}
 use Rattle.session_rules.specs.Teardown.{State}
 use Rattle.session_rules.specs.World.{Rules}
-use Rattle.setup_stack.specs.Scopes.{HasScopes}
+use Rattle.item_stack.specs.setup_stack.Scopes.{HasScopes}
 use Rattle.test_suite.specs.Suites.{item_at}
 use Rattle.test_suite.specs.declared.item.Item.{Item}
 

@@ -1,7 +1,7 @@
 -- How a report names the fixtures of a suite.
 use Rattle.std.specs.Prelude.{ℕ, List, [], ◌∷◌, encode_utf8_all, if◌then◌else◌}
 use Rattle.fixture_calls.specs.Arguments.{names_request}
-use Rattle.report_rules.specs.Collected.{FixtureTexts}
+use Rattle.runtest_reports.specs.report_rules.Collected.{FixtureTexts}
 use Rattle.test_suite.specs.Suites.{fixture_at}
 use Rattle.test_suite.specs.declared.suite.Suite.{Suite}
 

@@ -3,17 +3,16 @@
 ghost use Rattle.std.specs.Prelude.{◌≡◌, IfOk};
 ghost use Rattle.fixture_calls.specs.Asking.{test_request};
 ghost use Rattle.fixture_calls.specs.Calls.{test_called};
-ghost use Rattle.report_rules.specs.Collected.{ends_badly};
-ghost use Rattle.runtest_rules.specs.Failures as failures;
-ghost use Rattle.runtest_rules.specs.Objects as objects;
-ghost use Rattle.runtest_rules.specs.Phases as phases;
+ghost use Rattle.runtest_reports.specs.report_rules.Collected.{ends_badly};
+ghost use Rattle.fixture_world.specs.runtest_rules.Failures as failures;
+ghost use Rattle.fixture_world.specs.runtest_rules.Objects as objects;
+ghost use Rattle.fixture_world.specs.runtest_rules.Phases as phases;
 ghost use Rattle.session_rules.specs.World.{Teardown};
 
 use fixture_calls::Failure;
-use fixture_world::RunWorld;
+use fixture_world::{Ending, RunWorld};
 use py_values::value::Value;
 use report_parts::Phase;
-use runtest_rules::Ending;
 use seq::OutOfMemory;
 use std::alloc::Global;
 use test_suite::Item;
@@ -27,7 +26,7 @@ pub(crate) fn memory(world: &RunWorld) -> Global {
 pub(crate) fn make_instance(world: &mut RunWorld, item: &Item) -> Result<Option<Value>, OutOfMemory>
     ensures { IfOk result (λ own. (own, world.new) ≡ objects.instance_made item.now world.old) }
 {
-    let own = runtest_rules::make_instance(&mut world.world, item)?;
+    let own = fixture_world::make_instance(&mut world.world, item)?;
     Ok(own)
 }
 
@@ -35,7 +34,7 @@ pub(crate) fn make_instance(world: &mut RunWorld, item: &Item) -> Result<Option<
 pub(crate) fn make_item(world: &mut RunWorld, item: &Item) -> Result<Value, OutOfMemory>
     ensures { IfOk result (λ object. (object, world.new) ≡ objects.object_made item.now world.old) }
 {
-    let object = runtest_rules::make_item(world.alloc, &mut world.world, item)?;
+    let object = fixture_world::make_item(world.alloc, &mut world.world, item)?;
     Ok(object)
 }
 
@@ -43,7 +42,7 @@ pub(crate) fn make_item(world: &mut RunWorld, item: &Item) -> Result<Value, OutO
 pub(crate) fn skip(world: &mut RunWorld, item: &Item) -> Result<Option<Failure>, OutOfMemory>
     ensures { IfOk result (λ failure. (failure, world.new) ≡ failures.skipped item.now world.old) }
 {
-    let failure = runtest_rules::skip(world.alloc, &mut world.world, item)?;
+    let failure = fixture_world::skip(world.alloc, &mut world.world, item)?;
     Ok(failure)
 }
 
@@ -51,7 +50,7 @@ pub(crate) fn skip(world: &mut RunWorld, item: &Item) -> Result<Option<Failure>,
 pub(crate) fn fixture_fault(world: &mut RunWorld, item: &Item) -> Result<Failure, OutOfMemory>
     ensures { IfOk result (λ failure. (failure, world.new) ≡ failures.fixture_fault item.now world.old) }
 {
-    let failure = runtest_rules::fixture_fault(world.alloc, &mut world.world, item)?;
+    let failure = fixture_world::fixture_fault(world.alloc, &mut world.world, item)?;
     Ok(failure)
 }
 
@@ -59,7 +58,7 @@ pub(crate) fn fixture_fault(world: &mut RunWorld, item: &Item) -> Result<Failure
 pub(crate) fn wrong_arguments(world: &mut RunWorld, item: &Item) -> Result<Failure, OutOfMemory>
     ensures { IfOk result (λ failure. (failure, world.new) ≡ failures.wrong_arguments item.now world.old) }
 {
-    let failure = runtest_rules::wrong_arguments(world.alloc, &mut world.world, item)?;
+    let failure = fixture_world::wrong_arguments(world.alloc, &mut world.world, item)?;
     Ok(failure)
 }
 
@@ -103,7 +102,7 @@ pub(crate) fn end_phase(
 ) -> Result<Ending, OutOfMemory>
     ensures { IfOk result (λ ending. (ending, world.new) ≡ phases.phase_ended (phases.phase_of phase) item.now raised.now world.old) }
 {
-    let ending = runtest_rules::end_phase(world.alloc, &mut world.world, phase, item, raised)?;
+    let ending = fixture_world::end_phase(world.alloc, &mut world.world, phase, item, raised)?;
     Ok(ending)
 }
 
@@ -115,6 +114,6 @@ pub(crate) fn fails_in_teardown(
 ) -> Result<bool, OutOfMemory>
     ensures { IfOk result (λ error. error ≡ ends_badly Teardown (phases.phase_ended Teardown item.now raised.now world.now).0) }
 {
-    let error = runtest_rules::fails_in_teardown(world.alloc, &world.world, item, raised)?;
+    let error = fixture_world::fails_in_teardown(world.alloc, &world.world, item, raised)?;
     Ok(error)
 }

@@ -2,7 +2,7 @@
 
 ghost use Rattle.std.specs.Prelude.{◌≡◌, [], IfOk, None, OnOk, Some};
 ghost use Rattle.std.specs.Option.{option_to_list};
-ghost use Rattle.fixture_sessions.specs.FixtureSession.{fixture_call};
+ghost use Rattle.runtest_reports.specs.fixture_sessions.FixtureSession.{fixture_call};
 ghost use Rattle.fixture_world.specs.Items.{item_of};
 ghost use Rattle.run_items.specs.Stands.{IsPlannedItem, plan_rules, stand_state};
 ghost use Rattle.session_rules.specs.Demand.{numbers_of};

@@ -13,9 +13,9 @@ use crate::acts;
 use crate::plan::Plan;
 use crate::stand::Stand;
 use fixture_calls::Failure;
+use fixture_world::Ending;
 use report_parts::Phase;
 use runtest_reports::PhaseEnding;
-use runtest_rules::Ending;
 use seq::{OutOfMemory, Seq};
 use test_suite::Item;
 

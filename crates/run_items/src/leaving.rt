@@ -1,7 +1,7 @@
 // The teardown of an item.
 
 ghost use Rattle.std.specs.Prelude.{◌≡◌, [], IfOk, option_map};
-ghost use Rattle.fixture_sessions.specs.FixtureSession.{fixture_leave};
+ghost use Rattle.runtest_reports.specs.fixture_sessions.FixtureSession.{fixture_leave};
 ghost use Rattle.run_items.specs.Stands.{IsPlan, IsPlannedItem, node_of, plan_rules, planned, stand_state};
 ghost use Rattle.runtest_reports.specs.Stages.{IsKnown, session_item};
 ghost use Rattle.session_rules.specs.Teardown.{down_all, step};

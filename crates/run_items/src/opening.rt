@@ -1,7 +1,7 @@
 // The objects of an item.
 
 ghost use Rattle.std.specs.Prelude.{◌≡◌, OnOk};
-ghost use Rattle.fixture_sessions.specs.FixtureSession.{object_stands};
+ghost use Rattle.runtest_reports.specs.fixture_sessions.FixtureSession.{object_stands};
 ghost use Rattle.fixture_world.specs.Items.{item_of};
 ghost use Rattle.run_items.specs.Stands.{IsPlannedItem, plan_rules, stand_state};
 ghost use Rattle.session_rules.specs.Session.{opened};

@@ -2,7 +2,7 @@
 
 ghost use Rattle.std.specs.Prelude.{◌≡◌, ◌<◌, ◌≤◌, ◌++◌, [], All, List, IfErr, IfOk, false, length, map};
 ghost use Rattle.item_stack.specs.States.{IsNew};
-ghost use Rattle.fixture_instances.specs.Resting.{AreSpent};
+ghost use Rattle.item_stack.specs.fixture_instances.Resting.{AreSpent};
 ghost use Rattle.report_parts.specs.declared.report.ItemReport.{ItemReport};
 ghost use Rattle.run_items.specs.NotRun.{AreNotRun, unrun_report};
 ghost use Rattle.run_items.specs.Runs.{RunsPlan};

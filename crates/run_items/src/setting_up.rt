@@ -1,7 +1,7 @@
 // The set-up of an item.
 
 ghost use Rattle.std.specs.Prelude.{◌≡◌, IfOk, None, Some};
-ghost use Rattle.fixture_sessions.specs.FixtureSession.{fixture_set_up};
+ghost use Rattle.runtest_reports.specs.fixture_sessions.FixtureSession.{fixture_set_up};
 ghost use Rattle.fixture_world.specs.Items.{closure_of, item_of};
 ghost use Rattle.run_items.specs.Stands.{IsPlan, IsPlannedItem, plan_rules, stand_state};
 ghost use Rattle.session_rules.specs.Session.{demand_closure, set_up_item};

@@ -1,9 +1,8 @@
 // Where a session over sources runs.
 
-use fixture_calls::Failure;
+use fixture_calls::{Failure, Frozen};
 use fixture_world::RunWorld;
 use item_stack::ItemStack;
-use py_machine::Frozen;
 use py_values::value::Value;
 
 /// A world of sources, and what is set up in it.

@@ -22,6 +22,8 @@
 //! Time and memory.
 #![tactic(auto)]
 
+pub use py_kinds;
+
 mod new;
 mod objects;
 mod requests;

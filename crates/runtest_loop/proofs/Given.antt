@@ -1,14 +1,14 @@
 -- What a run gives, by the law of sessions with the built-in hooks alone.
 use Rattle.std.proofs.Common.{◌≡◌, ℕ, false, List, [], ◌∷◌, inl, inr, map, refl, sym, ap, ◌∙◌, subst, None}
 use Rattle.cli_words.specs.declared.options.Options.{Options}
-use Rattle.fixture_sessions.proofs.Ended.{session_empty}
-use Rattle.fixture_sessions.proofs.Rows.{journal_same, rows_same, stopped_same, world_same}
-use Rattle.fixture_sessions.specs.FixtureSession.{session_from}
+use Rattle.runtest_reports.proofs.fixture_sessions_lemmas.Ended.{session_empty}
+use Rattle.runtest_reports.proofs.fixture_sessions_lemmas.Rows.{journal_same, rows_same, stopped_same, world_same}
+use Rattle.runtest_reports.specs.fixture_sessions.FixtureSession.{session_from}
 use Rattle.report_parts.specs.declared.report.ItemReport.{ItemReport}
-use Rattle.report_rules.specs.Collected.{FixtureTexts, SelectedItem, spoken}
-use Rattle.report_rules.specs.Fits.{chosen_item}
-use Rattle.report_rules.specs.Items.{item_report}
-use Rattle.report_rules.specs.Rows.{Row, item_of, task, with_ends}
+use Rattle.runtest_reports.specs.report_rules.Collected.{FixtureTexts, SelectedItem, spoken}
+use Rattle.runtest_reports.specs.report_rules.Fits.{chosen_item}
+use Rattle.runtest_reports.specs.report_rules.Items.{item_report}
+use Rattle.runtest_reports.specs.report_rules.Rows.{Row, item_of, task, with_ends}
 use Rattle.runtest_loop.specs.Course.{reports_left, run_left}
 use Rattle.runtest_loop.specs.Run.{Runs, is_stopped}
 use Rattle.runtest_loop.specs.declared.run_end.RunEnd.{RunEnd}

@@ -1,6 +1,6 @@
 -- Behind a teardown nothing is given.
 use Rattle.std.proofs.Common.{◌≡◌, ℕ, List, [], ◌∷◌, ◌++◌, refl, ap, ◌∙◌, Option, None, Some}
-use Rattle.fixture_sessions.specs.FixtureSession.{fixture_leave}
+use Rattle.runtest_reports.specs.fixture_sessions.FixtureSession.{fixture_leave}
 use Rattle.session_rules.specs.Session.{chain_of, finalize_own}
 use Rattle.session_rules.specs.Teardown.{State, Step, down_more, down_one, step}
 use Rattle.session_rules.specs.World.{Item, Language, LiveInstance, Rules}

@@ -4,12 +4,12 @@ use Rattle.std.proofs.lemmas.List.{append-nil}
 use Rattle.std.proofs.lemmas.List.Concat.{flat_map-append}
 use Rattle.std.specs.Prelude.{slice_get}
 use Rattle.cli_words.specs.declared.options.Options.{Options}
-use Rattle.fixture_sessions.specs.FixtureSession.{ItemRun, ends_of, ends_with, fixture_item, onto_session}
+use Rattle.runtest_reports.specs.fixture_sessions.FixtureSession.{ItemRun, ends_of, ends_with, fixture_item, onto_session}
 use Rattle.report_parts.specs.declared.report.ItemReport.{ItemReport}
-use Rattle.report_rules.specs.Collected.{FixtureTexts, SelectedItem, spoken}
-use Rattle.report_rules.specs.Fits.{chosen_item}
-use Rattle.report_rules.specs.Items.{item_report}
-use Rattle.report_rules.specs.Rows.{Arrival, Row, Task, task, with_ends}
+use Rattle.runtest_reports.specs.report_rules.Collected.{FixtureTexts, SelectedItem, spoken}
+use Rattle.runtest_reports.specs.report_rules.Fits.{chosen_item}
+use Rattle.runtest_reports.specs.report_rules.Items.{item_report}
+use Rattle.runtest_reports.specs.report_rules.Rows.{Arrival, Row, Task, task, with_ends}
 use Rattle.runtest_loop.specs.Course.{arrivals_with, chosen_at, chosen_in, reports_left, run_left, told_item}
 use Rattle.runtest_loop.specs.Fed.{IsNumbered, numbers_at, numbers_fed}
 use Rattle.runtest_reports.specs.Kept.{arrived_all}

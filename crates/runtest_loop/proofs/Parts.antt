@@ -1,10 +1,10 @@
 -- The parts of an item's run make the item's run.
 use Rattle.std.proofs.Common.{◌≡◌, ℕ, ◌+◌, ◌==◌, Bool, true, false, List, [], ◌∷◌, length, refl, sym, ap, ap₂, ◌∙◌, subst, arith, Option, None, Some}
 use Rattle.std.proofs.lemmas.Bool.{ne_eqb}
-use Rattle.fixture_sessions.specs.FixtureSession.{CallRun, ItemRun, PhaseRun, bad_call, bad_in, call_unless, fixture_item, fixture_set_up, next_where, own_object, phase_run}
+use Rattle.runtest_reports.specs.fixture_sessions.FixtureSession.{CallRun, ItemRun, PhaseRun, bad_call, bad_in, call_unless, fixture_item, fixture_set_up, next_where, own_object, phase_run}
 use Rattle.report_parts.specs.Outcomes.{is_failed, is_raised}
 use Rattle.report_parts.specs.declared.report.PhaseEnd.{PhaseEnd as ShownEnd}
-use Rattle.report_rules.specs.Collected.{FixtureTexts, SelectedItem, spoken}
+use Rattle.runtest_reports.specs.report_rules.Collected.{FixtureTexts, SelectedItem, spoken}
 use Rattle.runtest_loop.proofs.Reports.{HasPhases, IsCalled}
 use Rattle.runtest_loop.specs.Calls.{call_where, failed_call, torn_where}
 use Rattle.runtest_loop.specs.Item.{IsKeptCall, IsKeptItem}

@@ -3,15 +3,15 @@ use Rattle.std.proofs.Common.{◌≡◌, ℕ, ◌==◌, Bool, true, false, cond,
 use Rattle.std.proofs.lemmas.List.{append-nil}
 use Rattle.std.proofs.lemmas.List.Concat.{flat_map-append}
 use Rattle.cli_words.specs.declared.options.Options.{Options}
-use Rattle.fixture_sessions.specs.FixtureSession.{ItemRun, ends_of}
+use Rattle.runtest_reports.specs.fixture_sessions.FixtureSession.{ItemRun, ends_of}
 use Rattle.report_parts.specs.Outcomes.{outcome_of}
 use Rattle.report_parts.specs.declared.report.ItemReport.{ItemReport}
 use Rattle.report_parts.specs.declared.report.PhaseEnd.{PhaseEnd as ShownEnd}
 use Rattle.report_parts.specs.declared.report.PhaseEnd.TheVariants.{NotRun}
-use Rattle.report_rules.specs.Collected.{FixtureTexts, SelectedItem, spoken}
-use Rattle.report_rules.specs.Items.{captured_in, end_in}
-use Rattle.report_rules.specs.Rows.{Arrival, arrival_of, arrivals_of, row, task}
-use Rattle.report_rules.specs.Shown.{arrival_with, event_lines, outcome_lines, phase_lines, shown_lines, shown_phase, teardown_lines}
+use Rattle.runtest_reports.specs.report_rules.Collected.{FixtureTexts, SelectedItem, spoken}
+use Rattle.runtest_reports.specs.report_rules.Items.{captured_in, end_in}
+use Rattle.runtest_reports.specs.report_rules.Rows.{Arrival, arrival_of, arrivals_of, row, task}
+use Rattle.runtest_reports.specs.report_rules.Shown.{arrival_with, event_lines, outcome_lines, phase_lines, shown_lines, shown_phase, teardown_lines}
 use Rattle.runtest_loop.specs.Course.{told_item}
 use Rattle.runtest_loop.specs.Item.{IsKeptCall, IsKeptItem}
 use Rattle.runtest_reports.specs.Kept.{IsKept, arrived_all, arrived_of, noted_event}

@@ -1,6 +1,6 @@
 -- The call of an item, where its set-up passed, and its teardown.
 use Rattle.std.specs.Prelude.{Bool, true, false, length, ℕ, Option, None, Some}
-use Rattle.fixture_sessions.specs.FixtureSession.{CallRun, PhaseRun, call_ran, fixture_call, fixture_teardown, next_where, phase_run}
+use Rattle.runtest_reports.specs.fixture_sessions.FixtureSession.{CallRun, PhaseRun, call_ran, fixture_call, fixture_teardown, next_where, phase_run}
 use Rattle.report_parts.specs.Outcomes.{is_failed}
 use Rattle.runtest_reports.specs.declared.kept.KeptPhase.{KeptPhase}
 use Rattle.session_rules.specs.Session.{as_count, reaches}

@@ -1,12 +1,12 @@
 -- The course of a session, item by item.
 use Rattle.std.specs.Prelude.{ℕ, Bool, List, ◌++◌, map, flat_map, option_map, slice_get, None}
 use Rattle.std.specs.Option.{option_to_list}
-use Rattle.fixture_sessions.specs.FixtureSession.{ItemRun, SessionRun, ends_of, session_from}
+use Rattle.runtest_reports.specs.fixture_sessions.FixtureSession.{ItemRun, SessionRun, ends_of, session_from}
 use Rattle.report_parts.specs.declared.report.ItemReport.{ItemReport}
-use Rattle.report_rules.specs.Collected.{FixtureTexts, SelectedItem, spoken}
-use Rattle.report_rules.specs.Fits.{chosen_item}
-use Rattle.report_rules.specs.Items.{item_report}
-use Rattle.report_rules.specs.Rows.{Arrival, arrivals_of, row, task, with_ends}
+use Rattle.runtest_reports.specs.report_rules.Collected.{FixtureTexts, SelectedItem, spoken}
+use Rattle.runtest_reports.specs.report_rules.Fits.{chosen_item}
+use Rattle.runtest_reports.specs.report_rules.Items.{item_report}
+use Rattle.runtest_reports.specs.report_rules.Rows.{Arrival, arrivals_of, row, task, with_ends}
 use Rattle.cli_words.specs.declared.options.Options.{Options}
 use Rattle.session_rules.specs.Teardown.{State}
 use Rattle.session_rules.specs.World.{Rules}

@@ -1,7 +1,7 @@
 -- What is kept of an item that ran.
 use Rattle.std.specs.Prelude.{◌≡◌, ℕ, Bool, Option, None, Some}
-use Rattle.fixture_sessions.specs.FixtureSession.{ItemRun}
-use Rattle.report_rules.specs.Collected.{FixtureTexts, SelectedItem, spoken}
+use Rattle.runtest_reports.specs.fixture_sessions.FixtureSession.{ItemRun}
+use Rattle.runtest_reports.specs.report_rules.Collected.{FixtureTexts, SelectedItem, spoken}
 use Rattle.runtest_reports.specs.declared.kept.KeptItem.{KeptItem}
 use Rattle.runtest_reports.specs.declared.kept.KeptPhase.{KeptPhase}
 use Rattle.runtest_reports.specs.Kept.{IsKept}

@@ -1,12 +1,12 @@
 -- What a run gives.
 use Rattle.std.specs.Prelude.{◌≡◌, ℕ, Bool, true, false, List, [], map, None}
 use Rattle.cli_words.specs.declared.options.Options.{Options}
-use Rattle.fixture_sessions.specs.BuiltIn.{HasBuiltInHooks}
+use Rattle.runtest_reports.specs.fixture_sessions.BuiltIn.{HasBuiltInHooks}
 use Rattle.report_parts.specs.declared.report.ItemReport.{ItemReport}
-use Rattle.report_rules.specs.Collected.{FixtureTexts, SelectedItem, spoken}
-use Rattle.report_rules.specs.Fits.{chosen_item}
-use Rattle.report_rules.specs.Items.{item_report}
-use Rattle.report_rules.specs.Rows.{ran, rows_of, task}
+use Rattle.runtest_reports.specs.report_rules.Collected.{FixtureTexts, SelectedItem, spoken}
+use Rattle.runtest_reports.specs.report_rules.Fits.{chosen_item}
+use Rattle.runtest_reports.specs.report_rules.Items.{item_report}
+use Rattle.runtest_reports.specs.report_rules.Rows.{ran, rows_of, task}
 use Rattle.runtest_loop.specs.declared.run_end.RunEnd.{RunEnd}
 use Rattle.runtest_loop.specs.declared.run_end.RunEnd.TheVariants.{Done, Stopped}
 use Rattle.session_rules.specs.Events.{Lawful}

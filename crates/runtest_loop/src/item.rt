@@ -1,7 +1,7 @@
 // The course of one item: its phases, and what is counted.
 
 ghost use Rattle.std.specs.Prelude.{◌≡◌, ◌≤◌, ◌+◌, ◌++◌, ◌==◌, [], IfOk, OnOk, length, option_map};
-ghost use Rattle.fixture_sessions.specs.FixtureSession as loop;
+ghost use Rattle.runtest_reports.specs.fixture_sessions.FixtureSession as loop;
 ghost use Rattle.report_parts.specs.Outcomes.{is_raised};
 ghost use Rattle.runtest_loop.specs.Calls.{all_down_behind, call_where, failed_call, torn_run, torn_where};
 ghost use Rattle.runtest_loop.specs.Item.{IsKeptCall, IsKeptItem};

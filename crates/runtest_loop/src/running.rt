@@ -1,14 +1,14 @@
 // The run of the items that a feed gives.
 
 ghost use Rattle.std.specs.Prelude.{◌≡◌, ◌<◌, ◌≤◌, ◌+◌, ◌++◌, [], List, IfErr, IfOk, OnOk, length, option_copied, option_to_list, false, true};
-ghost use Rattle.fixture_sessions.specs.FixtureSession as loop;
+ghost use Rattle.runtest_reports.specs.fixture_sessions.FixtureSession as loop;
 ghost use Rattle.runtest_loop.specs.Course.{arrivals_with, chosen_in, reports_left, run_left, told_item};
 ghost use Rattle.runtest_loop.specs.Fed.{AreKnown, IsNumbered, numbers_fed, numbers_in_range, unfed};
 ghost use Rattle.runtest_loop.specs.Run.{Runs, is_stopped};
 ghost use Rattle.report_parts.specs.declared.report.ItemReport.{ItemReport};
 ghost use Rattle.runtest_loop.specs.RunFaults.{IsBlamed};
 ghost use Rattle.runtest_reports.specs.Kept.{arrived_all};
-ghost use Rattle.report_rules.specs.Rows.{Arrival};
+ghost use Rattle.runtest_reports.specs.report_rules.Rows.{Arrival};
 ghost use Rattle.runtest_reports.specs.Stages.{IsKnown, session_item};
 ghost use Rattle.session_rules.specs.Session.{reaches, start};
 ghost use Rattle.share_files.specs.Deal.{Every};

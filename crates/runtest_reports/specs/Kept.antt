@@ -2,9 +2,9 @@
 use Rattle.std.specs.Prelude.{◌≡◌, ℕ, Bool, List, [], ◌∷◌, flat_map, map, if◌then◌else◌}
 use Rattle.report_parts.specs.declared.outcome.Phase.{Phase as ShownPhase}
 use Rattle.report_parts.specs.declared.outcome.Phase.TheVariants as shown
-use Rattle.report_rules.specs.Collected.{Ending, FixtureTexts, SelectedItem, spoken}
-use Rattle.report_rules.specs.Rows.{Arrival}
-use Rattle.report_rules.specs.Shown.{instance_line, set_up_line}
+use Rattle.fixture_sessions.specs.report_rules.Collected.{Ending, FixtureTexts, SelectedItem, spoken}
+use Rattle.fixture_sessions.specs.report_rules.Rows.{Arrival}
+use Rattle.fixture_sessions.specs.report_rules.Shown.{instance_line, set_up_line}
 use Rattle.runtest_reports.specs.declared.kept.Arrived.{Arrived}
 use Rattle.runtest_reports.specs.declared.kept.KeptPhase.{KeptPhase}
 use Rattle.runtest_reports.specs.declared.kept.Noted.{Noted}

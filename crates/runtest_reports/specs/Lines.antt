@@ -1,8 +1,8 @@
 -- The lines of `--setup-show`, from what is kept of the phases of an item.
 use Rattle.std.specs.Prelude.{ℕ, ◌==◌, List, [], ◌∷◌, ◌++◌, codes, flat_map, replicate, if◌then◌else◌}
 use Rattle.report_parts.specs.Outcomes.{outcome_of}
-use Rattle.report_rules.specs.Collected.{FixtureTexts, SelectedItem}
-use Rattle.report_rules.specs.Shown.{id_text, indentation, outcome_lines, scope_letter, shown_phase, used}
+use Rattle.fixture_sessions.specs.report_rules.Collected.{FixtureTexts, SelectedItem}
+use Rattle.fixture_sessions.specs.report_rules.Shown.{id_text, indentation, outcome_lines, scope_letter, shown_phase, used}
 use Rattle.runtest_reports.specs.declared.kept.Arrived.{Arrived}
 use Rattle.runtest_reports.specs.declared.kept.KeptPhase.{KeptPhase}
 use Rattle.runtest_reports.specs.declared.kept.Noted.{Noted}

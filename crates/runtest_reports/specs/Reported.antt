@@ -3,7 +3,7 @@ use Rattle.std.specs.Prelude.{ℕ, Bool, List, [], ◌++◌, Option, None, Some,
 use Rattle.report_parts.specs.declared.report.ItemReport.{ItemReport}
 use Rattle.report_parts.specs.declared.report.PhaseEnd.{PhaseEnd}
 use Rattle.report_parts.specs.declared.report.PhaseEnd.TheVariants.{NotRun}
-use Rattle.report_rules.specs.Collected.{FixtureTexts, ItemTexts, SelectedItem}
+use Rattle.fixture_sessions.specs.report_rules.Collected.{FixtureTexts, ItemTexts, SelectedItem}
 use Rattle.runtest_reports.specs.Lines.{all_that_came, kept_lines}
 use Rattle.runtest_reports.specs.declared.kept.Arrived.{Arrived}
 use Rattle.runtest_reports.specs.declared.kept.KeptItem.{KeptItem}

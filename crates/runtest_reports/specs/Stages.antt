@@ -1,6 +1,6 @@
 -- The items of a stage.
 use Rattle.std.specs.Prelude.{Bool, true, false, Option, None, Some}
-use Rattle.report_rules.specs.Collected.{SelectedItem}
+use Rattle.fixture_sessions.specs.report_rules.Collected.{SelectedItem}
 use Rattle.session_rules.specs.World.{Item}
 
 -- an item, where there is one, is known

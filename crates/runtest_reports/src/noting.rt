@@ -1,7 +1,7 @@
 // The events of a phase that have lines.
 
 ghost use Rattle.std.specs.Prelude.{◌≡◌, ◌++◌, ◌∷◌, [], ◌<◌, IfOk, OnOk, codes, drop, flat_map, option_map, replicate, string_bytes};
-ghost use Rattle.report_rules.specs.Shown.{id_text, indentation, scope_letter, used};
+ghost use Rattle.fixture_sessions.specs.report_rules.Shown.{id_text, indentation, scope_letter, used};
 ghost use Rattle.runtest_reports.specs.Kept.{noted_event, noted_events};
 ghost use Rattle.runtest_reports.specs.Lines.{arrived_def, definition_line};
 

@@ -1,7 +1,7 @@
 // The reports of items.
 
 ghost use Rattle.std.specs.Prelude.{◌≡◌, ◌++◌, ◌∷◌, [], ◌==◌, IfOk, OnOk, codes, flat_map, map, option_map, string_bytes, Some};
-ghost use Rattle.report_rules.specs.Shown.{closure_names, list_behind, outcome_lines, used};
+ghost use Rattle.fixture_sessions.specs.report_rules.Shown.{closure_names, list_behind, outcome_lines, used};
 ghost use Rattle.runtest_reports.specs.Kept.{session_phase};
 ghost use Rattle.runtest_reports.specs.Lines.{all_that_came, down_lines, kept_lines, noted_lines};
 ghost use Rattle.runtest_reports.specs.Reported.{all_came, all_lines, call_came, call_captured, call_end, call_lines, kept_report};

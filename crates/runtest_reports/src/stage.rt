@@ -3,7 +3,7 @@
 ghost use Rattle.std.specs.Prelude.{◌≡◌, ℕ, List, [], IfOk, OnOk, option_map};
 ghost use Rattle.fixture_sessions.specs.FixtureSession.{fixture_call, fixture_leave, fixture_set_up, object_stands};
 ghost use Rattle.report_parts.specs.Outcomes.{is_raised};
-ghost use Rattle.report_rules.specs.Collected.{FixtureTexts, SelectedItem, spoken};
+ghost use Rattle.fixture_sessions.specs.report_rules.Collected.{FixtureTexts, SelectedItem, spoken};
 ghost use Rattle.runtest_reports.specs.Kept.{reported_ending, session_phase};
 ghost use Rattle.runtest_reports.specs.Stages.{IsKnown, session_item};
 ghost use Rattle.session_rules.specs.Session.{opened, telling};

@@ -11,7 +11,7 @@ use Rattle.py_values.specs.declared.value.Value.{Value}
 use Rattle.report_parts.specs.Outcomes.{is_raised}
 use Rattle.report_rules.specs.Collected.{ends_badly}
 use Rattle.session_rules.specs.World.{Teardown}
-use Rattle.source_meaning.specs.Meaning.{SourceWorld}
+use Rattle.tracebacks.specs.source_meaning.Meaning.{SourceWorld}
 use Rattle.fixture_calls.specs.Failing.{exception_of}
 use Rattle.fixture_calls.specs.declared.failure.Failure.{Failure}
 use Rattle.runtest_rules.specs.Phases.{end_by, phase_ended, verdict_raises}

@@ -6,7 +6,7 @@ use Rattle.py_values.specs.declared.class.ExcClass.TheVariants as class
 use Rattle.py_values.specs.declared.object.Obj.{Obj}
 use Rattle.py_world.specs.declared.ended.Thrown.{Thrown}
 use Rattle.report_parts.specs.declared.report.Told.{Told}
-use Rattle.source_meaning.specs.Meaning.{SourceWorld}
+use Rattle.tracebacks.specs.source_meaning.Meaning.{SourceWorld}
 use Rattle.tracebacks.specs.Frames.{told}
 use Rattle.tracebacks.specs.Texts.{exception_text}
 use Rattle.fixture_calls.specs.Failing.{as_failure, failure_trace, has_failed, made_for}

@@ -9,8 +9,8 @@ use Rattle.py_values.specs.declared.object.Obj.{Obj}
 use Rattle.py_values.specs.declared.value.ObjId.{ObjId}
 use Rattle.py_values.specs.declared.value.Value.{Value}
 use Rattle.py_values.specs.declared.value.Value.TheVariants as val
-use Rattle.runner_values.specs.Given.{instance, test_item, with_object}
-use Rattle.source_meaning.specs.Meaning.{SourceWorld}
+use Rattle.tracebacks.specs.runner_values.Given.{instance, test_item, with_object}
+use Rattle.tracebacks.specs.source_meaning.Meaning.{SourceWorld}
 use Rattle.fixture_calls.specs.Failing.{in_heap}
 use Rattle.test_suite.specs.declared.item.Item.{Item}
 

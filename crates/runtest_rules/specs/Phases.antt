@@ -16,7 +16,7 @@ use Rattle.report_parts.specs.declared.report.PhaseEnd.{PhaseEnd}
 use Rattle.report_parts.specs.declared.report.PhaseEnd.TheVariants as end
 use Rattle.report_rules.specs.Collected.{Ending}
 use Rattle.session_rules.specs.World.{Phase, SetUp, Call, Teardown}
-use Rattle.source_meaning.specs.Meaning.{SourceWorld}
+use Rattle.tracebacks.specs.source_meaning.Meaning.{SourceWorld}
 use Rattle.tracebacks.specs.Frames.{frame_told}
 use Rattle.fixture_calls.specs.Failing.{exception_of}
 use Rattle.fixture_calls.specs.declared.failure.Failure.{Failure}

@@ -9,7 +9,7 @@ use Rattle.py_values.specs.declared.value.Value.TheVariants as val
 use Rattle.report_rules.specs.Collected.{Ending}
 use Rattle.session_rules.specs.Hooks.{HookAnswer, HookGave, HookRaised}
 use Rattle.session_rules.specs.World.{Rules, Phase, SetUp, Call, Teardown, WorldAnswer, Account, After, BodyEnd, NewException, NewRequest, ClosedRequest, Outcome, Returned, Yielded, Raised}
-use Rattle.source_meaning.specs.Meaning.{SourceWorld}
+use Rattle.tracebacks.specs.source_meaning.Meaning.{SourceWorld}
 use Rattle.fixture_calls.specs.Asking.{finalizers_taken, fixture_request, test_request}
 use Rattle.fixture_calls.specs.Calls.{finalizer_called, test_called}
 use Rattle.fixture_calls.specs.Failing.{as_failure, exception_of, made_at}

@@ -2,14 +2,13 @@
 
 ghost use Rattle.std.specs.Prelude.{◌≡◌, IfOk, option_copied};
 ghost use Rattle.py_values.specs.declared.value.Value.TheVariants as val;
-ghost use Rattle.runner_values.specs.Given as given;
+ghost use Rattle.tracebacks.specs.runner_values.Given as given;
 ghost use Rattle.fixture_calls.specs.Failing as failing;
 ghost use Rattle.runtest_rules.specs.Objects as objects;
 
 use collect_names::found::TestClass;
 use collect_names::objects::class_at;
 use py_kinds::classes::root_of;
-use py_machine::{New, World, heap, make};
 use py_text::{OutOfMemory, PyText};
 use py_values::class::{ClassForm, ClassRef};
 use py_values::heap::Heap;
@@ -17,6 +16,7 @@ use py_values::object::ClassObj;
 use py_values::value::{ObjId, Value};
 use std::alloc::Global;
 use test_suite::Item;
+use tracebacks::{New, World, heap, make};
 
 fn is_source_class(class: Option<&ClassObj>) -> bool
     ensures { result ≡ objects.is_source_class (option_copied class.entry) }

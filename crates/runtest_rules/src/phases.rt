@@ -12,7 +12,6 @@ use collect_marks::says::xfail_of;
 use collect_marks::verdict::{Verdict, call_verdict, set_up_verdict, teardown_verdict};
 use collect_marks::xfail::Xfail;
 use fixture_calls::Failure;
-use py_machine::{World, heap, take_printed};
 use py_text::{OutOfMemory, PyText};
 use py_values::heap::Heap;
 use py_values::value::Value;
@@ -20,7 +19,7 @@ use py_world::Trace;
 use report_parts::{Phase, PhaseEnd, Text, Told, Tolds};
 use std::alloc::Global;
 use test_suite::Item;
-use tracebacks::{exception_text, frame_told, told};
+use tracebacks::{World, exception_text, frame_told, heap, take_printed, told};
 
 fn exception_of(failure: &Failure) -> Value
     ensures { result ≡ failing.exception_of failure.now }

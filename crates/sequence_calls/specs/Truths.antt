@@ -6,7 +6,7 @@ use Rattle.call_products.specs.Products.{plain, wrong}
 use Rattle.call_products.specs.declared.elements.Gathered.{Gathered}
 use Rattle.call_products.specs.declared.elements.Gathered.TheVariants as gathered
 use Rattle.call_products.specs.declared.product.Product.{Product}
-use Rattle.py_kinds.specs.Truth.{truth}
+use Rattle.call_products.specs.py_kinds.Truth.{truth}
 use Rattle.py_values.specs.declared.end.Made.TheVariants.{Give, Fail}
 use Rattle.py_values.specs.declared.object.Obj.{Obj}
 use Rattle.py_values.specs.declared.value.Value.{Value}

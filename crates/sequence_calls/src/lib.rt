@@ -22,6 +22,9 @@
 //! How long a call takes.
 #![tactic(auto)]
 
+pub use call_products;
+pub use call_products::py_ops;
+
 pub mod ranges;
 pub mod sequences;
 pub mod truths;

@@ -1,22 +1,22 @@
 -- What fixtures and tests of sources do keeps the frames that are out.
 use Rattle.std.proofs.Common.{◌≡◌, ℕ, true, List, [], Option, None, inl, inr, ◌⊎◌, refl, sym, subst, ◌∙◌, map}
 use Rattle.cli_words.specs.declared.options.Options.{Options}
-use Rattle.collect_marks.specs.Names.{marks_in}
-use Rattle.collect_marks.specs.Says.{skipped_by}
+use Rattle.runtest_rules.specs.collect_marks.Names.{marks_in}
+use Rattle.runtest_rules.specs.collect_marks.Says.{skipped_by}
 use Rattle.core_rules.specs.Keeps.{IsKeptBehind, IsKeptIn}
-use Rattle.fixture_calls.specs.Arguments.{asks_request, positional}
-use Rattle.fixture_calls.specs.Asking.{finalizers_taken, fixture_request, scope_text, test_request}
-use Rattle.fixture_calls.specs.Calls.{finalizer_called, test_called}
-use Rattle.fixture_calls.specs.Yields.{did_not_yield, fixture_abandoned, fixture_begun, fixture_resumed, own_if, yielded_again}
-use Rattle.fixture_calls.specs.declared.failure.Failure.{Failure}
+use Rattle.runtest_rules.specs.fixture_calls.Arguments.{asks_request, positional}
+use Rattle.runtest_rules.specs.fixture_calls.Asking.{finalizers_taken, fixture_request, scope_text, test_request}
+use Rattle.runtest_rules.specs.fixture_calls.Calls.{finalizer_called, test_called}
+use Rattle.runtest_rules.specs.fixture_calls.Yields.{did_not_yield, fixture_abandoned, fixture_begun, fixture_resumed, own_if, yielded_again}
+use Rattle.runtest_rules.specs.fixture_calls.declared.failure.Failure.{Failure}
 use Rattle.fixture_sessions.proofs.Frames.{none_left}
 use Rattle.fixture_sessions.proofs.Rows.{world_same}
 use Rattle.fixture_sessions.specs.BuiltIn.{HasBuiltInHooks, built_in_impls}
 use Rattle.fixture_sessions.specs.FixtureFrames.{AddsNone, KeepsFrames, Spends, StandsAt}
 use Rattle.py_values.specs.declared.value.Value.{Value}
 use Rattle.py_values.specs.declared.value.Value.TheVariants as val
-use Rattle.py_world.specs.Resuming.{Sent, SentValue, abandon_of, is_out}
-use Rattle.report_rules.specs.Rows.{Task, item_of, ran}
+use Rattle.runtest_rules.specs.py_world.Resuming.{Sent, SentValue, abandon_of, is_out}
+use Rattle.fixture_sessions.specs.report_rules.Rows.{Task, item_of, ran}
 use Rattle.runtest_rules.specs.Failures.{fixture_fault, skipped, wrong_arguments}
 use Rattle.runtest_rules.specs.Language.{python}
 use Rattle.runtest_rules.specs.Objects.{instance_made, object_made}
@@ -24,11 +24,11 @@ use Rattle.runtest_rules.specs.Phases.{phase_ended}
 use Rattle.runtest_rules.specs.Rules.{body_end_of, hooks_of, rules}
 use Rattle.session_rules.specs.Fits.{Distinct}
 use Rattle.session_rules.specs.World.{Call, Phase, SetUp, Teardown}
-use Rattle.source_meaning.specs.Meaning.{SourceWorld, source_begin, source_call, source_resume}
-use Rattle.test_suite.specs.Suites.{fixture_at, item_at}
-use Rattle.test_suite.specs.declared.fixture.Fixture.{Fixture}
-use Rattle.test_suite.specs.declared.item.Item.{Item}
-use Rattle.test_suite.specs.declared.suite.Suite.{Suite}
+use Rattle.core_rules.specs.source_meaning.Meaning.{SourceWorld, source_begin, source_call, source_resume}
+use Rattle.runtest_rules.specs.test_suite.Suites.{fixture_at, item_at}
+use Rattle.runtest_rules.specs.test_suite.declared.fixture.Fixture.{Fixture}
+use Rattle.runtest_rules.specs.test_suite.declared.item.Item.{Item}
+use Rattle.runtest_rules.specs.test_suite.declared.suite.Suite.{Suite}
 use Rattle.session_frames.proofs.Worlds.{body_frames, call_frames, instance_frames, none_added, one_less, request_frames, skip_frames}
 
 -- what the runner makes

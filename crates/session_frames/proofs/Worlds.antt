@@ -1,26 +1,26 @@
 -- Which frames are out behind what the runner does.
 use Rattle.std.proofs.Common.{◌≡◌, ℕ, zero, suc, Bool, true, false, List, [], ◌∷◌, ◌++◌, length, Option, None, Some, inl, inr, ◌⊎◌, refl, subst, ◌∙◌, arith}
 use Rattle.std.specs.Prelude.{is_some, slice_get, slice_set}
-use Rattle.collect_names.specs.declared.found.TestClass.{TestClass}
+use Rattle.runtest_rules.specs.collect_names.declared.found.TestClass.{TestClass}
 use Rattle.core_rules.specs.Keeps.{FramesBehind}
-use Rattle.fixture_calls.specs.Asking.{request_if}
-use Rattle.fixture_calls.specs.Calls.{call_failure}
-use Rattle.fixture_calls.specs.Yields.{body_end, over_end}
+use Rattle.runtest_rules.specs.fixture_calls.Asking.{request_if}
+use Rattle.runtest_rules.specs.fixture_calls.Calls.{call_failure}
+use Rattle.runtest_rules.specs.fixture_calls.Yields.{body_end, over_end}
 use Rattle.fixture_sessions.specs.FixtureFrames.{AddsNone, StandsAt}
 use Rattle.py_values.specs.declared.value.ObjId.{ObjId}
 use Rattle.py_values.specs.declared.value.Value.{Value}
 use Rattle.py_values.specs.declared.value.Value.TheVariants as val
-use Rattle.py_world.specs.Resuming.{BegunOut, Over, Yielded, frame_at, is_out}
-use Rattle.py_world.specs.World.{Frozen}
-use Rattle.py_world.specs.declared.ended.Outcome.{Outcome}
-use Rattle.py_world.specs.declared.ended.Outcome.TheVariants as out
+use Rattle.runtest_rules.specs.py_world.Resuming.{BegunOut, Over, Yielded, frame_at, is_out}
+use Rattle.runtest_rules.specs.py_world.World.{Frozen}
+use Rattle.runtest_rules.specs.py_world.declared.ended.Outcome.{Outcome}
+use Rattle.runtest_rules.specs.py_world.declared.ended.Outcome.TheVariants as out
 use Rattle.runtest_rules.specs.Failures.{skip_made}
 use Rattle.runtest_rules.specs.Language.{python}
 use Rattle.runtest_rules.specs.Objects.{instance_if, instance_of_class, instance_of_value}
 use Rattle.runtest_rules.specs.Rules.{body_end_of}
-use Rattle.source_meaning.specs.Meaning.{SourceWorld}
-use Rattle.source_meaning.specs.Requests.{source_kinds}
-use Rattle.test_suite.specs.declared.item.Item.{Item}
+use Rattle.core_rules.specs.source_meaning.Meaning.{SourceWorld}
+use Rattle.core_rules.specs.source_meaning.Requests.{source_kinds}
+use Rattle.runtest_rules.specs.test_suite.declared.item.Item.{Item}
 
 -- whether the frame of a number is out, among these
 abbrev pub out_in : {L : Type 0} → List (Option (Frozen L)) → ℕ → Bool

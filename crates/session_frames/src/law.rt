@@ -1,12 +1,12 @@
 ghost use Rattle.std.specs.Prelude.{ℕ, List, map};
 ghost use Rattle.cli_words.specs.declared.options.Options.{Options};
 ghost use Rattle.fixture_sessions.specs.FixtureFrames.{AddsNone, KeepsFrames};
-ghost use Rattle.py_world.specs.Resuming.{is_out};
-ghost use Rattle.report_rules.specs.Rows.{Task, item_of, ran};
+ghost use Rattle.runtest_rules.specs.py_world.Resuming.{is_out};
+ghost use Rattle.fixture_sessions.specs.report_rules.Rows.{Task, item_of, ran};
 ghost use Rattle.runtest_rules.specs.Rules.{rules};
 ghost use Rattle.session_rules.specs.Fits.{Distinct};
-ghost use Rattle.source_meaning.specs.Meaning.{SourceWorld};
-ghost use Rattle.test_suite.specs.declared.suite.Suite.{Suite};
+ghost use Rattle.core_rules.specs.source_meaning.Meaning.{SourceWorld};
+ghost use Rattle.runtest_rules.specs.test_suite.declared.suite.Suite.{Suite};
 
 use core_rules::source_code_keeps_its_world;
 

@@ -42,8 +42,6 @@
 #![tactic(auto)]
 
 mod law;
-#[cfg(test)]
-mod tests;
 
 pub use law::{
     Acts, closures_are_settled, depth_does_not_matter, every_item_is_reported_once,

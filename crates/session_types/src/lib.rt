@@ -18,8 +18,6 @@ mod instance;
 mod journal;
 mod numbers;
 mod scope;
-#[cfg(test)]
-mod tests;
 
 pub use def_id::DefId;
 pub use instance::Instance;

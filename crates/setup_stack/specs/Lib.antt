@@ -1,3 +1,4 @@
+pub use Rattle.fixture_instances.specs as fixture_instances
 pub mod Grants
 pub mod Views
 pub mod Making

@@ -30,8 +30,6 @@ mod feed;
 mod laws;
 mod rule;
 mod run;
-#[cfg(test)]
-mod tests;
 mod worker;
 
 pub use draws::Draws;

@@ -2,7 +2,7 @@
 use Rattle.std.specs.Prelude.{ℕ, List, Bool}
 use Rattle.py_tree.specs.Trees.{Tree}
 use Rattle.py_tree.specs.Statements.{Statement, Block, Handlers, Taker, Parameter}
-use Rattle.py_items.specs.declared.iter.IterAt.{IterAt}
+use Rattle.py_world.specs.py_items.declared.iter.IterAt.{IterAt}
 use Rattle.py_world.specs.World.{Kinds}
 
 -- what is done with the value that a `yield` is given: nothing, it is assigned to targets, or it is returned

@@ -5,7 +5,7 @@ use Rattle.py_tree.specs.declared.op.BinOp.{BinOp}
 use Rattle.py_tree.specs.Statements as t
 use Rattle.py_tree.specs.Statements.{Statement, Block, Branches, Handlers, NoStatement, NoBranch, NoHandler, Place, NamePlace, AttributePlace, SubscriptPlace, Taker, One, Unpack, Parameter, Parameter_at}
 use Rattle.py_tree.specs.Names.{locals_of, yields_in}
-use Rattle.py_kinds.specs.Truth.{truth}
+use Rattle.py_world.specs.py_kinds.Truth.{truth}
 use Rattle.source_meaning.specs.Expressions.{SourcePart, eval, parts, some_part}
 use Rattle.source_meaning.specs.Requests.{source_kinds, Use, NoUse, Targets, ReturnIt, Layer, Statements, Guard, Receives, Turn, StatementOf, TurnOf, ForOf, Script, Function}
 use Rattle.source_meaning.specs.Watched.{watch}

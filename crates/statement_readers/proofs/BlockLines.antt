@@ -2,7 +2,7 @@
 use Rattle.std.proofs.Common.{◌≡◌, ℕ, zero, suc, nat_le, length, Bool, true, false, cond, not, Option, Some, None, List, [], ◌∷◌, ◌++◌, refl, sym, ap, ◌∙◌}
 use mathlib.Core.Path.{fun_ext}
 use Rattle.py_source.specs.declared.pos.Pos.{Pos}
-use Rattle.py_tokens.specs.declared.token.Token.{Token}
+use Rattle.py_cursor.specs.py_tokens.declared.token.Token.{Token}
 use Rattle.py_tree.specs.Trees.{Tree, Trees, Maybe, Absent, Present, Empty, More, NoneTree}
 use Rattle.py_tree.specs.Statements.{Parameter, Parameter_at, Statement, Block, Branches, Handlers, NoStatement, Next, NoBranch, Branch, NoHandler, Handler, If, While, For, Try, With, Def, Class}
 use Rattle.parsing.specs.Reading.{Read, Found, Bad, Deep, ◌>>=◌, deep_at, has}
@@ -13,10 +13,10 @@ use Rattle.grammar.proofs.Along.{no_levels}
 use Rattle.grammar_code.specs.Walk.{first_if, first_of, pick}
 use Rattle.grammar_plain.specs.Plain.{plain, found, flat}
 use Rattle.grammar_plain.proofs.Plain.{line_flat, again_flat}
-use Rattle.token_kinds.specs.Kinds.{kind, text_of}
-use Rattle.token_kinds.specs.Numbers as k
-use Rattle.py_expressions.specs.Sorts as e
-use Rattle.py_expressions.specs.Lines.{E1}
+use Rattle.py_cursor.specs.token_kinds.Kinds.{kind, text_of}
+use Rattle.py_cursor.specs.token_kinds.Numbers as k
+use Rattle.py_cursor.specs.py_expressions.Sorts as e
+use Rattle.py_cursor.specs.py_expressions.Lines.{E1}
 use Rattle.py_grammar.specs.Sorts as v
 use Rattle.py_grammar.specs.Sorts.{choice, decor, head, attempt, opening, otherwise, trying, block}
 use Rattle.py_grammar.specs.Lines as g

@@ -1,11 +1,11 @@
 -- Each line of expressions takes a token.
 use Rattle.std.proofs.Common.{◌≡◌, ℕ, ◌<◌, List, length}
-use Rattle.py_tokens.specs.declared.token.Token.{Token}
+use Rattle.py_cursor.specs.py_tokens.declared.token.Token.{Token}
 use Rattle.parsing.specs.Reading.{Found}
 use Rattle.grammar.proofs.Along.{reader_takes}
-use Rattle.py_expressions.specs.Sorts.{Name, El, sort}
-use Rattle.py_expressions.specs.Lines.{expressions, none, no_reader}
-use Rattle.py_expressions.proofs.Good.{good_expressions}
+use Rattle.py_cursor.specs.py_expressions.Sorts.{Name, El, sort}
+use Rattle.py_cursor.specs.py_expressions.Lines.{expressions, none, no_reader}
+use Rattle.py_cursor.proofs.py_expressions_lemmas.Good.{good_expressions}
 use Rattle.statement_readers.specs.Reads.{reads}
 
 pub takes : (m : ℕ) (r : Name) (ts : List Token) (y : El (sort r) × ℕ) (rest : List Token) → reads m r ts ≡ Found y rest → length rest < length ts

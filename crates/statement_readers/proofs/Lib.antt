@@ -1,3 +1,4 @@
+pub use Rattle.py_grammar.proofs as py_grammar_lemmas
 pub mod Expressions
 pub mod Turns
 pub mod Rounds

@@ -1,7 +1,7 @@
 -- EACH LOOP, one step on: over, failed, gone on.
 use Rattle.std.proofs.Common.{◌≡◌, ℕ, suc, ◌<◌, ◌≤◌, Bool, true, false, cond, Option, Some, None, List, [], ◌∷◌, ◌++◌, length, refl, sym, ap, ◌∙◌, arith}
 use Rattle.py_source.specs.declared.pos.Pos.{Pos}
-use Rattle.py_tokens.specs.declared.token.Token.{Token}
+use Rattle.py_cursor.specs.py_tokens.declared.token.Token.{Token}
 use Rattle.py_tree.specs.declared.stmt.Alias.{Alias}
 use Rattle.py_tree.specs.declared.stmt.Target.{Target}
 use Rattle.py_tree.specs.Trees.{Tree}
@@ -9,11 +9,11 @@ use Rattle.py_tree.specs.Statements.{Taker, Statement, Block, Next, Do, Assign, 
 use Rattle.parsing.specs.Reading.{Read, Found, Bad, Deep, ◌>>=◌}
 use Rattle.parsing.proofs.Chain.{bind_found}
 use Rattle.grammar_code.specs.Walk.{first_of, pick}
-use Rattle.token_kinds.specs.Kinds.{kind, text_of}
-use Rattle.token_kinds.specs.Numbers as k
-use Rattle.py_expressions.specs.Sorts.{exprs}
-use Rattle.py_expressions.specs.Values.{taker_in}
-use Rattle.py_expressions.specs.Lines.{E1}
+use Rattle.py_cursor.specs.token_kinds.Kinds.{kind, text_of}
+use Rattle.py_cursor.specs.token_kinds.Numbers as k
+use Rattle.py_cursor.specs.py_expressions.Sorts.{exprs}
+use Rattle.py_cursor.specs.py_expressions.Values.{taker_in}
+use Rattle.py_cursor.specs.py_expressions.Lines.{E1}
 use Rattle.py_grammar.specs.Lines.{SI}
 use Rattle.statement_readers.specs.Reads.{reads}
 use Rattle.statement_readers.proofs.Expressions.{takes}

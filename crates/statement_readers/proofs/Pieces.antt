@@ -1,15 +1,15 @@
 -- What is read behind pieces of code, as the grammar has it.
 use Rattle.std.proofs.Common.{◌≡◌, ℕ, suc, Bool, true, false, cond, Option, Some, None, List, [], ◌∷◌, ◌++◌, refl, sym, ap, ◌∙◌}
 use Rattle.py_source.specs.declared.pos.Pos.{Pos}
-use Rattle.py_tokens.specs.declared.token.Token.{Token}
+use Rattle.py_cursor.specs.py_tokens.declared.token.Token.{Token}
 use Rattle.py_tree.specs.Trees.{Maybe, Absent, Present}
 use Rattle.parsing.specs.Reading.{Read, Found, Bad, Deep, ◌>>=◌, head_is, has}
 use Rattle.parsing.proofs.Loops.{bind_assoc}
 use Rattle.grammar_code.specs.Walk.{first_if, first_of, pick}
-use Rattle.token_kinds.specs.Kinds.{kind, text_of}
-use Rattle.token_kinds.specs.Numbers as k
-use Rattle.py_expressions.specs.Sorts.{expr, exprs}
-use Rattle.py_expressions.specs.Lines.{E1}
+use Rattle.py_cursor.specs.token_kinds.Kinds.{kind, text_of}
+use Rattle.py_cursor.specs.token_kinds.Numbers as k
+use Rattle.py_cursor.specs.py_expressions.Sorts.{expr, exprs}
+use Rattle.py_cursor.specs.py_expressions.Lines.{E1}
 use Rattle.statement_readers.specs.Reads.{reads}
 use Rattle.statement_readers.specs.Words.{wanted, starts, one, optional_expr, optional_exprs, expr_behind, name_at, alias_behind}
 

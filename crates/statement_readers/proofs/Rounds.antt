@@ -1,6 +1,6 @@
 -- A LOOP OF CODE IS THE GRAMMAR'S: what `many` reads, and what is behind it.
 use Rattle.std.proofs.Common.{◌≡◌, ℕ, zero, suc, Bool, true, false, cond, List, [], ◌∷◌, length, refl, sym, ap, ◌∙◌}
-use Rattle.py_tokens.specs.declared.token.Token.{Token}
+use Rattle.py_cursor.specs.py_tokens.declared.token.Token.{Token}
 use Rattle.parsing.specs.Reading.{Read, Found, Bad, Deep, ◌>>=◌, head_is, loop_at, many_at}
 use Rattle.parsing.proofs.Loops.{bind_assoc}
 use Rattle.statement_readers.specs.Turns.{Reader, Turn, On, Out, turned, spin, step_at, turns}

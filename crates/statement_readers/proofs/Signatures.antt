@@ -1,16 +1,16 @@
 -- The loops of a function's head, one step on.
 use Rattle.std.proofs.Common.{◌≡◌, ℕ, suc, ◌<◌, ◌≤◌, Bool, true, false, cond, Option, Some, None, List, [], ◌∷◌, ◌++◌, length, refl, sym, ap, ◌∙◌, arith}
 use Rattle.py_source.specs.declared.pos.Pos.{Pos}
-use Rattle.py_tokens.specs.declared.token.Token.{Token}
+use Rattle.py_cursor.specs.py_tokens.declared.token.Token.{Token}
 use Rattle.py_tree.specs.Trees.{Tree, Trees, Maybe, Absent, Present, More}
 use Rattle.py_tree.specs.Statements.{Parameter, Parameter_at}
 use Rattle.parsing.specs.Reading.{Read, Found, Bad, ◌>>=◌}
 use Rattle.parsing.proofs.Chain.{bind_found}
 use Rattle.grammar_code.specs.Walk.{first_of, pick}
-use Rattle.token_kinds.specs.Kinds.{kind, text_of}
-use Rattle.token_kinds.specs.Numbers as k
-use Rattle.py_expressions.specs.Sorts.{expr}
-use Rattle.py_expressions.specs.Lines.{E1}
+use Rattle.py_cursor.specs.token_kinds.Kinds.{kind, text_of}
+use Rattle.py_cursor.specs.token_kinds.Numbers as k
+use Rattle.py_cursor.specs.py_expressions.Sorts.{expr}
+use Rattle.py_cursor.specs.py_expressions.Lines.{E1}
 use Rattle.py_cursor.specs.declared.stop.Stop.{Stop}
 use Rattle.py_cursor.specs.Cursor.{FailsAs}
 use Rattle.statement_readers.specs.Reads.{reads}

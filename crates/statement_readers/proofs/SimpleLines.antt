@@ -1,7 +1,7 @@
 -- THE LINES OF SIMPLE STATEMENTS ARE WHAT THE CODE READS.
 use Rattle.std.proofs.Common.{◌≡◌, ℕ, suc, nat_le, ◌==◌, ◌||◌, ◌&&◌, Bool, true, false, cond, not, Option, Some, None, List, [], ◌∷◌, ◌++◌, refl, sym, ap, ◌∙◌, subst}
 use Rattle.py_source.specs.declared.pos.Pos.{Pos}
-use Rattle.py_tokens.specs.declared.token.Token.{Token}
+use Rattle.py_cursor.specs.py_tokens.declared.token.Token.{Token}
 use Rattle.py_tree.specs.declared.stmt.Alias.{Alias}
 use Rattle.py_tree.specs.Trees.{Tree, Maybe, Absent, Present}
 use Rattle.py_tree.specs.Statements.{Place, Taker, Statement, Block, NoStatement, Next, Do, Assign, AssignYield, AugAssign, Return, ReturnYield, Raise, Assert, Del, GlobalOf, YieldOf, Import, ImportFrom}
@@ -13,11 +13,11 @@ use Rattle.grammar.specs.Levels.{FarReaders, readers, first}
 use Rattle.grammar_code.specs.Walk.{first_if, first_of, first_meant, pick}
 use Rattle.grammar_plain.specs.Plain.{plain, found, both_of, flat}
 use Rattle.grammar_plain.proofs.Plain.{line_flat, again_flat, one_of_flat}
-use Rattle.token_kinds.specs.Kinds.{kind, text_of}
-use Rattle.token_kinds.specs.Numbers as k
-use Rattle.py_expressions.specs.Sorts as e
-use Rattle.py_expressions.specs.Values.{at_of, place_in, taker_in}
-use Rattle.py_expressions.specs.Lines.{E1}
+use Rattle.py_cursor.specs.token_kinds.Kinds.{kind, text_of}
+use Rattle.py_cursor.specs.token_kinds.Numbers as k
+use Rattle.py_cursor.specs.py_expressions.Sorts as e
+use Rattle.py_cursor.specs.py_expressions.Values.{at_of, place_in, taker_in}
+use Rattle.py_cursor.specs.py_expressions.Lines.{E1}
 use Rattle.py_grammar.specs.Sorts as v
 use Rattle.py_grammar.specs.Sorts.{Sort, El, Name, sort, plain as plain_sort, names as names_sort, twice, change}
 use Rattle.py_grammar.specs.Lines as g

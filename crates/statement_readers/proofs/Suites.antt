@@ -2,15 +2,15 @@
 use Rattle.std.proofs.Common.{◌≡◌, ℕ, zero, suc, ◌-◌, ◌<◌, ◌≤◌, nat_le, Bool, true, false, cond, Option, Some, None, List, [], ◌∷◌, length, refl, sym, ap, ◌∙◌, arith}
 use Rattle.std.proofs.lemmas.Bool.Decides.{nat_tests}
 use Rattle.py_source.specs.declared.pos.Pos.{Pos}
-use Rattle.py_tokens.specs.declared.token.Token.{Token}
+use Rattle.py_cursor.specs.py_tokens.declared.token.Token.{Token}
 use Rattle.py_tree.specs.Trees.{Tree, Maybe}
 use Rattle.py_tree.specs.Statements.{Statement, Block, Branches, Handlers, NoStatement, Next, Branch, Handler}
 use Rattle.parsing.specs.Reading.{Read, Found, Deep, ◌>>=◌}
 use Rattle.parsing.proofs.Chain.{bind_found}
 use Rattle.grammar_code.specs.Walk.{first_of, pick}
-use Rattle.token_kinds.specs.Kinds.{kind}
-use Rattle.token_kinds.specs.Numbers as k
-use Rattle.py_expressions.specs.Sorts.{expr}
+use Rattle.py_cursor.specs.token_kinds.Kinds.{kind}
+use Rattle.py_cursor.specs.token_kinds.Numbers as k
+use Rattle.py_cursor.specs.py_expressions.Sorts.{expr}
 use Rattle.statement_readers.specs.Reads.{reads}
 use Rattle.statement_readers.proofs.Expressions.{takes}
 use Rattle.py_grammar.specs.Lines.{ST}

@@ -1,6 +1,6 @@
 -- EACH READING TAKES A TOKEN, since the grammar's does.
 use Rattle.std.proofs.Common.{◌≡◌, ℕ, suc, ◌<◌, nat_le, List, length, sym, ap, ◌∙◌, refl, arith}
-use Rattle.py_tokens.specs.declared.token.Token.{Token}
+use Rattle.py_cursor.specs.py_tokens.declared.token.Token.{Token}
 use Rattle.py_tree.specs.Statements.{Statement, Block, NoStatement}
 use Rattle.parsing.specs.Reading.{Read, Found, Bad, Deep, ◌>>=◌}
 use Rattle.parsing.proofs.Chain.{bind_found}

@@ -1,11 +1,11 @@
 -- STEPS IN A ROW, one on.
 use Rattle.std.proofs.Common.{◌≡◌, ℕ, zero, suc, ◌<◌, ◌≤◌, Bool, true, false, cond, Option, Some, None, List, [], ◌∷◌, length, refl, sym, ap, ◌∙◌, arith}
-use Rattle.py_tokens.specs.declared.token.Token.{Token}
+use Rattle.py_cursor.specs.py_tokens.declared.token.Token.{Token}
 use Rattle.parsing.specs.Reading.{Read, Found, Bad, Deep, ◌>>=◌, has}
 use Rattle.parsing.proofs.Loops.{bind_assoc}
 use Rattle.parsing.proofs.Chain.{bind_found}
 use Rattle.grammar_code.specs.Walk.{first_if, first_of, starts_with, pick}
-use Rattle.token_kinds.specs.Kinds.{kind}
+use Rattle.py_cursor.specs.token_kinds.Kinds.{kind}
 use Rattle.py_cursor.specs.declared.stop.Stop.{Stop}
 use Rattle.py_cursor.specs.declared.stop.Stop.TheVariants as stops
 use Rattle.py_cursor.specs.Cursor.{FailsAs}

@@ -1,10 +1,10 @@
 -- STEPS IN A ROW, as a loop of code takes them.
 use Rattle.std.specs.Prelude.{◌≡◌, ℕ, List, length, Option}
 use Rattle.std.proofs.Common.{zero, suc}
-use Rattle.py_tokens.specs.declared.token.Token.{Token}
+use Rattle.py_cursor.specs.py_tokens.declared.token.Token.{Token}
 use Rattle.parsing.specs.Reading.{Read, Found, ◌>>=◌}
 use Rattle.grammar_code.specs.Walk.{first_of, pick}
-use Rattle.token_kinds.specs.Kinds.{kind}
+use Rattle.py_cursor.specs.token_kinds.Kinds.{kind}
 
 abbrev pub Reader : Type 0 → Type 0
 Reader A = List Token → Read Token A

@@ -2,7 +2,7 @@
 use Rattle.std.specs.Prelude.{◌≡◌, ℕ, Bool, true, false, cond, nat_le, List, [], ◌∷◌, ◌++◌, Option, Some, None}
 use Rattle.std.proofs.Common.{zero, suc}
 use Rattle.py_source.specs.declared.pos.Pos.{Pos}
-use Rattle.py_tokens.specs.declared.token.Token.{Token}
+use Rattle.py_cursor.specs.py_tokens.declared.token.Token.{Token}
 use Rattle.py_source.specs.Limits.{most_levels}
 use Rattle.py_tree.specs.declared.op.BinOp.{BinOp}
 use Rattle.py_tree.specs.declared.stmt.Alias.{Alias}
@@ -10,11 +10,11 @@ use Rattle.py_tree.specs.Trees.{Tree, Trees, Maybe, Absent, Present, Empty, More
 use Rattle.py_tree.specs.Statements.{Place, Taker, Parameter, Parameter_at, Statement, Block, Branches, Handlers, NoStatement, Next, NoBranch, Branch, NoHandler, Handler, Do, Assign, AssignYield, AugAssign, Return, ReturnYield, Raise, Assert, Del, GlobalOf, Pass, Break, Continue, YieldOf, Import, ImportFrom, If, While, For, Try, With, Def, Class}
 use Rattle.parsing.specs.Reading.{Read, Found, Deep, ◌>>=◌, deep_at, has}
 use Rattle.grammar_code.specs.Walk.{first_of, first_meant, wanted as want, starts_with, pick}
-use Rattle.token_kinds.specs.Kinds.{kind, text_of}
-use Rattle.token_kinds.specs.Numbers as k
-use Rattle.py_expressions.specs.Sorts.{expr, exprs, single, targets}
-use Rattle.py_expressions.specs.Values.{at_of, place_in, taker_in}
-use Rattle.py_expressions.specs.Lines.{E1}
+use Rattle.py_cursor.specs.token_kinds.Kinds.{kind, text_of}
+use Rattle.py_cursor.specs.token_kinds.Numbers as k
+use Rattle.py_cursor.specs.py_expressions.Sorts.{expr, exprs, single, targets}
+use Rattle.py_cursor.specs.py_expressions.Values.{at_of, place_in, taker_in}
+use Rattle.py_cursor.specs.py_expressions.Lines.{E1}
 use Rattle.py_grammar.specs.Lines.{SI, ST, changes}
 use Rattle.statement_readers.specs.Reads.{reads}
 use Rattle.statement_readers.specs.Turns.{Reader, Turn, On, Out, turns}

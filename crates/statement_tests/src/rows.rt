@@ -5,8 +5,7 @@ use crate::show::block;
 use py_parse::{SyntaxFault, parse};
 use py_source::Pos;
 use py_tokens::{Op, Token, TokenKind, tokens};
-use py_tree::Module;
-use std::alloc::Global;
+use std::alloc::{AllocError, Global};
 use std::test::Fail;
 
 /// What reading a text gives: its tree, or its fault with the place.
@@ -16,38 +15,33 @@ enum Shown {
     Fault(&'static str, u32, u32),
 }
 
-fn read_text(alloc: Global, text: &str) -> Result<Shown, Fail> {
-    let all = match tokens(alloc, text) {
-        Ok(all) => all,
-        Err(_fault) => return Err(Fail::from("no tokens")),
-    };
-    match parse(alloc, &all) {
+fn read_text(alloc: Global, text: &str) -> Result<Shown, AllocError> {
+    match tokens(alloc, text) {
+        Ok(all) => read_tokens(alloc, &all),
+        Err(_fault) => Ok(Shown::Fault("no tokens", 0, 0)),
+    }
+}
+
+fn read_tokens(alloc: Global, all: &[Token]) -> Result<Shown, AllocError>
+    requires { EndsText all.now }
+{
+    match parse(alloc, all) {
         Ok(module) => {
             let mut out = String::new(alloc);
             block(alloc, &mut out, &module.body)?;
             Ok(Shown::Tree(out))
         }
-        Err(fault) => match fault_at(fault) {
-            Some((kind, line, column)) => Ok(Shown::Fault(kind, line, column)),
-            None => Err(Fail::from("no memory")),
-        },
+        Err(fault) => Ok(shown_fault(fault)),
     }
 }
 
-fn fault_at(fault: SyntaxFault) -> Option<(&'static str, u32, u32)> {
+fn shown_fault(fault: SyntaxFault) -> Shown {
     match fault {
-        SyntaxFault::Unexpected(at) => Some(("Unexpected", at.line, at.column)),
-        SyntaxFault::Unsupported(at) => Some(("Unsupported", at.line, at.column)),
-        SyntaxFault::Context(at) => Some(("Context", at.line, at.column)),
-        SyntaxFault::Nesting(at) => Some(("Nesting", at.line, at.column)),
-        SyntaxFault::OutOfMemory => None,
-    }
-}
-
-fn fault_of(answer: Result<Module, SyntaxFault>) -> Option<(&'static str, u32, u32)> {
-    match answer {
-        Ok(_) => None,
-        Err(fault) => fault_at(fault),
+        SyntaxFault::Unexpected(at) => Shown::Fault("Unexpected", at.line, at.column),
+        SyntaxFault::Unsupported(at) => Shown::Fault("Unsupported", at.line, at.column),
+        SyntaxFault::Context(at) => Shown::Fault("Context", at.line, at.column),
+        SyntaxFault::Nesting(at) => Shown::Fault("Nesting", at.line, at.column),
+        SyntaxFault::OutOfMemory => Shown::Fault("no memory", 0, 0),
     }
 }
 
@@ -374,47 +368,41 @@ const DEFINING: [(&str, &str); 25] = [
     ),
 ];
 
-fn shows(alloc: Global, text: &str, tree: &str) -> Result<bool, Fail> {
+fn shows(alloc: Global, text: &str, tree: &str) -> Result<bool, AllocError> {
     match read_text(alloc, text)? {
         Shown::Tree(out) => Ok(out.as_str() == tree),
         Shown::Fault(_, _, _) => Ok(false),
     }
 }
 
-#[test]
-fn trees_of_simple_statements_are_those_of_cpython(rt: HostRuntime) -> Result<(), Fail> {
-    let alloc = rt.alloc();
-    for (text, tree) in &SIMPLE {
-        assert!(rt; shows(alloc, text, tree)?, "{text}");
+/// Each text has its tree; the first that has another is told.
+fn all_show(alloc: Global, rows: &[(&str, &str)]) -> Result<(), Fail> {
+    for (text, tree) in rows {
+        if !shows(alloc, text, tree)? {
+            return Err(Fail::new(*text));
+        }
     }
     Ok(())
+}
+
+#[test]
+fn trees_of_simple_statements_are_those_of_cpython(rt: HostRuntime) -> Result<(), Fail> {
+    all_show(rt.alloc(), &SIMPLE)
 }
 
 #[test]
 fn trees_of_imports_and_results_are_those_of_cpython(rt: HostRuntime) -> Result<(), Fail> {
-    let alloc = rt.alloc();
-    for (text, tree) in &WORDED {
-        assert!(rt; shows(alloc, text, tree)?, "{text}");
-    }
-    Ok(())
+    all_show(rt.alloc(), &WORDED)
 }
 
 #[test]
 fn trees_of_branches_and_loops_are_those_of_cpython(rt: HostRuntime) -> Result<(), Fail> {
-    let alloc = rt.alloc();
-    for (text, tree) in &BRANCHING {
-        assert!(rt; shows(alloc, text, tree)?, "{text}");
-    }
-    Ok(())
+    all_show(rt.alloc(), &BRANCHING)
 }
 
 #[test]
 fn trees_of_definitions_are_those_of_cpython(rt: HostRuntime) -> Result<(), Fail> {
-    let alloc = rt.alloc();
-    for (text, tree) in &DEFINING {
-        assert!(rt; shows(alloc, text, tree)?, "{text}");
-    }
-    Ok(())
+    all_show(rt.alloc(), &DEFINING)
 }
 
 /// Texts that have no reading, and the first token at which none goes on, as a plain model of the grammar has it.
@@ -569,16 +557,25 @@ const FAULTS: [(&str, &str, u32, u32); 148] = [
     ("a[b:c] += d\n", "Unexpected", 1, 8),
 ];
 
+/// Whether a text has this fault at this place.
+fn has_fault(
+    alloc: Global,
+    text: &str,
+    kind: &str,
+    line: u32,
+    column: u32,
+) -> Result<bool, AllocError> {
+    match read_text(alloc, text)? {
+        Shown::Tree(_) => Ok(false),
+        Shown::Fault(found, at, place) => Ok(found == kind && at == line && place == column),
+    }
+}
+
 #[test]
 fn faults_are_where_the_model_has_them(rt: HostRuntime) -> Result<(), Fail> {
-    let alloc = rt.alloc();
     for (text, kind, line, column) in &FAULTS {
-        match read_text(alloc, text)? {
-            Shown::Tree(out) => assert_eq!(rt; out.as_str(), *text),
-            Shown::Fault(found, at, place) => {
-                assert_eq!(rt; found, *kind);
-                assert_eq!(rt; (*text, at, place), (*text, *line, *column));
-            }
+        if !has_fault(rt.alloc(), text, kind, *line, *column)? {
+            return Err(Fail::new(*text));
         }
     }
     Ok(())
@@ -721,14 +718,9 @@ const MISPLACED: [(&str, u32, u32); 115] = [
 
 #[test]
 fn what_may_not_stand_there_has_its_place(rt: HostRuntime) -> Result<(), Fail> {
-    let alloc = rt.alloc();
     for (text, line, column) in &MISPLACED {
-        match read_text(alloc, text)? {
-            Shown::Tree(out) => assert_eq!(rt; out.as_str(), *text),
-            Shown::Fault(found, at, place) => {
-                assert_eq!(rt; found, "Context");
-                assert_eq!(rt; (*text, at, place), (*text, *line, *column));
-            }
+        if !has_fault(rt.alloc(), text, "Context", *line, *column)? {
+            return Err(Fail::new(*text));
         }
     }
     Ok(())
@@ -745,11 +737,18 @@ const PLACED: [&str; 7] = [
     "while a:\n    def f(): b\n",
 ];
 
+/// Whether a text has a tree.
+fn is_read(alloc: Global, text: &str) -> Result<bool, AllocError> {
+    match read_text(alloc, text)? {
+        Shown::Tree(_) => Ok(true),
+        Shown::Fault(_, _, _) => Ok(false),
+    }
+}
+
 #[test]
 fn what_may_stand_there_is_read(rt: HostRuntime) -> Result<(), Fail> {
-    let alloc = rt.alloc();
     for text in &PLACED {
-        assert!(rt; matches!(read_text(alloc, text)?, Shown::Tree(_)));
+        assert!(rt; is_read(rt.alloc(), text)?, "{text}");
     }
     Ok(())
 }
@@ -757,7 +756,7 @@ fn what_may_stand_there_is_read(rt: HostRuntime) -> Result<(), Fail> {
 /// The first lines of statements with a block.
 const HEADS: [&str; 4] = ["if a:\n", "while a:\n", "for a in b:\n", "with a:\n"];
 
-fn indent(out: &mut String, depth: u32) -> Result<(), Fail> {
+fn indent(out: &mut String, depth: u32) -> Result<(), AllocError> {
     for _level in 0..depth {
         out.push(' ')?;
     }
@@ -765,7 +764,7 @@ fn indent(out: &mut String, depth: u32) -> Result<(), Fail> {
 }
 
 /// A line at each depth, and one in the last block.
-fn nested(alloc: Global, line: &str, last: &str, depth: u32) -> Result<String, Fail> {
+fn nested(alloc: Global, line: &str, last: &str, depth: u32) -> Result<String, AllocError> {
     let mut out = String::new(alloc);
     for level in 0..depth {
         indent(&mut out, level)?;
@@ -776,17 +775,23 @@ fn nested(alloc: Global, line: &str, last: &str, depth: u32) -> Result<String, F
     Ok(out)
 }
 
-fn push(tokens: &mut Vec<Token>, kind: TokenKind, line: u32, column: u32) -> Result<(), Fail> {
-    Ok(tokens.push(Token {
+fn push(
+    tokens: &mut Vec<Token>,
+    kind: TokenKind,
+    line: u32,
+    column: u32,
+) -> Result<(), AllocError> {
+    tokens.push(Token {
         kind,
         at: Pos { line, column },
         start: 0,
         end: 0,
-    })?)
+    })?;
+    Ok(())
 }
 
 /// The tokens, and the end of a text behind them.
-fn ended(tokens: Vec<Token>, line: u32) -> Result<Vec<Token>, Fail>
+fn ended(tokens: Vec<Token>, line: u32) -> Result<Vec<Token>, AllocError>
     ensures { IfOk result (λ all. EndsText all.items) }
 {
     let mut all = tokens;
@@ -800,7 +805,7 @@ fn ended(tokens: Vec<Token>, line: u32) -> Result<Vec<Token>, Fail>
 }
 
 /// Blocks in one another, each a column further to the right, with `pass` in the last: a text has fewer, but tokens may have them.
-fn blocks(alloc: Global, word: Op, depth: u32) -> Result<Vec<Token>, Fail>
+fn blocks(alloc: Global, word: Op, depth: u32) -> Result<Vec<Token>, AllocError>
     requires { depth ≤ 1000 }
     ensures { IfOk result (λ all. EndsText all.items) }
 {
@@ -821,15 +826,24 @@ fn blocks(alloc: Global, word: Op, depth: u32) -> Result<Vec<Token>, Fail>
     ended(all, depth + 2)
 }
 
+/// Whether the tokens of so many blocks of a form have a tree, and those of one more a fault at its word.
+fn stand(alloc: Global, word: Op) -> Result<bool, AllocError> {
+    let most = blocks(alloc, word, 100)?;
+    if !matches!(read_tokens(alloc, &most)?, Shown::Tree(_)) {
+        return Ok(false);
+    }
+    let more = blocks(alloc, word, 101)?;
+    match read_tokens(alloc, &more)? {
+        Shown::Tree(_) => Ok(false),
+        Shown::Fault(kind, line, column) => Ok(kind == "Nesting" && line == 101 && column == 101),
+    }
+}
+
 /// Blocks stand 100 deep at most: the statement that would need one more is too deep.
 #[test]
 fn blocks_stand_a_hundred_deep(rt: HostRuntime) -> Result<(), Fail> {
-    let alloc = rt.alloc();
     for word in &[Op::If, Op::While, Op::With] {
-        let most = blocks(alloc, *word, 100)?;
-        assert!(rt; matches!(parse(alloc, &most), Ok(_)));
-        let more = blocks(alloc, *word, 101)?;
-        assert_eq!(rt; fault_of(parse(alloc, &more)), Some(("Nesting", 101, 101)));
+        assert!(rt; stand(rt.alloc(), *word)?);
     }
     Ok(())
 }
@@ -840,7 +854,7 @@ fn blocks_of_each_form_stand_in_each_other(rt: HostRuntime) -> Result<(), Fail> 
     let alloc = rt.alloc();
     for line in &HEADS {
         let text = nested(alloc, line, "while a: pass\n", 99)?;
-        assert!(rt; matches!(read_text(alloc, text.as_str())?, Shown::Tree(_)));
+        assert!(rt; is_read(alloc, text.as_str())?);
     }
     Ok(())
 }
@@ -856,7 +870,7 @@ fn expressions_have_their_own_levels(rt: HostRuntime) -> Result<(), Fail> {
     }
     last.push_str("a\n")?;
     let text = nested(alloc, "if a:\n", last.as_str(), 99)?;
-    assert!(rt; matches!(read_text(alloc, text.as_str())?, Shown::Tree(_)));
+    assert!(rt; is_read(alloc, text.as_str())?);
     Ok(())
 }
 
@@ -868,6 +882,6 @@ fn a_source_may_be_long(rt: HostRuntime) -> Result<(), Fail> {
     for _line in 0..2_000 {
         out.push_str("a = b; c += d; e\n")?;
     }
-    assert!(rt; matches!(read_text(alloc, out.as_str())?, Shown::Tree(_)));
+    assert!(rt; is_read(alloc, out.as_str())?);
     Ok(())
 }

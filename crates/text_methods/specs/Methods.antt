@@ -7,10 +7,10 @@ use Rattle.call_products.specs.Arguments.{has_none, sole, pair, sole_text}
 use Rattle.call_products.specs.Elements.{keys_of}
 use Rattle.call_products.specs.Products.{plain, failed, wrong, refs_from}
 use Rattle.call_products.specs.declared.product.Product.{Product}
-use Rattle.py_ops.specs.Compare.{text_of}
-use Rattle.py_operands.specs.Faults.{not_iterable}
-use Rattle.py_kinds.specs.Builtins.{text_method_name}
-use Rattle.py_kinds.specs.Kinds.{kind_name}
+use Rattle.call_products.specs.py_ops.Compare.{text_of}
+use Rattle.call_products.specs.py_operands.Faults.{not_iterable}
+use Rattle.call_products.specs.py_kinds.Builtins.{text_method_name}
+use Rattle.call_products.specs.py_kinds.Kinds.{kind_name}
 use Rattle.py_values.specs.Limits.{most_elements}
 use Rattle.py_values.specs.declared.builtin.TextMethod.{TextMethod}
 use Rattle.py_values.specs.declared.builtin.TextMethod.TheVariants as method

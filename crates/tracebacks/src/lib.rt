@@ -24,6 +24,8 @@
 //! Time.
 #![tactic(auto)]
 
+pub use py_machine::{New, World, heap, make, take_printed};
+
 mod faults;
 mod frames;
 mod messages;

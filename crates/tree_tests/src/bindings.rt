@@ -1,5 +1,5 @@
 use py_tree::{
-    Branch, Expr, ExprKind, Module, Param, Pos, Single, SingleKind, SrcText, Stmt, StmtKind,
+    Bindings, Branch, Expr, ExprKind, Param, Pos, Single, SingleKind, SrcText, Stmt, StmtKind,
     Target, Yield, bindings_of,
 };
 use seq::OutOfMemory;
@@ -19,88 +19,113 @@ fn number(alloc: Global) -> Result<Rc<Expr>, OutOfMemory> {
 }
 
 fn single(alloc: Global, name: char) -> Result<Single, OutOfMemory> {
-    Ok(Single {
-        at: AT,
-        kind: SingleKind::Name(text(alloc, name)?),
-    })
+    let kind = SingleKind::Name(text(alloc, name)?);
+    Ok(Single { at: AT, kind })
+}
+
+/// The statements, and one more.
+fn followed(stmts: Vec<Stmt>, kind: StmtKind) -> Result<Vec<Stmt>, OutOfMemory> {
+    let mut stmts = stmts;
+    stmts.push(Stmt { at: AT, kind })?;
+    Ok(stmts)
 }
 
 fn block(alloc: Global, kind: StmtKind) -> Result<Rc<Vec<Stmt>>, OutOfMemory> {
-    let mut stmts = Vec::new(alloc);
-    stmts.push(Stmt { at: AT, kind })?;
+    let stmts = followed(Vec::new(alloc), kind)?;
     Ok(Rc::new(alloc, stmts)?)
 }
 
-fn assigned(alloc: Global, name: char) -> Result<StmtKind, OutOfMemory> {
+/// `global g`
+fn declaration(alloc: Global) -> Result<StmtKind, OutOfMemory> {
+    let mut names = Vec::new(alloc);
+    names.push(text(alloc, 'g')?)?;
+    Ok(StmtKind::Global(Rc::new(alloc, names)?))
+}
+
+/// `name = 1`
+fn assignment(alloc: Global, name: char) -> Result<StmtKind, OutOfMemory> {
     let mut targets = Vec::new(alloc);
     targets.push(Target::Single(single(alloc, name)?))?;
     Ok(StmtKind::Assign(Rc::new(alloc, targets)?, number(alloc)?))
 }
 
-// def f(p): global g; g = 1; if 1: a = 1 / elif.. else: del b; yield; for c in 1: p = 1
-fn body(alloc: Global) -> Result<Module, OutOfMemory> {
-    let mut declared = Vec::new(alloc);
-    declared.push(text(alloc, 'g')?)?;
-    let mut branches = Vec::new(alloc);
-    branches.push(Branch {
+/// `if 1: a = 1`
+fn branches(alloc: Global) -> Result<Rc<Vec<Branch>>, OutOfMemory> {
+    let condition = number(alloc)?;
+    let body = block(alloc, assignment(alloc, 'a')?)?;
+    let mut all = Vec::new(alloc);
+    all.push(Branch {
         at: AT,
-        condition: number(alloc)?,
-        body: block(alloc, assigned(alloc, 'a')?)?,
+        condition,
+        body,
     })?;
+    Ok(Rc::new(alloc, all)?)
+}
+
+/// `if 1: a = 1`, `else: del b`
+fn choice(alloc: Global) -> Result<StmtKind, OutOfMemory> {
+    let all = branches(alloc)?;
     let other = block(alloc, StmtKind::Del(single(alloc, 'b')?))?;
-    let looped = block(alloc, assigned(alloc, 'p')?)?;
-    let mut stmts = Vec::new(alloc);
-    stmts.push(Stmt {
+    Ok(StmtKind::If(all, other))
+}
+
+/// `yield`
+fn pause() -> StmtKind {
+    StmtKind::Yield(Yield {
         at: AT,
-        kind: StmtKind::Global(Rc::new(alloc, declared)?),
-    })?;
-    stmts.push(Stmt {
-        at: AT,
-        kind: assigned(alloc, 'g')?,
-    })?;
-    stmts.push(Stmt {
-        at: AT,
-        kind: StmtKind::If(Rc::new(alloc, branches)?, other),
-    })?;
-    stmts.push(Stmt {
-        at: AT,
-        kind: StmtKind::Yield(Yield {
-            at: AT,
-            value: None,
-        }),
-    })?;
-    let target = Target::Single(single(alloc, 'c')?);
-    stmts.push(Stmt {
-        at: AT,
-        kind: StmtKind::For(target, number(alloc)?, looped),
-    })?;
-    Ok(Module {
-        body: Rc::new(alloc, stmts)?,
+        value: None,
     })
 }
 
-#[test]
-fn a_function_has_its_names(rt: HostRuntime) -> Result<(), Fail> {
-    let alloc = rt.alloc();
-    let mut params = Vec::new(alloc);
-    params.push(Param {
+/// `for c in 1: p = 1`
+fn turns(alloc: Global) -> Result<StmtKind, OutOfMemory> {
+    let target = Target::Single(single(alloc, 'c')?);
+    let items = number(alloc)?;
+    let body = block(alloc, assignment(alloc, 'p')?)?;
+    Ok(StmtKind::For(target, items, body))
+}
+
+fn body(alloc: Global) -> Result<Vec<Stmt>, OutOfMemory> {
+    let stmts = followed(Vec::new(alloc), declaration(alloc)?)?;
+    let stmts = followed(stmts, assignment(alloc, 'g')?)?;
+    let stmts = followed(stmts, choice(alloc)?)?;
+    let stmts = followed(stmts, pause())?;
+    followed(stmts, turns(alloc)?)
+}
+
+/// `p`
+fn params(alloc: Global) -> Result<Vec<Param>, OutOfMemory> {
+    let mut all = Vec::new(alloc);
+    all.push(Param {
         at: AT,
         name: text(alloc, 'p')?,
         annotation: None,
         default: None,
     })?;
-    let module = body(alloc)?;
-    let names = bindings_of(alloc, &params, &module.body)?;
-    let mut locals = Vec::new(alloc);
-    for name in names.locals.items() {
-        locals.extend_from_slice(name.chars())?;
+    Ok(all)
+}
+
+fn bindings(alloc: Global) -> Result<Bindings, OutOfMemory> {
+    let params = params(alloc)?;
+    let body = body(alloc)?;
+    bindings_of(alloc, &params, &body)
+}
+
+/// Whether the names are these, of one character each.
+fn are(names: &[SrcText], chars: &[char]) -> bool {
+    for (name, ch) in names.iter().zip(chars.iter()) {
+        if name.chars() != [*ch].as_slice() {
+            return false;
+        }
     }
-    assert_eq!(rt; locals.as_slice(), ['p', 'a', 'b', 'c'].as_slice());
-    let mut globals = Vec::new(alloc);
-    for name in names.globals.items() {
-        globals.extend_from_slice(name.chars())?;
-    }
-    assert_eq!(rt; globals.as_slice(), ['g'].as_slice());
+    names.len() == chars.len()
+}
+
+#[test]
+fn a_function_has_its_names(rt: HostRuntime) -> Result<(), Fail> {
+    let names = bindings(rt.alloc())?;
+    assert!(rt; are(names.locals.items(), &['p', 'a', 'b', 'c']));
+    assert!(rt; are(names.globals.items(), &['g']));
     assert!(rt; names.yields);
     Ok(())
 }

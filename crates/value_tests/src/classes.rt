@@ -3,9 +3,9 @@
 use crate::objects::class;
 use crate::shown::value_told;
 use crate::spelled::{Tried, characters, copied, count, values};
-use py_kinds::builtins::{builtin_value, first_heap};
-use py_kinds::classes::{is_a, root_of};
-use py_kinds::kinds::class_name;
+use py_calls::py_kinds::builtins::{builtin_value, first_heap};
+use py_calls::py_kinds::classes::{is_a, root_of};
+use py_calls::py_kinds::kinds::class_name;
 use py_values::builtin::EXCEPTIONS;
 use py_values::class::{ClassForm, ClassRef, ExcClass};
 use py_values::heap::Heap;

@@ -2,7 +2,7 @@
 
 use crate::shown::class_by;
 use crate::spelled::{Tried, count, put, taken};
-use py_ops::binary::binary;
+use py_calls::py_ops::binary::binary;
 use py_tree::BinOp;
 use py_values::change::Change;
 use py_values::class::{ClassRef, ExcClass};

@@ -2,7 +2,7 @@
 
 use crate::objects::{builtin_function, function, module};
 use crate::special::{exception, full_dict, nested, nested_exception, own_list, repeated};
-use py_kinds::keys::{Keyed, key};
+use py_calls::py_kinds::keys::{Keyed, key};
 use py_values::dict::Dict;
 use py_values::heap::Heap;
 use py_values::object::Obj;

@@ -2,10 +2,10 @@
 
 use crate::options::words_of;
 use cli_words::{Info, asked_info};
-use std::alloc::Global;
+use std::alloc::{AllocError, Global};
 use std::test::Fail;
 
-fn asked(alloc: Global, line: &str) -> Result<&'static str, Fail> {
+fn asked(alloc: Global, line: &str) -> Result<&'static str, AllocError> {
     let words = words_of(alloc, line)?;
     Ok(match asked_info(&words) {
         None => "",
@@ -58,13 +58,19 @@ const ASKED: [(&str, &str); 40] = [
     ("--ignore=|--generated=1,2|--version", "version"),
 ];
 
-#[test]
-fn the_first_of_faults_and_texts_counts(rt: HostRuntime) -> Result<(), Fail> {
+/// The first row that doesn't hold.
+fn wrong_row(alloc: Global) -> Option<&'static str> {
     for (line, wanted) in &ASKED {
-        let found = asked(rt.alloc(), line)?;
-        assert_eq!(rt; found, *wanted, "at {line}");
+        if asked(alloc, line) != Ok(*wanted) {
+            return Some(*line);
+        }
     }
-    Ok(())
+    None
+}
+
+#[test]
+fn the_first_of_faults_and_texts_counts(rt: HostRuntime) {
+    assert_eq!(rt; wrong_row(rt.alloc()), None);
 }
 
 /// All spellings of options, as the help has them.
@@ -91,15 +97,31 @@ const SPELLED: [&str; 20] = [
     "usage: pytest_run [options] [paths]\n",
 ];
 
+/// The first spelling that the help lacks.
+fn missing(help: &str) -> Option<&'static str> {
+    for spelled in &SPELLED {
+        if !help.contains(*spelled) {
+            return Some(*spelled);
+        }
+    }
+    None
+}
+
+/// The first line that is longer than a terminal.
+fn long_line(text: &str) -> Option<&str> {
+    for line in text.lines() {
+        if line.len() > 80 {
+            return Some(line);
+        }
+    }
+    None
+}
+
 #[test]
 fn texts_tell_each_option(rt: HostRuntime) -> Result<(), Fail> {
     let help = Info::Help.to_string(rt.alloc())?;
-    for spelled in &SPELLED {
-        assert!(rt; help.as_str().contains(*spelled), "{spelled}");
-    }
-    for line in help.as_str().lines() {
-        assert!(rt; line.len() <= 80, "{line}");
-    }
+    assert_eq!(rt; missing(help.as_str()), None);
+    assert_eq!(rt; long_line(help.as_str()), None);
     assert!(rt; help.as_str().ends_with('\n'));
     let version = Info::Version.to_string(rt.alloc())?;
     assert_eq!(rt; version.as_str(), "pytest_run 0.1.0\n");

@@ -1,62 +1,108 @@
 //! Expected values are pytest's: its documentation ("Working with custom markers", "Using -k expr to select tests").
 
 use crate::options::words_of;
-use cli_words::read_words;
-use mark_expr::PyName;
+use cli_words::{Options, read_words};
+use mark_expr::{OutOfMemory, PyName};
 use selection::{asks_for_unbuilt, is_selected, read_exprs};
-use std::alloc::Global;
+use std::alloc::{AllocError, Global};
 use std::test::Fail;
 
-/// The text of the fault of these expressions, or nothing.
-fn fault_of(alloc: Global, line: &str) -> Result<String, Fail> {
-    let words = words_of(alloc, line)?;
-    let options = read_words(alloc, &words).map_err(|_| "words refused")?;
-    match read_exprs(alloc, &options) {
+/// Words, with `|` between them, and the text of the fault of their expressions.
+const FAULTS: [(&str, &str); 11] = [
+    ("", ""),
+    ("-k|(", "wrong expression in -k at column 2"),
+    ("-m|(", "wrong expression in -m at column 2"),
+    ("-m|(|-k|a b", "wrong expression in -k at column 3"),
+    ("-k|a|-m|b or", "wrong expression in -m at column 5"),
+    ("-k|é", "wrong expression in -k at column 1"),
+    ("-k| \t ", ""),
+    ("-k= |-m|\t", ""),
+    ("-k|\n", "wrong expression in -k at column 1"),
+    ("-k|(|-k|a", ""),
+    ("-k|a and not (b or c)|-m|slow", ""),
+];
+
+/// The text of the fault of the expressions of options, or nothing.
+fn fault_text(alloc: Global, options: &Options) -> Result<String, AllocError> {
+    match read_exprs(alloc, options) {
         Ok(_) => Ok(String::new(alloc)),
-        Err(fault) => Ok(fault.to_string(alloc)?),
+        Err(fault) => fault.to_string(alloc),
     }
+}
+
+/// The text of the fault of these expressions, or nothing.
+fn fault_of(alloc: Global, line: &str) -> Result<String, AllocError> {
+    let words = words_of(alloc, line)?;
+    match read_words(alloc, &words) {
+        Ok(options) => fault_text(alloc, &options),
+        Err(_) => String::from_str(alloc, "words refused"),
+    }
+}
+
+/// What is told of the first row that doesn't hold.
+fn wrong_fault(alloc: Global) -> Result<String, AllocError> {
+    for (line, wanted) in &FAULTS {
+        let found = fault_of(alloc, line)?;
+        if found.as_str() != *wanted {
+            return format!(in alloc; "{line}: {found}");
+        }
+    }
+    Ok(String::new(alloc))
+}
+
+/// The text of the fault of an option whose expression opens one parenthesis more than a hundred.
+fn deep_fault(alloc: Global, option: &str) -> Result<String, AllocError> {
+    let mut line = String::from_str(alloc, option)?;
+    for _ in 0..101 {
+        line.push('(')?;
+    }
+    fault_of(alloc, line.as_str())
 }
 
 #[test]
 fn faults_name_their_option(rt: HostRuntime) -> Result<(), Fail> {
-    let cases = [
-        ("", ""),
-        ("-k|(", "wrong expression in -k at column 2"),
-        ("-m|(", "wrong expression in -m at column 2"),
-        ("-m|(|-k|a b", "wrong expression in -k at column 3"),
-        ("-k|a|-m|b or", "wrong expression in -m at column 5"),
-        ("-k|é", "wrong expression in -k at column 1"),
-        ("-k| \t ", ""),
-        ("-k= |-m|\t", ""),
-        ("-k|\n", "wrong expression in -k at column 1"),
-        ("-k|(|-k|a", ""),
-        ("-k|a and not (b or c)|-m|slow", ""),
-    ];
-    for (line, wanted) in cases {
-        let found = fault_of(rt.alloc(), line)?;
-        assert_eq!(rt; found.as_str(), wanted, "at {line}");
-    }
-    Ok(())
-}
-
-#[test]
-fn deep_expressions_are_told(rt: HostRuntime) -> Result<(), Fail> {
     let alloc = rt.alloc();
-    for (option, wanted) in [
-        ("-k", "expression in -k too deep"),
-        ("-m", "expression in -m too deep"),
-    ] {
-        let mut line = String::from_str(alloc, option)?;
-        for _ in 0..101 {
-            line.push('(')?;
-        }
-        let found = fault_of(alloc, line.as_str())?;
-        assert_eq!(rt; found.as_str(), wanted);
-    }
+    assert_eq!(rt; wrong_fault(alloc)?.as_str(), "");
+    assert_eq!(rt;
+        deep_fault(alloc, "-k")?.as_str(),
+        "expression in -k too deep"
+    );
+    assert_eq!(rt;
+        deep_fault(alloc, "-m")?.as_str(),
+        "expression in -m too deep"
+    );
     Ok(())
 }
 
-fn names_of(alloc: Global, line: &str) -> Result<Vec<PyName>, Fail> {
+/// Words, with `|` between them, the names of an item and its marks, and whether it is selected.
+const SELECTED: [(&str, &str, &str, bool); 19] = [
+    ("", "test_a.py test_c", "", true),
+    ("-k|not (slow or B) and c", "test_a.py test_c", "", true),
+    (
+        "-k|not (slow or B) and c",
+        "test_a.py test_Slow_c",
+        "",
+        false,
+    ),
+    ("-k|not (slow or B) and c", "test_a.py test_bc", "", false),
+    ("-k|not (slow or B) and c", "test_a.py test_d", "", false),
+    ("-k|SLOW", "test_a.py test_c slow", "slow", true),
+    ("-k|A.PY", "test_a.py test_c", "", true),
+    ("-k| ", "test_a.py test_c", "", true),
+    ("-m|nope", "test_a.py test_c", "", false),
+    ("-m|not nope", "test_a.py test_c", "", true),
+    ("-m|slow", "test_a.py test_slow", "", false),
+    ("-m|slow", "test_a.py test_c slow", "slow", true),
+    ("-m|slo", "test_a.py test_c slow", "slow", false),
+    ("-m|SLOW", "test_a.py test_c slow", "slow", false),
+    ("-m|\t", "test_a.py test_c", "", true),
+    ("-k|c|-m|slow", "test_a.py test_c slow", "slow", true),
+    ("-k|c|-m|not slow", "test_a.py test_c slow", "slow", false),
+    ("-k|d|-m|slow", "test_a.py test_c slow", "slow", false),
+    ("-m|web and db", "test_a.py test_c web db", "web db", true),
+];
+
+fn names_of(alloc: Global, line: &str) -> Result<Vec<PyName>, OutOfMemory> {
     let mut names = Vec::new(alloc);
     for name in line.split_whitespace() {
         names.push(PyName::from_str(alloc, name)?)?;
@@ -64,68 +110,83 @@ fn names_of(alloc: Global, line: &str) -> Result<Vec<PyName>, Fail> {
     Ok(names)
 }
 
-/// Whether words select the item of these names and marks.
-fn selects(alloc: Global, line: &str, names: &str, marks: &str) -> Result<bool, Fail> {
+/// Whether options select the item of these names and marks, where their expressions are read.
+fn selects_by(
+    alloc: Global,
+    options: &Options,
+    names: &[PyName],
+    marks: &[PyName],
+) -> Option<bool> {
+    match read_exprs(alloc, options) {
+        Ok(exprs) => Some(is_selected(&exprs, names, marks)),
+        Err(_) => None,
+    }
+}
+
+/// Whether words select the item of these names and marks, where they are read.
+fn selects(
+    alloc: Global,
+    line: &str,
+    names: &str,
+    marks: &str,
+) -> Result<Option<bool>, OutOfMemory> {
     let words = words_of(alloc, line)?;
-    let options = read_words(alloc, &words).map_err(|_| "words refused")?;
-    let exprs = read_exprs(alloc, &options).map_err(|_| "expressions refused")?;
     let names = names_of(alloc, names)?;
     let marks = names_of(alloc, marks)?;
-    Ok(is_selected(&exprs, names.as_slice(), marks.as_slice()))
+    Ok(match read_words(alloc, &words) {
+        Ok(options) => selects_by(alloc, &options, &names, &marks),
+        Err(_) => None,
+    })
+}
+
+/// The first row that doesn't hold.
+fn wrong_selection(alloc: Global) -> Option<(&'static str, &'static str)> {
+    for (line, names, marks, wanted) in &SELECTED {
+        if selects(alloc, line, names, marks) != Ok(Some(*wanted)) {
+            return Some((*line, *names));
+        }
+    }
+    None
 }
 
 #[test]
-fn both_options_select(rt: HostRuntime) -> Result<(), Fail> {
-    let cases = [
-        ("", "test_a.py test_c", "", true),
-        ("-k|not (slow or B) and c", "test_a.py test_c", "", true),
-        (
-            "-k|not (slow or B) and c",
-            "test_a.py test_Slow_c",
-            "",
-            false,
-        ),
-        ("-k|not (slow or B) and c", "test_a.py test_bc", "", false),
-        ("-k|not (slow or B) and c", "test_a.py test_d", "", false),
-        ("-k|SLOW", "test_a.py test_c slow", "slow", true),
-        ("-k|A.PY", "test_a.py test_c", "", true),
-        ("-k| ", "test_a.py test_c", "", true),
-        ("-m|nope", "test_a.py test_c", "", false),
-        ("-m|not nope", "test_a.py test_c", "", true),
-        ("-m|slow", "test_a.py test_slow", "", false),
-        ("-m|slow", "test_a.py test_c slow", "slow", true),
-        ("-m|slo", "test_a.py test_c slow", "slow", false),
-        ("-m|SLOW", "test_a.py test_c slow", "slow", false),
-        ("-m|\t", "test_a.py test_c", "", true),
-        ("-k|c|-m|slow", "test_a.py test_c slow", "slow", true),
-        ("-k|c|-m|not slow", "test_a.py test_c slow", "slow", false),
-        ("-k|d|-m|slow", "test_a.py test_c slow", "slow", false),
-        ("-m|web and db", "test_a.py test_c web db", "web db", true),
-    ];
-    for (line, names, marks, wanted) in cases {
-        let found = selects(rt.alloc(), line, names, marks)?;
-        assert_eq!(rt; found, wanted, "{line} at {names}");
+fn both_options_select(rt: HostRuntime) {
+    assert_eq!(rt; wrong_selection(rt.alloc()), None);
+}
+
+/// Words, with `|` between them, and whether they ask for what isn't built.
+const UNBUILT: [(&str, bool); 9] = [
+    ("", false),
+    ("-k|a|-m|b|-x|--tb=no|-v|--co|--ignore=c", false),
+    ("--setup-show", false),
+    ("-n2", true),
+    ("-n0", false),
+    ("-n2|--dist=no", false),
+    ("-n2|--co", true),
+    ("--dist=loadfile", false),
+    ("--generated=1,4", true),
+];
+
+/// Whether words ask for what isn't built, where they are read.
+fn is_unbuilt(alloc: Global, line: &str) -> Result<Option<bool>, AllocError> {
+    let words = words_of(alloc, line)?;
+    Ok(match read_words(alloc, &words) {
+        Ok(options) => Some(asks_for_unbuilt(&options)),
+        Err(_) => None,
+    })
+}
+
+/// The first row that doesn't hold.
+fn wrong_unbuilt(alloc: Global) -> Option<&'static str> {
+    for (line, wanted) in &UNBUILT {
+        if is_unbuilt(alloc, line) != Ok(Some(*wanted)) {
+            return Some(*line);
+        }
     }
-    Ok(())
+    None
 }
 
 #[test]
-fn what_is_not_built_is_told(rt: HostRuntime) -> Result<(), Fail> {
-    let cases = [
-        ("", false),
-        ("-k|a|-m|b|-x|--tb=no|-v|--co|--ignore=c", false),
-        ("--setup-show", false),
-        ("-n2", true),
-        ("-n0", false),
-        ("-n2|--dist=no", false),
-        ("-n2|--co", true),
-        ("--dist=loadfile", false),
-        ("--generated=1,4", true),
-    ];
-    for (line, wanted) in cases {
-        let words = words_of(rt.alloc(), line)?;
-        let options = read_words(rt.alloc(), &words).map_err(|_| "words refused")?;
-        assert_eq!(rt; asks_for_unbuilt(&options), wanted, "at {line}");
-    }
-    Ok(())
+fn what_is_not_built_is_told(rt: HostRuntime) {
+    assert_eq!(rt; wrong_unbuilt(rt.alloc()), None);
 }

@@ -53,76 +53,76 @@ show_pairs-loop-i-preserved t c =
           c.loop-i.invariant.last c.loop-i.invariant.pair c.in_ok-next.ensures c.word_at.ensures c.in_ok-set_pair.ensures;
     }
 
-pub show_part-returns-in_ok-args-in-Call : goal.show_part-returns-in_ok-args-in-Call
-show_part-returns-in_ok-args-in-Call t c =
+pub show_call-returns : goal.show_call-returns
+show_call-returns t c =
     let e = c.args.e.now in
     let heap = c.args.heap.now in
     let kept = c.args.kept.now in
     let n = c.args.n in
-    let next = c.in_ok-next-in-Call.next in
-    let behind = c.in_ok-place_behind-in-Call.field-0 in
-    let callee = c.in_ok-callee-in-Call.callee in
-    let given = c.in_ok-args-in-Call.args in
-    let es' = c.deref-in-Call-4.result.now in
+    let next = c.in_ok-next.next in
+    let behind = c.in_ok-place_behind.field-0 in
+    let callee = c.in_ok-callee.callee in
+    let given = c.in_ok-args.args in
+    let es' = c.deref-4.result.now in
     IfOk-weaker c.call_shows.result (λ (s : Shows). s ≡ call_with heap kept n callee given) (λ (s : Shows). s ≡ show_part heap kept n (tree e))
-    (λ s h. call_shown heap kept n e.at e.kind s c.in-Call.f c.in-Call.es c.in-Call.names callee given next behind c.in-Call.is c.in_ok-next-in-Call.ensures
-    (c.in_ok-callee-in-Call.ensures ∙ ap (λ (x : Expr). show_part heap kept next (tree x)) c.deref-in-Call.ensures)
-    (c.in_ok-place_behind-in-Call.ensures ∙ ap (λ (x : Expr). next + kept_count (tree x)) c.deref-in-Call-2.ensures)
-    (c.in_ok-args-in-Call.ensures
-    ∙ ap (λ (xs : List (Option ArgName)). joined_shows (codes ", ") (named_shows xs (show_all heap kept behind (trees es')))) (c.deref-in-Call-6.ensures.value ∙ ap (λ (v : Vec (Option ArgName) Global). v.items) c.deref-in-Call-5.ensures)
-    ∙ ap (λ (xs : List (Rc Expr Global)). joined_shows (codes ", ") (named_shows c.in-Call.names.value.items (show_all heap kept behind (trees xs)))) (c.deref-in-Call-4.ensures.value ∙ ap (λ (v : Vec (Rc Expr Global) Global). v.items) c.deref-in-Call-3.ensures))
+    (λ s h. call_shown heap kept n e.at e.kind s c.args.f.now c.args.es.now c.args.names.now callee given next behind c.requires c.in_ok-next.ensures
+    (c.in_ok-callee.ensures ∙ ap (λ (x : Expr). show_part heap kept next (tree x)) c.deref.ensures)
+    (c.in_ok-place_behind.ensures ∙ ap (λ (x : Expr). next + kept_count (tree x)) c.deref-2.ensures)
+    (c.in_ok-args.ensures
+    ∙ ap (λ (xs : List (Option ArgName)). joined_shows (codes ", ") (named_shows xs (show_all heap kept behind (trees es')))) (c.deref-6.ensures.value ∙ ap (λ (v : Vec (Option ArgName) Global). v.items) c.deref-5.ensures)
+    ∙ ap (λ (xs : List (Rc Expr Global)). joined_shows (codes ", ") (named_shows c.args.names.now.value.items (show_all heap kept behind (trees xs)))) (c.deref-4.ensures.value ∙ ap (λ (v : Vec (Rc Expr Global) Global). v.items) c.deref-3.ensures))
     h)
     c.call_shows.ensures
 
-pub show_part-returns-in_ok-place_behind-in-Compare : goal.show_part-returns-in_ok-place_behind-in-Compare
-show_part-returns-in_ok-place_behind-in-Compare t c =
+pub show_compare-returns : goal.show_compare-returns
+show_compare-returns t c =
     let e = c.args.e.now in
     let heap = c.args.heap.now in
     let kept = c.args.kept.now in
     let n = c.args.n in
-    let next = c.in_ok-place_behind-in-Compare.field-0 in
-    let first = c.in_ok-first-in-Compare.first in
-    let ops' = c.deref-in-Compare-4.result.now in
-    let es' = c.deref-in-Compare-6.result.now in
+    let next = c.in_ok-place_behind.field-0 in
+    let first = c.in_ok-first.first in
+    let ops' = c.deref-4.result.now in
+    let es' = c.deref-6.result.now in
     IfOk-weaker c.show_pairs.result (λ (s : Shows). s ≡ last_pair heap kept next first ops' (trees es')) (λ (s : Shows). s ≡ show_part heap kept n (tree e))
-    (λ s h. compare_shown heap kept n e.at e.kind s c.in-Compare.a c.in-Compare.es first next
-    (c.in_ok-first-in-Compare.ensures ∙ ap (λ (x : Expr). show_part heap kept n (tree x)) c.deref-in-Compare.ensures)
-    (c.in_ok-place_behind-in-Compare.ensures ∙ ap (λ (x : Expr). n + kept_count (tree x)) c.deref-in-Compare-2.ensures)
-    c.in-Compare.ops c.in-Compare.is
-    (h ∙ ap (λ (xs : List CmpOp). last_pair heap kept next first xs (trees es')) (c.deref-in-Compare-4.ensures.value ∙ ap (λ (v : Vec CmpOp Global). v.items) c.deref-in-Compare-3.ensures)
-    ∙ ap (λ (xs : List (Rc Expr Global)). last_pair heap kept next first c.in-Compare.ops.value.items (trees xs)) (c.deref-in-Compare-6.ensures.value ∙ ap (λ (v : Vec (Rc Expr Global) Global). v.items) c.deref-in-Compare-5.ensures)))
+    (λ s h. compare_shown heap kept n e.at e.kind s c.args.a.now c.args.es.now first next
+    (c.in_ok-first.ensures ∙ ap (λ (x : Expr). show_part heap kept n (tree x)) c.deref.ensures)
+    (c.in_ok-place_behind.ensures ∙ ap (λ (x : Expr). n + kept_count (tree x)) c.deref-2.ensures)
+    c.args.ops.now c.requires
+    (h ∙ ap (λ (xs : List CmpOp). last_pair heap kept next first xs (trees es')) (c.deref-4.ensures.value ∙ ap (λ (v : Vec CmpOp Global). v.items) c.deref-3.ensures)
+    ∙ ap (λ (xs : List (Rc Expr Global)). last_pair heap kept next first c.args.ops.now.value.items (trees xs)) (c.deref-6.ensures.value ∙ ap (λ (v : Vec (Rc Expr Global) Global). v.items) c.deref-5.ensures)))
     c.show_pairs.ensures
 
-pub show_part-returns-in_ok-place_behind-in-And : goal.show_part-returns-in_ok-place_behind-in-And
-show_part-returns-in_ok-place_behind-in-And t c =
+pub show_and-returns : goal.show_and-returns
+show_and-returns t c =
     let e = c.args.e.now in
     let heap = c.args.heap.now in
     let kept = c.args.kept.now in
     let n = c.args.n in
-    let next = c.in_ok-place_behind-in-And.field-0 in
-    let first = c.in_ok-first-in-And.first in
-    let es' = c.deref-in-And-4.result.now in
+    let next = c.in_ok-place_behind.field-0 in
+    let first = c.in_ok-first.first in
+    let es' = c.deref-4.result.now in
     IfOk-weaker c.show_others.result (λ (s : Shows). s ≡ in_parens (joined_shows (codes " and ") (first ∷ show_evaluated heap kept next (trees es')))) (λ (s : Shows). s ≡ show_part heap kept n (tree e))
-    (λ s h. and_shown heap kept n e.at e.kind s c.in-And.a c.in-And.es first next
-    (c.in_ok-first-in-And.ensures ∙ ap (λ (x : Expr). show_part heap kept n (tree x)) c.deref-in-And.ensures)
-    (c.in_ok-place_behind-in-And.ensures ∙ ap (λ (x : Expr). n + kept_count (tree x)) c.deref-in-And-2.ensures)
-    c.in-And.is
-    (h ∙ ap (λ (xs : List (Rc Expr Global)). in_parens (joined_shows (codes " and ") (first ∷ show_evaluated heap kept next (trees xs)))) (c.deref-in-And-4.ensures.value ∙ ap (λ (v : Vec (Rc Expr Global) Global). v.items) c.deref-in-And-3.ensures)))
+    (λ s h. and_shown heap kept n e.at e.kind s c.args.a.now c.args.es.now first next
+    (c.in_ok-first.ensures ∙ ap (λ (x : Expr). show_part heap kept n (tree x)) c.deref.ensures)
+    (c.in_ok-place_behind.ensures ∙ ap (λ (x : Expr). n + kept_count (tree x)) c.deref-2.ensures)
+    c.requires
+    (h ∙ ap (λ (xs : List (Rc Expr Global)). in_parens (joined_shows (codes " and ") (first ∷ show_evaluated heap kept next (trees xs)))) (c.deref-4.ensures.value ∙ ap (λ (v : Vec (Rc Expr Global) Global). v.items) c.deref-3.ensures)))
     c.show_others.ensures
 
-pub show_part-returns-in_ok-place_behind-in-Or : goal.show_part-returns-in_ok-place_behind-in-Or
-show_part-returns-in_ok-place_behind-in-Or t c =
+pub show_or-returns : goal.show_or-returns
+show_or-returns t c =
     let e = c.args.e.now in
     let heap = c.args.heap.now in
     let kept = c.args.kept.now in
     let n = c.args.n in
-    let next = c.in_ok-place_behind-in-Or.field-0 in
-    let first = c.in_ok-first-in-Or.first in
-    let es' = c.deref-in-Or-4.result.now in
-    IfOk-weaker c.show_others-in-Or.result (λ (s : Shows). s ≡ in_parens (joined_shows (codes " or ") (first ∷ show_evaluated heap kept next (trees es')))) (λ (s : Shows). s ≡ show_part heap kept n (tree e))
-    (λ s h. or_shown heap kept n e.at e.kind s c.in-Or.a c.in-Or.es first next
-    (c.in_ok-first-in-Or.ensures ∙ ap (λ (x : Expr). show_part heap kept n (tree x)) c.deref-in-Or.ensures)
-    (c.in_ok-place_behind-in-Or.ensures ∙ ap (λ (x : Expr). n + kept_count (tree x)) c.deref-in-Or-2.ensures)
-    c.in-Or.is
-    (h ∙ ap (λ (xs : List (Rc Expr Global)). in_parens (joined_shows (codes " or ") (first ∷ show_evaluated heap kept next (trees xs)))) (c.deref-in-Or-4.ensures.value ∙ ap (λ (v : Vec (Rc Expr Global) Global). v.items) c.deref-in-Or-3.ensures)))
-    c.show_others-in-Or.ensures
+    let next = c.in_ok-place_behind.field-0 in
+    let first = c.in_ok-first.first in
+    let es' = c.deref-4.result.now in
+    IfOk-weaker c.show_others.result (λ (s : Shows). s ≡ in_parens (joined_shows (codes " or ") (first ∷ show_evaluated heap kept next (trees es')))) (λ (s : Shows). s ≡ show_part heap kept n (tree e))
+    (λ s h. or_shown heap kept n e.at e.kind s c.args.a.now c.args.es.now first next
+    (c.in_ok-first.ensures ∙ ap (λ (x : Expr). show_part heap kept n (tree x)) c.deref.ensures)
+    (c.in_ok-place_behind.ensures ∙ ap (λ (x : Expr). n + kept_count (tree x)) c.deref-2.ensures)
+    c.requires
+    (h ∙ ap (λ (xs : List (Rc Expr Global)). in_parens (joined_shows (codes " or ") (first ∷ show_evaluated heap kept next (trees xs)))) (c.deref-4.ensures.value ∙ ap (λ (v : Vec (Rc Expr Global) Global). v.items) c.deref-3.ensures)))
+    c.show_others.ensures

@@ -1,7 +1,7 @@
 use Rattle.std.proofs.Common.{◌≡◌, take}
 use Rattle.py_tree.specs.Statements.{parameters}
-use Rattle.core_meaning.specs.Statements.{written as core_written}
-use Rattle.source_meaning.specs.Statements.{written}
+use Rattle.lower_law.specs.core_meaning.Statements.{written as core_written}
+use Rattle.lower_law.specs.source_meaning.Statements.{written}
 use Rattle.assert_rewrite.proofs.parameters.core_params.Given as goal
 
 abbrev pub invariant-loop-param : goal.invariant-loop-param

@@ -1,7 +1,7 @@
 use Rattle.std.proofs.Common.{◌≡◌, ◌∙◌, IfOk, sym, ap, subst}
-use Rattle.source_meaning.specs.Meaning.{SourceWorld}
+use Rattle.py_machine.specs.source_meaning.Meaning.{SourceWorld}
 use Rattle.fixture_calls.specs.Asking.{finalizers_taken}
-use Rattle.runner_values.specs.Requests.{request_closed}
+use Rattle.py_machine.specs.runner_values.Requests.{request_closed}
 use Rattle.fixture_calls.proofs.Finalizers.{closed_twice, taken_behind_closing}
 use Rattle.fixture_calls.proofs.requests.close.Goals as goal
 

@@ -2,7 +2,7 @@ use Rattle.std.proofs.Common.{◌≡◌, ◌∙◌, Option, List, Some, None, sy
 use Rattle.py_values.specs.declared.value.Value.{Value}
 use Rattle.py_world.specs.World.{world_with_heap}
 use Rattle.fixture_calls.specs.Asking.{finalizers_taken, spent_request}
-use Rattle.runner_values.specs.Requests.{finalizer_taken, finalizers_of, request_changed}
+use Rattle.py_machine.specs.runner_values.Requests.{finalizer_taken, finalizers_of, request_changed}
 use Rattle.fixture_calls.proofs.Finalizers.{taken_closed, taken_left, taken_spent, spent_behind, none_behind}
 use Rattle.fixture_calls.proofs.requests.take_all.Goals as goal
 

@@ -1,7 +1,7 @@
 use Rattle.std.proofs.Common.{◌≡◌, ◌++◌, length, reverse}
 use Rattle.py_world.specs.World.{world_with_heap}
 use Rattle.fixture_calls.specs.Asking.{spent_request}
-use Rattle.runner_values.specs.Requests.{finalizers_of, request_changed, request_closed}
+use Rattle.py_machine.specs.runner_values.Requests.{finalizers_of, request_changed, request_closed}
 use Rattle.fixture_calls.proofs.requests.take_all.Given as goal
 
 abbrev pub invariant-taking : goal.invariant-taking

@@ -1,5 +1,5 @@
 use Rattle.std.proofs.Common.{◌≡◌, [], drop}
-use Rattle.py_world.specs.Arguments.{fitted}
+use Rattle.machine_state.specs.py_world.Arguments.{fitted}
 use Rattle.machine_call.proofs.arguments.fit.Given as goal
 
 abbrev pub invariant-loop-i : goal.invariant-loop-i

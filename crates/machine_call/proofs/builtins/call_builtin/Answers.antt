@@ -2,7 +2,7 @@ use Rattle.std.proofs.Common.{◌≡◌, ◌-◌, ◌++◌, ◌∙◌, ap, sym, 
 use Rattle.py_values.specs.Ends.{cost_of}
 use Rattle.call_products.specs.Products.{product_within}
 use Rattle.py_calls.specs.Calls.{called_of, printed_within}
-use Rattle.py_world.specs.World.{Locals}
+use Rattle.machine_state.specs.py_world.World.{Locals}
 use Rattle.machine_state.specs.Frames.{todo}
 use Rattle.machine_call.proofs.Calling.{builtin_goes, builtin_stops}
 use Rattle.machine_call.proofs.builtins.call_builtin.Goals as goal

@@ -1,6 +1,6 @@
 use Rattle.std.proofs.Common.{◌≡◌, ◌≤◌}
-use Rattle.py_world.specs.Calls.{invoke}
-use Rattle.core_meaning.specs.Statements.{entry}
+use Rattle.machine_state.specs.py_world.Calls.{invoke}
+use Rattle.machine_state.specs.core_meaning.Statements.{entry}
 use Rattle.machine_state.specs.Places.{arguments_in, ends}
 use Rattle.machine_state.specs.Frames.{around_by, state_of}
 use Rattle.machine_call.specs.Depth.{Ready}

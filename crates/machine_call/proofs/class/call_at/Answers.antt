@@ -1,8 +1,8 @@
 use Rattle.std.proofs.Common.{◌≡◌, ◌∙◌, Some, None, refl, ap, sym, subst}
 use Rattle.std.proofs.lemmas.Result.{IfOk-weaker}
 use Rattle.py_values.specs.declared.value.Value.TheVariants as val
-use Rattle.py_world.specs.Calls.{init_of, invoke, new_instance}
-use Rattle.core_meaning.specs.Statements.{entry}
+use Rattle.machine_state.specs.py_world.Calls.{init_of, invoke, new_instance}
+use Rattle.machine_state.specs.core_meaning.Statements.{entry}
 use Rattle.machine_state.specs.Places.{CoreRest, arguments_in, ends}
 use Rattle.machine_state.specs.Frames.{around_by, state_of}
 use Rattle.machine_call.specs.declared.class.Called.{Called}

@@ -3,9 +3,9 @@ use Rattle.std.proofs.lemmas.Result.{IfOk-weaker}
 use Rattle.py_kinds.specs.Kinds.{kind_name}
 use Rattle.py_values.specs.declared.object.Obj.{Obj}
 use Rattle.py_values.specs.declared.value.Value.{Value}
-use Rattle.py_world.specs.World.{with_heap}
-use Rattle.py_world.specs.Calls.{init_called, new_instance, not_callable}
-use Rattle.core_meaning.specs.Statements.{entry}
+use Rattle.machine_state.specs.py_world.World.{with_heap}
+use Rattle.machine_state.specs.py_world.Calls.{init_called, new_instance, not_callable}
+use Rattle.machine_state.specs.core_meaning.Statements.{entry}
 use Rattle.machine_state.specs.declared.machine.Machine.{Machine}
 use Rattle.machine_state.specs.Places.{CoreRest, arguments_in}
 use Rattle.machine_state.specs.Frames.{around_by, state_of}

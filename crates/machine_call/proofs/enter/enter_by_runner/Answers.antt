@@ -1,5 +1,5 @@
 use Rattle.std.proofs.Common.{◌∙◌, ap}
-use Rattle.py_world.specs.World.{state}
+use Rattle.machine_state.specs.py_world.World.{state}
 use Rattle.machine_state.specs.declared.machine.Machine.{Machine}
 use Rattle.machine_state.specs.Frames.{state_of, world_of}
 use Rattle.machine_call.proofs.Entering.{runner_enters}

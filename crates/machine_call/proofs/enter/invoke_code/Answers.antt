@@ -1,10 +1,10 @@
 use Rattle.std.proofs.Common.{◌≡◌, ◌∙◌, List, ap, sym, Some, None}
-use Rattle.py_core.specs.declared.stmt.CoreFn.{CoreFn}
-use Rattle.py_world.specs.World.{Stored}
+use Rattle.machine_state.specs.py_core.declared.stmt.CoreFn.{CoreFn}
+use Rattle.machine_state.specs.py_world.World.{Stored}
 use Rattle.std.specs.Prelude.{slice_get}
 use Rattle.py_kinds.specs.Kinds.{kind_name}
-use Rattle.py_world.specs.Calls.{not_callable}
-use Rattle.py_world.specs.Outcome.{call_end}
+use Rattle.machine_state.specs.py_world.Calls.{not_callable}
+use Rattle.machine_state.specs.py_world.Outcome.{call_end}
 use Rattle.machine_state.specs.Places.{CoreOutcome}
 use Rattle.machine_state.specs.Frames.{around_by, rest_of, state_of, todo}
 use Rattle.machine_call.proofs.Calling.{code_there, code_missing}

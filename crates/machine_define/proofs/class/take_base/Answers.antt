@@ -1,10 +1,10 @@
 use Rattle.std.proofs.Common.{◌≡◌, ◌∙◌, Option, Some, sym}
 use Rattle.std.proofs.lemmas.Result.{IfOk-weaker}
 use Rattle.py_values.specs.declared.value.ObjId.{ObjId}
-use Rattle.py_world.specs.Definitions.{based_on}
+use Rattle.machine_state.specs.py_world.Definitions.{based_on}
 use Rattle.py_kinds.specs.Classes.{is_exc_class}
-use Rattle.py_world.specs.Exceptions.{no_exception}
-use Rattle.py_world.specs.Outcome.{raised_at}
+use Rattle.machine_state.specs.py_world.Exceptions.{no_exception}
+use Rattle.machine_state.specs.py_world.Outcome.{raised_at}
 use Rattle.machine_state.specs.declared.machine.Doing.{Doing}
 use Rattle.machine_state.specs.Definings.{core_class_made}
 use Rattle.machine_state.specs.Places.{CoreRest, CoreState}

@@ -1,9 +1,9 @@
 use Rattle.std.proofs.Common.{◌≡◌, ◌∙◌}
 use Rattle.std.proofs.lemmas.Result.{IfOk-weaker}
-use Rattle.py_world.specs.Definitions.{bad_decorator, define_as}
-use Rattle.py_world.specs.Outcome.{raised_at}
-use Rattle.py_world.specs.Targets.{store_name}
-use Rattle.py_world.specs.World.{with_heap}
+use Rattle.machine_state.specs.py_world.Definitions.{bad_decorator, define_as}
+use Rattle.machine_state.specs.py_world.Outcome.{raised_at}
+use Rattle.machine_state.specs.py_world.Targets.{store_name}
+use Rattle.machine_state.specs.py_world.World.{with_heap}
 use Rattle.machine_state.specs.declared.machine.Doing.{Doing}
 use Rattle.machine_state.specs.Frames.{rest_of, site_now, state_of, todo}
 use Rattle.machine_define.proofs.Decorating.{defined, refused}

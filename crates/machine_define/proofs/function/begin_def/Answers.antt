@@ -1,8 +1,8 @@
 use Rattle.std.proofs.Common.{◌≡◌, ◌∙◌, length}
 use Rattle.std.proofs.lemmas.Result.{IfOk-weaker}
-use Rattle.py_world.specs.Expressions.{arguments}
-use Rattle.core_meaning.specs.Expressions.{parts_of}
-use Rattle.core_meaning.specs.Statements.{define_fn}
+use Rattle.machine_state.specs.py_world.Expressions.{arguments}
+use Rattle.machine_state.specs.core_meaning.Expressions.{parts_of}
+use Rattle.machine_state.specs.core_meaning.Statements.{define_fn}
 use Rattle.machine_state.specs.declared.machine.Doing.{Doing}
 use Rattle.machine_state.specs.Definings.{fn_behind}
 use Rattle.machine_state.specs.Places.{parts_from}

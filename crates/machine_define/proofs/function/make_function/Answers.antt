@@ -6,9 +6,9 @@ use Rattle.py_core.specs.declared.stmt.CoreFn.{CoreFn, out-CoreFn}
 use Rattle.py_core.specs.declared.stmt.CoreParam.{CoreParam}
 use Rattle.py_values.specs.declared.value.Value.TheVariants as val
 use Rattle.py_values.specs.Ends.{id_at}
-use Rattle.py_world.specs.Definitions.{define_as, with_defaults}
-use Rattle.py_world.specs.World.{state}
-use Rattle.core_meaning.specs.Statements.{written}
+use Rattle.machine_state.specs.py_world.Definitions.{define_as, with_defaults}
+use Rattle.machine_state.specs.py_world.World.{state}
+use Rattle.machine_state.specs.core_meaning.Statements.{written}
 use Rattle.machine_state.specs.declared.machine.Doing.{Doing}
 use Rattle.machine_state.specs.Definings.{fn_made}
 use Rattle.machine_state.specs.Frames.{frozen_of, rest_of, site_now, state_of, todo}

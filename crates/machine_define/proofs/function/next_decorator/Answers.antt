@@ -1,7 +1,7 @@
 use Rattle.std.proofs.Common.{◌≡◌, ◌∙◌, List, length, None, Some, ap, sym}
 use Rattle.std.proofs.lemmas.Result.{IfOk-weaker}
-use Rattle.py_world.specs.Expressions.{arguments}
-use Rattle.core_meaning.specs.Expressions.{CorePart}
+use Rattle.machine_state.specs.py_world.Expressions.{arguments}
+use Rattle.machine_state.specs.core_meaning.Expressions.{CorePart}
 use Rattle.machine_state.specs.declared.machine.Doing.{Doing}
 use Rattle.machine_state.specs.Definings.{fn_behind, fn_made}
 use Rattle.machine_state.specs.Places.{parts_from}

@@ -1,6 +1,6 @@
 use Rattle.std.proofs.Common.{List, length, Some, ap, sym}
-use Rattle.py_world.specs.Expressions.{arguments}
-use Rattle.core_meaning.specs.Expressions.{CorePart}
+use Rattle.machine_state.specs.py_world.Expressions.{arguments}
+use Rattle.machine_state.specs.core_meaning.Expressions.{CorePart}
 use Rattle.machine_state.specs.Definings.{fn_made}
 use Rattle.machine_state.specs.Frames.{rest_of, site_now, state_of}
 use Rattle.machine_expr.specs.Parts.{IsNext}

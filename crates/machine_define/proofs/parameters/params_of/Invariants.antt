@@ -1,6 +1,6 @@
 use Rattle.std.proofs.Common.{◌≡◌, ◌++◌, drop}
-use Rattle.py_world.specs.Definitions.{with_defaults}
-use Rattle.core_meaning.specs.Statements.{written}
+use Rattle.machine_state.specs.py_world.Definitions.{with_defaults}
+use Rattle.machine_state.specs.core_meaning.Statements.{written}
 use Rattle.machine_define.proofs.parameters.params_of.Given as goal
 
 abbrev pub invariant-loop-param : goal.invariant-loop-param

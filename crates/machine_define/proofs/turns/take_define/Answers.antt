@@ -1,6 +1,6 @@
 use Rattle.std.proofs.Common.{◌≡◌, ◌∙◌, sym, ap}
 use Rattle.std.proofs.lemmas.Result.{IfOk-weaker}
-use Rattle.py_world.specs.Outcome.{on_value}
+use Rattle.machine_state.specs.py_world.Outcome.{on_value}
 use Rattle.machine_state.specs.declared.frame.End.{End}
 use Rattle.machine_state.specs.declared.machine.Doing.{Doing}
 use Rattle.machine_state.specs.Definings.{on_define}

@@ -1,8 +1,8 @@
 use Rattle.std.proofs.Common.{◌≡◌, ◌∙◌, List, length, sym, ap}
 use Rattle.std.proofs.lemmas.Result.{IfOk-weaker}
 use Rattle.py_values.specs.declared.value.Value.{Value}
-use Rattle.py_world.specs.Expressions.{arguments}
-use Rattle.core_meaning.specs.Statements.{some_part}
+use Rattle.machine_state.specs.py_world.Expressions.{arguments}
+use Rattle.machine_state.specs.core_meaning.Statements.{some_part}
 use Rattle.machine_state.specs.declared.frame.DefineFrame.{DefineFrame}
 use Rattle.machine_state.specs.declared.machine.Doing.{Doing}
 use Rattle.machine_state.specs.Definings.{core_class_behind, fn_behind, fn_made, on_define}

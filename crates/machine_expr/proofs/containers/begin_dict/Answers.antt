@@ -1,8 +1,8 @@
 use Rattle.std.proofs.Common.{Some}
-use Rattle.py_world.specs.Displays.{dict_displayed}
-use Rattle.py_world.specs.Outcome.{costing}
-use Rattle.py_world.specs.Site.{trace_of}
-use Rattle.py_world.specs.World.{heap_of}
+use Rattle.machine_state.specs.py_world.Displays.{dict_displayed}
+use Rattle.machine_state.specs.py_world.Outcome.{costing}
+use Rattle.machine_state.specs.py_world.Site.{trace_of}
+use Rattle.machine_state.specs.py_world.World.{heap_of}
 use Rattle.machine_state.specs.Frames.{rest_of, site_now, state_of}
 use Rattle.machine_expr.specs.Parts.{IsNextPair}
 use Rattle.machine_expr.proofs.Displays.{pairs_begin}

@@ -1,7 +1,7 @@
 use Rattle.std.proofs.Common.{Some}
-use Rattle.py_world.specs.Displays.{displayed}
-use Rattle.py_world.specs.Outcome.{costing}
-use Rattle.py_world.specs.Site.{trace_of}
+use Rattle.machine_state.specs.py_world.Displays.{displayed}
+use Rattle.machine_state.specs.py_world.Outcome.{costing}
+use Rattle.machine_state.specs.py_world.Site.{trace_of}
 use Rattle.machine_state.specs.Frames.{display_of, rest_of, site_now, state_of}
 use Rattle.machine_expr.specs.Parts.{IsNext}
 use Rattle.machine_expr.proofs.Displays.{display_begins}

@@ -1,7 +1,7 @@
 use Rattle.std.proofs.Common.{List, ap, sym, length, Some}
-use Rattle.py_world.specs.Arguments.{arguments_of}
-use Rattle.py_world.specs.Expressions.{call_on}
-use Rattle.core_meaning.specs.Expressions.{CorePart}
+use Rattle.machine_state.specs.py_world.Arguments.{arguments_of}
+use Rattle.machine_state.specs.py_world.Expressions.{call_on}
+use Rattle.machine_state.specs.core_meaning.Expressions.{CorePart}
 use Rattle.machine_state.specs.Frames.{rest_of, site_now, state_of}
 use Rattle.machine_expr.specs.Parts.{IsNext}
 use Rattle.machine_expr.proofs.evaluate.argument.Goals as goal

@@ -1,7 +1,7 @@
 use Rattle.std.proofs.Common.{◌≡◌, ◌∙◌, length}
 use Rattle.std.proofs.lemmas.Result.{IfOk-weaker}
-use Rattle.py_world.specs.Arguments.{arguments_of}
-use Rattle.py_world.specs.Expressions.{call_on}
+use Rattle.machine_state.specs.py_world.Arguments.{arguments_of}
+use Rattle.machine_state.specs.py_world.Expressions.{call_on}
 use Rattle.machine_state.specs.declared.machine.Doing.{Doing}
 use Rattle.machine_state.specs.Places.{ends, parts_from}
 use Rattle.machine_state.specs.Frames.{rest_of, site_now, state_of, todo}

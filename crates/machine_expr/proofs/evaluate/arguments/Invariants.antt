@@ -1,6 +1,6 @@
 use Rattle.std.proofs.Common.{◌≡◌, ◌≤◌, ◌-◌, length, vec_len}
-use Rattle.py_world.specs.Arguments.{arguments_of}
-use Rattle.py_world.specs.Expressions.{call_on}
+use Rattle.machine_state.specs.py_world.Arguments.{arguments_of}
+use Rattle.machine_state.specs.py_world.Expressions.{call_on}
 use Rattle.machine_state.specs.Places.{ends, parts_from}
 use Rattle.machine_state.specs.Frames.{rest_of, site_now, state_of}
 use Rattle.machine_state.specs.Work.{weight_from}

@@ -1,9 +1,9 @@
 use Rattle.std.proofs.Common.{◌≡◌, ◌∙◌, ap, arith}
 use Rattle.std.proofs.lemmas.Result.{IfOk-weaker}
-use Rattle.py_world.specs.Attributes.{attribute_part}
-use Rattle.py_world.specs.Displays.{collected, displayed, dict_part, subscript_part, slice_part}
-use Rattle.core_meaning.specs.Expressions.{eval}
-use Rattle.core_meaning.specs.Statements.{some_part}
+use Rattle.machine_state.specs.py_world.Attributes.{attribute_part}
+use Rattle.machine_state.specs.py_world.Displays.{collected, displayed, dict_part, subscript_part, slice_part}
+use Rattle.machine_state.specs.core_meaning.Expressions.{eval}
+use Rattle.machine_state.specs.core_meaning.Statements.{some_part}
 use Rattle.machine_state.specs.declared.frame.Display.TheVariants.{Tuple, List}
 use Rattle.machine_state.specs.declared.machine.Doing.{Doing}
 use Rattle.machine_state.specs.Places.{parts_from}

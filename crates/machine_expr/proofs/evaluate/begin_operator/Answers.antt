@@ -1,7 +1,7 @@
 use Rattle.std.proofs.Common.{◌≡◌, ◌∙◌, ap}
 use Rattle.std.proofs.lemmas.Result.{IfOk-weaker}
-use Rattle.py_world.specs.Expressions.{unary_part, binary_part, choice_part, kept_part}
-use Rattle.core_meaning.specs.Expressions.{eval}
+use Rattle.machine_state.specs.py_world.Expressions.{unary_part, binary_part, choice_part, kept_part}
+use Rattle.machine_state.specs.core_meaning.Expressions.{eval}
 use Rattle.machine_state.specs.declared.machine.Doing.{Doing}
 use Rattle.machine_state.specs.Frames.{rest_of, site_now, state_of, todo}
 use Rattle.machine_expr.specs.Noting.{with_note}

@@ -1,8 +1,8 @@
 use Rattle.std.proofs.Common.{◌≡◌, arith}
 use Rattle.std.proofs.lemmas.Result.{IfOk-weaker}
-use Rattle.py_world.specs.Arguments.{arguments_of}
-use Rattle.py_world.specs.Expressions.{call_part}
-use Rattle.core_meaning.specs.Expressions.{eval}
+use Rattle.machine_state.specs.py_world.Arguments.{arguments_of}
+use Rattle.machine_state.specs.py_world.Expressions.{call_part}
+use Rattle.machine_state.specs.core_meaning.Expressions.{eval}
 use Rattle.machine_state.specs.declared.machine.Doing.{Doing}
 use Rattle.machine_state.specs.Places.{ends, parts_from}
 use Rattle.machine_state.specs.Frames.{rest_of, site_now, state_of, todo}

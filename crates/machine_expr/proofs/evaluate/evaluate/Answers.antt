@@ -1,5 +1,5 @@
 use Rattle.std.proofs.Common.{◌<◌, arith, sym}
-use Rattle.core_meaning.specs.Expressions.{eval}
+use Rattle.machine_state.specs.core_meaning.Expressions.{eval}
 use Rattle.machine_state.specs.Frames.{rest_of}
 use Rattle.machine_state.specs.Work.{weight_at}
 use Rattle.machine_expr.specs.AtOnce.{IsImmediate}

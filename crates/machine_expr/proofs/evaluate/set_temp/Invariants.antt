@@ -1,5 +1,5 @@
 use Rattle.std.proofs.Common.{◌≡◌, ◌+◌, ◌-◌, vec_len}
-use Rattle.py_world.specs.World.{set_at}
+use Rattle.machine_state.specs.py_world.World.{set_at}
 use Rattle.machine_expr.proofs.evaluate.set_temp.Given as goal
 
 abbrev pub invariant-grow : goal.invariant-grow

@@ -5,9 +5,9 @@ use Rattle.py_core.specs.declared.expr.CoreExpr.{CoreExpr}
 use Rattle.py_ops.specs.Binary.{binary_of}
 use Rattle.py_ops.specs.Compare.{compare_of}
 use Rattle.py_ops.specs.Unary.{unary_of}
-use Rattle.py_world.specs.Expressions.{name_part, unary_part, binary_part, compare_part, not_part}
-use Rattle.py_world.specs.Outcome.{operated}
-use Rattle.core_meaning.specs.Expressions.{eval}
+use Rattle.machine_state.specs.py_world.Expressions.{name_part, unary_part, binary_part, compare_part, not_part}
+use Rattle.machine_state.specs.py_world.Outcome.{operated}
+use Rattle.machine_state.specs.core_meaning.Expressions.{eval}
 use Rattle.machine_state.specs.Places.{parts_from}
 use Rattle.machine_expr.specs.declared.immediate.Immediate.{Immediate}
 use Rattle.machine_expr.specs.AtOnce.{IsImmediate}

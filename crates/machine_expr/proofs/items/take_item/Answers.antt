@@ -1,10 +1,10 @@
 use Rattle.std.proofs.Common.{◌≡◌, ◌∙◌, ap, sym, length}
 use Rattle.std.proofs.lemmas.Result.{IfOk-weaker}
-use Rattle.py_world.specs.Displays.{displayed, dict_displayed}
-use Rattle.py_world.specs.Expressions.{arguments}
-use Rattle.py_world.specs.Outcome.{costing}
-use Rattle.py_world.specs.Site.{trace_of}
-use Rattle.py_world.specs.World.{heap_of}
+use Rattle.machine_state.specs.py_world.Displays.{displayed, dict_displayed}
+use Rattle.machine_state.specs.py_world.Expressions.{arguments}
+use Rattle.machine_state.specs.py_world.Outcome.{costing}
+use Rattle.machine_state.specs.py_world.Site.{trace_of}
+use Rattle.machine_state.specs.py_world.World.{heap_of}
 use Rattle.machine_state.specs.declared.frame.ItemFrame.{ItemFrame}
 use Rattle.machine_state.specs.declared.machine.TurnEnd.{TurnEnd}
 use Rattle.machine_state.specs.Places.{parts_from, ends}

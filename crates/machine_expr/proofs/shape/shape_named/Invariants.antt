@@ -1,5 +1,5 @@
 use Rattle.std.proofs.Common.{◌≡◌, drop}
-use Rattle.py_world.specs.Arguments.{arguments_of}
+use Rattle.machine_state.specs.py_world.Arguments.{arguments_of}
 use Rattle.machine_state.specs.Places.{arguments_in}
 use Rattle.machine_expr.specs.Shapes.{joined_arguments}
 use Rattle.machine_expr.proofs.shape.shape_named.Given as goal

@@ -3,7 +3,7 @@ use Rattle.std.proofs.lemmas.Result.{IfOk-weaker}
 use Rattle.py_kinds.specs.Truth.{truth}
 use Rattle.py_world.specs.Outcome.{if_true}
 use Rattle.py_world.specs.Statements.{branches_on}
-use Rattle.core_meaning.specs.Statements.{block, choice, choices}
+use Rattle.machine_state.specs.core_meaning.Statements.{block, choice, choices}
 use Rattle.machine_state.specs.declared.machine.Doing.{Doing}
 use Rattle.machine_state.specs.Places.{ends}
 use Rattle.machine_state.specs.Frames.{layers_of, rest_of, site_now, state_of, todo}

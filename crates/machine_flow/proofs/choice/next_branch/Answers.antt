@@ -4,7 +4,7 @@ use Rattle.std.specs.declared.alloc.Global.{Global}
 use Rattle.std.specs.declared.vec.Vec.{Vec}
 use Rattle.py_core.specs.declared.stmt.CoreBranch.{CoreBranch}
 use Rattle.py_world.specs.Statements.{branches_on}
-use Rattle.core_meaning.specs.Statements.{CoreChoice, block, choice, choices}
+use Rattle.machine_state.specs.core_meaning.Statements.{CoreChoice, block, choice, choices}
 use Rattle.machine_state.specs.declared.machine.Doing.{Doing}
 use Rattle.machine_state.specs.Places.{ends}
 use Rattle.machine_state.specs.Frames.{layers_of, rest_of, site_now, state_of, todo}

@@ -1,8 +1,8 @@
 use Rattle.std.proofs.Common.{◌≡◌, ◌∙◌}
 use Rattle.std.proofs.lemmas.Result.{IfOk-weaker}
 use Rattle.py_world.specs.Statements.{loop}
-use Rattle.core_meaning.specs.Requests.{TurnOf}
-use Rattle.core_meaning.specs.Expressions.{eval}
+use Rattle.machine_state.specs.core_meaning.Requests.{TurnOf}
+use Rattle.machine_state.specs.core_meaning.Expressions.{eval}
 use Rattle.machine_state.specs.declared.frame.Frame.TheVariants.{Flow}
 use Rattle.machine_state.specs.declared.frame.FlowFrame.TheVariants.{Test}
 use Rattle.machine_state.specs.declared.machine.Doing.{Doing}

@@ -3,8 +3,8 @@ use Rattle.std.proofs.lemmas.Result.{IfOk-weaker}
 use Rattle.py_kinds.specs.Truth.{truth}
 use Rattle.py_world.specs.Outcome.{Next, if_true}
 use Rattle.py_world.specs.Statements.{asked, loop}
-use Rattle.core_meaning.specs.Requests.{TurnOf}
-use Rattle.core_meaning.specs.Expressions.{eval}
+use Rattle.machine_state.specs.core_meaning.Requests.{TurnOf}
+use Rattle.machine_state.specs.core_meaning.Expressions.{eval}
 use Rattle.machine_state.specs.declared.machine.TurnEnd.{TurnEnd}
 use Rattle.machine_state.specs.Places.{ends}
 use Rattle.machine_state.specs.Frames.{ending, rest_of, site_now, state_of}

@@ -1,8 +1,8 @@
 use Rattle.std.proofs.Common.{◌≡◌, ◌∙◌, ◌∷◌}
 use Rattle.std.proofs.lemmas.Result.{IfOk-weaker}
 use Rattle.py_world.specs.Loops.{for_statement}
-use Rattle.core_meaning.specs.Requests.{ForOf}
-use Rattle.core_meaning.specs.Expressions.{eval}
+use Rattle.machine_state.specs.core_meaning.Requests.{ForOf}
+use Rattle.machine_state.specs.core_meaning.Expressions.{eval}
 use Rattle.machine_state.specs.declared.frame.Frame.TheVariants.{Flow}
 use Rattle.machine_state.specs.declared.frame.FlowFrame.TheVariants.{Iterable}
 use Rattle.machine_state.specs.declared.machine.Doing.{Doing}

@@ -3,7 +3,7 @@ use Rattle.std.proofs.lemmas.Result.{IfOk-weaker}
 use Rattle.py_items.specs.Turns.{turn_of}
 use Rattle.py_world.specs.Loops.{for_from}
 use Rattle.py_world.specs.Statements.{asked}
-use Rattle.core_meaning.specs.Requests.{ForOf}
+use Rattle.machine_state.specs.core_meaning.Requests.{ForOf}
 use Rattle.machine_state.specs.declared.machine.TurnEnd.{TurnEnd}
 use Rattle.machine_state.specs.Places.{ends}
 use Rattle.machine_state.specs.Frames.{ending, rest_of, site_now, state_of}

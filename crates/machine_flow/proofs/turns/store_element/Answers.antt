@@ -3,8 +3,8 @@ use Rattle.std.proofs.lemmas.Result.{IfOk-weaker}
 use Rattle.py_core.specs.declared.stmt.CoreTarget.{CoreTarget}
 use Rattle.py_world.specs.Loops.{behind_target}
 use Rattle.py_world.specs.Outcome.{on_next}
-use Rattle.core_meaning.specs.Requests.{ForOf}
-use Rattle.core_meaning.specs.Statements.{block, store}
+use Rattle.machine_state.specs.core_meaning.Requests.{ForOf}
+use Rattle.machine_state.specs.core_meaning.Statements.{block, store}
 use Rattle.machine_state.specs.declared.machine.Doing.{Doing}
 use Rattle.machine_state.specs.Places.{site_of}
 use Rattle.machine_state.specs.Frames.{after, handling_of, outer_of, rest_of, site_now, state_of, todo}

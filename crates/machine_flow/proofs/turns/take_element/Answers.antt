@@ -6,8 +6,8 @@ use Rattle.py_values.specs.Ends.{id_at}
 use Rattle.py_world.specs.Loops.{behind_target, turn_with}
 use Rattle.py_world.specs.Outcome.{on_next}
 use Rattle.py_world.specs.World.{with_heap}
-use Rattle.core_meaning.specs.Requests.{ForOf}
-use Rattle.core_meaning.specs.Statements.{block, store}
+use Rattle.machine_state.specs.core_meaning.Requests.{ForOf}
+use Rattle.machine_state.specs.core_meaning.Statements.{block, store}
 use Rattle.machine_state.specs.declared.machine.Doing.{Doing}
 use Rattle.machine_state.specs.Places.{CoreState}
 use Rattle.machine_state.specs.Frames.{rest_of, site_now, state_of, todo}

@@ -2,8 +2,8 @@ use Rattle.std.proofs.Common.{◌≡◌, ◌∙◌, ℕ, List, [], drop, None, a
 use Rattle.std.proofs.lemmas.Result.{IfOk-weaker}
 use Rattle.std.specs.declared.alloc.Global.{Global}
 use Rattle.std.specs.declared.vec.Vec.{Vec}
-use Rattle.py_world.specs.Imports.{import_end, import_statement, modules_at, prefixes_behind}
-use Rattle.core_meaning.specs.Statements.{core_body}
+use Rattle.machine_state.specs.py_world.Imports.{import_end, import_statement, modules_at, prefixes_behind}
+use Rattle.machine_state.specs.core_meaning.Statements.{core_body}
 use Rattle.machine_state.specs.declared.machine.TurnEnd.{TurnEnd}
 use Rattle.machine_state.specs.Places.{ends}
 use Rattle.machine_state.specs.Frames.{ending, rest_of, site_now, state_of}

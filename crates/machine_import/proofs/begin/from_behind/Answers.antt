@@ -3,9 +3,9 @@ use Rattle.std.proofs.lemmas.Result.{IfOk-weaker}
 use Rattle.std.specs.declared.alloc.Global.{Global}
 use Rattle.std.specs.declared.vec.Vec.{Vec}
 use Rattle.py_values.specs.declared.value.Value.{Value}
-use Rattle.py_world.specs.Imports.{faulty, import_each, modules_at, prefixes_behind}
-use Rattle.py_world.specs.Runs.{load_part}
-use Rattle.core_meaning.specs.Statements.{core_body}
+use Rattle.machine_state.specs.py_world.Imports.{faulty, import_each, modules_at, prefixes_behind}
+use Rattle.machine_state.specs.py_world.Runs.{load_part}
+use Rattle.machine_state.specs.core_meaning.Statements.{core_body}
 use Rattle.machine_state.specs.declared.frame.ModuleFrame.TheVariants as loads
 use Rattle.machine_state.specs.declared.machine.TurnEnd.{TurnEnd}
 use Rattle.machine_state.specs.Definings.{on_module}

@@ -1,6 +1,6 @@
 use Rattle.std.proofs.Common.{◌≡◌, drop}
-use Rattle.py_world.specs.Imports.{import_each}
-use Rattle.core_meaning.specs.Statements.{core_body}
+use Rattle.machine_state.specs.py_world.Imports.{import_each}
+use Rattle.machine_state.specs.core_meaning.Statements.{core_body}
 use Rattle.machine_state.specs.Frames.{rest_of, site_now, state_of}
 use Rattle.machine_import.proofs.each.import_rest.Given as goal
 

@@ -1,5 +1,5 @@
 use Rattle.std.proofs.Common.{◌≡◌, drop}
-use Rattle.py_world.specs.Runs.{source_at}
+use Rattle.machine_state.specs.py_world.Runs.{source_at}
 use Rattle.machine_import.proofs.paths.find.Given as goal
 
 abbrev pub invariant-loop-source : goal.invariant-loop-source

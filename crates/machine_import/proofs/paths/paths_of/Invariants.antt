@@ -1,6 +1,6 @@
 use Rattle.std.proofs.Common.{◌≡◌, map, take}
 use Rattle.std.specs.Prelude.{encode_utf8_all, string_bytes}
-use Rattle.py_world.specs.Imports.{paths_of}
+use Rattle.machine_state.specs.py_world.Imports.{paths_of}
 use Rattle.machine_import.proofs.paths.paths_of.Given as goal
 
 abbrev pub invariant-loop-source : goal.invariant-loop-source

@@ -1,5 +1,5 @@
 use Rattle.std.proofs.Common.{◌∙◌, sym}
-use Rattle.py_world.specs.Imports.{paths_of}
+use Rattle.machine_state.specs.py_world.Imports.{paths_of}
 use Rattle.machine_state.specs.Places.{path_in}
 use Rattle.machine_import.proofs.Walking.{found_here}
 use Rattle.machine_import.proofs.walk.next_found.Goals as goal

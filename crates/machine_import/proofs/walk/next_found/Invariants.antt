@@ -1,5 +1,5 @@
 use Rattle.std.proofs.Common.{◌≡◌, [], drop}
-use Rattle.py_world.specs.Imports.{paths_of, prefixes_behind}
+use Rattle.machine_state.specs.py_world.Imports.{paths_of, prefixes_behind}
 use Rattle.machine_state.specs.Places.{path_in}
 use Rattle.machine_import.specs.Walks.{found_from}
 use Rattle.machine_import.proofs.walk.next_found.Given as goal

@@ -1,5 +1,5 @@
 use Rattle.std.proofs.Common.{[], ◌∙◌, sym}
-use Rattle.py_world.specs.Imports.{prefixes_behind}
+use Rattle.machine_state.specs.py_world.Imports.{prefixes_behind}
 use Rattle.machine_state.specs.Frames.{site_now, state_of}
 use Rattle.machine_import.proofs.Walking.{walks_over, walks_to}
 use Rattle.machine_import.proofs.walk.reach.Goals as goal

@@ -1,16 +1,16 @@
 use Rattle.std.proofs.Common.{◌≡◌, ◌∙◌, ap, drop}
 use Rattle.std.proofs.lemmas.Result.{IfOk-weaker}
-use Rattle.py_world.specs.Targets.{assign, store_all}
-use Rattle.core_meaning.specs.Expressions.{eval}
-use Rattle.machine_state.specs.declared.machine.Doing.{Doing}
-use Rattle.machine_state.specs.Places.{ends}
-use Rattle.machine_state.specs.Frames.{rest_of, site_now, state_of, todo}
-use Rattle.machine_expr.proofs.Noted.{same_run}
+use Rattle.assert_explain.specs.py_world.Targets.{assign, store_all}
+use Rattle.machine_unwind.specs.core_meaning.Expressions.{eval}
+use Rattle.machine_unwind.specs.machine_state.declared.machine.Doing.{Doing}
+use Rattle.machine_unwind.specs.machine_state.Places.{ends}
+use Rattle.machine_unwind.specs.machine_state.Frames.{rest_of, site_now, state_of, todo}
+use Rattle.machine_store.proofs.machine_expr_lemmas.Noted.{same_run}
 use Rattle.machine_simple.proofs.Immediately.{assign_there}
 use Rattle.std.specs.declared.alloc.Global.{Global}
 use Rattle.std.specs.declared.vec.Vec.{Vec}
 use Rattle.py_core.specs.declared.stmt.CoreTarget.{CoreTarget}
-use Rattle.core_meaning.specs.Statements.{stores}
+use Rattle.machine_unwind.specs.core_meaning.Statements.{stores}
 use Rattle.machine_simple.proofs.begin.begin_assign.Goals as goal
 
 pub returns-in-Some-clause-next : goal.returns-in-Some-clause-next

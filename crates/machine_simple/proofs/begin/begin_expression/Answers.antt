@@ -1,11 +1,11 @@
 use Rattle.std.proofs.Common.{◌≡◌}
 use Rattle.std.proofs.lemmas.Result.{IfOk-weaker}
-use Rattle.py_world.specs.Statements.{expression_statement}
-use Rattle.core_meaning.specs.Expressions.{eval}
-use Rattle.machine_state.specs.declared.machine.Doing.{Doing}
-use Rattle.machine_state.specs.Places.{ends}
-use Rattle.machine_state.specs.Frames.{rest_of, site_now, state_of, todo}
-use Rattle.machine_expr.proofs.Noted.{same_run}
+use Rattle.assert_explain.specs.py_world.Statements.{expression_statement}
+use Rattle.machine_unwind.specs.core_meaning.Expressions.{eval}
+use Rattle.machine_unwind.specs.machine_state.declared.machine.Doing.{Doing}
+use Rattle.machine_unwind.specs.machine_state.Places.{ends}
+use Rattle.machine_unwind.specs.machine_state.Frames.{rest_of, site_now, state_of, todo}
+use Rattle.machine_store.proofs.machine_expr_lemmas.Noted.{same_run}
 use Rattle.machine_store.proofs.Immediately.{fewer}
 use Rattle.machine_simple.proofs.Immediately.{expression_there}
 use Rattle.machine_simple.proofs.begin.begin_expression.Goals as goal

@@ -1,11 +1,11 @@
 use Rattle.std.proofs.Common.{◌≡◌, Some}
 use Rattle.std.proofs.lemmas.Result.{IfOk-weaker}
-use Rattle.py_world.specs.Statements.{return_value}
-use Rattle.core_meaning.specs.Expressions.{eval}
-use Rattle.machine_state.specs.declared.machine.Doing.{Doing}
-use Rattle.machine_state.specs.Places.{ends}
-use Rattle.machine_state.specs.Frames.{rest_of, site_now, state_of, todo}
-use Rattle.machine_expr.proofs.Noted.{same_run}
+use Rattle.assert_explain.specs.py_world.Statements.{return_value}
+use Rattle.machine_unwind.specs.core_meaning.Expressions.{eval}
+use Rattle.machine_unwind.specs.machine_state.declared.machine.Doing.{Doing}
+use Rattle.machine_unwind.specs.machine_state.Places.{ends}
+use Rattle.machine_unwind.specs.machine_state.Frames.{rest_of, site_now, state_of, todo}
+use Rattle.machine_store.proofs.machine_expr_lemmas.Noted.{same_run}
 use Rattle.machine_store.proofs.Immediately.{fewer}
 use Rattle.machine_simple.proofs.Immediately.{return_there}
 use Rattle.machine_simple.proofs.begin.begin_return.Goals as goal

@@ -2,11 +2,11 @@ use Rattle.std.proofs.Common.{◌≡◌, ◌∙◌, Some, ap, refl}
 use Rattle.std.proofs.lemmas.Result.{IfOk-weaker}
 use Rattle.py_tree.specs.declared.expr.Expr.{Expr}
 use Rattle.py_tree.specs.Trees.{tree}
-use Rattle.py_world.specs.Statements.{fail_explained}
-use Rattle.core_meaning.specs.Expressions.{eval}
-use Rattle.core_meaning.specs.Statements.{failure}
-use Rattle.machine_state.specs.declared.machine.Doing.{Doing}
-use Rattle.machine_state.specs.Frames.{rest_of, site_now, state_of, todo}
+use Rattle.assert_explain.specs.py_world.Statements.{fail_explained}
+use Rattle.machine_unwind.specs.core_meaning.Expressions.{eval}
+use Rattle.machine_unwind.specs.core_meaning.Statements.{failure}
+use Rattle.machine_unwind.specs.machine_state.declared.machine.Doing.{Doing}
+use Rattle.machine_unwind.specs.machine_state.Frames.{rest_of, site_now, state_of, todo}
 use Rattle.machine_simple.proofs.failure.begin_failure.Goals as goal
 
 pub returns-in_ok-clone-in-Explain-Some-clause-next : goal.returns-in_ok-clone-in-Explain-Some-clause-next

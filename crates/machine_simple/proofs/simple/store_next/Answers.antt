@@ -1,10 +1,10 @@
 use Rattle.std.proofs.Common.{◌≡◌, ◌∙◌, ◌<◌, drop, get_or, length, rules}
 use Rattle.std.proofs.lemmas.Result.{IfOk-weaker}
-use Rattle.py_world.specs.Targets.{store_all}
-use Rattle.core_meaning.specs.Statements.{store, stores}
-use Rattle.machine_state.specs.declared.machine.Doing.{Doing}
-use Rattle.machine_state.specs.Places.{site_of}
-use Rattle.machine_state.specs.Frames.{after, handling_of, outer_of, rest_of, site_now, state_of, todo}
+use Rattle.assert_explain.specs.py_world.Targets.{store_all}
+use Rattle.machine_unwind.specs.core_meaning.Statements.{store, stores}
+use Rattle.machine_unwind.specs.machine_state.declared.machine.Doing.{Doing}
+use Rattle.machine_unwind.specs.machine_state.Places.{site_of}
+use Rattle.machine_unwind.specs.machine_state.Frames.{after, handling_of, outer_of, rest_of, site_now, state_of, todo}
 use Rattle.machine_simple.proofs.Targets.{next_turns}
 use Rattle.machine_simple.proofs.simple.store_next.Goals as goal
 

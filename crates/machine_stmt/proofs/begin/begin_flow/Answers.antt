@@ -1,15 +1,15 @@
 use Rattle.std.proofs.Common.{◌≡◌, ◌∙◌, [], ap}
 use Rattle.std.proofs.lemmas.Result.{IfOk-weaker}
-use Rattle.py_world.specs.Contexts.{with_statement}
-use Rattle.py_world.specs.Loops.{for_statement}
-use Rattle.py_world.specs.Statements.{choose, loop}
-use Rattle.core_meaning.specs.Requests.{ForOf, TurnOf}
-use Rattle.core_meaning.specs.Expressions.{eval, parts_of}
-use Rattle.core_meaning.specs.Statements.{block, choices, define_class, define_fn, some_part, statement_at, try_at}
+use Rattle.machine_state.specs.py_world.Contexts.{with_statement}
+use Rattle.machine_state.specs.py_world.Loops.{for_statement}
+use Rattle.machine_state.specs.py_world.Statements.{choose, loop}
+use Rattle.machine_state.specs.core_meaning.Requests.{ForOf, TurnOf}
+use Rattle.machine_state.specs.core_meaning.Expressions.{eval, parts_of}
+use Rattle.machine_state.specs.core_meaning.Statements.{block, choices, define_class, define_fn, some_part, statement_at, try_at}
 use Rattle.machine_state.specs.declared.machine.Doing.{Doing}
 use Rattle.machine_state.specs.Places.{ends}
 use Rattle.machine_state.specs.Frames.{layers_of, rest_of, site_now, state_of, todo}
-use Rattle.machine_expr.proofs.Noted.{same_run}
+use Rattle.machine_define.proofs.machine_expr_lemmas.Noted.{same_run}
 use Rattle.machine_stmt.proofs.Blocks.{loop_begins, choice_begins, class_begins, define_begins, for_begins, try_begins, with_begins}
 use Rattle.machine_stmt.proofs.begin.begin_flow.Goals as goal
 

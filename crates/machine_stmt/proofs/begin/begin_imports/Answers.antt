@@ -1,7 +1,7 @@
 use Rattle.std.proofs.Common.{◌≡◌, ◌∙◌, ap, sym}
 use Rattle.std.proofs.lemmas.Result.{IfOk-weaker}
-use Rattle.py_world.specs.Imports.{import_from, import_statement}
-use Rattle.core_meaning.specs.Statements.{core_body, statement_at}
+use Rattle.machine_state.specs.py_world.Imports.{import_from, import_statement}
+use Rattle.machine_state.specs.core_meaning.Statements.{core_body, statement_at}
 use Rattle.machine_state.specs.declared.machine.TurnEnd.{TurnEnd}
 use Rattle.machine_state.specs.Places.{ends}
 use Rattle.machine_state.specs.Frames.{ending, layers_of, rest_of, site_now, state_of}

@@ -1,8 +1,8 @@
 use Rattle.std.proofs.Common.{◌≡◌, ◌∙◌, ap, drop}
 use Rattle.std.proofs.lemmas.Result.{IfOk-weaker}
 use Rattle.py_core.specs.Blocks.{stmts_in}
-use Rattle.py_world.specs.Outcome.{on_next}
-use Rattle.core_meaning.specs.Statements.{block_from}
+use Rattle.machine_state.specs.py_world.Outcome.{on_next}
+use Rattle.machine_state.specs.core_meaning.Statements.{block_from}
 use Rattle.machine_state.specs.declared.frame.End.{End}
 use Rattle.machine_state.specs.declared.frame.End.TheVariants as end
 use Rattle.machine_state.specs.declared.machine.TurnEnd.{TurnEnd}

@@ -5,9 +5,9 @@ use Rattle.machine_state.specs.declared.frame.Frame.TheVariants as frame
 use Rattle.machine_state.specs.declared.machine.TurnEnd.{TurnEnd}
 use Rattle.machine_state.specs.Places.{ends, outcome, site_of}
 use Rattle.machine_state.specs.Frames.{after, ending, handling_of, here_in, layers_of, outer_of, resume, rest_of, site_now, state_of, todo}
-use Rattle.py_world.specs.Outcome.{on_value}
+use Rattle.machine_state.specs.py_world.Outcome.{on_value}
 use Rattle.machine_state.specs.Definings.{on_define}
-use Rattle.machine_expr.proofs.Noted.{same_run}
+use Rattle.machine_define.proofs.machine_expr_lemmas.Noted.{same_run}
 use Rattle.machine_stmt.proofs.run.take.Goals as goal
 
 pub returns-in-Operand-clause-next : goal.returns-in-Operand-clause-next

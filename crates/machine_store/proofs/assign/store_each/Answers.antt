@@ -1,10 +1,10 @@
 use Rattle.std.proofs.Common.{◌≡◌, ◌∙◌, ◌<◌, drop, get_or, length, rules}
 use Rattle.std.proofs.lemmas.Result.{IfOk-weaker}
-use Rattle.py_world.specs.Targets.{store_each}
-use Rattle.core_meaning.specs.Statements.{store_at, store_singles}
-use Rattle.machine_state.specs.declared.machine.Doing.{Doing}
-use Rattle.machine_state.specs.Places.{site_of}
-use Rattle.machine_state.specs.Frames.{after, handling_of, outer_of, rest_of, site_now, state_of, todo}
+use Rattle.machine_expr.specs.py_world.Targets.{store_each}
+use Rattle.machine_expr.specs.core_meaning.Statements.{store_at, store_singles}
+use Rattle.machine_expr.specs.machine_state.declared.machine.Doing.{Doing}
+use Rattle.machine_expr.specs.machine_state.Places.{site_of}
+use Rattle.machine_expr.specs.machine_state.Frames.{after, handling_of, outer_of, rest_of, site_now, state_of, todo}
 use Rattle.machine_store.proofs.Places.{each_turns}
 use Rattle.machine_store.proofs.assign.store_each.Goals as goal
 

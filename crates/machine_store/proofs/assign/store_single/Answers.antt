@@ -1,11 +1,11 @@
 use Rattle.std.proofs.Common.{◌≡◌, ◌∙◌, ap, sym}
 use Rattle.std.proofs.lemmas.Result.{IfOk-weaker}
 use Rattle.py_core.specs.declared.stmt.CoreSingleKind.{CoreSingleKind}
-use Rattle.py_world.specs.Targets.{store_item}
-use Rattle.core_meaning.specs.Expressions.{eval}
-use Rattle.core_meaning.specs.Statements.{store_at}
-use Rattle.machine_state.specs.declared.machine.Doing.{Doing}
-use Rattle.machine_state.specs.Frames.{rest_of, site_now, state_of, todo}
+use Rattle.machine_expr.specs.py_world.Targets.{store_item}
+use Rattle.machine_expr.specs.core_meaning.Expressions.{eval}
+use Rattle.machine_expr.specs.core_meaning.Statements.{store_at}
+use Rattle.machine_expr.specs.machine_state.declared.machine.Doing.{Doing}
+use Rattle.machine_expr.specs.machine_state.Frames.{rest_of, site_now, state_of, todo}
 use Rattle.machine_store.proofs.assign.store_single.Goals as goal
 
 pub returns-in-Subscript-clause-next : goal.returns-in-Subscript-clause-next

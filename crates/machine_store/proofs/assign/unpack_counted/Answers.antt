@@ -2,11 +2,11 @@ use Rattle.std.proofs.Common.{◌≡◌, ◌∙◌, ℕ, true, false, eqb, lengt
 use Rattle.std.proofs.lemmas.Bool.Decides.{nat_tests}
 use Rattle.std.proofs.lemmas.Result.{IfOk-weaker}
 use Rattle.py_values.specs.declared.end.Raise.{Raise}
-use Rattle.py_world.specs.Outcome.{raised_at}
-use Rattle.py_world.specs.Targets.{elements_from, store_elements, unpack_by, wrong_count}
-use Rattle.core_meaning.specs.Statements.{store_singles}
-use Rattle.machine_state.specs.declared.machine.Doing.{Doing}
-use Rattle.machine_state.specs.Frames.{rest_of, site_now, state_of, todo}
+use Rattle.machine_expr.specs.py_world.Outcome.{raised_at}
+use Rattle.machine_expr.specs.py_world.Targets.{elements_from, store_elements, unpack_by, wrong_count}
+use Rattle.machine_expr.specs.core_meaning.Statements.{store_singles}
+use Rattle.machine_expr.specs.machine_state.declared.machine.Doing.{Doing}
+use Rattle.machine_expr.specs.machine_state.Frames.{rest_of, site_now, state_of, todo}
 use Rattle.machine_store.proofs.Places.{counted_right, counted_wrong}
 use Rattle.machine_store.proofs.assign.unpack_counted.Goals as goal
 

@@ -1,39 +1,28 @@
-use Rattle.std.proofs.Common.{◌≡◌, ◌∙◌, ap}
+use Rattle.std.proofs.Common.{◌≡◌, ◌∙◌, Option, Some, IfSome, ap, sym, subst, refl}
 use Rattle.std.proofs.lemmas.Result.{IfOk-weaker}
-use Rattle.py_world.specs.Targets.{augment_name, augment_on, store_name}
-use Rattle.py_world.specs.Outcome.{raised}
-use Rattle.py_world.specs.Site.{trace_of}
-use Rattle.core_meaning.specs.Expressions.{eval}
-use Rattle.machine_state.specs.declared.machine.Doing.{Doing}
-use Rattle.machine_state.specs.Places.{ends}
-use Rattle.machine_state.specs.Frames.{rest_of, site_now, state_of, todo}
-use Rattle.machine_expr.proofs.Noted.{same_run}
-use Rattle.machine_store.proofs.Looked.{augment_found, augment_fails}
+use Rattle.py_values.specs.declared.end.Made.TheVariants.{Give}
+use Rattle.py_values.specs.declared.value.Value.{Value}
+use Rattle.machine_expr.specs.py_world.Names.{named}
+use Rattle.machine_expr.specs.py_world.Targets.{augment_name, augment_on, store_name}
+use Rattle.machine_expr.specs.core_meaning.Expressions.{eval}
+use Rattle.machine_expr.specs.machine_state.declared.machine.Doing.{Doing}
+use Rattle.machine_expr.specs.machine_state.Places.{ends}
+use Rattle.machine_expr.specs.machine_state.Frames.{rest_of, site_now, state_of, todo}
+use Rattle.machine_store.proofs.Looked.{augment_found}
 use Rattle.machine_store.proofs.augment.augment_name.Goals as goal
 
-pub returns-in-Give-clause-next : goal.returns-in-Give-clause-next
-returns-in-Give-clause-next c =
+pub returns-in-Some-clause-next : goal.returns-in-Some-clause-next
+returns-in-Some-clause-next c =
     let m = c.args.m.now in
     let m' = c.augment_from.new.m in
     let e = eval c.args.e.now.value in
     let p = site_now m in
     let s = state_of m in
     let k = rest_of m in
-    IfOk-weaker c.augment_from.result (λ (d : Doing). ends m'.left (todo d m') ≡ ends m.left (augment_on c.in-Give.x c.args.op e (store_name c.args.name.now) p s k))
-    (λ (d : Doing). ends m'.left (todo d m') ≡ ends m.left (augment_name c.args.name.now c.args.op e p s k))
-    (λ d h. h ∙ ap (ends m.left) (augment_found c.args.name.now c.args.op e p s k c.in_ok-x.field-0 c.in_ok-x.ensures c.in-Give.x _ c.in-Give.is))
+    let name = c.args.name.now in
+    let x = c.in-Some.x in
+    let is : named name p.scene m.locals m.heap ≡ Give x 0 = subst (λ (o : Option Value). IfSome o (λ v. named name p.scene m.locals m.heap ≡ Give v 0)) c.in-Some.is c.in_ok-x.ensures in
+    IfOk-weaker c.augment_from.result (λ (d : Doing). ends m'.left (todo d m') ≡ ends m.left (augment_on x c.args.op e (store_name name) p s k))
+    (λ (d : Doing). ends m'.left (todo d m') ≡ ends m.left (augment_name name c.args.op e p s k))
+    (λ d h. h ∙ ap (ends m.left) (augment_found name c.args.op e p s k (Give x 0) (sym is) x 0 refl))
     c.augment_from.ensures.next
-
-pub returns-in-Fail-clause-next : goal.returns-in-Fail-clause-next
-returns-in-Fail-clause-next c =
-    let m = c.args.m.now in
-    let m' = c.raise.new.self in
-    let e = eval c.args.e.now.value in
-    let p = site_now m in
-    let s = state_of m in
-    let k = rest_of m in
-    let tree = k (raised c.in-Fail.raise (trace_of p) s) in
-    IfOk-weaker c.raise.result (λ (d : Doing). todo d m' ≡ tree)
-    (λ (d : Doing). ends m'.left (todo d m') ≡ ends m.left (augment_name c.args.name.now c.args.op e p s k))
-    (λ d h. same_run m.left m'.left (todo d m') tree c.raise.ensures.left h ∙ ap (ends m.left) (augment_fails c.args.name.now c.args.op e p s k c.in_ok-x.field-0 c.in_ok-x.ensures c.in-Fail.raise _ c.in-Fail.is))
-    c.raise.ensures.next

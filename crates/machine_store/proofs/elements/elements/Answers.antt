@@ -1,5 +1,5 @@
 use Rattle.std.proofs.Common.{◌<◌, rules}
-use Rattle.py_world.specs.Targets.{elements_from}
+use Rattle.machine_expr.specs.py_world.Targets.{elements_from}
 use Rattle.machine_store.proofs.Taking.{takes_over}
 use Rattle.machine_store.proofs.elements.elements.Goals as goal
 

@@ -1,9 +1,9 @@
 use Rattle.std.proofs.Common.{◌≡◌, ◌∙◌, [], ap}
 use Rattle.std.proofs.lemmas.Result.{IfOk-weaker}
-use Rattle.py_world.specs.World.{state}
-use Rattle.py_world.specs.Site.{trace_of}
-use Rattle.py_world.specs.Outcome.{call_end}
-use Rattle.core_meaning.specs.Statements.{block}
+use Rattle.machine_state.specs.py_world.World.{state}
+use Rattle.machine_state.specs.py_world.Site.{trace_of}
+use Rattle.machine_state.specs.py_world.Outcome.{call_end}
+use Rattle.machine_state.specs.core_meaning.Statements.{block}
 use Rattle.machine_state.specs.declared.machine.Doing.{Doing}
 use Rattle.machine_state.specs.declared.machine.Machine.{Machine}
 use Rattle.machine_state.specs.Places.{depth_of, scene_in, site_of}

@@ -2,9 +2,9 @@ use Rattle.std.proofs.Common.{◌≡◌, ◌∙◌, ◌+◌, ◌<◌, ◌≤◌,
 use Rattle.std.proofs.lemmas.Result.{IfOk-weaker}
 use Rattle.std.specs.List.{sum_by}
 use Rattle.py_core.specs.Blocks.{handlers_in}
-use Rattle.py_world.specs.Exceptions.{handlers_on, no_exception, takes_exception}
-use Rattle.py_world.specs.Outcome.{raised_at}
-use Rattle.core_meaning.specs.Statements.{handlings}
+use Rattle.machine_state.specs.py_world.Exceptions.{handlers_on, no_exception, takes_exception}
+use Rattle.machine_state.specs.py_world.Outcome.{raised_at}
+use Rattle.machine_state.specs.core_meaning.Statements.{handlings}
 use Rattle.machine_state.specs.declared.machine.Doing.{Doing}
 use Rattle.machine_state.specs.Frames.{layers_of, on_class, rest_of, site_now, state_of, todo}
 use Rattle.machine_state.specs.Work.{catch_work, doing_work, handler_work, stack_work}

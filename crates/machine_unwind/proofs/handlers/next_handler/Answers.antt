@@ -4,9 +4,9 @@ use Rattle.std.specs.List.{sum_by}
 use Rattle.py_core.specs.Blocks.{handlers_in, stmts_in}
 use Rattle.py_core.specs.declared.stmt.CoreGuard.{CoreGuard}
 use Rattle.py_core.specs.declared.stmt.CoreHandler.{out-CoreHandler}
-use Rattle.py_world.specs.Exceptions.{handler_block, handlers_on}
-use Rattle.core_meaning.specs.Expressions.{eval}
-use Rattle.core_meaning.specs.Statements.{block, handlings}
+use Rattle.machine_state.specs.py_world.Exceptions.{handler_block, handlers_on}
+use Rattle.machine_state.specs.core_meaning.Expressions.{eval}
+use Rattle.machine_state.specs.core_meaning.Statements.{block, handlings}
 use Rattle.machine_state.specs.declared.frame.Frame.TheVariants.{Unwind}
 use Rattle.machine_state.specs.declared.frame.UnwindFrame.TheVariants.{Catch}
 use Rattle.machine_state.specs.declared.machine.Doing.{Doing}

@@ -1,8 +1,8 @@
 use Rattle.std.proofs.Common.{◌≡◌, ◌∙◌}
 use Rattle.std.proofs.lemmas.Result.{IfOk-weaker}
 use Rattle.py_core.specs.Blocks.{last_in}
-use Rattle.py_world.specs.Exceptions.{finally_on}
-use Rattle.core_meaning.specs.Statements.{block}
+use Rattle.machine_state.specs.py_world.Exceptions.{finally_on}
+use Rattle.machine_state.specs.core_meaning.Statements.{block}
 use Rattle.machine_state.specs.declared.machine.Doing.{Doing}
 use Rattle.machine_state.specs.Places.{outcome, site_of}
 use Rattle.machine_state.specs.Frames.{after, handling_of, layers_of, outer_of, rest_of, site_now, state_of, todo}

@@ -2,8 +2,8 @@ use Rattle.std.proofs.Common.{◌≡◌, ◌∙◌, ap, sym}
 use Rattle.std.proofs.lemmas.Result.{IfOk-weaker}
 use Rattle.py_core.specs.Blocks.{last_in}
 use Rattle.py_core.specs.declared.stmt.CoreGuard.{CoreGuard}
-use Rattle.py_world.specs.Exceptions.{finally_on}
-use Rattle.core_meaning.specs.Statements.{block}
+use Rattle.machine_state.specs.py_world.Exceptions.{finally_on}
+use Rattle.machine_state.specs.core_meaning.Statements.{block}
 use Rattle.machine_state.specs.declared.frame.UnwindFrame.{UnwindFrame}
 use Rattle.machine_state.specs.declared.frame.UnwindFrame.TheVariants as unwind
 use Rattle.machine_state.specs.declared.machine.Doing.{Doing}

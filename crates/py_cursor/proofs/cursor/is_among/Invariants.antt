@@ -1,6 +1,6 @@
 use Rattle.std.proofs.Common.{◌≡◌, drop}
 use Rattle.parsing.specs.Reading.{has}
-use Rattle.token_kinds.specs.Kinds.{kind}
+use Rattle.py_expressions.specs.token_kinds.Kinds.{kind}
 use Rattle.py_cursor.specs.Cursor.{kinds_of}
 use Rattle.py_cursor.proofs.cursor.is_among.Given as goal
 

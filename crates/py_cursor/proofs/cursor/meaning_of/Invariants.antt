@@ -1,6 +1,6 @@
 use Rattle.std.proofs.Common.{◌≡◌, drop}
 use Rattle.grammar.specs.Table.{meant}
-use Rattle.token_kinds.specs.Kinds.{kind}
+use Rattle.py_expressions.specs.token_kinds.Kinds.{kind}
 use Rattle.py_cursor.specs.Cursor.{rows_of}
 use Rattle.py_cursor.proofs.cursor.meaning_of.Given as goal
 

@@ -2,11 +2,11 @@ use Rattle.std.proofs.Common.{◌≡◌, ◌-◌, ◌<◌, max, true, false, Som
 use Rattle.std.proofs.lemmas.Result.{err_from_is_err_and}
 use Rattle.py_tree.specs.Trees.{tree}
 use Rattle.grammar_code.specs.Walk.{first_meant, starts_with}
-use Rattle.token_kinds.specs.Kinds.{kind}
-use Rattle.token_kinds.specs.Numbers as k
-use Rattle.py_expressions.specs.Values as v
-use Rattle.py_expressions.specs.Sorts.{expr}
-use Rattle.py_expressions.specs.Lines.{E1}
+use Rattle.py_cursor.specs.token_kinds.Kinds.{kind}
+use Rattle.py_cursor.specs.token_kinds.Numbers as k
+use Rattle.py_cursor.specs.py_expressions.Values as v
+use Rattle.py_cursor.specs.py_expressions.Sorts.{expr}
+use Rattle.py_cursor.specs.py_expressions.Lines.{E1}
 use Rattle.py_nodes.specs.Parts.{row_of, pairs_of, args_of, chain_of}
 use Rattle.py_nodes.proofs.Forms.{place_is}
 use Rattle.py_cursor.proofs.Loops.{first_takes, meant_takes}

@@ -1,6 +1,6 @@
 use Rattle.std.proofs.Common.{◌≡◌, ◌≤◌, ◌<◌, ◌+◌, ◌*◌, max, false, length}
 use Rattle.py_tree.specs.Trees.{tree}
-use Rattle.py_expressions.specs.Sorts.{primary}
+use Rattle.py_cursor.specs.py_expressions.Sorts.{primary}
 use Rattle.py_nodes.specs.Parts.{row_of, pairs_of, args_of, chain_of}
 use Rattle.py_expression_parser.specs.Reads.{reads as reads_line, ranked, place_of}
 use Rattle.py_expression_parser.specs.Pieces.{items, pairs_more, args_more, links_more, links_place}

@@ -1,13 +1,13 @@
 use Rattle.std.proofs.Common.{◌≡◌, None, Some}
 use Rattle.std.proofs.lemmas.Result.{IfOk-weaker}
 use Rattle.run_tree.specs.Todo.{Done}
-use Rattle.py_world.specs.declared.ended.Ended.{Ended}
-use Rattle.py_world.specs.Calls.{invoke}
-use Rattle.py_world.specs.Outcome.{call_end, raised}
-use Rattle.py_world.specs.Runs.{ended_by, start, told_by}
-use Rattle.core_meaning.specs.Statements.{entry}
-use Rattle.py_world.specs.Arguments.{plain}
-use Rattle.py_world.specs.Site.{no_call}
+use Rattle.lower_law.specs.py_world.declared.ended.Ended.{Ended}
+use Rattle.lower_law.specs.py_world.Calls.{invoke}
+use Rattle.lower_law.specs.py_world.Outcome.{call_end, raised}
+use Rattle.lower_law.specs.py_world.Runs.{ended_by, start, told_by}
+use Rattle.lower_law.specs.core_meaning.Statements.{entry}
+use Rattle.lower_law.specs.py_world.Arguments.{plain}
+use Rattle.lower_law.specs.py_world.Site.{no_call}
 use Rattle.machine_state.specs.Places.{CoreOutcome, ends}
 use Rattle.machine_state.specs.Frames.{state_of, world_of}
 use Rattle.py_machine.specs.Begun.{Begins}

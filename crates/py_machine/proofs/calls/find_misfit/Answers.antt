@@ -1,7 +1,7 @@
 use Rattle.std.proofs.Common.{Option}
 use Rattle.std.specs.Prelude.{slice_get}
 use Rattle.std.proofs.lemmas.Result.{IfOk-weaker}
-use Rattle.py_world.specs.Runs.{function_and, start}
+use Rattle.lower_law.specs.py_world.Runs.{function_and, start}
 use Rattle.machine_state.specs.Frames.{world_of}
 use Rattle.py_machine.specs.declared.calls.Misfit.{Misfit}
 use Rattle.py_machine.specs.Begun.{Begins, FitsCall}

@@ -1,10 +1,10 @@
 use Rattle.std.proofs.Common.{◌∙◌, ap, refl, sym}
 use Rattle.run_tree.specs.Todo.{Done}
-use Rattle.py_world.specs.Arguments.{Arguments}
-use Rattle.py_world.specs.Calls.{invoke}
-use Rattle.py_world.specs.Outcome.{call_end}
-use Rattle.py_world.specs.Site.{no_call}
-use Rattle.core_meaning.specs.Statements.{entry}
+use Rattle.lower_law.specs.py_world.Arguments.{Arguments}
+use Rattle.lower_law.specs.py_world.Calls.{invoke}
+use Rattle.lower_law.specs.py_world.Outcome.{call_end}
+use Rattle.lower_law.specs.py_world.Site.{no_call}
+use Rattle.lower_law.specs.core_meaning.Statements.{entry}
 use Rattle.machine_state.specs.Places.{CoreOutcome, arguments_in, ends}
 use Rattle.machine_state.specs.Frames.{state_of}
 use Rattle.py_machine.proofs.Beginning.{runner_calls}

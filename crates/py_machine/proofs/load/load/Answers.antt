@@ -1,10 +1,10 @@
 use Rattle.std.proofs.Common.{◌≡◌, ◌∙◌, ℕ, List, ap, chars}
 use Rattle.std.proofs.lemmas.Result.{IfOk-weaker}
-use Rattle.core_meaning.specs.Meaning.{core_module}
+use Rattle.lower_law.specs.core_meaning.Meaning.{core_module}
 use Rattle.machine_state.specs.Places.{ends}
 use Rattle.machine_state.specs.Frames.{world_of}
-use Rattle.py_world.specs.declared.load.Load.{Load}
-use Rattle.py_world.specs.Runs.{load_at, told_by}
+use Rattle.lower_law.specs.py_world.declared.load.Load.{Load}
+use Rattle.lower_law.specs.py_world.Runs.{load_at, told_by}
 use Rattle.py_machine.proofs.Loading.{has_body, load_tree, module_loads}
 use Rattle.py_machine.proofs.load.load.Goals as goal
 

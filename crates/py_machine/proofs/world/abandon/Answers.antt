@@ -1,6 +1,6 @@
 use Rattle.std.proofs.Common.{◌∙◌, ap}
 use Rattle.machine_state.specs.Frames.{world_of}
-use Rattle.py_world.specs.Resuming.{abandon_of}
+use Rattle.lower_law.specs.py_world.Resuming.{abandon_of}
 use Rattle.py_machine.proofs.Seen.{abandon_kept, abandon_told}
 use Rattle.py_machine.proofs.world.abandon.Goals as goal
 

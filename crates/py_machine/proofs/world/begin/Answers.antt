@@ -1,6 +1,6 @@
 use Rattle.std.proofs.Common.{map, ap, ◌∙◌}
 use Rattle.machine_state.specs.Frames.{frozen_of, world_of}
-use Rattle.source_meaning.specs.Meaning.{source_begin}
+use Rattle.lower_law.specs.source_meaning.Meaning.{source_begin}
 use Rattle.py_machine.specs.Yields.{told_begun}
 use Rattle.py_machine.proofs.Seen.{begin_told, begin_kept, bare_sound}
 use Rattle.py_machine.proofs.world.begin.Goals as goal

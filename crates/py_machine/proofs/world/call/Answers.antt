@@ -1,6 +1,6 @@
 use Rattle.std.proofs.Common.{map, ap, ◌∙◌}
 use Rattle.machine_state.specs.Frames.{frozen_of, world_of}
-use Rattle.source_meaning.specs.Meaning.{source_call}
+use Rattle.lower_law.specs.source_meaning.Meaning.{source_call}
 use Rattle.py_machine.proofs.Seen.{call_told, call_kept, bare_sound}
 use Rattle.py_machine.proofs.world.call.Goals as goal
 

@@ -1,6 +1,6 @@
 use Rattle.std.proofs.Common.{map, ap, ◌∙◌}
 use Rattle.machine_state.specs.Frames.{frozen_of, world_of}
-use Rattle.source_meaning.specs.Meaning.{source_resume}
+use Rattle.lower_law.specs.source_meaning.Meaning.{source_resume}
 use Rattle.py_machine.specs.Yields.{sent_of, told_begun}
 use Rattle.py_machine.proofs.Seen.{resume_told, resume_kept, bare_sound}
 use Rattle.py_machine.proofs.world.resume.Goals as goal

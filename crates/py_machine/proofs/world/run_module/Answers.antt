@@ -1,7 +1,7 @@
 use Rattle.std.proofs.Common.{map, ap, ◌∙◌}
 use Rattle.std.specs.Str.{chars}
 use Rattle.machine_state.specs.Frames.{frozen_of, world_of}
-use Rattle.source_meaning.specs.Meaning.{source_module}
+use Rattle.lower_law.specs.source_meaning.Meaning.{source_module}
 use Rattle.py_machine.proofs.Seen.{load_told, load_kept, bare_sound}
 use Rattle.py_machine.proofs.world.run_module.Goals as goal
 

@@ -1,5 +1,5 @@
 use Rattle.std.proofs.Common.{◌∙◌, ap}
-use Rattle.py_world.specs.Resuming.{begun_by}
+use Rattle.lower_law.specs.py_world.Resuming.{begun_by}
 use Rattle.py_machine.proofs.yields.go_on.Goals as goal
 
 pub returns : goal.returns

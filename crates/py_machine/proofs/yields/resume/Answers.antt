@@ -1,7 +1,7 @@
 use Rattle.std.proofs.Common.{◌≡◌, None, Some}
 use Rattle.std.proofs.lemmas.Result.{IfOk-weaker}
-use Rattle.py_world.specs.Resuming.{begun_by, resumed}
-use Rattle.core_meaning.specs.Meaning.{core}
+use Rattle.lower_law.specs.py_world.Resuming.{begun_by, resumed}
+use Rattle.lower_law.specs.core_meaning.Meaning.{core}
 use Rattle.machine_frames.specs.Frozen.{FoundIn}
 use Rattle.machine_state.specs.Places.{ends}
 use Rattle.machine_state.specs.Frames.{frozen_some, world_of}

@@ -3,9 +3,9 @@ use Rattle.machine_state.specs.Frames.{rest_of, state_of, todo}
 use Rattle.machine_state.specs.Places.{CoreOutcome}
 use Rattle.machine_stmt.specs.Stops.{stopped}
 use Rattle.std.proofs.Common.{None, Ok}
-use Rattle.py_world.specs.Calls.{entered}
-use Rattle.py_world.specs.Outcome.{call_end}
-use Rattle.core_meaning.specs.Statements.{entry}
+use Rattle.lower_law.specs.py_world.Calls.{entered}
+use Rattle.lower_law.specs.py_world.Outcome.{call_end}
+use Rattle.lower_law.specs.core_meaning.Statements.{entry}
 use Rattle.machine_state.specs.Frames.{outer_of}
 use Rattle.py_machine.proofs.Loading.{runs_on}
 use Rattle.py_machine.proofs.Resumed.{body_enters}

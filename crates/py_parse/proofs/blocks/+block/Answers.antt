@@ -2,7 +2,7 @@ use Rattle.std.proofs.Common.{[], ◌∷◌, arith}
 use Rattle.std.proofs.lemmas.Result.{err_from_is_err_and}
 use Rattle.py_tree.specs.Trees.{tree}
 use Rattle.py_tree.specs.Statements.{block, branches, handlers}
-use Rattle.token_kinds.specs.Numbers as k
+use Rattle.py_cursor.specs.token_kinds.Numbers as k
 use Rattle.statement_readers.proofs.Turns.{first_takes}
 use Rattle.statement_readers.proofs.Takes.{stmt_takes}
 use Rattle.statement_readers.proofs.Suites.{arm_takes, handler_keeps, elifs_fails}

@@ -1,6 +1,6 @@
 use Rattle.std.proofs.Common.{[], ◌∷◌, arith}
 use Rattle.py_tree.specs.Trees.{tree}
-use Rattle.token_kinds.specs.Numbers as k
+use Rattle.py_cursor.specs.token_kinds.Numbers as k
 use Rattle.statement_readers.proofs.Turns.{first_takes}
 use Rattle.statement_readers.proofs.Signatures.{decorator_takes}
 use Rattle.py_parse.proofs.heads.further_decorators.Goals as goal

@@ -2,7 +2,7 @@ use Rattle.std.proofs.Common.{◌≡◌, true, [], ◌∷◌, arith}
 use Rattle.std.proofs.lemmas.Result.{err_from_is_err_and}
 use Rattle.statement_readers.specs.Words.{starts}
 use Rattle.py_tree.specs.Statements.{parameters}
-use Rattle.token_kinds.specs.Numbers as k
+use Rattle.py_cursor.specs.token_kinds.Numbers as k
 use Rattle.statement_readers.proofs.Turns.{first_takes}
 use Rattle.statement_readers.proofs.Signatures.{param_takes, params_fails}
 use Rattle.py_parse.proofs.heads.further_params.Goals as goal

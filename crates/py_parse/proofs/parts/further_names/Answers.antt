@@ -1,5 +1,5 @@
 use Rattle.std.proofs.Common.{[], ◌∷◌, arith}
-use Rattle.token_kinds.specs.Kinds.{op_number}
+use Rattle.py_cursor.specs.token_kinds.Kinds.{op_number}
 use Rattle.statement_readers.proofs.Turns.{first_takes}
 use Rattle.statement_readers.proofs.Loops.{name_takes}
 use Rattle.py_parse.proofs.parts.further_names.Goals as goal

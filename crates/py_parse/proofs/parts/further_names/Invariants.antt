@@ -1,5 +1,5 @@
 use Rattle.std.proofs.Common.{◌≡◌, length}
-use Rattle.token_kinds.specs.Kinds.{op_number}
+use Rattle.py_cursor.specs.token_kinds.Kinds.{op_number}
 use Rattle.statement_readers.specs.Words.{names_on}
 use Rattle.py_parse.proofs.parts.further_names.Given as goal
 

@@ -4,10 +4,10 @@ use Rattle.py_tokens.specs.declared.token.Token.{Token}
 use Rattle.py_tree.specs.Trees.{tree}
 use Rattle.py_tree.specs.Statements.{Statement, statement, taker, takers}
 use Rattle.parsing.specs.Reading.{Read, Found}
-use Rattle.token_kinds.specs.Numbers as k
-use Rattle.py_expressions.specs.Sorts.{exprs}
-use Rattle.py_expressions.specs.Values.{taker_in}
-use Rattle.py_expressions.specs.Lines.{E1}
+use Rattle.py_cursor.specs.token_kinds.Numbers as k
+use Rattle.py_cursor.specs.py_expressions.Sorts.{exprs}
+use Rattle.py_cursor.specs.py_expressions.Values.{taker_in}
+use Rattle.py_cursor.specs.py_expressions.Lines.{E1}
 use Rattle.py_cursor.specs.Cursor.{Gives}
 use Rattle.statement_readers.proofs.Expressions.{takes}
 use Rattle.statement_readers.specs.Words.{starts}

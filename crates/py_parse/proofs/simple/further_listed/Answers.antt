@@ -1,5 +1,5 @@
 use Rattle.std.proofs.Common.{[], ◌∷◌, arith}
-use Rattle.token_kinds.specs.Numbers as k
+use Rattle.py_cursor.specs.token_kinds.Numbers as k
 use Rattle.statement_readers.proofs.Turns.{first_takes}
 use Rattle.statement_readers.proofs.Loops.{alias_takes}
 use Rattle.py_parse.proofs.simple.further_listed.Goals as goal

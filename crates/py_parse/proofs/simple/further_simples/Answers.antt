@@ -1,6 +1,6 @@
 use Rattle.std.proofs.Common.{[], ◌∷◌, arith}
 use Rattle.py_tree.specs.Statements.{statement}
-use Rattle.token_kinds.specs.Numbers as k
+use Rattle.py_cursor.specs.token_kinds.Numbers as k
 use Rattle.statement_readers.proofs.Turns.{first_takes}
 use Rattle.statement_readers.proofs.Takes.{simple_takes}
 use Rattle.py_parse.proofs.simple.further_simples.Goals as goal

@@ -1,7 +1,7 @@
 use Rattle.std.proofs.Common.{sym, ap, ◌∙◌, Some, drop}
 use Rattle.py_tree.specs.Trees.{tree, trees}
 use Rattle.py_tree.specs.Statements.{places}
-use Rattle.py_expressions.specs.Values.{places_in}
+use Rattle.py_nodes.specs.py_expressions.Values.{places_in}
 use Rattle.py_statement_nodes.proofs.Rows.{places_is, onward, place_stops, place_goes}
 use Rattle.py_statement_nodes.proofs.targets.places_in.Goals as goal
 

@@ -1,7 +1,7 @@
 use Rattle.std.proofs.Common.{◌≡◌, Some, drop}
 use Rattle.py_tree.specs.Trees.{trees}
 use Rattle.py_tree.specs.Statements.{places}
-use Rattle.py_expressions.specs.Values.{places_in}
+use Rattle.py_nodes.specs.py_expressions.Values.{places_in}
 use Rattle.py_statement_nodes.proofs.Rows.{onward}
 use Rattle.py_statement_nodes.proofs.targets.places_in.Given as goal
 

@@ -2,11 +2,11 @@ use Rattle.std.proofs.Common.{◌≡◌, ◌-◌, true, false, [], ◌∷◌, re
 use Rattle.std.proofs.lemmas.Result.{err_from_is_err_and}
 use Rattle.py_tree.specs.Statements.{place}
 use Rattle.grammar_code.specs.Walk.{starts_with}
-use Rattle.token_kinds.specs.Kinds.{kind}
-use Rattle.token_kinds.specs.Numbers as k
-use Rattle.py_expressions.specs.Values as v
-use Rattle.py_expressions.specs.Sorts.{single}
-use Rattle.py_expressions.specs.Lines.{A1}
+use Rattle.py_cursor.specs.token_kinds.Kinds.{kind}
+use Rattle.py_cursor.specs.token_kinds.Numbers as k
+use Rattle.py_cursor.specs.py_expressions.Values as v
+use Rattle.py_cursor.specs.py_expressions.Sorts.{single}
+use Rattle.py_cursor.specs.py_expressions.Lines.{A1}
 use Rattle.py_cursor.proofs.Loops.{first_takes}
 use Rattle.py_expression_parser.proofs.Lines.{takes}
 use Rattle.py_target_parser.specs.Aims.{places_of}

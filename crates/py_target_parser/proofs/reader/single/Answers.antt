@@ -3,8 +3,8 @@ use Rattle.std.proofs.lemmas.Result.{err_from_is_err_and}
 use Rattle.py_tree.specs.Trees.{tree}
 use Rattle.py_tree.specs.Statements.{place}
 use Rattle.grammar_code.specs.Walk.{starts_with}
-use Rattle.token_kinds.specs.Kinds.{kind}
-use Rattle.py_expressions.specs.Values.{place_in}
+use Rattle.py_cursor.specs.token_kinds.Kinds.{kind}
+use Rattle.py_cursor.specs.py_expressions.Values.{place_in}
 use Rattle.py_target_parser.specs.Aims.{aim_of, aim_tall}
 use Rattle.py_target_parser.proofs.Aims.{goes_on, aims_deep_so, aims_fails, aims_next, aims_bad_so, aims_found_so, low_of, step_takes, single_found}
 use Rattle.py_target_parser.proofs.reader.single.Goals as goal

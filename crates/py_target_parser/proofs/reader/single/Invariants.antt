@@ -1,6 +1,6 @@
 use Rattle.std.proofs.Common.{◌≡◌, ◌≤◌, ◌<◌, false, length}
 use Rattle.py_tree.specs.Trees.{tree}
-use Rattle.py_expressions.specs.Sorts.{single}
+use Rattle.py_cursor.specs.py_expressions.Sorts.{single}
 use Rattle.py_expression_parser.specs.Reads.{reads as reads_line}
 use Rattle.py_target_parser.specs.Aims.{aim_of, aim_tall, IsPlace, aims}
 use Rattle.py_target_parser.proofs.reader.single.Given as goal

@@ -2,10 +2,10 @@ use Rattle.std.proofs.Common.{refl}
 use Rattle.std.specs.Prelude.{Err}
 use Rattle.std.proofs.lemmas.Result.{IfOk-weaker}
 use Rattle.collect_tree.specs.Told.{collected_told, end_told}
-use Rattle.report_rules.specs.Collected.{Whole}
+use Rattle.run_items.specs.report_rules.Collected.{Whole}
 use Rattle.pytest_core.proofs.Ran.{are_distinct, faulty_said, of_collected, whole_said}
 use Rattle.pytest_core.proofs.Said.{built_by}
-use Rattle.runtest_rules.specs.Rules.{rules}
+use Rattle.run_items.specs.runtest_rules.Rules.{rules}
 use Rattle.pytest_core.proofs.answer.files_answer.Goals as goal
 
 pub collected_response-requires-clause-distinct : goal.collected_response-requires-clause-distinct

@@ -1,13 +1,13 @@
 use Rattle.std.proofs.Common.{ℕ, ap, ap₂, List, []}
-use Rattle.fixture_instances.specs.declared.items.ItemRef.{ItemRef}
+use Rattle.item_stack.specs.fixture_instances.declared.items.ItemRef.{ItemRef}
 use Rattle.item_stack.proofs.Values.{orders_same}
 use Rattle.py_values.specs.declared.value.Value.{Value}
 use Rattle.run_items.proofs.Doings.{noted_same}
 use Rattle.run_items.specs.Stands.{stand_state}
-use Rattle.runtest_rules.specs.Language.{python}
+use Rattle.fixture_world.specs.runtest_rules.Language.{python}
 use Rattle.session_rules.specs.Demand.{numbers_of}
 use Rattle.session_types.specs.declared.journal.Event.TheVariants.{CallBegins}
-use Rattle.setup_stack.specs.Grants.{orders_of}
+use Rattle.item_stack.specs.setup_stack.Grants.{orders_of}
 use Rattle.run_items.proofs.calling.begin_call.Goals as goal
 
 pub returns : goal.returns

@@ -5,10 +5,10 @@ use Rattle.item_stack.proofs.Values.{values_same}
 use Rattle.item_stack.specs.Answers.{values_given}
 use Rattle.py_values.specs.declared.value.Value.{Value}
 use Rattle.run_items.specs.Stands.{plan_rules, stand_state}
-use Rattle.runtest_rules.specs.Language.{python}
+use Rattle.fixture_world.specs.runtest_rules.Language.{python}
 use Rattle.session_rules.specs.Session.{test_with}
 use Rattle.session_rules.specs.Teardown.{step}
-use Rattle.setup_stack.specs.declared.answers.Grant.{Grant}
+use Rattle.item_stack.specs.setup_stack.declared.answers.Grant.{Grant}
 use Rattle.run_items.proofs.calling.call_asked.Goals as goal
 
 pub returns : goal.returns

@@ -1,5 +1,5 @@
 use Rattle.std.proofs.Common.{ap}
-use Rattle.fixture_instances.specs.declared.items.ItemRef.{ItemRef}
+use Rattle.item_stack.specs.fixture_instances.declared.items.ItemRef.{ItemRef}
 use Rattle.py_values.specs.declared.value.Value.{Value}
 use Rattle.run_items.proofs.Doings.{noted_same}
 use Rattle.session_types.specs.declared.journal.Event.TheVariants.{CallEnds}

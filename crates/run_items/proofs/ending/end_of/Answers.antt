@@ -1,9 +1,9 @@
 use Rattle.std.proofs.Common.{◌∙◌, ap}
-use Rattle.report_rules.specs.Collected.{Ending}
+use Rattle.runtest_reports.specs.report_rules.Collected.{Ending}
 use Rattle.run_items.proofs.Doings.{ended_by}
 use Rattle.run_items.specs.Stands.{stand_state}
 use Rattle.session_rules.specs.Teardown.{in_world}
-use Rattle.source_meaning.specs.Meaning.{SourceWorld}
+use Rattle.fixture_calls.specs.source_meaning.Meaning.{SourceWorld}
 use Rattle.run_items.proofs.ending.end_of.Goals as goal
 
 pub returns-clause-told : goal.returns-clause-told

@@ -1,5 +1,5 @@
 use Rattle.std.proofs.Common.{◌∙◌, ap}
-use Rattle.source_meaning.specs.Meaning.{SourceWorld}
+use Rattle.fixture_calls.specs.source_meaning.Meaning.{SourceWorld}
 use Rattle.fixture_calls.specs.Yields.{fixture_resumed}
 use Rattle.fixture_calls.specs.declared.yields.FixtureEnd.{FixtureEnd}
 use Rattle.runtest_rules.specs.Rules.{body_end_of, rules_within}

@@ -1,5 +1,0 @@
-use Rattle.std.proofs.Common.{◌-◌}
-use Rattle.share_files.proofs.tests.comes.Given as goal
-
-abbrev pub decreases-loop-turns : goal.decreases-loop-turns
-decreases-loop-turns l = 200000000 - l.turns
