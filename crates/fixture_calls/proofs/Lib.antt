@@ -1,2 +1,2 @@
-pub use Rattle.py_machine.proofs.lower_law_lemmas
+pub use Rattle.py_machine.proofs.world_codes
 pub mod Finalizers

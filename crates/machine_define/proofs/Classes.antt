@@ -31,7 +31,7 @@ use Rattle.machine_state.specs.Definings.{core_class_behind, core_class_made}
 use Rattle.machine_state.specs.Places.{CoreRest, CoreState, CoreThen, depth_of, home_in, parts_from, path_in, scene_in, site_of}
 use Rattle.machine_state.specs.Frames.{after, handling_of, outer_of, rest_of, site_now, state_of, world_of}
 use Rattle.machine_state.specs.Work.{block_work, class_work}
-use Rattle.machine_unwind.proofs.Bodies.{rest_same}
+use Rattle.machine_unwind.proofs.machine_turns_lemmas.Bodies.{rest_same}
 use Rattle.machine_define.specs.Bases.{base_found}
 use Rattle.machine_define.proofs.Functions.{all_parts}
 

@@ -7,7 +7,7 @@ use Rattle.py_values.specs.declared.rows.Param.{Param}
 use Rattle.py_values.specs.declared.value.Value.{Value}
 use Rattle.machine_state.specs.py_world.Definitions.{with_defaults}
 use Rattle.machine_state.specs.core_meaning.Statements.{written}
-use Rattle.machine_expr.proofs.Parts.{drop_some}
+use Rattle.machine_unwind.proofs.machine_turns_lemmas.Lists.{drop_some}
 use Rattle.machine_define.specs.Defaults.{takes_default}
 
 -- a parameter without default

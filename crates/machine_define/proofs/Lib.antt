@@ -1,4 +1,3 @@
-pub use Rattle.machine_expr.proofs as machine_expr_lemmas
 pub mod Classes
 pub mod Decorating
 pub mod Defaults

@@ -13,12 +13,11 @@ ghost use Rattle.machine_state.specs.Frames.{rest_of, site_now, state_of, todo};
 ghost use Rattle.machine_state.specs.Places.{home_in, parts_from, path_in};
 ghost use Rattle.machine_state.specs.Work.{class_work, doing_work, some_weight, stack_work, weight_from};
 
-use machine_expr::evaluate::next_argument;
+use machine_immediate::part::next_argument;
 use machine_state::frame::{DefineFrame, Frame};
 use machine_state::machine::{Doing, Machine};
 use machine_state::place::Place;
-use machine_unwind::block::begin_body;
-use machine_unwind::raise;
+use machine_unwind::{begin_body, raise};
 use py_core::{CoreClass, CoreExpr};
 use py_kinds::classes;
 use py_text::{OutOfMemory, PyText};

@@ -13,7 +13,7 @@ ghost use Rattle.machine_state.specs.Work.{doing_work, stack_work, weight_from};
 
 use crate::decorate::define_as;
 use crate::parameters::params_of;
-use machine_expr::evaluate::next_argument;
+use machine_immediate::part::next_argument;
 use machine_state::code::Code;
 use machine_state::frame::{DefineFrame, Frame};
 use machine_state::machine::{Doing, Machine};

@@ -25,11 +25,6 @@
 //! Time and memory.
 #![tactic(auto)]
 
-pub use machine_expr::chains::take_chain;
-pub use machine_expr::evaluate::evaluate;
-pub use machine_expr::items::take_item;
-pub use machine_expr::operands::{take_call, take_operand};
-
 pub mod class;
 pub mod decorate;
 pub mod function;

@@ -14,7 +14,7 @@ use Rattle.machine_state.specs.core_meaning.Expressions.{CorePart, eval}
 use Rattle.machine_state.specs.declared.frame.Display.{Display}
 use Rattle.machine_state.specs.Places.{CoreRest, CoreState, CoreThen, parts_from}
 use Rattle.machine_state.specs.Frames.{display_of}
-use Rattle.machine_expr.specs.Parts.{pairs_from}
+use Rattle.machine_expr.specs.Pairs.{pairs_from}
 
 module _ (part : CorePart) (ps rest : List CorePart) (none : List Value) (more : List Value → List CorePart) (p : Site) (s : CoreState) (k : CoreThen) (go : List Value → CoreState → CoreRest) where
   first_part : none ≡ [] → more [] ≡ rest → ps ≡ part ∷ rest

@@ -1,10 +1,6 @@
-pub mod Parts
 pub mod Pairs
 pub mod Displays
 pub mod Rows
-pub mod Temps
-pub mod AtOnces
 pub mod Noted
 pub mod Weights
 pub mod Shapes
-pub mod Numbers

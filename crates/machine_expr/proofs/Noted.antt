@@ -40,7 +40,3 @@ evaluates n n' at kind u t h l = ap (λ (m : ℕ). ends m u) l ∙ sym (ends_not
 -- one that begins as a part of it does
 pub begins_as : (n n' : ℕ) (at : Pos) (kind : CoreExprKind) (t part whole : CoreRest) → ends n' t ≡ ends n part → with_note at kind part ≡ whole → ends n' t ≡ ends n whole
 begins_as n n' at kind t part whole h e = h ∙ sym (ends_noted n at kind part) ∙ ap (ends n) e
-
--- the same run
-pub same_run : (n n' : ℕ) (t u : CoreRest) → n' ≡ n → t ≡ u → ends n' t ≡ ends n u
-same_run n n' t u l e = ap (λ (m : ℕ). ends m t) l ∙ ap (ends n) e

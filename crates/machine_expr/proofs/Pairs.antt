@@ -10,7 +10,7 @@ use Rattle.py_core.specs.declared.expr.CoreExpr.{CoreExpr}
 use Rattle.machine_state.specs.py_world.Displays.{in_pairs}
 use Rattle.machine_state.specs.core_meaning.Expressions.{CorePart, eval}
 use Rattle.machine_state.specs.Work.{weight, weight_from}
-use Rattle.machine_expr.specs.Parts.{IsNextPair, pairs_from, pairs_weight}
+use Rattle.machine_expr.specs.Pairs.{IsNextPair, pairs_from, pairs_weight}
 
 pairs_map : {A B : Type 0} (f : A → B) (xs ys : List A) → in_pairs (map f xs) (map f ys) ≡ map f (in_pairs xs ys)
 pairs_map f [] ys = refl

@@ -1,5 +1,5 @@
 -- The parts of an expression as a list.
-use Rattle.std.proofs.Common.{◌≡◌, ◌≤◌, ℕ, List, ◌∷◌, map, refl, sym, ap, ◌∙◌, ◌+◌, arith, Option, Some, None}
+use Rattle.std.proofs.Common.{◌≡◌, ◌≤◌, ℕ, List, refl, sym, ap, ◌∙◌, ◌+◌, arith, Option, Some, None}
 use Rattle.run_tree.specs.Todo.{Note}
 use Rattle.std.specs.declared.alloc.Global.{Global}
 use Rattle.std.specs.declared.rc.Rc.{Rc}
@@ -24,17 +24,11 @@ use Rattle.machine_state.specs.core_meaning.Expressions.{CorePart, eval, eval_at
 use Rattle.machine_state.specs.core_meaning.Statements.{some_part}
 use Rattle.machine_state.specs.Places.{CoreState, CoreThen, parts_from}
 use Rattle.machine_state.specs.Work.{weight, weight_at, weights, weight_from, some_weight}
+use Rattle.machine_immediate.proofs.Parts.{parts_items}
 use Rattle.machine_expr.specs.Noting.{with_note}
-use Rattle.machine_expr.specs.Parts.{pairs_weight}
+use Rattle.machine_expr.specs.Pairs.{pairs_weight}
 use Rattle.machine_expr.proofs.Pairs.{pairs_light}
 use Rattle.py_values.specs.declared.object.Obj.TheVariants as obj
-
-parts_row : {n : _} (row : Row n) → parts row ≡ map (λ e. eval e.value) (items n row)
-parts_row end = refl
-parts_row (more p a e row) = ap (λ (xs : List CorePart). eval_at a e ∷ xs) (parts_row row)
-
-pub parts_items : (es : Vec (Rc CoreExpr Global) Global) → parts (hidden es) ≡ map (λ e. eval e.value) es.items
-parts_items es = parts_row (hidden es) ∙ ap (map (λ (e : Rc CoreExpr Global). eval e.value)) (items_hidden es)
 
 weights_row : {n : _} (row : Row n) → weights row ≡ sum_by (λ e. weight e.value + 1) (items n row)
 weights_row end = refl

@@ -8,13 +8,13 @@ ghost use Rattle.machine_state.specs.core_meaning.Statements.{some_part};
 ghost use Rattle.machine_state.specs.Places.{parts_from};
 ghost use Rattle.machine_state.specs.Frames.{display_of, rest_of, site_now, state_of, todo};
 ghost use Rattle.machine_state.specs.Work.{doing_work, some_weight, stack_work, weight, weight_from};
-ghost use Rattle.machine_expr.specs.Parts.{IsNextPair, pairs_weight};
+ghost use Rattle.machine_expr.specs.Pairs.{IsNextPair, pairs_weight};
 
-use crate::chains::part_at;
-use crate::evaluate::descend;
+use machine_immediate::part::part_at;
 use machine_items::displays::{list_displayed, tuple_displayed};
 use machine_state::frame::{Display, Frame, ItemFrame};
 use machine_state::machine::{Doing, Machine, Origin};
+use machine_turns::begin::descend;
 use py_core::{CoreExpr, SrcText};
 use py_text::OutOfMemory;
 use py_values::dict::Dict;

@@ -1,26 +1,24 @@
 // Expressions begin.
 
-ghost use Rattle.std.specs.Prelude.{◌≡◌, ◌+◌, ◌<◌, ◌≤◌, ◌∷◌, IfOk, OnOk, length};
-ghost use Rattle.machine_state.specs.py_world.World.{set_at, temp};
-ghost use Rattle.machine_state.specs.py_world.Outcome.{Gave};
+ghost use Rattle.std.specs.Prelude.{◌≡◌, ◌+◌, ◌<◌, ◌≤◌, IfOk, length};
 ghost use Rattle.machine_state.specs.py_world.Arguments.{arguments_of};
 ghost use Rattle.machine_state.specs.py_world.Expressions as world;
 ghost use Rattle.machine_state.specs.core_meaning.Expressions.{eval};
-ghost use Rattle.machine_state.specs.Places.{ends, parts_from, site_of};
-ghost use Rattle.machine_state.specs.Frames.{after, handling_of, outer_of, rest_of, site_now, state_of, todo};
-ghost use Rattle.machine_state.specs.Work.{doing_work, frame_work, stack_work, weight, weight_from};
+ghost use Rattle.machine_state.specs.Places.{ends, parts_from};
+ghost use Rattle.machine_state.specs.Frames.{rest_of, site_now, state_of, todo};
+ghost use Rattle.machine_state.specs.Work.{doing_work, stack_work, weight, weight_from};
 ghost use Rattle.machine_expr.specs.Groups.{group_of};
 ghost use Rattle.machine_expr.specs.Noting.{with_note};
-ghost use Rattle.machine_expr.specs.Parts.{IsNext};
 
-use crate::chains::part_at;
 use crate::containers::{begin_attribute, begin_dict, begin_display, begin_slice, begin_subscript};
 use crate::group::{Group, kind_group};
-use crate::immediate::at_once;
 use crate::shape::shape;
-use machine_names::names::look_up;
+use machine_immediate::immediate::at_once;
+use machine_immediate::part::{next_argument, temp_value};
 use machine_state::frame::{CallFrame, ChainFrame, Display, End, Frame, OperandFrame};
 use machine_state::machine::{Doing, Machine, Origin};
+use machine_turns::begin::descend;
+use machine_turns::look_up;
 use py_core::{ArgName, CmpOp, CoreExpr, CoreExprKind, SrcText};
 use py_text::{OutOfMemory, PyText};
 use py_values::class::ExcClass;
@@ -29,17 +27,6 @@ use py_values::limits::MOST_ELEMENTS;
 use py_values::object::Obj;
 use py_values::value::Value;
 use std::rc::Rc;
-
-/// Puts a frame on the stack, and goes on with an expression.
-pub fn descend(m: &mut Machine, frame: Frame, e: &Rc<CoreExpr>) -> Result<Doing, OutOfMemory>
-    ensures next { IfOk result (λ d. todo d m.new
-        ≡ eval e.now.value (site_of m.old.here (outer_of (frame ∷ m.old.stack)) (handling_of (frame ∷ m.old.stack))) (state_of m.old) (after (frame ∷ m.old.stack) m.old.here)) }
-    ensures left { m.new.left ≡ m.old.left }
-    ensures work { IfOk result (λ d. doing_work d + stack_work m.new ≡ weight e.now.value + (frame_work frame + stack_work m.old)) }
-{
-    m.stack.push(frame)?;
-    Ok(Doing::Evaluate(e.clone()?))
-}
 
 /// The value of a name.
 fn name_value(m: &mut Machine, name: &SrcText) -> Result<Doing, OutOfMemory>
@@ -66,29 +53,6 @@ fn text_made(m: &mut Machine, text: &SrcText) -> Result<Doing, OutOfMemory>
     let text = PyText::from_chars(m.alloc, text.chars())?;
     let id = m.heap.add(Obj::Text(text))?;
     Ok(Doing::Back(End::Value(Value::Ref(id))))
-}
-
-/// The value of a temporary.
-pub fn temp_value(m: &Machine, t: u32) -> Value
-    ensures { Gave result (state_of m.now) ≡ world.temp_found (temp t (state_of m.now)) (state_of m.now) }
-{
-    match m.temps.get(t as usize) {
-        Some(Some(v)) => *v,
-        _ => Value::None,
-    }
-}
-
-#[tactic(auto, using(crate::proofs::Temps::set_grown, crate::proofs::Temps::set_within))]
-/// Sets a temporary.
-pub fn set_temp(temps: &mut Vec<Option<Value>>, t: u32, v: Value) -> Result<(), OutOfMemory>
-    ensures { OnOk result (temps.new.items ≡ set_at t v temps.old.items) }
-{
-    let at = t as usize;
-    'grow: while temps.len() <= at {
-        temps.push(None)?;
-    }
-    temps[at] = Some(v);
-    Ok(())
 }
 
 fn begin_call(
@@ -240,16 +204,6 @@ fn begin(m: &mut Machine, e: &CoreExpr) -> Result<Doing, OutOfMemory>
         Group::Chain => begin_chain(m, e),
         Group::Container => begin_container(m, e),
     }
-}
-
-/// The argument behind those whose values are there.
-pub fn next_argument(
-    es: &Rc<Vec<Rc<CoreExpr>>>,
-    so_far: &Vec<Value>,
-) -> Result<Option<Rc<CoreExpr>>, OutOfMemory>
-    ensures { IfOk result (λ e. IsNext e (length so_far.now.items) es.now) }
-{
-    part_at(es, so_far.len())
 }
 
 /// Begins the argument of a call behind those whose values are there.

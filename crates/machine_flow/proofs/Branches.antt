@@ -7,7 +7,7 @@ use Rattle.py_core.specs.declared.stmt.CoreBranch as branch
 use Rattle.machine_state.specs.core_meaning.Requests.{Layer}
 use Rattle.machine_state.specs.core_meaning.Statements.{choice, choices}
 use Rattle.machine_state.specs.Work.{branch_work}
-use Rattle.machine_expr.proofs.Parts.{drop_some}
+use Rattle.machine_assign.proofs.machine_turns_lemmas.Lists.{drop_some}
 
 pub choices_some : (ls : List Layer) (bs : List branch.CoreBranch) (i : ℕ) (b : branch.CoreBranch) → i < length bs → b ≡ get_or bs i b → choices ls (drop i bs) ≡ choice ls b ∷ choices ls (drop (i + 1) bs)
 choices_some ls bs i b w h = ap (choices ls) (drop_some bs i b w h)

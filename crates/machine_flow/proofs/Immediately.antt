@@ -15,9 +15,9 @@ use Rattle.machine_state.specs.core_meaning.Statements.{CoreBody, CoreChoice, bl
 use Rattle.machine_state.specs.declared.machine.Machine.{Machine}
 use Rattle.machine_state.specs.Places.{CoreThen, at_line, ends}
 use Rattle.machine_state.specs.Frames.{layers_of, rest_of, site_now, state_of}
-use Rattle.machine_expr.specs.declared.immediate.Immediate.{Immediate}
-use Rattle.machine_expr.specs.AtOnce.{IsImmediate}
-use Rattle.machine_expr.proofs.AtOnces.{found}
+use Rattle.machine_immediate.specs.declared.immediate.Immediate.{Immediate}
+use Rattle.machine_immediate.specs.AtOnce.{IsImmediate}
+use Rattle.machine_immediate.proofs.AtOnces.{found}
 use Rattle.machine_flow.proofs.Flows.{choice_is}
 
 module _ (m : Machine) (e : Rc CoreExpr Global) (e' : CoreExpr) (rx : Option Immediate) (x : Immediate) (same : e' ≡ e.value) (is : rx ≡ Some x) (h : IfSome rx (λ d. IsImmediate (eval e') m.left d m)) where

@@ -12,10 +12,10 @@ ghost use Rattle.machine_state.specs.Places.{ends, outcome};
 ghost use Rattle.machine_state.specs.Frames.{layers_of, on_flow, rest_of, site_now, state_of, todo, Follows};
 ghost use Rattle.machine_state.specs.Work.{block_work, branch_work, doing_work, flow_work, stack_work, Falls};
 
-use machine_expr::immediate::at_once;
+use machine_assign::begin_block;
+use machine_immediate::immediate::at_once;
 use machine_state::frame::{End, FlowFrame, Frame};
 use machine_state::machine::{Doing, Machine, TurnEnd};
-use machine_unwind::block::begin_block;
 use py_core::{CoreBlock, CoreBranch};
 use py_kinds::truth::truth;
 use py_text::OutOfMemory;

@@ -12,11 +12,9 @@ ghost use Rattle.machine_state.specs.Places.{outcome};
 ghost use Rattle.machine_state.specs.Frames.{layers_of, on_flow, rest_of, site_now, state_of, todo, Follows};
 ghost use Rattle.machine_state.specs.Work.{block_work, doing_work, flow_work, stack_work, Falls};
 
-use machine_expr::evaluate::descend;
+use machine_assign::{begin_block, bind, descend};
 use machine_state::frame::{End, FlowFrame, Frame, SimpleFrame};
 use machine_state::machine::{Doing, Machine, Origin, TurnEnd};
-use machine_unwind::bind;
-use machine_unwind::block::begin_block;
 use py_core::{CoreBlock, CoreExpr, SrcText};
 use py_items::subscript::object_at;
 use py_kinds::classes::is_a;

@@ -10,11 +10,10 @@ ghost use Rattle.machine_state.specs.Places.{outcome};
 ghost use Rattle.machine_state.specs.Frames.{layers_of, on_flow, rest_of, site_now, state_of, todo, Follows};
 ghost use Rattle.machine_state.specs.Work.{doing_work, flow_work, stack_work, weight, Falls};
 
-use machine_expr::evaluate::descend;
-use machine_expr::immediate::at_once;
+use machine_assign::{begin_block, descend};
+use machine_immediate::immediate::at_once;
 use machine_state::frame::{End, FlowFrame, Frame};
 use machine_state::machine::{Doing, Machine, Origin, TurnEnd};
-use machine_unwind::block::begin_block;
 use py_core::{CoreBlock, CoreExpr};
 use py_kinds::truth::truth;
 use py_text::OutOfMemory;

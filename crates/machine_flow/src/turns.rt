@@ -13,11 +13,10 @@ ghost use Rattle.machine_state.specs.Frames.{layers_of, on_flow, rest_of, site_n
 ghost use Rattle.machine_state.specs.Work.{doing_work, flow_work, stack_work, Falls};
 ghost use Rattle.machine_flow.specs.Looks.{told};
 
-use machine_expr::evaluate::descend;
+use machine_assign::assign::store_target;
+use machine_assign::{begin_block, descend};
 use machine_state::frame::{End, FlowFrame, Frame};
 use machine_state::machine::{Doing, Machine, Origin, TurnEnd};
-use machine_unwind::block::begin_block;
-use machine_unwind::store_target;
 use py_core::{CoreBlock, CoreExpr, CoreTarget};
 use py_items::iter::IterAt;
 use py_items::turn::{iterate, turn_made};

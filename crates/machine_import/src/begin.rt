@@ -11,7 +11,7 @@ use crate::faults::no_module;
 use crate::walk::{Reached, reach, wait};
 use machine_state::frame::ModuleFrame;
 use machine_state::machine::{Doing, Machine, Origin, TurnEnd};
-use machine_store::names::store;
+use machine_turns::names::store;
 use py_core::SrcText;
 use py_text::OutOfMemory;
 use py_tree::Alias;

@@ -14,7 +14,7 @@ use crate::paths::is_pytest;
 use crate::walk::{Reached, reach, wait};
 use machine_state::frame::{End, ModuleFrame};
 use machine_state::machine::{Doing, Machine, Origin, TurnEnd};
-use machine_store::names::bind;
+use machine_turns::names::bind;
 use py_attributes::names::own_value;
 use py_core::SrcText;
 use py_text::OutOfMemory;

@@ -13,8 +13,8 @@ use Rattle.machine_unwind.specs.core_meaning.Statements.{stores}
 use Rattle.machine_unwind.specs.machine_state.declared.machine.Machine.{Machine}
 use Rattle.machine_unwind.specs.machine_state.Places.{ends}
 use Rattle.machine_unwind.specs.machine_state.Frames.{rest_of, site_now, state_of}
-use Rattle.machine_store.specs.machine_expr.declared.immediate.Immediate.{Immediate}
-use Rattle.machine_store.specs.machine_expr.AtOnce.{IsImmediate}
+use Rattle.machine_store.specs.machine_immediate.declared.immediate.Immediate.{Immediate}
+use Rattle.machine_store.specs.machine_immediate.AtOnce.{IsImmediate}
 use Rattle.machine_store.proofs.Immediately.{goes}
 
 module _ (m : Machine) (e : Rc CoreExpr Global) (e' : CoreExpr) (rx : Option Immediate) (x : Immediate) (same : e' ≡ e.value) (is : rx ≡ Some x) (h : IfSome rx (λ d. IsImmediate (eval e') m.left d m)) where

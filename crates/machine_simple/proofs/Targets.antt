@@ -20,7 +20,7 @@ use Rattle.machine_unwind.specs.machine_state.declared.frame.SimpleFrame.TheVari
 use Rattle.machine_unwind.specs.machine_state.Places.{CoreOutcome, CoreState, CoreThen, site_of}
 use Rattle.machine_unwind.specs.machine_state.Frames.{after, handling_of, outer_of}
 use Rattle.machine_unwind.specs.machine_state.Work.{taker_work}
-use Rattle.machine_store.proofs.machine_expr_lemmas.Parts.{drop_some}
+use Rattle.machine_store.proofs.machine_turns_lemmas.Lists.{drop_some}
 
 -- behind the last target nothing is left
 handed_on : (k : CoreThen) (o : CoreOutcome) → on_next o k (λ s. k (Next s)) ≡ k o

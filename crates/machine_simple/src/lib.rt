@@ -25,6 +25,8 @@
 //! Time and memory.
 #![tactic(auto)]
 
+pub use machine_store::turns::take_target;
+
 pub mod begin;
 pub mod failure;
 pub mod simple;

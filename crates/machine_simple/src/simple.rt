@@ -12,9 +12,9 @@ ghost use Rattle.machine_unwind.specs.machine_state.Frames.{after, handling_of, 
 ghost use Rattle.machine_unwind.specs.machine_state.Work.{doing_work, simple_work, stack_work, taker_work, use_work, Falls};
 
 use crate::failure::{explain, fail};
-use machine_store::assign::store_target;
 use machine_store::operate::augment;
 use machine_store::spot::store_spot;
+use machine_store::store_target;
 use machine_unwind::raise::{raise_it, raise_value};
 use machine_unwind::{Doing, End, Frame, Machine, SimpleFrame, TurnEnd};
 use py_core::{CoreTarget, CoreUse};

@@ -4,12 +4,12 @@ use Rattle.py_values.specs.declared.end.Raise.{Raise}
 use Rattle.py_values.specs.declared.object.Obj.{Obj}
 use Rattle.py_values.specs.declared.value.Value.{Value}
 use Rattle.py_values.specs.declared.value.Value.TheVariants as val
-use Rattle.machine_expr.specs.py_world.Attributes.{changed_or}
-use Rattle.machine_expr.specs.py_world.Outcome.{Next, raised_at}
-use Rattle.machine_expr.specs.py_world.Site.{Site}
-use Rattle.machine_expr.specs.py_world.World.{heap_of, with_heap}
-use Rattle.machine_expr.specs.machine_items.Changes.{attribute_told}
-use Rattle.machine_expr.specs.machine_state.Places.{CoreOutcome, CoreState, CoreThen}
+use Rattle.machine_assign.specs.py_world.Attributes.{changed_or}
+use Rattle.machine_assign.specs.py_world.Outcome.{Next, raised_at}
+use Rattle.machine_assign.specs.py_world.Site.{Site}
+use Rattle.machine_assign.specs.py_world.World.{heap_of, with_heap}
+use Rattle.machine_assign.specs.machine_items.Changes.{attribute_told}
+use Rattle.machine_assign.specs.machine_state.Places.{CoreOutcome, CoreState, CoreThen}
 
 -- how a change ends that raises this, or nothing, with this heap behind it
 abbrev pub told_end : Option Raise × List Obj → Site → CoreState → CoreOutcome

@@ -1,30 +1,22 @@
--- Targets, augmented assignments and deletions begin with their first part.
+-- Augmented assignments and deletions begin with their first part.
 use Rattle.std.proofs.Common.{◌≡◌, ℕ, List, ◌∷◌, refl}
 use Rattle.std.specs.declared.alloc.Global.{Global}
 use Rattle.std.specs.declared.rc.Rc.{Rc}
 use Rattle.py_core.specs.declared.expr.CoreExpr.{CoreExpr}
 use Rattle.py_tree.specs.declared.op.BinOp.{BinOp}
 use Rattle.py_values.specs.declared.value.Value.{Value}
-use Rattle.machine_expr.specs.py_world.Targets.{store_attribute, store_item, store_name, augment_on, augment_attribute, augment_item, delete_attribute, delete_item}
-use Rattle.machine_expr.specs.core_meaning.Expressions.{CorePart, eval}
-use Rattle.machine_expr.specs.machine_state.declared.place.Here.{Here}
-use Rattle.machine_expr.specs.machine_state.declared.frame.Frame.{Frame}
-use Rattle.machine_expr.specs.machine_state.declared.frame.Frame.TheVariants.{Simple, Target}
-use Rattle.machine_expr.specs.machine_state.declared.frame.SimpleFrame.TheVariants.{Augment}
-use Rattle.machine_expr.specs.machine_state.declared.frame.Spot.TheVariants.{Name}
-use Rattle.machine_expr.specs.machine_state.declared.frame.TargetFrame.TheVariants.{Attribute, Item, AugmentAttribute, AugmentItem, DeleteAttribute, DeleteItem}
-use Rattle.machine_expr.specs.machine_state.Places.{CoreState, site_of}
-use Rattle.machine_expr.specs.machine_state.Frames.{after, handling_of, outer_of}
+use Rattle.machine_assign.specs.py_world.Targets.{store_name, augment_on, augment_attribute, augment_item, delete_attribute, delete_item}
+use Rattle.machine_assign.specs.core_meaning.Expressions.{CorePart, eval}
+use Rattle.machine_assign.specs.machine_state.declared.place.Here.{Here}
+use Rattle.machine_assign.specs.machine_state.declared.frame.Frame.{Frame}
+use Rattle.machine_assign.specs.machine_state.declared.frame.Frame.TheVariants.{Simple, Target}
+use Rattle.machine_assign.specs.machine_state.declared.frame.SimpleFrame.TheVariants.{Augment}
+use Rattle.machine_assign.specs.machine_state.declared.frame.Spot.TheVariants.{Name}
+use Rattle.machine_assign.specs.machine_state.declared.frame.TargetFrame.TheVariants.{AugmentAttribute, AugmentItem, DeleteAttribute, DeleteItem}
+use Rattle.machine_assign.specs.machine_state.Places.{CoreState, site_of}
+use Rattle.machine_assign.specs.machine_state.Frames.{after, handling_of, outer_of}
 
 module _ (h : Here) (fs : List Frame) (s : CoreState) (first : CorePart) where
-  pub attribute_begins : (name name' : List ℕ) (v : Value) → name' ≡ name
-      → first (site_of h (outer_of fs) (handling_of fs)) s (after (Target (Attribute name' v) ∷ fs) h) ≡ store_attribute first name v (site_of h (outer_of fs) (handling_of fs)) s (after fs h)
-  attribute_begins name name' v is = rw is refl
-
-  pub item_begins : (i i' : Rc CoreExpr Global) (v : Value) → i'.value ≡ i.value
-      → first (site_of h (outer_of fs) (handling_of fs)) s (after (Target (Item i' v) ∷ fs) h) ≡ store_item first (eval i.value) v (site_of h (outer_of fs) (handling_of fs)) s (after fs h)
-  item_begins i i' v is = rw is refl
-
   pub augment_attribute_begins : (name name' : List ℕ) (op : BinOp) (e e' : Rc CoreExpr Global) → name' ≡ name → e'.value ≡ e.value
       → first (site_of h (outer_of fs) (handling_of fs)) s (after (Target (AugmentAttribute name' op e') ∷ fs) h) ≡ augment_attribute first name op (eval e.value) (site_of h (outer_of fs) (handling_of fs)) s (after fs h)
   augment_attribute_begins name name' op e e' is same = rw (is, same) refl

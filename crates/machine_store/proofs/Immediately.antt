@@ -5,16 +5,16 @@ use Rattle.std.specs.declared.rc.Rc.{Rc}
 use Rattle.py_core.specs.declared.expr.CoreExpr.{CoreExpr}
 use Rattle.py_values.specs.declared.value.Value.{Value}
 use Rattle.py_tree.specs.declared.op.BinOp.{BinOp}
-use Rattle.machine_expr.specs.py_ops.Binary.{augmented_of}
-use Rattle.machine_expr.specs.py_world.Outcome.{Gave, on_value, operated}
-use Rattle.machine_expr.specs.py_world.Targets.{augmented, augment_on, store_name}
-use Rattle.machine_expr.specs.core_meaning.Expressions.{eval}
-use Rattle.machine_expr.specs.machine_state.declared.machine.Machine.{Machine}
-use Rattle.machine_expr.specs.machine_state.Places.{CoreThen, ends}
-use Rattle.machine_expr.specs.machine_state.Frames.{rest_of, site_now, state_of}
-use Rattle.machine_expr.specs.declared.immediate.Immediate.{Immediate}
-use Rattle.machine_expr.specs.AtOnce.{IsImmediate}
-use Rattle.machine_expr.proofs.AtOnces.{found}
+use Rattle.py_ops.specs.Binary.{augmented_of}
+use Rattle.machine_assign.specs.py_world.Outcome.{Gave, on_value, operated}
+use Rattle.machine_assign.specs.py_world.Targets.{augmented, augment_on, store_name}
+use Rattle.machine_assign.specs.core_meaning.Expressions.{eval}
+use Rattle.machine_assign.specs.machine_state.declared.machine.Machine.{Machine}
+use Rattle.machine_assign.specs.machine_state.Places.{CoreThen, ends}
+use Rattle.machine_assign.specs.machine_state.Frames.{rest_of, site_now, state_of}
+use Rattle.machine_immediate.specs.declared.immediate.Immediate.{Immediate}
+use Rattle.machine_immediate.specs.AtOnce.{IsImmediate}
+use Rattle.machine_immediate.proofs.AtOnces.{found}
 
 module _ (m : Machine) (e : Rc CoreExpr Global) (e' : CoreExpr) (rx : Option Immediate) (x : Immediate) (same : e' ≡ e.value) (is : rx ≡ Some x) (h : IfSome rx (λ d. IsImmediate (eval e') m.left d m)) where
   there : IsImmediate (eval e') m.left x m

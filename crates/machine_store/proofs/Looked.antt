@@ -11,13 +11,13 @@ use Rattle.py_values.specs.declared.end.Raise.{Raise}
 use Rattle.py_values.specs.declared.object.Obj.{Obj}
 use Rattle.py_values.specs.Changes.{heap_after}
 use Rattle.py_values.specs.Ends.{id_at}
-use Rattle.machine_expr.specs.py_world.Site.{Site, trace_of}
-use Rattle.machine_expr.specs.py_world.World.{heap_of, with_heap, with_object}
-use Rattle.machine_expr.specs.py_world.Names.{named}
-use Rattle.machine_expr.specs.py_world.Outcome.{made, on_value, raised}
-use Rattle.machine_expr.specs.py_world.Targets.{augment_name, augment_on, store_name}
-use Rattle.machine_expr.specs.core_meaning.Expressions.{CorePart}
-use Rattle.machine_expr.specs.machine_state.Places.{CoreState, CoreThen}
+use Rattle.machine_assign.specs.py_world.Site.{Site, trace_of}
+use Rattle.machine_assign.specs.py_world.World.{heap_of, with_heap, with_object}
+use Rattle.machine_assign.specs.py_world.Names.{named}
+use Rattle.machine_assign.specs.py_world.Outcome.{made, on_value, raised}
+use Rattle.machine_assign.specs.py_world.Targets.{augment_name, augment_on, store_name}
+use Rattle.machine_assign.specs.core_meaning.Expressions.{CorePart}
+use Rattle.machine_assign.specs.machine_state.Places.{CoreState, CoreThen}
 
 module _ (name : List ℕ) (op : BinOp) (e : CorePart) (p : Site) (s : CoreState) (k : CoreThen) (look : Made) (is : look ≡ named name p.scene s.locals (heap_of s)) where
   taken : on_value (made look (trace_of p) s) k (λ x s. augment_on x op e (store_name name) p s k) ≡ augment_name name op e p s k

@@ -1,13 +1,13 @@
 -- Ends that frames hand on.
 use Rattle.std.proofs.Common.{◌≡◌, List, refl}
 use Rattle.py_values.specs.declared.value.Value.{Value}
-use Rattle.machine_expr.specs.py_world.declared.trace.TraceFrame.{TraceFrame}
-use Rattle.machine_expr.specs.py_world.Site.{Site}
-use Rattle.machine_expr.specs.py_world.Outcome.{Returned, Broke, Continued, Raised}
-use Rattle.machine_expr.specs.machine_state.declared.frame.TargetFrame.{TargetFrame}
-use Rattle.machine_expr.specs.machine_state.declared.frame.TargetFrame.TheVariants.{Attribute, Item, At, Each, AugmentAttribute, AugmentItem, AugmentAt, Old, DeleteAttribute, DeleteItem, DeleteAt}
-use Rattle.machine_expr.specs.machine_state.Places.{CoreState, CoreThen}
-use Rattle.machine_expr.specs.machine_state.Frames.{on_target}
+use Rattle.machine_assign.specs.py_world.declared.trace.TraceFrame.{TraceFrame}
+use Rattle.machine_assign.specs.py_world.Site.{Site}
+use Rattle.machine_assign.specs.py_world.Outcome.{Returned, Broke, Continued, Raised}
+use Rattle.machine_assign.specs.machine_state.declared.frame.TargetFrame.{TargetFrame}
+use Rattle.machine_assign.specs.machine_state.declared.frame.TargetFrame.TheVariants.{Attribute, Item, At, Each, AugmentAttribute, AugmentItem, AugmentAt, Old, DeleteAttribute, DeleteItem, DeleteAt}
+use Rattle.machine_assign.specs.machine_state.Places.{CoreState, CoreThen}
+use Rattle.machine_assign.specs.machine_state.Frames.{on_target}
 
 pub target_returned : (f : TargetFrame) (p : Site) (r : Value) (s : CoreState) (k : CoreThen) → on_target f p (Returned r s) k ≡ k (Returned r s)
 target_returned (Attribute name v) p r s k = refl

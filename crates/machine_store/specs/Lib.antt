@@ -1,1 +1,1 @@
-pub use Rattle.machine_expr.specs as machine_expr
+pub use Rattle.machine_immediate.specs as machine_immediate

@@ -1,24 +1,21 @@
 // Augmented assignments, whose parts are evaluated once.
 
 ghost use Rattle.std.specs.Prelude.{◌≡◌, ◌+◌, ◌≤◌, ◌<◌, ℕ, IfOk, IfSome};
-ghost use Rattle.machine_expr.specs.py_ops.Binary.{augmented_of};
-ghost use Rattle.machine_expr.specs.py_world.Outcome.{operated};
-ghost use Rattle.machine_expr.specs.py_world.Targets as world;
-ghost use Rattle.machine_expr.specs.core_meaning.Expressions.{eval};
-ghost use Rattle.machine_expr.specs.core_meaning.Statements as meaning;
-ghost use Rattle.machine_expr.specs.AtOnce.{IsImmediate};
-ghost use Rattle.machine_expr.specs.machine_state.Places.{ends};
-ghost use Rattle.machine_expr.specs.machine_state.Frames.{rest_of, site_now, state_of, todo, Follows};
-ghost use Rattle.machine_expr.specs.machine_state.Work.{doing_work, stack_work, weight, Falls};
+ghost use Rattle.py_ops.specs.Binary.{augmented_of};
+ghost use Rattle.machine_assign.specs.py_world.Outcome.{operated};
+ghost use Rattle.machine_assign.specs.py_world.Targets as world;
+ghost use Rattle.machine_assign.specs.core_meaning.Expressions.{eval};
+ghost use Rattle.machine_assign.specs.core_meaning.Statements as meaning;
+ghost use Rattle.machine_immediate.specs.AtOnce.{IsImmediate};
+ghost use Rattle.machine_assign.specs.machine_state.Places.{ends};
+ghost use Rattle.machine_assign.specs.machine_state.Frames.{rest_of, site_now, state_of, todo, Follows};
+ghost use Rattle.machine_assign.specs.machine_state.Work.{doing_work, stack_work, weight, Falls};
 
-use crate::names::store;
-use machine_expr::evaluate::descend;
-use machine_expr::immediate::{Immediate, at_once, operate_now};
-use machine_expr::operate::subscript;
-use machine_expr::{
+use machine_assign::{
     Doing, End, Frame, Machine, Origin, SimpleFrame, Spot, TargetFrame, TurnEnd, bound_value,
-    look_up,
+    descend, look_up, store, subscript,
 };
+use machine_immediate::immediate::{Immediate, at_once, operate_now};
 use py_attributes::attributes::attribute_made;
 use py_core::{BinOp, CoreExpr, CoreSingle, CoreSingleKind, SrcText};
 use py_text::OutOfMemory;

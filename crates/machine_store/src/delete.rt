@@ -1,14 +1,12 @@
 // Deletions.
 
 ghost use Rattle.std.specs.Prelude.{◌≡◌, IfOk};
-ghost use Rattle.machine_expr.specs.py_world.Targets as world;
-ghost use Rattle.machine_expr.specs.core_meaning.Expressions.{eval};
-ghost use Rattle.machine_expr.specs.core_meaning.Statements as meaning;
-ghost use Rattle.machine_expr.specs.machine_state.Frames.{rest_of, site_now, state_of, todo};
+ghost use Rattle.machine_assign.specs.py_world.Targets as world;
+ghost use Rattle.machine_assign.specs.core_meaning.Expressions.{eval};
+ghost use Rattle.machine_assign.specs.core_meaning.Statements as meaning;
+ghost use Rattle.machine_assign.specs.machine_state.Frames.{rest_of, site_now, state_of, todo};
 
-use crate::names::delete_name;
-use machine_expr::evaluate::descend;
-use machine_expr::{Doing, Frame, Machine, TargetFrame};
+use machine_assign::{Doing, Frame, Machine, TargetFrame, delete_name, descend};
 use py_core::{CoreExpr, CoreSingle, CoreSingleKind, SrcText};
 use py_text::OutOfMemory;
 use std::rc::Rc;

@@ -2,15 +2,16 @@
 
 ghost use Rattle.std.specs.Prelude.{◌≡◌, ℕ, IfOk};
 ghost use Rattle.py_items.specs.Items.{delete_of, store_of};
-ghost use Rattle.machine_expr.specs.py_ops.Binary.{augmented_of};
+ghost use Rattle.py_ops.specs.Binary.{augmented_of};
 ghost use Rattle.py_values.specs.Ends.{within};
-ghost use Rattle.machine_expr.specs.py_world.Outcome.{operated};
-ghost use Rattle.machine_expr.specs.machine_state.Frames.{rest_of, site_now, state_of, Follows};
-ghost use Rattle.machine_expr.specs.machine_state.Work.{Falls};
+ghost use Rattle.machine_assign.specs.py_world.Outcome.{operated};
+ghost use Rattle.machine_assign.specs.machine_state.Frames.{rest_of, site_now, state_of, Follows};
+ghost use Rattle.machine_assign.specs.machine_state.Work.{Falls};
 
-use machine_expr::{Machine, Origin, TurnEnd, augmented_made};
+use machine_assign::{Machine, Origin, TurnEnd};
 use py_core::BinOp;
 use py_items::store::{delete_made, store_made};
+use py_ops::binary::augmented_made;
 use py_text::OutOfMemory;
 use py_values::end::{Made, made_within};
 use py_values::heap::Heap;

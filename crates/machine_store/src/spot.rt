@@ -1,14 +1,15 @@
 // Values go to places whose parts are evaluated.
 
 ghost use Rattle.std.specs.Prelude.{◌≡◌, ◌+◌, ℕ, IfOk};
-ghost use Rattle.machine_expr.specs.py_world.Attributes as world;
-ghost use Rattle.machine_expr.specs.py_world.Targets.{set_item, unset_item};
-ghost use Rattle.machine_expr.specs.machine_state.Frames.{rest_of, site_now, spot_store, state_of, todo, Follows};
-ghost use Rattle.machine_expr.specs.machine_state.Work.{doing_work, stack_work, Falls};
+ghost use Rattle.machine_assign.specs.py_world.Attributes as world;
+ghost use Rattle.machine_assign.specs.py_world.Targets.{set_item, unset_item};
+ghost use Rattle.machine_assign.specs.machine_state.Frames.{rest_of, site_now, spot_store, state_of, todo, Follows};
+ghost use Rattle.machine_assign.specs.machine_state.Work.{doing_work, stack_work, Falls};
 
-use crate::names::store;
 use crate::operate::{put, take_away};
-use machine_expr::{Doing, End, Frame, Machine, Origin, SimpleFrame, Spot, TurnEnd, changes};
+use machine_assign::{
+    Doing, End, Frame, Machine, Origin, SimpleFrame, Spot, TurnEnd, changes, store,
+};
 use py_core::SrcText;
 use py_text::OutOfMemory;
 use py_values::value::Value;

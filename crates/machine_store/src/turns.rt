@@ -1,15 +1,15 @@
 // The turns behind parts of targets.
 
 ghost use Rattle.std.specs.Prelude.{◌+◌, IfOk};
-ghost use Rattle.machine_expr.specs.py_world.Outcome.{Gave, Next};
-ghost use Rattle.machine_expr.specs.machine_state.Places.{outcome};
-ghost use Rattle.machine_expr.specs.machine_state.Frames.{on_target, rest_of, site_now, state_of, Follows};
-ghost use Rattle.machine_expr.specs.machine_state.Work.{stack_work, target_work, Falls};
+ghost use Rattle.machine_assign.specs.py_world.Outcome.{Gave, Next};
+ghost use Rattle.machine_assign.specs.machine_state.Places.{outcome};
+ghost use Rattle.machine_assign.specs.machine_state.Frames.{on_target, rest_of, site_now, state_of, Follows};
+ghost use Rattle.machine_assign.specs.machine_state.Work.{stack_work, target_work, Falls};
 
-use crate::assign::store_each;
 use crate::augment::{augment_attribute, augment_item};
 use crate::spot::{put_item, set_attribute, take_item, unset_attribute};
-use machine_expr::{Doing, End, Frame, Machine, SimpleFrame, TargetFrame, TurnEnd};
+use machine_assign::assign::store_each;
+use machine_assign::{Doing, End, Frame, Machine, SimpleFrame, TargetFrame, TurnEnd};
 use py_text::OutOfMemory;
 use py_values::value::Value;
 

@@ -2,9 +2,11 @@
 
 use crate::frames::{abandon_told, begin_told, send_told, throw_told};
 use crate::told::{Tried, copied, ended_told, repr_told, string};
-use crate::world::{letters_of, load};
-use py_machine::{Frozen, ModuleId, World, call, fault, heap, line, names, take_printed};
+use py_machine::{
+    Frozen, ModuleId, World, call, fault, heap, line, names, run_module, take_printed,
+};
 use py_source::{Pos, SourceFault};
+use py_text::PyText;
 use py_values::heap::Heap;
 use py_values::names::Name;
 use py_values::object::Obj;
@@ -13,20 +15,16 @@ use py_world::Outcome;
 use std::alloc::Global;
 
 fn load_told(alloc: Global, world: &mut World, path: &str, budget: u64) -> Tried<String> {
-    match load(world, path, budget)? {
-        Some(ended) => ended_told(alloc, world, &ended),
-        None => copied(alloc, "no code"),
-    }
+    let ended = run_module(world, path, budget)?;
+    ended_told(alloc, world, &ended)
 }
 
 /// The module of a path, where it was loaded.
 fn module_at(world: &mut World, path: &str) -> Tried<Option<ModuleId>> {
-    let Some(ended) = load(world, path, 0)? else {
-        return Ok(None);
-    };
-    match ended.out {
-        Outcome::Value(Value::Ref(id)) => Ok(Some(id)),
-        _ => Ok(None),
+    let ended = run_module(world, path, 0)?;
+    match &ended.out {
+        Outcome::Value(Value::Ref(id)) => Ok(Some(*id)),
+        Outcome::Value(_) | Outcome::Raised(_) | Outcome::Exhausted(_) => Ok(None),
     }
 }
 
@@ -35,7 +33,7 @@ fn value_of(alloc: Global, heap: &Heap, id: ModuleId, spelled: &str) -> Tried<Va
     if let Ok(n) = spelled.parse::<i128>() {
         return Ok(Value::Int(n));
     }
-    let name = Name::from_chars(alloc, &letters_of(alloc, spelled)?)?;
+    let name = Name::from_text(PyText::from_str(alloc, spelled)?);
     match heap.get(id) {
         Some(Obj::Module(found)) => Ok(found.names.find(&name).unwrap_or(Value::None)),
         _ => Ok(Value::None),
@@ -52,20 +50,17 @@ fn values_of(alloc: Global, heap: &Heap, id: ModuleId, spelled: &str) -> Tried<V
 }
 
 /// The values that are spelled behind the path of a module; none where it wasn't loaded.
-pub fn values_at(alloc: Global, world: &mut World, spelled: &str) -> Tried<Option<Vec<Value>>> {
+pub fn values_at(alloc: Global, world: &mut World, spelled: &str) -> Tried<Vec<Value>> {
     let (path, spelled) = spelled.split_once(' ').unwrap_or((spelled, ""));
-    let Some(id) = module_at(world, path)? else {
-        return Ok(None);
-    };
-    let values = values_of(alloc, heap(world), id, spelled)?;
-    Ok(Some(values))
+    match module_at(world, path)? {
+        Some(id) => values_of(alloc, heap(world), id, spelled),
+        None => Ok(Vec::new(alloc)),
+    }
 }
 
 /// What is told of a call that is spelled as a path, a name and arguments.
 fn call_told(alloc: Global, world: &mut World, spelled: &str, budget: u64) -> Tried<String> {
-    let Some(values) = values_at(alloc, world, spelled)? else {
-        return copied(alloc, "no module");
-    };
+    let values = values_at(alloc, world, spelled)?;
     let Some((f, args)) = values.split_first() else {
         return copied(alloc, "no name");
     };

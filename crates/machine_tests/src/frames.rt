@@ -49,9 +49,7 @@ pub fn begin_told(
 ) -> Tried<String> {
     let before = frame.take();
     give_up(world, before);
-    let Some(values) = values_at(alloc, world, spelled)? else {
-        return copied(alloc, "no module");
-    };
+    let values = values_at(alloc, world, spelled)?;
     let Some((f, args)) = values.split_first() else {
         return copied(alloc, "no name");
     };
@@ -72,7 +70,10 @@ fn resume_told(
             let begun = resume(world, frozen, sent, budget)?;
             begun_told(alloc, world, frame, begun)
         }
-        None => copied(alloc, "no frame"),
+        None => {
+            drop(sent);
+            copied(alloc, "no frame")
+        }
     }
 }
 
@@ -84,21 +85,14 @@ pub fn send_told(
     spelled: &str,
     budget: u64,
 ) -> Tried<String> {
-    let Some(values) = values_at(alloc, world, spelled)? else {
-        return copied(alloc, "no module");
-    };
-    let v = match values.first() {
-        Some(v) => *v,
-        None => Value::None,
-    };
+    let values = values_at(alloc, world, spelled)?;
+    let v = values.first().copied().unwrap_or(Value::None);
     resume_told(alloc, world, frame, Sent::Value(v), budget)
 }
 
 /// What a call raises that is spelled as a path, a name and arguments.
 fn raised_by(alloc: Global, world: &mut World, spelled: &str) -> Tried<Option<Thrown>> {
-    let Some(values) = values_at(alloc, world, spelled)? else {
-        return Ok(None);
-    };
+    let values = values_at(alloc, world, spelled)?;
     let Some((f, args)) = values.split_first() else {
         return Ok(None);
     };

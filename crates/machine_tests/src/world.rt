@@ -1,32 +1,16 @@
 // Worlds of a row's sources.
 
-ghost use Rattle.std.specs.Prelude.{◌≡◌, IfOk, OnOk, IsSome, IsTrue, chars};
+ghost use Rattle.std.specs.Prelude.{◌≡◌, OnOk};
 ghost use Rattle.std.specs.List.{list_any};
 ghost use Rattle.py_values.specs.Names.{name_eq};
-ghost use Rattle.py_world.specs.Runs.{coded, source_at};
 ghost use Rattle.py_world.specs.Imports.{paths_of};
 
 use crate::code::code_of;
 use crate::row::Source;
 use crate::told::Tried;
-use py_machine::{World, add_source, fault, line, run_module};
+use py_machine::{World, add_source};
 use py_text::PyText;
-use py_world::Ended;
-use std::alloc::{AllocError, Global};
-
-/// The characters of a text.
-pub fn letters_of(alloc: Global, text: &str) -> Result<Vec<char>, AllocError>
-    ensures { IfOk result (λ letters. letters.items ≡ chars text.now) }
-{
-    text.chars().collect(alloc)
-}
-
-fn text_of(alloc: Global, text: &str) -> Tried<PyText>
-    ensures { IfOk result (λ t. t ≡ chars text.now) }
-{
-    let letters = letters_of(alloc, text)?;
-    PyText::from_chars(alloc, &letters)
-}
+use std::alloc::Global;
 
 fn is_same(path: &PyText, other: &PyText) -> bool
     ensures { result ≡ name_eq path.now other.now }
@@ -46,7 +30,7 @@ fn add(alloc: Global, world: &mut World, paths: &mut Vec<PyText>, source: &Sourc
     requires { paths_of world.old.sources ≡ paths.old.items }
     ensures { OnOk result (paths_of world.new.sources ≡ paths.new.items) }
 {
-    let path = text_of(alloc, source.path.as_str())?;
+    let path = PyText::from_str(alloc, source.path.as_str())?;
     if is_among(paths, &path) {
         return Ok(());
     }
@@ -65,24 +49,4 @@ pub fn world_of(alloc: Global, sources: &[Source]) -> Tried<World> {
         add(alloc, &mut world, &mut paths, source)?;
     }
     Ok(world)
-}
-
-/// Whether a path has code, and a first line.
-#[tactic(auto, using(crate::proofs::Sources::code_seen))]
-fn has_code(world: &World, path: &str) -> bool
-    ensures { IsTrue result → IsSome (coded (source_at (chars path.now) world.now.sources)) }
-{
-    if fault(world, path).is_some() {
-        return false;
-    }
-    line(world, path, 1).is_some()
-}
-
-/// Loads a module, where the path has code.
-pub fn load(world: &mut World, path: &str, budget: u64) -> Tried<Option<Ended>> {
-    if !has_code(world, path) {
-        return Ok(None);
-    }
-    let ended = run_module(world, path, budget)?;
-    Ok(Some(ended))
 }

@@ -29,7 +29,7 @@ use Rattle.machine_state.specs.declared.frame.UnwindFrame.TheVariants.{Catch, Na
 use Rattle.machine_state.specs.Places.{CoreState, CoreThen, site_of}
 use Rattle.machine_state.specs.Frames.{after, handling_of, layers_of, on_caught, on_class, outer_of}
 use Rattle.machine_state.specs.Work.{block_work, catch_work, handler_work, some_weight}
-use Rattle.machine_store.proofs.machine_expr_lemmas.Parts.{drop_some}
+use Rattle.machine_turns.proofs.Lists.{drop_some}
 
 -- the block of a handler begins behind its name
 pub named_begins : (h h1 h2 : Here) (fs fs1 fs2 fs' : List Frame) (s s1 s2 : CoreState) (name name' : List ℕ) (body : CoreBlock) (e : Value) (trace : List TraceFrame)

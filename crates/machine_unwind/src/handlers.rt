@@ -9,14 +9,13 @@ ghost use Rattle.machine_state.specs.core_meaning.Statements.{block, handlings};
 ghost use Rattle.machine_state.specs.Frames.{handling_of, layers_of, on_caught, on_class, rest_of, site_now, state_of, todo};
 ghost use Rattle.machine_state.specs.Work.{block_work, catch_work, doing_work, handler_work, stack_work};
 
-use crate::block::begin_block;
 use crate::raise::refuse;
 use machine_items::Thrown;
 use machine_items::exceptions::takes_exception;
 use machine_state::frame::{End, Frame, UnwindFrame};
 use machine_state::machine::{Doing, Machine};
-use machine_store::descend;
-use machine_store::names::bind;
+use machine_turns::begin::{begin_block, descend};
+use machine_turns::names::bind;
 use py_core::{CoreBlock, CoreGuard, CoreHandler, SrcText};
 use py_text::OutOfMemory;
 use py_values::value::Value;

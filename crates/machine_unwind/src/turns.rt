@@ -12,13 +12,13 @@ ghost use Rattle.machine_state.specs.Places.{CoreState, CoreThen, outcome, site_
 ghost use Rattle.machine_state.specs.Frames.{after, handling_of, here_unwind, layers_of, on_caught, on_unwind, outer_of, rest_of, site_now, state_of, todo};
 ghost use Rattle.machine_state.specs.Work.{block_work, catch_work, doing_work, handler_work, last_work, stack_work, unwind_work};
 
-use crate::block::begin_block;
 use crate::handlers::{next_handler, take_class};
 use machine_items::{Thrown, Trace};
 use machine_state::frame::{End, Frame, UnwindFrame};
 use machine_state::machine::{Doing, Machine};
 use machine_state::traces::copy_trace;
-use machine_store::names::unbind;
+use machine_turns::begin::begin_block;
+use machine_turns::names::unbind;
 use py_core::{CoreBlock, CoreGuard, SrcText};
 use py_text::OutOfMemory;
 use py_values::value::Value;

@@ -1,5 +1,5 @@
 -- THE FIRST PLACE IN AN EXPRESSION, as the code goes about it.
-use Rattle.std.proofs.Common.{◌≡◌, ℕ, ◌+◌, ◌<◌, Bool, true, false, not, cond, List, [], ◌∷◌, ◌++◌, Option, Some, None, length, drop, get_or, refl, sym, ap, ◌∙◌, append_assoc, append-nil, Vec, Global}
+use Rattle.std.proofs.Common.{◌≡◌, ℕ, ◌+◌, ◌<◌, Bool, true, false, not, cond, List, [], ◌∷◌, ◌++◌, Option, Some, None, Result, Ok, Err, IfOk, length, drop, get_or, refl, sym, ap, subst, ◌∙◌, append_assoc, append-nil, Vec, Global}
 use Rattle.std.specs.declared.rc.Rc.{Rc}
 use Rattle.std.proofs.lemmas.List.{at_drop_more}
 use Rattle.py_source.specs.declared.pos.Pos.{Pos}
@@ -30,7 +30,11 @@ first_left xs ys at h = ap (λ x. sooner x (first_place ys)) h ∙ sym (first_ap
 pub first_right : (xs ys : List Pos) (r : Option Pos) → None ≡ first_place xs → r ≡ first_place ys → r ≡ first_place (xs ++ ys)
 first_right xs ys r h i = i ∙ ap (λ x. sooner x (first_place ys)) h ∙ sym (first_append xs ys)
 
-pub ruleset join_rules = (first_left, first_right)
+pub right_of : {E : Type 0} (xs ys : List Pos) (r : Result (Option Pos) E) → None ≡ first_place xs → IfOk r (λ at. at ≡ first_place ys) → IfOk r (λ at. at ≡ first_place (xs ++ ys))
+right_of xs ys (Ok at) h i = first_right xs ys at h i
+right_of xs ys (Err e) h i = tt
+
+pub ruleset join_rules = (first_left, right_of)
 
 pub three_append : (x y z : List Pos) → first_place (x ++ (y ++ z)) ≡ sooner (first_place x) (sooner (first_place y) (first_place z))
 three_append x y z = first_append x (y ++ z) ∙ ap (λ w. sooner (first_place x) w) (first_append y z)
@@ -95,9 +99,6 @@ seen_is es = seen_behind Empty es
 pub all_firsts : (es : List (Rc Expr Global)) → first_of (firsts es) ≡ first_place (in_trees (trees es))
 all_firsts es = ap first_of (sym (seen_is es)) ∙ sym (places_are (each (trees es)))
 
-rows_are : (es : Vec (Rc Expr Global) Global) → all_seen (each (trees_on Empty (hide es))) ≡ firsts es.items
-rows_are es = ap (λ x. all_seen (each x)) (trees_hidden es) ∙ seen_is es.items
-
 -- LOOPS
 pub part_found : (ps rest : List Part) (p : Part) (at : Pos) (whole : Option Pos) → ps ≡ p ∷ rest → p.first ≡ Some at → first_of ps ≡ whole → Some at ≡ whole
 part_found ps rest p at whole h q w = ap (λ x. sooner x (first_of rest)) (sym q) ∙ ap first_of (sym h) ∙ w
@@ -142,30 +143,15 @@ argument_found before names further n ps rest p wrong at whole h q r s w = ap (�
 pub argument_next : (before more : List (List ℕ)) (names further : List (Option ArgName)) (n : Option ArgName) (ps rest : List Part) (p : Part) (wrong whole : Option Pos) → names ≡ n ∷ further → ps ≡ p ∷ rest → wrong ≡ wrong_name before n p.at → None ≡ sooner wrong p.first → more ≡ with_name before n → first_argument before names ps ≡ whole → first_argument more further rest ≡ whole
 argument_next before more names further n ps rest p wrong whole h q r s m w = ap (λ x. first_argument x further rest) m ∙ ap (λ x. sooner x (first_argument (with_name before n) further rest)) (s ∙ ap (λ x. sooner x p.first) r) ∙ argument_split before names further n ps rest p whole h q w
 
--- FORMS with rows of parts
-pub tuple_is : (at : Pos) (kind : ExprKind) (es : Rc (Vec (Rc Expr Global) Global) Global) → kind ≡ v.Tuple es → first_of (firsts es.value.items) ≡ first_place (in_tree (tree_at at kind))
-tuple_is at kind es h = ap first_of (sym (rows_are es.value)) ∙ sym (places_are (each (trees_on Empty (hide es.value)))) ∙ ap (λ k. first_place (in_tree (tree_at at k))) (sym h)
+-- ROWS, as the code has them
+pub row_places : (ps : List Part) (es : List (Rc Expr Global)) (r : Option Pos) → r ≡ first_of ps → ps ≡ firsts es → r ≡ first_place (in_trees (trees es))
+row_places ps es r h e = h ∙ ap first_of e ∙ all_firsts es
 
-pub list_is : (at : Pos) (kind : ExprKind) (es : Rc (Vec (Rc Expr Global) Global) Global) → kind ≡ v.List es → first_of (firsts es.value.items) ≡ first_place (in_tree (tree_at at kind))
-list_is at kind es h = ap first_of (sym (rows_are es.value)) ∙ sym (places_are (each (trees_on Empty (hide es.value)))) ∙ ap (λ k. first_place (in_tree (tree_at at k))) (sym h)
+pub turn_places : (ps qs : List Part) (ks es : List (Rc Expr Global)) (r : Option Pos) → r ≡ first_by_turns ps qs → ps ≡ firsts ks → qs ≡ firsts es → r ≡ first_place (by_turns (each (trees ks)) (each (trees es)))
+turn_places ps qs ks es r h e f = h ∙ ap (λ x. first_by_turns x qs) (e ∙ sym (seen_is ks)) ∙ ap (first_by_turns (all_seen (each (trees ks)))) (f ∙ sym (seen_is es)) ∙ sym (turns_are (each (trees ks)) (each (trees es)))
 
-pub dict_is : (at : Pos) (kind : ExprKind) (ks es : Rc (Vec (Rc Expr Global) Global) Global) → kind ≡ v.Dict ks es → first_by_turns (firsts ks.value.items) (firsts es.value.items) ≡ first_place (in_tree (tree_at at kind))
-dict_is at kind ks es h = ap (λ x. first_by_turns x (firsts es.value.items)) (sym (rows_are ks.value)) ∙ ap (λ x. first_by_turns (all_seen (each (trees_on Empty (hide ks.value)))) x) (sym (rows_are es.value)) ∙ sym (turns_are (each (trees_on Empty (hide ks.value))) (each (trees_on Empty (hide es.value)))) ∙ ap (λ k. first_place (in_tree (tree_at at k))) (sym h)
-
-pub call_is : (at : Pos) (kind : ExprKind) (f : Rc Expr Global) (es : Rc (Vec (Rc Expr Global) Global) Global) (names : Rc (Vec (Option ArgName) Global) Global) → kind ≡ v.Call f es names → sooner (first_place (in_tree (tree f.value))) (first_argument [] names.value.items (firsts es.value.items)) ≡ first_place (in_tree (tree_at at kind))
-call_is at kind f es names h = ap (λ x. sooner (first_place (in_tree (tree f.value))) (first_argument [] names.value.items x)) (sym (rows_are es.value)) ∙ ap (λ x. sooner (first_place (in_tree (tree f.value))) x) (sym (arguments_are [] names.value.items (each (trees_on Empty (hide es.value))))) ∙ sym (first_append (in_tree (tree f.value)) _) ∙ ap (λ k. first_place (in_tree (tree_at at k))) (sym h)
-
-chained : (e : Tree) (es : Rc (Vec (Rc Expr Global) Global) Global) → sooner (first_place (in_tree e)) (first_of (firsts es.value.items)) ≡ first_place (in_tree e ++ all_places (each (trees_on Empty (hide es.value))))
-chained e es = ap (λ x. sooner (first_place (in_tree e)) (first_of x)) (sym (rows_are es.value)) ∙ ap (λ x. sooner (first_place (in_tree e)) x) (sym (places_are (each (trees_on Empty (hide es.value))))) ∙ sym (first_append (in_tree e) _)
-
-pub compare_is : (at : Pos) (kind : ExprKind) (l : Rc Expr Global) (ops : Rc (Vec CmpOp Global) Global) (es : Rc (Vec (Rc Expr Global) Global) Global) → kind ≡ v.Compare l ops es → sooner (first_place (in_tree (tree l.value))) (first_of (firsts es.value.items)) ≡ first_place (in_tree (tree_at at kind))
-compare_is at kind l ops es h = chained (tree l.value) es ∙ ap (λ k. first_place (in_tree (tree_at at k))) (sym h)
-
-pub and_is : (at : Pos) (kind : ExprKind) (l : Rc Expr Global) (es : Rc (Vec (Rc Expr Global) Global) Global) → kind ≡ v.And l es → sooner (first_place (in_tree (tree l.value))) (first_of (firsts es.value.items)) ≡ first_place (in_tree (tree_at at kind))
-and_is at kind l es h = chained (tree l.value) es ∙ ap (λ k. first_place (in_tree (tree_at at k))) (sym h)
-
-pub or_is : (at : Pos) (kind : ExprKind) (l : Rc Expr Global) (es : Rc (Vec (Rc Expr Global) Global) Global) → kind ≡ v.Or l es → sooner (first_place (in_tree (tree l.value))) (first_of (firsts es.value.items)) ≡ first_place (in_tree (tree_at at kind))
-or_is at kind l es h = chained (tree l.value) es ∙ ap (λ k. first_place (in_tree (tree_at at k))) (sym h)
+pub argument_places : (names : List (Option ArgName)) (ps : List Part) (es : List (Rc Expr Global)) (r : Option Pos) → r ≡ first_argument [] names ps → ps ≡ firsts es → r ≡ first_place (wrong_arguments [] names (each (trees es)))
+argument_places names ps es r h e = h ∙ ap (first_argument [] names) (e ∙ sym (seen_is es)) ∙ sym (arguments_are [] names (each (trees es)))
 
 pub ruleset first_rules = (part_found, part_on, part_none)
 
@@ -197,39 +183,34 @@ each_goes es i e x y first ps qs whole h is p q f g w =
     step : firsts (drop i es) ≡ part e.value ∷ firsts (drop (i + 1) es)
     step = at_drop_more firsts es i e h ∙ ap (λ z. firsts (z ∷ drop (i + 1) es)) (sym is)
 
--- FORM BY FORM, as the code meets them: what the calls gave, and what they say of the parts
-module _ (at : Pos) (kind : ExprKind) where
-  pub tuple_form : (es : Rc (Vec (Rc Expr Global) Global) Global) (ps : List Part) (r : Option Pos) → kind ≡ v.Tuple es → ps ≡ firsts es.value.items → r ≡ first_of ps → r ≡ first_place (in_tree (tree_at at kind))
-  tuple_form es ps r is p q = q ∙ ap first_of p ∙ tuple_is at kind es is
+-- FORM BY FORM, as the code meets them: what the places of the parts say of the whole
+module _ {E : Type 0} (at : Pos) (kind : ExprKind) (r : Result (Option Pos) E) where
+  pub of_kind : (k : ExprKind) → kind ≡ k → IfOk r (λ p. p ≡ first_place (in_tree (tree_at at k))) → IfOk r (λ p. p ≡ first_place (in_tree (tree_at at kind)))
+  of_kind k is h = rw is h
 
-  pub list_form : (es : Rc (Vec (Rc Expr Global) Global) Global) (ps : List Part) (r : Option Pos) → kind ≡ v.List es → ps ≡ firsts es.value.items → r ≡ first_of ps → r ≡ first_place (in_tree (tree_at at kind))
-  list_form es ps r is p q = q ∙ ap first_of p ∙ list_is at kind es is
+  of_places : (k : ExprKind) (ps : List Pos) → kind ≡ k → ps ≡ in_tree (tree_at at k) → IfOk r (λ p. p ≡ first_place ps) → IfOk r (λ p. p ≡ first_place (in_tree (tree_at at kind)))
+  of_places k ps is e h = of_kind k is (subst (λ (z : List Pos). IfOk r (λ p. p ≡ first_place z)) e h)
 
-  pub dict_form : (ks es : Rc (Vec (Rc Expr Global) Global) Global) (ps qs : List Part) (r : Option Pos) → kind ≡ v.Dict ks es → ps ≡ firsts ks.value.items → qs ≡ firsts es.value.items → r ≡ first_by_turns ps qs → r ≡ first_place (in_tree (tree_at at kind))
-  dict_form ks es ps qs r is p q h = h ∙ ap (λ x. first_by_turns x qs) p ∙ ap (first_by_turns (firsts ks.value.items)) q ∙ dict_is at kind ks es is
+  pub tuple_form : (es : Rc (Vec (Rc Expr Global) Global) Global) → kind ≡ v.Tuple es → IfOk r (λ p. p ≡ first_place (in_trees (trees es.value.items))) → IfOk r (λ p. p ≡ first_place (in_tree (tree_at at kind)))
+  tuple_form es is h = of_places (v.Tuple es) (in_trees (trees es.value.items)) is (ap in_trees (sym (trees_hidden es.value))) h
 
-  pub call_form : (f : Rc Expr Global) (es : Rc (Vec (Rc Expr Global) Global) Global) (names : Rc (Vec (Option ArgName) Global) Global) (a b r : Option Pos) (ps : List Part) → kind ≡ v.Call f es names → a ≡ first_place (in_tree (tree f.value)) → ps ≡ firsts es.value.items → b ≡ first_argument [] names.value.items ps → r ≡ sooner a b → r ≡ first_place (in_tree (tree_at at kind))
-  call_form f es names a b r ps is p q h i = i ∙ ap (λ x. sooner x b) p ∙ ap (λ x. sooner (first_place (in_tree (tree f.value))) x) (h ∙ ap (first_argument [] names.value.items) q) ∙ call_is at kind f es names is
+  pub list_form : (es : Rc (Vec (Rc Expr Global) Global) Global) → kind ≡ v.List es → IfOk r (λ p. p ≡ first_place (in_trees (trees es.value.items))) → IfOk r (λ p. p ≡ first_place (in_tree (tree_at at kind)))
+  list_form es is h = of_places (v.List es) (in_trees (trees es.value.items)) is (ap in_trees (sym (trees_hidden es.value))) h
 
-  pub compare_form : (l : Rc Expr Global) (ops : Rc (Vec CmpOp Global) Global) (es : Rc (Vec (Rc Expr Global) Global) Global) (a b r : Option Pos) (ps : List Part) → kind ≡ v.Compare l ops es → a ≡ first_place (in_tree (tree l.value)) → ps ≡ firsts es.value.items → b ≡ first_of ps → r ≡ sooner a b → r ≡ first_place (in_tree (tree_at at kind))
-  compare_form l ops es a b r ps is p q h i = i ∙ ap (λ x. sooner x b) p ∙ ap (λ x. sooner (first_place (in_tree (tree l.value))) x) (h ∙ ap first_of q) ∙ compare_is at kind l ops es is
+  pub dict_form : (ks es : Rc (Vec (Rc Expr Global) Global) Global) → kind ≡ v.Dict ks es → IfOk r (λ p. p ≡ first_place (by_turns (each (trees ks.value.items)) (each (trees es.value.items)))) → IfOk r (λ p. p ≡ first_place (in_tree (tree_at at kind)))
+  dict_form ks es is h = of_places (v.Dict ks es) (by_turns (each (trees ks.value.items)) (each (trees es.value.items))) is (ap (λ t. by_turns (each t) (each (trees es.value.items))) (sym (trees_hidden ks.value)) ∙ ap (λ t. by_turns (each (trees_on Empty (hide ks.value))) (each t)) (sym (trees_hidden es.value))) h
 
-  pub and_form : (l : Rc Expr Global) (es : Rc (Vec (Rc Expr Global) Global) Global) (a b r : Option Pos) (ps : List Part) → kind ≡ v.And l es → a ≡ first_place (in_tree (tree l.value)) → ps ≡ firsts es.value.items → b ≡ first_of ps → r ≡ sooner a b → r ≡ first_place (in_tree (tree_at at kind))
-  and_form l es a b r ps is p q h i = i ∙ ap (λ x. sooner x b) p ∙ ap (λ x. sooner (first_place (in_tree (tree l.value))) x) (h ∙ ap first_of q) ∙ and_is at kind l es is
+  pub call_form : (f : Rc Expr Global) (es : Rc (Vec (Rc Expr Global) Global) Global) (names : Rc (Vec (Option ArgName) Global) Global) → kind ≡ v.Call f es names → IfOk r (λ p. p ≡ first_place (in_tree (tree f.value) ++ wrong_arguments [] names.value.items (each (trees es.value.items)))) → IfOk r (λ p. p ≡ first_place (in_tree (tree_at at kind)))
+  call_form f es names is h = of_places (v.Call f es names) (in_tree (tree f.value) ++ wrong_arguments [] names.value.items (each (trees es.value.items))) is (ap (λ t. in_tree (tree f.value) ++ wrong_arguments [] names.value.items (each t)) (sym (trees_hidden es.value))) h
 
-  pub or_form : (l : Rc Expr Global) (es : Rc (Vec (Rc Expr Global) Global) Global) (a b r : Option Pos) (ps : List Part) → kind ≡ v.Or l es → a ≡ first_place (in_tree (tree l.value)) → ps ≡ firsts es.value.items → b ≡ first_of ps → r ≡ sooner a b → r ≡ first_place (in_tree (tree_at at kind))
-  or_form l es a b r ps is p q h i = i ∙ ap (λ x. sooner x b) p ∙ ap (λ x. sooner (first_place (in_tree (tree l.value))) x) (h ∙ ap first_of q) ∙ or_is at kind l es is
+  pub compare_form : (l : Rc Expr Global) (ops : Rc (Vec CmpOp Global) Global) (es : Rc (Vec (Rc Expr Global) Global) Global) → kind ≡ v.Compare l ops es → IfOk r (λ p. p ≡ first_place (in_tree (tree l.value) ++ in_trees (trees es.value.items))) → IfOk r (λ p. p ≡ first_place (in_tree (tree_at at kind)))
+  compare_form l ops es is h = of_places (v.Compare l ops es) (in_tree (tree l.value) ++ in_trees (trees es.value.items)) is (ap (λ t. in_tree (tree l.value) ++ in_trees t) (sym (trees_hidden es.value))) h
 
-  pub subscript_form : (e i : Rc Expr Global) (a b r : Option Pos) → kind ≡ v.Subscript e i → a ≡ first_place (in_tree (tree e.value)) → b ≡ first_place (in_tree (tree i.value)) → r ≡ sooner a b → r ≡ first_place (in_tree (tree_at at kind))
-  subscript_form e i a b r is p q h = rw (is, h, p, q) (sym (first_append (in_tree (tree e.value)) (in_tree (tree i.value))))
+  pub and_form : (l : Rc Expr Global) (es : Rc (Vec (Rc Expr Global) Global) Global) → kind ≡ v.And l es → IfOk r (λ p. p ≡ first_place (in_tree (tree l.value) ++ in_trees (trees es.value.items))) → IfOk r (λ p. p ≡ first_place (in_tree (tree_at at kind)))
+  and_form l es is h = of_places (v.And l es) (in_tree (tree l.value) ++ in_trees (trees es.value.items)) is (ap (λ t. in_tree (tree l.value) ++ in_trees t) (sym (trees_hidden es.value))) h
 
-  pub binary_form : (e i : Rc Expr Global) (op : BinOp) (a b r : Option Pos) → kind ≡ v.Binary e op i → a ≡ first_place (in_tree (tree e.value)) → b ≡ first_place (in_tree (tree i.value)) → r ≡ sooner a b → r ≡ first_place (in_tree (tree_at at kind))
-  binary_form e i op a b r is p q h = rw (is, h, p, q) (sym (first_append (in_tree (tree e.value)) (in_tree (tree i.value))))
+  pub or_form : (l : Rc Expr Global) (es : Rc (Vec (Rc Expr Global) Global) Global) → kind ≡ v.Or l es → IfOk r (λ p. p ≡ first_place (in_tree (tree l.value) ++ in_trees (trees es.value.items))) → IfOk r (λ p. p ≡ first_place (in_tree (tree_at at kind)))
+  or_form l es is h = of_places (v.Or l es) (in_tree (tree l.value) ++ in_trees (trees es.value.items)) is (ap (λ t. in_tree (tree l.value) ++ in_trees t) (sym (trees_hidden es.value))) h
 
-  pub choice_form : (e i o : Rc Expr Global) (a b c d r : Option Pos) → kind ≡ v.IfElse e i o → a ≡ first_place (in_tree (tree e.value)) → b ≡ first_place (in_tree (tree i.value)) → c ≡ first_place (in_tree (tree o.value)) → d ≡ sooner b c → r ≡ sooner a d → r ≡ first_place (in_tree (tree_at at kind))
-  choice_form e i o a b c d r is p q s h k = rw (is, k, h, p, q, s) (sym (three_append (in_tree (tree e.value)) (in_tree (tree i.value)) (in_tree (tree o.value))))
-
-  pub slice_form : (e : Rc Expr Global) (x y z : Option (Rc Expr Global)) (a b c d m n r : Option Pos) → kind ≡ v.Slice e x y z → a ≡ first_place (in_tree (tree e.value)) → b ≡ first_place (in_maybe (some_tree x)) → c ≡ first_place (in_maybe (some_tree y)) → d ≡ first_place (in_maybe (some_tree z)) → m ≡ sooner c d → n ≡ sooner b m → r ≡ sooner a n → r ≡ first_place (in_tree (tree_at at kind))
-  slice_form e x y z a b c d m n r is p q s t h i k = rw (is, k, i, h, p, q, s, t) (sym (slice_is (in_tree (tree e.value)) (in_maybe (some_tree x)) (in_maybe (some_tree y)) (in_maybe (some_tree z))) ∙ ap (λ u. first_place (in_tree u)) (sym (slice_tree at e x y z)))
-
-pub ruleset form_rules = (tuple_form, list_form, dict_form, call_form, compare_form, and_form, or_form, subscript_form, binary_form, choice_form, slice_form)
+  pub slice_form : (e : Rc Expr Global) (x y z : Option (Rc Expr Global)) → kind ≡ v.Slice e x y z → IfOk r (λ p. p ≡ first_place (in_tree (tree e.value) ++ (in_maybe (some_tree x) ++ (in_maybe (some_tree y) ++ in_maybe (some_tree z))))) → IfOk r (λ p. p ≡ first_place (in_tree (tree_at at kind)))
+  slice_form e x y z is h = of_places (v.Slice e x y z) (in_tree (tree e.value) ++ (in_maybe (some_tree x) ++ (in_maybe (some_tree y) ++ in_maybe (some_tree z)))) is (ap in_tree (sym (slice_tree at e x y z))) h

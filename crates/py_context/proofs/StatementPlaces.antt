@@ -126,21 +126,18 @@ branch_on w = over_on (of_branch w)
 pub branch_none : (w : Where) (xs : List branch.Branch) (i : ℕ) (whole : Option Pos) → length xs ≤ i → first_place (over (of_branch w) (drop i xs)) ≡ whole → None ≡ whole
 branch_none w = over_none (of_branch w)
 
-branch_rolled : (w : Where) (b : branch.Branch) → first_place (of_branch w (roll-Branch (out-Branch b))) ≡ sooner (first_place (in_tree (tree (out-Branch b).condition.value))) (first_place (misplaced w (block (out-Branch b).body.value.items)))
+branch_rolled : (w : Where) (b : branch.Branch) → of_branch w (roll-Branch (out-Branch b)) ≡ in_tree (tree (out-Branch b).condition.value) ++ misplaced w (block (out-Branch b).body.value.items)
 unfolding roll-Branch denote.Hole.Carrier.roll hidden-the_row-Stmt-1
-branch_rolled w b = ap (λ x. first_place (in_tree (tree (out-Branch b).condition.value) ++ misplaced w x)) (block_hidden (out-Branch b).body.value) ∙ first_append (in_tree (tree (out-Branch b).condition.value)) (misplaced w (block (out-Branch b).body.value.items))
+branch_rolled w b = ap (λ x. in_tree (tree (out-Branch b).condition.value) ++ misplaced w x) (block_hidden (out-Branch b).body.value)
 
-pub branch_is : (w : Where) (b : branch.Branch) → first_place (of_branch w b) ≡ sooner (first_place (in_tree (tree (out-Branch b).condition.value))) (first_place (misplaced w (block (out-Branch b).body.value.items)))
-branch_is w b = subst (λ y. first_place (of_branch w y) ≡ sooner (first_place (in_tree (tree (out-Branch b).condition.value))) (first_place (misplaced w (block (out-Branch b).body.value.items)))) (roll-out-Branch b) (branch_rolled w b)
+pub branch_is : (w : Where) (b : branch.Branch) → of_branch w b ≡ in_tree (tree (out-Branch b).condition.value) ++ misplaced w (block (out-Branch b).body.value.items)
+branch_is w b = subst (λ y. of_branch w y ≡ in_tree (tree (out-Branch b).condition.value) ++ misplaced w (block (out-Branch b).body.value.items)) (roll-out-Branch b) (branch_rolled w b)
 
-branch_parts : (w : Where) (x : branch.Branch) (a b r : Option Pos) → a ≡ first_place (in_tree (tree (out-Branch x).condition.value)) → b ≡ first_place (misplaced w (block (out-Branch x).body.value.items)) → r ≡ sooner a b → r ≡ first_place (of_branch w x)
-branch_parts w x a b r p q h = h ∙ ap (λ y. sooner y b) p ∙ ap (λ y. sooner (first_place (in_tree (tree (out-Branch x).condition.value))) y) q ∙ sym (branch_is w x)
+pub branch_found_in : (w : Where) (xs : List branch.Branch) (i : ℕ) (x : branch.Branch) (at : Pos) (whole : Option Pos) → i < length xs → x ≡ get_or xs i x → Some at ≡ first_place (in_tree (tree (out-Branch x).condition.value) ++ misplaced w (block (out-Branch x).body.value.items)) → first_place (over (of_branch w) (drop i xs)) ≡ whole → Some at ≡ whole
+branch_found_in w xs i x at whole h e p v = branch_found w xs i x at whole h e (p ∙ ap first_place (sym (branch_is w x))) v
 
-pub branch_found_in : (w : Where) (xs : List branch.Branch) (i : ℕ) (x : branch.Branch) (at : Pos) (a b r whole : Option Pos) → i < length xs → x ≡ get_or xs i x → a ≡ first_place (in_tree (tree (out-Branch x).condition.value)) → b ≡ first_place (misplaced w (block (out-Branch x).body.value.items)) → r ≡ sooner a b → r ≡ Some at → first_place (over (of_branch w) (drop i xs)) ≡ whole → Some at ≡ whole
-branch_found_in w xs i x at a b r whole h e p q s is v = branch_found w xs i x at whole h e (sym is ∙ branch_parts w x a b r p q s) v
-
-pub branch_on_in : (w : Where) (xs : List branch.Branch) (i : ℕ) (x : branch.Branch) (a b r whole : Option Pos) → i < length xs → x ≡ get_or xs i x → a ≡ first_place (in_tree (tree (out-Branch x).condition.value)) → b ≡ first_place (misplaced w (block (out-Branch x).body.value.items)) → r ≡ sooner a b → r ≡ None → first_place (over (of_branch w) (drop i xs)) ≡ whole → first_place (over (of_branch w) (drop (i + 1) xs)) ≡ whole
-branch_on_in w xs i x a b r whole h e p q s is v = branch_on w xs i x whole h e (sym is ∙ branch_parts w x a b r p q s) v
+pub branch_on_in : (w : Where) (xs : List branch.Branch) (i : ℕ) (x : branch.Branch) (whole : Option Pos) → i < length xs → x ≡ get_or xs i x → None ≡ first_place (in_tree (tree (out-Branch x).condition.value) ++ misplaced w (block (out-Branch x).body.value.items)) → first_place (over (of_branch w) (drop i xs)) ≡ whole → first_place (over (of_branch w) (drop (i + 1) xs)) ≡ whole
+branch_on_in w xs i x whole h e p v = branch_on w xs i x whole h e (p ∙ ap first_place (sym (branch_is w x))) v
 
 -- HANDLERS, of which only the last may take all exceptions
 abbrev pub is_last : {A : Type 0} → List A → Bool
@@ -221,25 +218,7 @@ param_on globals before more defaulted now ps i p whole h q r m d w = ap (λ x. 
 pub param_none : (globals before : List (List ℕ)) (defaulted : Bool) (ps : List Param) (i : ℕ) (whole : Option Pos) → length ps ≤ i → param_list globals before defaulted (drop i ps) ≡ whole → None ≡ whole
 param_none globals before defaulted ps i whole h w = sym (at_drop_all (param_list globals before defaulted) ps i h) ∙ w
 
--- KINDS with blocks, as the code meets them
-pub while_is : (w : Where) (at : Pos) (e : Rc Expr Global) (body : Rc (Vec Stmt Global) Global) → first_place (misplaced_in w (statement_at at (v.While e body))) ≡ sooner (first_place (in_tree (tree e.value))) (first_place (misplaced (in_loop_of w) (block body.value.items)))
-while_is w at e body = ap (λ x. first_place (in_tree (tree e.value) ++ misplaced (in_loop_of w) x)) (block_hidden body.value) ∙ first_append (in_tree (tree e.value)) (misplaced (in_loop_of w) (block body.value.items))
-
-pub with_is : (w : Where) (at : Pos) (e : Rc Expr Global) (name : Option (List ℕ)) (body : Rc (Vec Stmt Global) Global) → first_place (misplaced_in w (statement_at at (v.With e name body))) ≡ sooner (first_place (in_tree (tree e.value))) (first_place (misplaced (without_yield w) (block body.value.items)))
-with_is w at e name body = ap (λ x. first_place (in_tree (tree e.value) ++ misplaced (without_yield w) x)) (block_hidden body.value) ∙ first_append (in_tree (tree e.value)) (misplaced (without_yield w) (block body.value.items))
-
-pub for_is : (w : Where) (at : Pos) (t : Target) (e : Rc Expr Global) (body : Rc (Vec Stmt Global) Global) → first_place (misplaced_in w (statement_at at (v.For t e body))) ≡ sooner (first_place (in_taker (taker t))) (sooner (first_place (in_tree (tree e.value))) (first_place (misplaced (in_loop_of w) (block body.value.items))))
-for_is w at t e body = ap (λ x. first_place (in_taker (taker t) ++ (in_tree (tree e.value) ++ misplaced (in_loop_of w) x))) (block_hidden body.value) ∙ first_append (in_taker (taker t)) (in_tree (tree e.value) ++ misplaced (in_loop_of w) (block body.value.items)) ∙ ap (λ x. sooner (first_place (in_taker (taker t))) x) (first_append (in_tree (tree e.value)) (misplaced (in_loop_of w) (block body.value.items)))
-
-pub if_is : (w : Where) (at : Pos) (all : Rc (Vec branch.Branch Global) Global) (other : Rc (Vec Stmt Global) Global) → first_place (misplaced_in w (statement_at at (v.If all other))) ≡ sooner (first_place (misplaced_branches w (branches all.value.items))) (first_place (misplaced w (block other.value.items)))
-if_is w at all other = ap (λ x. first_place (misplaced_branches w x ++ misplaced w (block_on NoStatement (hidden-the_row-Stmt-1 other.value)))) (branches_hidden all.value) ∙ ap (λ x. first_place (misplaced_branches w (branches all.value.items) ++ misplaced w x)) (block_hidden other.value) ∙ first_append (misplaced_branches w (branches all.value.items)) (misplaced w (block other.value.items))
-
-four_places : (a b c d x y z u : List Pos) → a ≡ x → b ≡ y → c ≡ z → d ≡ u → first_place (a ++ (b ++ (c ++ d))) ≡ sooner (first_place x) (sooner (first_place y) (sooner (first_place z) (first_place u)))
-four_places a b c d x y z u p q r s = rw (p, q, r, s) (slice_is x y z u)
-
-pub try_is : (w : Where) (at : Pos) (body : Rc (Vec Stmt Global) Global) (all : Rc (Vec handler.Handler Global) Global) (other final : Rc (Vec Stmt Global) Global) → first_place (misplaced_in w (statement_at at (v.Try body all other final))) ≡ sooner (first_place (misplaced w (block body.value.items))) (sooner (first_place (misplaced_handlers w true (handlers all.value.items))) (sooner (first_place (misplaced (without_yield w) (block other.value.items))) (first_place (misplaced (without_yield w) (block final.value.items)))))
-try_is w at body all other final = four_places _ _ _ _ _ _ _ _ (ap (misplaced w) (block_hidden body.value)) (ap (misplaced_handlers w true) (handlers_hidden all.value)) (ap (misplaced (without_yield w)) (block_hidden other.value)) (ap (misplaced (without_yield w)) (block_hidden final.value))
-
+-- DEFINITIONS, as the code meets them
 def_rolled : (at : Pos) (f : Rc Function Global) → statement_at at (v.Def (record { ptr = f.ptr; value = roll-Function (out-Function f.value) })) ≡ Def at (trees (out-Function f.value).decorators.value.items) (out-Function f.value).at (out-Function f.value).name (parameters (out-Function f.value).params.value.items) (some_tree (out-Function f.value).returns) (block (out-Function f.value).body.value.items)
 unfolding roll-Function denote.Hole.Carrier.roll hidden-the_row-Stmt-1
 def_rolled at f = ap (λ b. Def at (trees (out-Function f.value).decorators.value.items) (out-Function f.value).at (out-Function f.value).name (parameters (out-Function f.value).params.value.items) (some_tree (out-Function f.value).returns) b) (block_hidden (out-Function f.value).body.value)
@@ -267,21 +246,58 @@ def_places w at f = first_place (unless (not (is_function w.scope)) at ++ (in_tr
 abbrev pub class_places : Where → Pos → Class → Option Pos
 class_places w at r = first_place (unless (is_module w.scope) at ++ (in_trees (trees (out-Class r).decorators.value.items) ++ (in_maybe (some_tree (out-Class r).base) ++ misplaced in_class (block (out-Class r).body.value.items))))
 
+pub moved : {E : Type 0} (r : Result (Option Pos) E) (ps qs : List Pos) → ps ≡ qs → IfOk r (λ p. p ≡ first_place ps) → IfOk r (λ p. p ≡ first_place qs)
+moved r ps qs e h = subst (λ (z : List Pos). IfOk r (λ p. p ≡ first_place z)) e h
+
+abbrev pub class_row : Bool → Where → Pos → Class → List Pos
+class_row b u at r = unless b at ++ (in_trees (trees (out-Class r).decorators.value.items) ++ (in_maybe (some_tree (out-Class r).base) ++ misplaced u (block (out-Class r).body.value.items)))
+
+pub class_joined : {E : Type 0} (w : Where) (at : Pos) (k : Class) (b : Bool) (u : Where) (r : Result (Option Pos) E) → b ≡ is_module w.scope → u ≡ in_class → IfOk r (λ p. p ≡ first_place (class_row b u at k)) → IfOk r (λ p. p ≡ class_places w at k)
+class_joined w at k b u r e q h = moved r (class_row b u at k) (class_row (is_module w.scope) in_class at k) (ap (λ b. class_row b u at k) e ∙ ap (λ u. class_row (is_module w.scope) u at k) q) h
+
+abbrev pub def_row : Bool → Where → Pos → Function → List Pos
+def_row b u at f = unless (not b) at ++ (in_trees (trees (out-Function f).decorators.value.items) ++ (in_params (globals_of (block (out-Function f).body.value.items)) [] false (parameters (out-Function f).params.value.items) ++ (in_maybe (some_tree (out-Function f).returns) ++ misplaced u (block (out-Function f).body.value.items))))
+
+pub def_joined : {E : Type 0} (w : Where) (at : Pos) (f : Function) (b : Bool) (u : Where) (r : Result (Option Pos) E) → b ≡ is_function w.scope → u ≡ in_function → IfOk r (λ p. p ≡ first_place (def_row b u at f)) → IfOk r (λ p. p ≡ def_places w at f)
+def_joined w at f b u r e q h = moved r (def_row b u at f) (def_row (is_function w.scope) in_function at f) (ap (λ b. def_row b u at f) e ∙ ap (λ u. def_row (is_function w.scope) u at f) q) h
+
+abbrev pub handler_row : Bool → Where → handler.Handler → List Pos
+handler_row b u h = unless b (out-Handler h).at ++ (in_maybe (some_tree (out-Handler h).class) ++ misplaced u (block (out-Handler h).body.value.items))
+
+pub handler_joined : {E : Type 0} (w : Where) (last : Bool) (x : handler.Handler) (b : Bool) (u : Where) (r : Result (Option Pos) E) → b ≡ (last || is_present (some_tree (out-Handler x).class)) → u ≡ without_yield w → IfOk r (λ p. p ≡ first_place (handler_row b u x)) → IfOk r (λ p. p ≡ handler_places w last x)
+handler_joined w last x b u r e q h = moved r (handler_row b u x) (handler_row (last || is_present (some_tree (out-Handler x).class)) (without_yield w) x) (ap (λ b. handler_row b u x) e ∙ ap (λ u. handler_row (last || is_present (some_tree (out-Handler x).class)) u x) q) h
+
+abbrev pub param_row : Bool → Param → List Pos
+param_row b p = unless b p.at ++ (in_maybe (some_tree p.annotation) ++ in_maybe (some_tree p.default))
+
+pub param_joined : {E : Type 0} (globals before : List (List ℕ)) (defaulted : Bool) (p : Param) (b : Bool) (r : Result (Option Pos) E) → b ≡ not ((is_among before p.name || is_among globals p.name) || (defaulted && not (is_present (some_tree p.default)))) → IfOk r (λ x. x ≡ first_place (param_row b p)) → IfOk r (λ x. x ≡ param_places globals before defaulted p)
+param_joined globals before defaulted p b r e h = moved r (param_row b p) (param_row (not ((is_among before p.name || is_among globals p.name) || (defaulted && not (is_present (some_tree p.default))))) p) (ap (λ b. param_row b p) e) h
+
+two_parts : (a b x y : List Pos) → a ≡ x → b ≡ y → a ++ b ≡ x ++ y
+two_parts a b x y p q = rw (p, q) refl
+
+four_parts : (a b c d x y z u : List Pos) → a ≡ x → b ≡ y → c ≡ z → d ≡ u → a ++ (b ++ (c ++ d)) ≡ x ++ (y ++ (z ++ u))
+four_parts a b c d x y z u p q r s = rw (p, q, r, s) refl
+
 module _ (w : Where) (at : Pos) (kind : StmtKind) where
-  pub if_form : (all : Rc (Vec branch.Branch Global) Global) (other : Rc (Vec Stmt Global) Global) (a b r : Option Pos) → kind ≡ v.If all other → a ≡ first_place (misplaced_branches w (branches all.value.items)) → b ≡ first_place (misplaced w (block other.value.items)) → r ≡ sooner a b → r ≡ first_place (misplaced_in w (statement_at at kind))
-  if_form all other a b r is p q h = rw (is, h, p, q) (sym (if_is w at all other))
+  of_places : {E : Type 0} (k : StmtKind) (ps : List Pos) (r : Result (Option Pos) E) → kind ≡ k → ps ≡ misplaced_in w (statement_at at k) → IfOk r (λ p. p ≡ first_place ps) → IfOk r (λ p. p ≡ first_place (misplaced_in w (statement_at at kind)))
+  of_places k ps r is e h = rw is (subst (λ (z : List Pos). IfOk r (λ p. p ≡ first_place z)) e h)
 
-  pub while_form : (e : Rc Expr Global) (body : Rc (Vec Stmt Global) Global) (a b r : Option Pos) → kind ≡ v.While e body → a ≡ first_place (in_tree (tree e.value)) → b ≡ first_place (misplaced (in_loop_of w) (block body.value.items)) → r ≡ sooner a b → r ≡ first_place (misplaced_in w (statement_at at kind))
-  while_form e body a b r is p q h = rw (is, h, p, q) (sym (while_is w at e body))
+  pub if_form : {E : Type 0} (all : Rc (Vec branch.Branch Global) Global) (other : Rc (Vec Stmt Global) Global) (xs : List branch.Branch) (r : Result (Option Pos) E) → kind ≡ v.If all other → xs ≡ all.value.items → IfOk r (λ p. p ≡ first_place (misplaced_branches w (branches xs) ++ misplaced w (block other.value.items))) → IfOk r (λ p. p ≡ first_place (misplaced_in w (statement_at at kind)))
+  if_form all other xs r is e h = of_places (v.If all other) (misplaced_branches w (branches xs) ++ misplaced w (block other.value.items)) r is (two_parts _ _ _ _ (ap (λ s. misplaced_branches w (branches s)) e ∙ ap (misplaced_branches w) (sym (branches_hidden all.value))) (ap (misplaced w) (sym (block_hidden other.value)))) h
 
-  pub with_form : (e : Rc Expr Global) (name : Option (List ℕ)) (body : Rc (Vec Stmt Global) Global) (a b r : Option Pos) → kind ≡ v.With e name body → a ≡ first_place (in_tree (tree e.value)) → b ≡ first_place (misplaced (without_yield w) (block body.value.items)) → r ≡ sooner a b → r ≡ first_place (misplaced_in w (statement_at at kind))
-  with_form e name body a b r is p q h = rw (is, h, p, q) (sym (with_is w at e name body))
+  pub while_form : {E : Type 0} (e : Rc Expr Global) (body : Rc (Vec Stmt Global) Global) (u : Where) (r : Result (Option Pos) E) → kind ≡ v.While e body → u ≡ in_loop_of w → IfOk r (λ p. p ≡ first_place (in_tree (tree e.value) ++ misplaced u (block body.value.items))) → IfOk r (λ p. p ≡ first_place (misplaced_in w (statement_at at kind)))
+  while_form e body u r is q h = of_places (v.While e body) (in_tree (tree e.value) ++ misplaced u (block body.value.items)) r is (ap (λ u. in_tree (tree e.value) ++ misplaced u (block body.value.items)) q ∙ ap (λ x. in_tree (tree e.value) ++ misplaced (in_loop_of w) x) (sym (block_hidden body.value))) h
 
-  pub for_form : (t : Target) (e : Rc Expr Global) (body : Rc (Vec Stmt Global) Global) (a b c m r : Option Pos) → kind ≡ v.For t e body → a ≡ first_place (in_taker (taker t)) → b ≡ first_place (in_tree (tree e.value)) → c ≡ first_place (misplaced (in_loop_of w) (block body.value.items)) → m ≡ sooner b c → r ≡ sooner a m → r ≡ first_place (misplaced_in w (statement_at at kind))
-  for_form t e body a b c m r is p q s h i = rw (is, i, h, p, q, s) (sym (for_is w at t e body))
+  pub with_form : {E : Type 0} (e : Rc Expr Global) (name : Option (List ℕ)) (body : Rc (Vec Stmt Global) Global) (u : Where) (r : Result (Option Pos) E) → kind ≡ v.With e name body → u ≡ without_yield w → IfOk r (λ p. p ≡ first_place (in_tree (tree e.value) ++ misplaced u (block body.value.items))) → IfOk r (λ p. p ≡ first_place (misplaced_in w (statement_at at kind)))
+  with_form e name body u r is q h = of_places (v.With e name body) (in_tree (tree e.value) ++ misplaced u (block body.value.items)) r is (ap (λ u. in_tree (tree e.value) ++ misplaced u (block body.value.items)) q ∙ ap (λ x. in_tree (tree e.value) ++ misplaced (without_yield w) x) (sym (block_hidden body.value))) h
 
-  pub try_form : (body : Rc (Vec Stmt Global) Global) (all : Rc (Vec handler.Handler Global) Global) (other final : Rc (Vec Stmt Global) Global) (a b c d m n r : Option Pos) → kind ≡ v.Try body all other final → a ≡ first_place (misplaced w (block body.value.items)) → b ≡ first_place (misplaced_handlers w true (handlers all.value.items)) → c ≡ first_place (misplaced (without_yield w) (block other.value.items)) → d ≡ first_place (misplaced (without_yield w) (block final.value.items)) → m ≡ sooner c d → n ≡ sooner b m → r ≡ sooner a n → r ≡ first_place (misplaced_in w (statement_at at kind))
-  try_form body all other final a b c d m n r is p q s t h i k = rw (is, k, i, h, p, q, s, t) (sym (try_is w at body all other final))
+  pub for_form : {E : Type 0} (t : Target) (e : Rc Expr Global) (body : Rc (Vec Stmt Global) Global) (u : Where) (r : Result (Option Pos) E) → kind ≡ v.For t e body → u ≡ in_loop_of w → IfOk r (λ p. p ≡ first_place (in_taker (taker t) ++ (in_tree (tree e.value) ++ misplaced u (block body.value.items)))) → IfOk r (λ p. p ≡ first_place (misplaced_in w (statement_at at kind)))
+  for_form t e body u r is q h = of_places (v.For t e body) (in_taker (taker t) ++ (in_tree (tree e.value) ++ misplaced u (block body.value.items))) r is (ap (λ u. in_taker (taker t) ++ (in_tree (tree e.value) ++ misplaced u (block body.value.items))) q ∙ ap (λ x. in_taker (taker t) ++ (in_tree (tree e.value) ++ misplaced (in_loop_of w) x)) (sym (block_hidden body.value))) h
+
+  pub try_form : {E : Type 0} (body : Rc (Vec Stmt Global) Global) (all : Rc (Vec handler.Handler Global) Global) (other final : Rc (Vec Stmt Global) Global) (hs : List handler.Handler) (u z : Where) (r : Result (Option Pos) E) → kind ≡ v.Try body all other final → hs ≡ all.value.items → u ≡ without_yield w → z ≡ without_yield w → IfOk r (λ p. p ≡ first_place (misplaced w (block body.value.items) ++ (misplaced_handlers w true (handlers hs) ++ (misplaced u (block other.value.items) ++ misplaced z (block final.value.items))))) → IfOk r (λ p. p ≡ first_place (misplaced_in w (statement_at at kind)))
+  try_form body all other final hs u z r is e p q h = of_places (v.Try body all other final) (misplaced w (block body.value.items) ++ (misplaced_handlers w true (handlers hs) ++ (misplaced u (block other.value.items) ++ misplaced z (block final.value.items)))) r is
+      (four_parts _ _ _ _ _ _ _ _ (ap (misplaced w) (sym (block_hidden body.value))) (ap (λ s. misplaced_handlers w true (handlers s)) e ∙ ap (misplaced_handlers w true) (sym (handlers_hidden all.value))) (ap (λ u. misplaced u (block other.value.items)) p ∙ ap (misplaced (without_yield w)) (sym (block_hidden other.value))) (ap (λ u. misplaced u (block final.value.items)) q ∙ ap (misplaced (without_yield w)) (sym (block_hidden final.value)))) h
 
   pub def_form : {E : Type 0} (f : Rc Function Global) (g : Function) (r : Result (Option Pos) E) → kind ≡ v.Def f → g ≡ f.value → IfOk r (λ p. p ≡ def_places w at g) → IfOk r (λ p. p ≡ first_place (misplaced_in w (statement_at at kind)))
   def_form f g r is e h = rw is (subst (λ (z : Option Pos). IfOk r (λ p. p ≡ z)) (ap (def_places w at) e ∙ sym (def_is w at f)) h)

@@ -1,7 +1,7 @@
-ghost use Rattle.std.specs.Prelude.{◌≡◌, ◌∷◌, [], IfOk, MatchOption};
+ghost use Rattle.std.specs.Prelude.{◌≡◌, ◌++◌, ◌∷◌, [], List, IfOk, MatchOption};
 ghost use Rattle.py_tree.specs.Trees.{tree, trees, some_tree};
 ghost use Rattle.py_tree.specs.Names.{is_among};
-ghost use Rattle.py_grammar.specs.Context.{first_place, in_tree, in_trees, in_maybe};
+ghost use Rattle.py_grammar.specs.Context.{first_place, by_turns, wrong_arguments, each, in_tree, in_trees, in_maybe};
 ghost use Rattle.py_context.specs.First.{sooner, wrong_name, with_name};
 ghost use Rattle.py_context.specs.Parts.{firsts, first_of, first_by_turns, first_argument};
 
@@ -139,8 +139,62 @@ fn first_argument(
     Ok(None)
 }
 
+/// The first place in two parts, of which the first stands before the second.
+#[tactic(auto, using(crate::proofs::ExpressionPlaces::join_rules))]
+pub fn join(
+    first: Result<Option<Pos>, OutOfMemory>,
+    second: Result<Option<Pos>, OutOfMemory>,
+) -> Result<Option<Pos>, OutOfMemory>
+    ensures { (xs ys : List Pos) → IfOk first (λ at. at ≡ first_place xs) → IfOk second (λ at. at ≡ first_place ys) → IfOk result (λ at. at ≡ first_place (xs ++ ys)) }
+{
+    match first {
+        Ok(None) => second,
+        Ok(Some(at)) => Ok(Some(at)),
+        Err(error) => Err(error),
+    }
+}
+
+/// The first place in parts in a row.
+#[tactic(auto, using(crate::proofs::ExpressionPlaces::row_places))]
+fn in_row(parts: Result<Vec<Part>, OutOfMemory>) -> Result<Option<Pos>, OutOfMemory>
+    ensures { (es : List (Rc Expr Global)) → IfOk parts (λ all. all.items ≡ firsts es) → IfOk result (λ at. at ≡ first_place (in_trees (trees es))) }
+{
+    match parts {
+        Ok(parts) => Ok(first_of(&parts)),
+        Err(error) => Err(error),
+    }
+}
+
+/// The first place in keys and the value of each.
+#[tactic(auto, using(crate::proofs::ExpressionPlaces::turn_places))]
+fn in_turns(
+    keys: Result<Vec<Part>, OutOfMemory>,
+    values: Result<Vec<Part>, OutOfMemory>,
+) -> Result<Option<Pos>, OutOfMemory>
+    ensures { (ks es : List (Rc Expr Global)) → IfOk keys (λ all. all.items ≡ firsts ks) → IfOk values (λ all. all.items ≡ firsts es) → IfOk result (λ at. at ≡ first_place (by_turns (each (trees ks)) (each (trees es)))) }
+{
+    match (keys, values) {
+        (Ok(keys), Ok(values)) => Ok(first_by_turns(&keys, &values)),
+        (_, _) => Err(OutOfMemory),
+    }
+}
+
+/// The first place in arguments with their names.
+#[tactic(auto, using(crate::proofs::ExpressionPlaces::argument_places))]
+fn in_arguments(
+    alloc: Global,
+    names: &Rc<Vec<Option<ArgName>>>,
+    arguments: Result<Vec<Part>, OutOfMemory>,
+) -> Result<Option<Pos>, OutOfMemory>
+    ensures { (es : List (Rc Expr Global)) → IfOk arguments (λ all. all.items ≡ firsts es) → IfOk result (λ at. at ≡ first_place (wrong_arguments [] names.now.value.items (each (trees es)))) }
+{
+    match arguments {
+        Ok(arguments) => first_argument(alloc, names, &arguments),
+        Err(error) => Err(error),
+    }
+}
+
 /// The first place in an expression where something may not stand.
-#[tactic(auto, using(crate::proofs::ExpressionPlaces::form_rules))]
 #[cycle(expression)]
 pub fn in_expr(alloc: Global, expr: &Expr) -> Result<Option<Pos>, OutOfMemory>
     ensures { IfOk result (λ at. at ≡ first_place (in_tree (tree expr.now))) }
@@ -152,56 +206,46 @@ pub fn in_expr(alloc: Global, expr: &Expr) -> Result<Option<Pos>, OutOfMemory>
         | ExprKind::True
         | ExprKind::False
         | ExprKind::None => Ok(None),
-        ExprKind::Paren(of) => in_expr(alloc, of),
-        ExprKind::Tuple(items) => Ok(first_of(&in_each(alloc, items)?)),
-        ExprKind::List(items) => Ok(first_of(&in_each(alloc, items)?)),
-        ExprKind::Dict(keys, values) => {
-            let keys = in_each(alloc, keys)?;
-            let values = in_each(alloc, values)?;
-            Ok(first_by_turns(&keys, &values))
-        }
-        ExprKind::Attribute(of, _) => in_expr(alloc, of),
-        ExprKind::Call(function, arguments, names) => {
-            let first = in_expr(alloc, function)?;
-            let arguments = in_each(alloc, arguments)?;
-            Ok(sooner(first, first_argument(alloc, names, &arguments)?))
-        }
-        ExprKind::Subscript(of, index) => Ok(sooner(in_expr(alloc, of)?, in_expr(alloc, index)?)),
-        ExprKind::Slice(of, from, to, by) => {
-            let first = in_expr(alloc, of)?;
-            let second = in_optional(alloc, from)?;
-            let third = in_optional(alloc, to)?;
-            let last = in_optional(alloc, by)?;
-            Ok(sooner(first, sooner(second, sooner(third, last))))
-        }
-        ExprKind::Unary(_, operand) => in_expr(alloc, operand),
-        ExprKind::Binary(left, _, right) => {
-            Ok(sooner(in_expr(alloc, left)?, in_expr(alloc, right)?))
-        }
-        ExprKind::Compare(first, _, further) => {
-            let first = in_expr(alloc, first)?;
-            Ok(sooner(first, first_of(&in_each(alloc, further)?)))
-        }
-        ExprKind::Not(operand) => in_expr(alloc, operand),
-        ExprKind::And(first, further) => {
-            let first = in_expr(alloc, first)?;
-            Ok(sooner(first, first_of(&in_each(alloc, further)?)))
-        }
-        ExprKind::Or(first, further) => {
-            let first = in_expr(alloc, first)?;
-            Ok(sooner(first, first_of(&in_each(alloc, further)?)))
-        }
-        ExprKind::IfElse(value, condition, other) => {
-            let first = in_expr(alloc, value)?;
-            let second = in_expr(alloc, condition)?;
-            Ok(sooner(first, sooner(second, in_expr(alloc, other)?)))
-        }
+        ExprKind::Paren(of) => in_part(alloc, of),
+        ExprKind::Tuple(items) => in_all(alloc, items),
+        ExprKind::List(items) => in_all(alloc, items),
+        ExprKind::Dict(keys, values) => in_turns(in_each(alloc, keys), in_each(alloc, values)),
+        ExprKind::Attribute(of, _) => in_part(alloc, of),
+        ExprKind::Call(function, arguments, names) => join(
+            in_part(alloc, function),
+            in_arguments(alloc, names, in_each(alloc, arguments)),
+        ),
+        ExprKind::Subscript(of, index) => join(in_part(alloc, of), in_part(alloc, index)),
+        ExprKind::Slice(of, from, to, by) => join(
+            in_part(alloc, of),
+            join(
+                in_optional(alloc, from),
+                join(in_optional(alloc, to), in_optional(alloc, by)),
+            ),
+        ),
+        ExprKind::Unary(_, operand) => in_part(alloc, operand),
+        ExprKind::Binary(left, _, right) => join(in_part(alloc, left), in_part(alloc, right)),
+        ExprKind::Compare(first, _, further) => join(in_part(alloc, first), in_all(alloc, further)),
+        ExprKind::Not(operand) => in_part(alloc, operand),
+        ExprKind::And(first, further) => join(in_part(alloc, first), in_all(alloc, further)),
+        ExprKind::Or(first, further) => join(in_part(alloc, first), in_all(alloc, further)),
+        ExprKind::IfElse(value, condition, other) => join(
+            in_part(alloc, value),
+            join(in_part(alloc, condition), in_part(alloc, other)),
+        ),
     }
 }
 
 /// Each of some expressions, as a part.
 #[cycle(expression)]
-pub fn in_each(alloc: Global, items: &[Rc<Expr>]) -> Result<Vec<Part>, OutOfMemory>
+pub fn in_each(alloc: Global, items: &Rc<Vec<Rc<Expr>>>) -> Result<Vec<Part>, OutOfMemory>
+    ensures { IfOk result (λ all. all.items ≡ firsts items.now.value.items) }
+{
+    parts_of(alloc, items)
+}
+
+#[cycle(expression)]
+fn parts_of(alloc: Global, items: &[Rc<Expr>]) -> Result<Vec<Part>, OutOfMemory>
     ensures { IfOk result (λ all. all.items ≡ firsts items.now) }
 {
     let mut all = Vec::new(alloc);
@@ -224,23 +268,17 @@ pub fn in_optional(alloc: Global, part: &Option<Rc<Expr>>) -> Result<Option<Pos>
 }
 
 /// The first in a part of an expression.
+#[cycle(expression)]
 pub fn in_part(alloc: Global, part: &Rc<Expr>) -> Result<Option<Pos>, OutOfMemory>
     ensures { IfOk result (λ at. at ≡ first_place (in_tree (tree part.now.value))) }
 {
     in_expr(alloc, part)
 }
 
-/// The first in two parts.
-pub fn in_two(alloc: Global, left: &Rc<Expr>, right: &Rc<Expr>) -> Result<Option<Pos>, OutOfMemory>
-    ensures { IfOk result (λ at. at ≡ sooner (first_place (in_tree (tree left.now.value))) (first_place (in_tree (tree right.now.value)))) }
-{
-    Ok(sooner(in_part(alloc, left)?, in_part(alloc, right)?))
-}
-
 /// The first in parts of an expression.
-#[tactic(auto, using(crate::proofs::ExpressionPlaces::all_firsts))]
+#[cycle(expression)]
 pub fn in_all(alloc: Global, parts: &Rc<Vec<Rc<Expr>>>) -> Result<Option<Pos>, OutOfMemory>
     ensures { IfOk result (λ at. at ≡ first_place (in_trees (trees parts.now.value.items))) }
 {
-    Ok(first_of(&in_each(alloc, parts)?))
+    in_row(in_each(alloc, parts))
 }

@@ -9,7 +9,7 @@ ghost use Rattle.py_grammar.specs.Context.{first_place, unless, is_function, is_
 ghost use Rattle.py_context.specs.First.{sooner};
 ghost use Rattle.py_context.specs.Standing.{where_of, scope_of};
 
-use crate::expressions::{in_all, in_optional, in_part, in_two, is_one_of, sooner};
+use crate::expressions::{in_all, in_optional, in_part, is_one_of, join};
 use py_source::{Pos, SrcText};
 use py_tree::{
     Branch, Class, Expr, Function, Handler, Param, Single, SingleKind, Stmt, StmtKind, Target,
@@ -36,10 +36,10 @@ pub struct Where {
 }
 
 /// This place, unless it is allowed.
-fn unless(allowed: bool, at: Pos) -> Option<Pos>
-    ensures { result ≡ first_place (unless allowed at) }
+fn unless(allowed: bool, at: Pos) -> Result<Option<Pos>, OutOfMemory>
+    ensures { IfOk result (λ first. first ≡ first_place (unless allowed at)) }
 {
-    if allowed { None } else { Some(at) }
+    if allowed { Ok(None) } else { Ok(Some(at)) }
 }
 
 fn in_single(alloc: Global, single: &Single) -> Result<Option<Pos>, OutOfMemory>
@@ -48,7 +48,7 @@ fn in_single(alloc: Global, single: &Single) -> Result<Option<Pos>, OutOfMemory>
     match &single.kind {
         SingleKind::Name(_) => Ok(None),
         SingleKind::Attribute(of, _) => in_part(alloc, of),
-        SingleKind::Subscript(of, index) => in_two(alloc, of, index),
+        SingleKind::Subscript(of, index) => join(in_part(alloc, of), in_part(alloc, index)),
     }
 }
 
@@ -125,6 +125,28 @@ fn without_yield(w: Where) -> Where
     }
 }
 
+/// In a function.
+fn inside_function() -> Where
+    ensures { where_of result ≡ in_function }
+{
+    Where {
+        scope: Scope::Function,
+        in_loop: false,
+        may_yield: true,
+    }
+}
+
+/// In a class.
+fn inside_class() -> Where
+    ensures { where_of result ≡ in_class }
+{
+    Where {
+        scope: Scope::Class,
+        in_loop: false,
+        may_yield: false,
+    }
+}
+
 /// Whether an import binds a name.
 fn is_bound(names: &[SrcText], alias: &Option<SrcText>) -> bool
     ensures { result ≡ is_bound names.now alias.now }
@@ -146,10 +168,7 @@ fn in_assign(
 ) -> Result<Option<Pos>, OutOfMemory>
     ensures { IfOk result (λ at. at ≡ first_place (in_takers (takers targets.now.value.items) ++ in_tree (tree value.now.value))) }
 {
-    match in_targets(alloc, targets)? {
-        Some(at) => Ok(Some(at)),
-        None => in_part(alloc, value),
-    }
+    join(in_targets(alloc, targets), in_part(alloc, value))
 }
 
 /// The first in a `yield`.
@@ -157,10 +176,10 @@ fn in_assign(
 fn in_yield(alloc: Global, w: Where, given: &Yield) -> Result<Option<Pos>, OutOfMemory>
     ensures { IfOk result (λ at. at ≡ first_place (unless w.may_yield given.now.at ++ in_maybe (some_tree given.now.value))) }
 {
-    match unless(w.may_yield, given.at) {
-        Some(at) => Ok(Some(at)),
-        None => in_optional(alloc, &given.value),
-    }
+    join(
+        unless(w.may_yield, given.at),
+        in_optional(alloc, &given.value),
+    )
 }
 
 #[tactic(auto, using(crate::proofs::ExpressionPlaces::join_rules))]
@@ -172,10 +191,7 @@ fn in_assign_yield(
 ) -> Result<Option<Pos>, OutOfMemory>
     ensures { IfOk result (λ at. at ≡ first_place (in_takers (takers targets.now.value.items) ++ (unless w.may_yield given.now.at ++ in_maybe (some_tree given.now.value)))) }
 {
-    match in_targets(alloc, targets)? {
-        Some(at) => Ok(Some(at)),
-        None => in_yield(alloc, w, given),
-    }
+    join(in_targets(alloc, targets), in_yield(alloc, w, given))
 }
 
 #[tactic(auto, using(crate::proofs::ExpressionPlaces::join_rules))]
@@ -186,10 +202,7 @@ fn in_aug_assign(
 ) -> Result<Option<Pos>, OutOfMemory>
     ensures { IfOk result (λ at. at ≡ first_place (in_place (place single.now) ++ in_tree (tree value.now.value))) }
 {
-    match in_single(alloc, single)? {
-        Some(at) => Ok(Some(at)),
-        None => in_part(alloc, value),
-    }
+    join(in_single(alloc, single), in_part(alloc, value))
 }
 
 #[tactic(auto, using(crate::proofs::ExpressionPlaces::join_rules))]
@@ -201,10 +214,7 @@ fn in_return(
 ) -> Result<Option<Pos>, OutOfMemory>
     ensures { IfOk result (λ first. first ≡ first_place (unless (is_function (where_of w).scope) at ++ in_maybe (some_tree value.now))) }
 {
-    match unless(is_function(w), at) {
-        Some(at) => Ok(Some(at)),
-        None => in_optional(alloc, value),
-    }
+    join(unless(is_function(w), at), in_optional(alloc, value))
 }
 
 #[tactic(auto, using(crate::proofs::ExpressionPlaces::join_rules))]
@@ -216,10 +226,7 @@ fn in_return_yield(
 ) -> Result<Option<Pos>, OutOfMemory>
     ensures { IfOk result (λ first. first ≡ first_place (unless (is_function (where_of w).scope) at ++ (unless w.may_yield given.now.at ++ in_maybe (some_tree given.now.value)))) }
 {
-    match unless(is_function(w), at) {
-        Some(at) => Ok(Some(at)),
-        None => in_yield(alloc, w, given),
-    }
+    join(unless(is_function(w), at), in_yield(alloc, w, given))
 }
 
 #[tactic(auto, using(crate::proofs::ExpressionPlaces::join_rules))]
@@ -230,10 +237,7 @@ fn in_assert(
 ) -> Result<Option<Pos>, OutOfMemory>
     ensures { IfOk result (λ at. at ≡ first_place (in_tree (tree condition.now.value) ++ in_maybe (some_tree message.now))) }
 {
-    match in_part(alloc, condition)? {
-        Some(at) => Ok(Some(at)),
-        None => in_optional(alloc, message),
-    }
+    join(in_part(alloc, condition), in_optional(alloc, message))
 }
 
 /// Whether a parameter may stand behind those before it.
@@ -256,13 +260,13 @@ fn in_param(
 ) -> Result<Option<Pos>, OutOfMemory>
     ensures { IfOk result (λ at. at ≡ first_place (unless (not ((is_among before.now param.now.name || is_among globals.now param.now.name) || (defaulted && not (is_present (some_tree param.now.default))))) param.now.at ++ (in_maybe (some_tree param.now.annotation) ++ in_maybe (some_tree param.now.default)))) }
 {
-    if let Some(at) = unless(may_follow(globals, before, defaulted, param), param.at) {
-        return Ok(Some(at));
-    }
-    match in_optional(alloc, &param.annotation)? {
-        Some(at) => Ok(Some(at)),
-        None => in_optional(alloc, &param.default),
-    }
+    join(
+        unless(may_follow(globals, before, defaulted, param), param.at),
+        join(
+            in_optional(alloc, &param.annotation),
+            in_optional(alloc, &param.default),
+        ),
+    )
 }
 
 /// The first in parameters.
@@ -284,6 +288,14 @@ fn in_params(
         defaulted = defaulted || param.default.is_some();
     }
     Ok(None)
+}
+
+/// The first in the parameters of a function.
+fn in_own_params(alloc: Global, function: &Function) -> Result<Option<Pos>, OutOfMemory>
+    ensures { IfOk result (λ first. first ≡ first_place (in_params (globals_of (block (out-Function function.now).body.value.items)) [] false (parameters (out-Function function.now).params.value.items))) }
+{
+    let bindings = bindings_of(alloc, &function.params, &function.body)?;
+    in_params(alloc, bindings.globals.items(), &function.params)
 }
 
 /// The first in statements.
@@ -313,15 +325,22 @@ fn in_branches(alloc: Global, w: Where, all: &[Branch]) -> Result<Option<Pos>, O
     ensures { IfOk result (λ at. at ≡ first_place (misplaced_branches (where_of w) (branches all.now))) }
 {
     for branch in all {
-        let head = in_part(alloc, &branch.condition)?;
-        if let Some(at) = sooner(head, in_block(alloc, w, &branch.body)?) {
+        let head = in_part(alloc, &branch.condition);
+        if let Some(at) = join(head, in_block(alloc, w, &branch.body))? {
             return Ok(Some(at));
         }
     }
     Ok(None)
 }
 
-/// The first in a handler. Only the last may take all exceptions.
+/// Whether a handler may stand there: only the last may take all exceptions.
+fn may_catch(is_last: bool, handler: &Handler) -> bool
+    ensures { result ≡ (is_last || is_present (some_tree (out-Handler handler.now).class)) }
+{
+    is_last || handler.class.is_some()
+}
+
+/// The first in a handler.
 #[tactic(auto, using(crate::proofs::ExpressionPlaces::join_rules))]
 #[cycle(context)]
 fn in_handler(
@@ -332,13 +351,13 @@ fn in_handler(
 ) -> Result<Option<Pos>, OutOfMemory>
     ensures { IfOk result (λ at. at ≡ first_place (unless (is_last || is_present (some_tree (out-Handler handler.now).class)) (out-Handler handler.now).at ++ (in_maybe (some_tree (out-Handler handler.now).class) ++ misplaced (without_yield (where_of w)) (block (out-Handler handler.now).body.value.items)))) }
 {
-    if let Some(at) = unless(is_last || handler.class.is_some(), handler.at) {
-        return Ok(Some(at));
-    }
-    match in_optional(alloc, &handler.class)? {
-        Some(at) => Ok(Some(at)),
-        None => in_block(alloc, without_yield(w), &handler.body),
-    }
+    join(
+        unless(may_catch(is_last, handler), handler.at),
+        join(
+            in_optional(alloc, &handler.class),
+            in_block(alloc, without_yield(w), &handler.body),
+        ),
+    )
 }
 
 #[tactic(auto, using(crate::proofs::StatementPlaces::statement_rules))]
@@ -362,28 +381,19 @@ fn in_handlers(alloc: Global, w: Where, all: &[Handler]) -> Result<Option<Pos>, 
 fn in_def(alloc: Global, w: Where, at: Pos, function: &Function) -> Result<Option<Pos>, OutOfMemory>
     ensures { IfOk result (λ first. first ≡ first_place (unless (not (is_function (where_of w).scope)) at ++ (in_trees (trees (out-Function function.now).decorators.value.items) ++ (in_params (globals_of (block (out-Function function.now).body.value.items)) [] false (parameters (out-Function function.now).params.value.items) ++ (in_maybe (some_tree (out-Function function.now).returns) ++ misplaced in_function (block (out-Function function.now).body.value.items)))))) }
 {
-    if let Some(at) = unless(!is_function(w), at) {
-        return Ok(Some(at));
-    }
-    if let Some(at) = in_all(alloc, &function.decorators)? {
-        return Ok(Some(at));
-    }
-    let bindings = bindings_of(alloc, &function.params, &function.body)?;
-    if let Some(at) = in_params(alloc, bindings.globals.items(), &function.params)? {
-        return Ok(Some(at));
-    }
-    match in_optional(alloc, &function.returns)? {
-        Some(at) => Ok(Some(at)),
-        None => in_block(
-            alloc,
-            Where {
-                scope: Scope::Function,
-                in_loop: false,
-                may_yield: true,
-            },
-            &function.body,
+    join(
+        unless(!is_function(w), at),
+        join(
+            in_all(alloc, &function.decorators),
+            join(
+                in_own_params(alloc, function),
+                join(
+                    in_optional(alloc, &function.returns),
+                    in_block(alloc, inside_function(), &function.body),
+                ),
+            ),
         ),
-    }
+    )
 }
 
 /// The first in a class.
@@ -392,24 +402,16 @@ fn in_def(alloc: Global, w: Where, at: Pos, function: &Function) -> Result<Optio
 fn in_class(alloc: Global, w: Where, at: Pos, class: &Class) -> Result<Option<Pos>, OutOfMemory>
     ensures { IfOk result (λ first. first ≡ first_place (unless (is_module (where_of w).scope) at ++ (in_trees (trees (out-Class class.now).decorators.value.items) ++ (in_maybe (some_tree (out-Class class.now).base) ++ misplaced in_class (block (out-Class class.now).body.value.items))))) }
 {
-    if let Some(at) = unless(is_module(w), at) {
-        return Ok(Some(at));
-    }
-    if let Some(at) = in_all(alloc, &class.decorators)? {
-        return Ok(Some(at));
-    }
-    match in_optional(alloc, &class.base)? {
-        Some(at) => Ok(Some(at)),
-        None => in_block(
-            alloc,
-            Where {
-                scope: Scope::Class,
-                in_loop: false,
-                may_yield: false,
-            },
-            &class.body,
+    join(
+        unless(is_module(w), at),
+        join(
+            in_all(alloc, &class.decorators),
+            join(
+                in_optional(alloc, &class.base),
+                in_block(alloc, inside_class(), &class.body),
+            ),
         ),
-    }
+    )
 }
 
 #[tactic(auto, using(crate::proofs::StatementPlaces::statement_rules))]
@@ -427,36 +429,35 @@ fn in_stmt(alloc: Global, w: Where, stmt: &Stmt) -> Result<Option<Pos>, OutOfMem
         StmtKind::Raise(value) => in_optional(alloc, value),
         StmtKind::Assert(condition, message) => in_assert(alloc, condition, message),
         StmtKind::Del(single) => in_single(alloc, single),
-        StmtKind::Global(_) => Ok(unless(is_function(w), stmt.at)),
+        StmtKind::Global(_) => unless(is_function(w), stmt.at),
         StmtKind::Pass => Ok(None),
-        StmtKind::Break | StmtKind::Continue => Ok(unless(w.in_loop, stmt.at)),
+        StmtKind::Break | StmtKind::Continue => unless(w.in_loop, stmt.at),
         StmtKind::Yield(given) => in_yield(alloc, w, given),
-        StmtKind::Import(names, alias) => Ok(unless(is_bound(names, alias), stmt.at)),
+        StmtKind::Import(names, alias) => unless(is_bound(names, alias), stmt.at),
         StmtKind::ImportFrom(_, _) => Ok(None),
-        StmtKind::If(all, other) => {
-            let head = in_branches(alloc, w, all)?;
-            Ok(sooner(head, in_block(alloc, w, other)?))
-        }
-        StmtKind::While(condition, body) => {
-            let head = in_part(alloc, condition)?;
-            Ok(sooner(head, in_block(alloc, in_loop_of(w), body)?))
-        }
-        StmtKind::For(target, items, body) => {
-            let first = in_target(alloc, target)?;
-            let second = in_part(alloc, items)?;
-            Ok(sooner(first, sooner(second, in_block(alloc, in_loop_of(w), body)?)))
-        }
-        StmtKind::Try(body, all, other, last) => {
-            let first = in_block(alloc, w, body)?;
-            let second = in_handlers(alloc, w, all)?;
-            let third = in_block(alloc, without_yield(w), other)?;
-            let fourth = in_block(alloc, without_yield(w), last)?;
-            Ok(sooner(first, sooner(second, sooner(third, fourth))))
-        }
-        StmtKind::With(context, _, body) => {
-            let head = in_part(alloc, context)?;
-            Ok(sooner(head, in_block(alloc, without_yield(w), body)?))
-        }
+        StmtKind::If(all, other) => join(in_branches(alloc, w, all), in_block(alloc, w, other)),
+        StmtKind::While(condition, body) => join(
+            in_part(alloc, condition),
+            in_block(alloc, in_loop_of(w), body),
+        ),
+        StmtKind::For(target, items, body) => join(
+            in_target(alloc, target),
+            join(in_part(alloc, items), in_block(alloc, in_loop_of(w), body)),
+        ),
+        StmtKind::Try(body, all, other, last) => join(
+            in_block(alloc, w, body),
+            join(
+                in_handlers(alloc, w, all),
+                join(
+                    in_block(alloc, without_yield(w), other),
+                    in_block(alloc, without_yield(w), last),
+                ),
+            ),
+        ),
+        StmtKind::With(context, _, body) => join(
+            in_part(alloc, context),
+            in_block(alloc, without_yield(w), body),
+        ),
         StmtKind::Def(function) => in_def(alloc, w, stmt.at, function),
         StmtKind::Class(class) => in_class(alloc, w, stmt.at, class),
     }

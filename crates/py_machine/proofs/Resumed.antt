@@ -22,10 +22,10 @@ use Rattle.machine_state.specs.declared.machine.Machine.{Machine}
 use Rattle.machine_state.specs.Frames.{after, frozen_some, layers_of, outer_of, rest_of, state_of}
 use Rattle.machine_state.proofs.Costs.{ends_done}
 use Rattle.machine_frames.specs.Frozen.{FoundIn}
-use Rattle.py_machine.specs.declared.calls.Misfit.{Misfit}
-use Rattle.py_machine.specs.declared.openings.Opening.TheVariants.{Body, Refused, Call}
-use Rattle.py_machine.specs.Begun.{Begins}
-use Rattle.py_machine.specs.Openings.{opening_rest}
+use Rattle.machine_runner.specs.declared.misfit.Misfit.{Misfit}
+use Rattle.machine_runner.specs.declared.openings.Opening.TheVariants.{Body, Refused, Call}
+use Rattle.machine_runner.specs.Begun.{Begins}
+use Rattle.machine_runner.specs.Openings.{opening_rest}
 use Rattle.py_machine.proofs.Beginning.{same_left}
 
 -- what is told of a run

@@ -20,7 +20,7 @@ use Rattle.lower_law.specs.Alike.{CodedAlike, SourcesAlike, worlds, source_with,
 use Rattle.lower_law.specs.Law.{Lowering, LoweredWorld}
 use Rattle.lower_law.specs.View.{coded_view, file_view, frozen_view, stored_view, source_view, view_begun, view_told, Sound}
 use Rattle.lower_law.proofs.Viewed.{abandon_sound, abandon_viewed, begin_sound, begin_viewed, call_viewed, call_sound, module_viewed, module_sound, resume_sound, resume_viewed}
-use Rattle.py_machine.specs.Lines.{line_in, line_at}
+use Rattle.machine_runner.specs.Lines.{line_in, line_at}
 use Rattle.py_machine.specs.Worlds.{fault_in, fault_of, Stands}
 
 -- calls and loads

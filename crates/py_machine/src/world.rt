@@ -5,13 +5,14 @@ ghost use Rattle.lower_law.specs.py_world.Names.{names_in};
 ghost use Rattle.lower_law.specs.py_world.Runs.{source_at};
 ghost use Rattle.lower_law.specs.py_world.World as seen;
 ghost use Rattle.lower_law.specs.source_meaning.Meaning.{source_begin, source_call, source_module, source_resume};
-ghost use Rattle.py_machine.specs.Worlds.{empty, fault_of, given, with_source, IsLowered};
+ghost use Rattle.py_machine.specs.Worlds.{empty, fault_in, fault_of, given, with_source, IsLowered};
 
 use crate::resuming::{Begun, Frozen, Sent};
-use crate::sources::text_of;
-use crate::{calls, lines, load, sources, yields};
+use crate::{calls, load, yields};
 use machine_frames::frozen;
 use machine_load::Ended;
+use machine_runner::sources::text_of;
+use machine_runner::{lines, sources};
 use machine_state::locals::Locals;
 use machine_state::machine::Machine;
 use machine_state::place::{Here, Place};
@@ -135,11 +136,21 @@ pub fn fault(world: &World, path: &str) -> Option<SourceFault>
     fault_in(&world.machine.sources, path)
 }
 
+/// Why a source has no code.
+fn source_fault(source: &SourceFile) -> Option<SourceFault>
+    ensures { result ≡ fault_in source.now.code }
+{
+    match source.code() {
+        SourceCode::Code(_) => None,
+        SourceCode::Fault(fault) => Some(*fault),
+    }
+}
+
 fn fault_in(all: &[SourceFile], path: &str) -> Option<SourceFault>
     ensures { result ≡ fault_of (source_at (chars path.now) all.now) }
 {
     match sources::find(all, path) {
-        Some(source) => sources::fault(source),
+        Some(source) => source_fault(source),
         None => None,
     }
 }
@@ -160,7 +171,7 @@ fn line_in<'w>(all: &'w [SourceFile], path: &str, number: u32) -> Option<&'w str
     }
 }
 
-ghost use Rattle.py_machine.specs.Lines.{line_at, told_line};
+ghost use Rattle.machine_runner.specs.Lines.{line_at, told_line};
 
 /// The objects.
 pub fn heap(world: &World) -> &Heap

@@ -5,6 +5,12 @@
 #![tactic(auto)]
 
 #[cfg(test)]
+mod nested;
+#[cfg(test)]
+mod printer;
+#[cfg(test)]
+mod read;
+#[cfg(test)]
 mod rows;
 #[cfg(test)]
 mod show;

@@ -1,113 +1,90 @@
-use py_source::{Pos, SrcText};
+use crate::printer::Printer;
+use py_source::SrcText;
 use py_tree::{
     Alias, BinOp, Branch, Expr, ExprKind, Handler, Param, Single, SingleKind, Stmt, StmtKind,
     Target, Yield,
 };
-use std::alloc::{AllocError, Global};
 use std::rc::Rc;
 
-fn text(out: &mut String, text: &SrcText) -> Result<(), AllocError> {
-    for c in text.chars() {
-        out.push(*c)?;
-    }
-    Ok(())
-}
-
-fn place(alloc: Global, out: &mut String, at: Pos) -> Result<(), AllocError> {
-    out.push_str("@")?;
-    out.push_str(at.line.to_string(alloc)?.as_str())?;
-    out.push_str(":")?;
-    out.push_str(at.column.to_string(alloc)?.as_str())
-}
-
-fn word(alloc: Global, out: &mut String, word: &str, at: Pos) -> Result<(), AllocError> {
-    out.push_str(word)?;
-    place(alloc, out, at)
-}
-
 /// An expression: a name, or only where it begins.
-fn expr(alloc: Global, out: &mut String, e: &Expr) -> Result<(), AllocError> {
-    out.push_str(" ")?;
+fn expr(out: &mut Printer, e: &Expr) {
+    out.text(" ");
     match &e.kind {
-        ExprKind::Name(name) => text(out, name)?,
-        _ => out.push_str("?")?,
+        ExprKind::Name(name) => out.name(name),
+        _ => out.text("?"),
     }
-    place(alloc, out, e.at)
+    out.place(e.at);
 }
 
-fn maybe(alloc: Global, out: &mut String, e: &Option<Rc<Expr>>) -> Result<(), AllocError> {
+fn maybe(out: &mut Printer, e: &Option<Rc<Expr>>) {
     match e {
-        Some(e) => expr(alloc, out, e),
-        None => out.push_str(" _"),
+        Some(e) => expr(out, e),
+        None => out.text(" _"),
     }
 }
 
-fn yielded(alloc: Global, out: &mut String, y: &Yield) -> Result<(), AllocError> {
-    word(alloc, out, " yield", y.at)?;
-    maybe(alloc, out, &y.value)
+fn yielded(out: &mut Printer, y: &Yield) {
+    out.word(" yield", y.at);
+    maybe(out, &y.value);
 }
 
-fn named(out: &mut String, name: &Option<SrcText>) -> Result<(), AllocError> {
-    out.push_str(" ")?;
+fn named(out: &mut Printer, name: &Option<SrcText>) {
+    out.text(" ");
     match name {
-        Some(name) => text(out, name),
-        None => out.push_str("_"),
+        Some(name) => out.name(name),
+        None => out.text("_"),
     }
 }
 
-fn names(out: &mut String, all: &[SrcText]) -> Result<(), AllocError> {
+fn names(out: &mut Printer, all: &[SrcText]) {
     for name in all {
-        out.push_str(" ")?;
-        text(out, name)?;
+        out.text(" ");
+        out.name(name);
     }
-    Ok(())
 }
 
-fn aliases(alloc: Global, out: &mut String, all: &[Alias]) -> Result<(), AllocError> {
+fn aliases(out: &mut Printer, all: &[Alias]) {
     for one in all {
-        out.push_str(" (")?;
-        text(out, &one.name)?;
-        place(alloc, out, one.at)?;
-        named(out, &one.alias)?;
-        out.push_str(")")?;
+        out.text(" (");
+        out.name(&one.name);
+        out.place(one.at);
+        named(out, &one.alias);
+        out.text(")");
     }
-    Ok(())
 }
 
-fn single(alloc: Global, out: &mut String, s: &Single) -> Result<(), AllocError> {
-    out.push_str(" ")?;
+fn single(out: &mut Printer, s: &Single) {
+    out.text(" ");
     match &s.kind {
-        SingleKind::Name(name) => {
-            text(out, name)?;
-            place(alloc, out, s.at)
-        }
+        SingleKind::Name(name) => out.name(name),
         SingleKind::Attribute(_, name) => {
-            out.push_str(".")?;
-            text(out, name)?;
-            place(alloc, out, s.at)
+            out.text(".");
+            out.name(name);
         }
-        SingleKind::Subscript(_, _) => word(alloc, out, "[]", s.at),
+        SingleKind::Subscript(_, _) => out.text("[]"),
     }
+    out.place(s.at);
 }
 
-fn target(alloc: Global, out: &mut String, t: &Target) -> Result<(), AllocError> {
+fn singles(out: &mut Printer, all: &[Single]) {
+    out.text(" (");
+    for s in all {
+        single(out, s);
+    }
+    out.text(")");
+}
+
+fn target(out: &mut Printer, t: &Target) {
     match t {
-        Target::Single(s) => single(alloc, out, s),
-        Target::Unpack(all) => {
-            out.push_str(" (")?;
-            for s in all.iter() {
-                single(alloc, out, s)?;
-            }
-            out.push_str(")")
-        }
+        Target::Single(s) => single(out, s),
+        Target::Unpack(all) => singles(out, all),
     }
 }
 
-fn targets(alloc: Global, out: &mut String, all: &[Target]) -> Result<(), AllocError> {
+fn targets(out: &mut Printer, all: &[Target]) {
     for t in all {
-        target(alloc, out, t)?;
+        target(out, t);
     }
-    Ok(())
 }
 
 fn change(op: BinOp) -> &'static str {
@@ -126,191 +103,184 @@ fn change(op: BinOp) -> &'static str {
     }
 }
 
-fn params(alloc: Global, out: &mut String, all: &[Param]) -> Result<(), AllocError> {
-    out.push_str(" (")?;
+fn params(out: &mut Printer, all: &[Param]) {
+    out.text(" (");
     for p in all {
-        out.push_str(" ")?;
-        text(out, &p.name)?;
-        place(alloc, out, p.at)?;
-        maybe(alloc, out, &p.annotation)?;
-        maybe(alloc, out, &p.default)?;
+        out.text(" ");
+        out.name(&p.name);
+        out.place(p.at);
+        maybe(out, &p.annotation);
+        maybe(out, &p.default);
     }
-    out.push_str(")")
+    out.text(")");
 }
 
-fn decorators(alloc: Global, out: &mut String, all: &[Rc<Expr>]) -> Result<(), AllocError> {
-    out.push_str(" (")?;
+fn decorators(out: &mut Printer, all: &[Rc<Expr>]) {
+    out.text(" (");
     for e in all {
-        expr(alloc, out, e)?;
+        expr(out, e);
     }
-    out.push_str(")")
+    out.text(")");
 }
 
-fn simple(alloc: Global, out: &mut String, s: &Stmt) -> Result<(), AllocError> {
-    let at = s.at;
+fn simple(out: &mut Printer, s: &Stmt) {
     match &s.kind {
         StmtKind::Expr(e) => {
-            word(alloc, out, "do", at)?;
-            expr(alloc, out, e)
+            out.word("do", s.at);
+            expr(out, e);
         }
         StmtKind::Assign(all, e) => {
-            word(alloc, out, "assign", at)?;
-            targets(alloc, out, all)?;
-            expr(alloc, out, e)
+            out.word("assign", s.at);
+            targets(out, all);
+            expr(out, e);
         }
         StmtKind::AssignYield(all, y) => {
-            word(alloc, out, "assign", at)?;
-            targets(alloc, out, all)?;
-            yielded(alloc, out, y)
+            out.word("assign", s.at);
+            targets(out, all);
+            yielded(out, y);
         }
         StmtKind::AugAssign(t, op, e) => {
-            word(alloc, out, "change", at)?;
-            single(alloc, out, t)?;
-            out.push_str(change(*op))?;
-            expr(alloc, out, e)
+            out.word("change", s.at);
+            single(out, t);
+            out.text(change(*op));
+            expr(out, e);
         }
         StmtKind::Return(e) => {
-            word(alloc, out, "return", at)?;
-            maybe(alloc, out, e)
+            out.word("return", s.at);
+            maybe(out, e);
         }
         StmtKind::ReturnYield(y) => {
-            word(alloc, out, "return", at)?;
-            yielded(alloc, out, y)
+            out.word("return", s.at);
+            yielded(out, y);
         }
         StmtKind::Raise(e) => {
-            word(alloc, out, "raise", at)?;
-            maybe(alloc, out, e)
+            out.word("raise", s.at);
+            maybe(out, e);
         }
         StmtKind::Assert(e, m) => {
-            word(alloc, out, "assert", at)?;
-            expr(alloc, out, e)?;
-            maybe(alloc, out, m)
+            out.word("assert", s.at);
+            expr(out, e);
+            maybe(out, m);
         }
-        _ => plain(alloc, out, s),
+        _ => plain(out, s),
     }
 }
 
-fn plain(alloc: Global, out: &mut String, s: &Stmt) -> Result<(), AllocError> {
-    let at = s.at;
+fn plain(out: &mut Printer, s: &Stmt) {
     match &s.kind {
         StmtKind::Del(t) => {
-            word(alloc, out, "del", at)?;
-            single(alloc, out, t)
+            out.word("del", s.at);
+            single(out, t);
         }
         StmtKind::Global(all) => {
-            word(alloc, out, "global", at)?;
-            names(out, all)
+            out.word("global", s.at);
+            names(out, all);
         }
-        StmtKind::Pass => word(alloc, out, "pass", at),
-        StmtKind::Break => word(alloc, out, "break", at),
-        StmtKind::Continue => word(alloc, out, "continue", at),
+        StmtKind::Pass => out.word("pass", s.at),
+        StmtKind::Break => out.word("break", s.at),
+        StmtKind::Continue => out.word("continue", s.at),
         StmtKind::Yield(y) => {
-            word(alloc, out, "do", at)?;
-            yielded(alloc, out, y)
+            out.word("do", s.at);
+            yielded(out, y);
         }
         StmtKind::Import(all, alias) => {
-            word(alloc, out, "import", at)?;
-            names(out, all)?;
-            named(out, alias)
+            out.word("import", s.at);
+            names(out, all);
+            named(out, alias);
         }
         StmtKind::ImportFrom(from, all) => {
-            word(alloc, out, "from", at)?;
-            names(out, from)?;
-            aliases(alloc, out, all)
+            out.word("from", s.at);
+            names(out, from);
+            aliases(out, all);
         }
-        _ => out.push_str("?"),
+        _ => out.text("?"),
     }
 }
 
 #[cycle(show)]
-fn branches(alloc: Global, out: &mut String, all: &[Branch]) -> Result<(), AllocError> {
+fn branches(out: &mut Printer, all: &[Branch]) {
     for b in all {
-        out.push_str(" (")?;
-        word(alloc, out, "if", b.at)?;
-        expr(alloc, out, &b.condition)?;
-        block(alloc, out, &b.body)?;
-        out.push_str(")")?;
+        out.word(" (if", b.at);
+        expr(out, &b.condition);
+        block(out, &b.body);
+        out.text(")");
     }
-    Ok(())
 }
 
 #[cycle(show)]
-fn handlers(alloc: Global, out: &mut String, all: &[Handler]) -> Result<(), AllocError> {
+fn handlers(out: &mut Printer, all: &[Handler]) {
     for h in all {
-        out.push_str(" (")?;
-        word(alloc, out, "except", h.at)?;
-        maybe(alloc, out, &h.class)?;
-        named(out, &h.name)?;
-        block(alloc, out, &h.body)?;
-        out.push_str(")")?;
+        out.word(" (except", h.at);
+        maybe(out, &h.class);
+        named(out, &h.name);
+        block(out, &h.body);
+        out.text(")");
     }
-    Ok(())
 }
 
 #[cycle(show)]
-fn compound(alloc: Global, out: &mut String, s: &Stmt) -> Result<(), AllocError> {
-    let at = s.at;
+fn compound(out: &mut Printer, s: &Stmt) {
     match &s.kind {
         StmtKind::If(all, other) => {
-            word(alloc, out, "choose", at)?;
-            branches(alloc, out, all)?;
-            block(alloc, out, other)
+            out.word("choose", s.at);
+            branches(out, all);
+            block(out, other);
         }
         StmtKind::While(e, body) => {
-            word(alloc, out, "while", at)?;
-            expr(alloc, out, e)?;
-            block(alloc, out, body)
+            out.word("while", s.at);
+            expr(out, e);
+            block(out, body);
         }
         StmtKind::For(t, e, body) => {
-            word(alloc, out, "for", at)?;
-            target(alloc, out, t)?;
-            expr(alloc, out, e)?;
-            block(alloc, out, body)
+            out.word("for", s.at);
+            target(out, t);
+            expr(out, e);
+            block(out, body);
         }
         StmtKind::Try(body, all, other, last) => {
-            word(alloc, out, "try", at)?;
-            block(alloc, out, body)?;
-            handlers(alloc, out, all)?;
-            block(alloc, out, other)?;
-            block(alloc, out, last)
+            out.word("try", s.at);
+            block(out, body);
+            handlers(out, all);
+            block(out, other);
+            block(out, last);
         }
         StmtKind::With(e, name, body) => {
-            word(alloc, out, "with", at)?;
-            expr(alloc, out, e)?;
-            named(out, name)?;
-            block(alloc, out, body)
+            out.word("with", s.at);
+            expr(out, e);
+            named(out, name);
+            block(out, body);
         }
         StmtKind::Def(f) => {
-            word(alloc, out, "def", f.at)?;
-            place(alloc, out, at)?;
-            decorators(alloc, out, &f.decorators)?;
-            out.push_str(" ")?;
-            text(out, &f.name)?;
-            params(alloc, out, &f.params)?;
-            maybe(alloc, out, &f.returns)?;
-            block(alloc, out, &f.body)
+            out.word("def", f.at);
+            out.place(s.at);
+            decorators(out, &f.decorators);
+            out.text(" ");
+            out.name(&f.name);
+            params(out, &f.params);
+            maybe(out, &f.returns);
+            block(out, &f.body);
         }
         StmtKind::Class(c) => {
-            word(alloc, out, "class", c.at)?;
-            place(alloc, out, at)?;
-            decorators(alloc, out, &c.decorators)?;
-            out.push_str(" ")?;
-            text(out, &c.name)?;
-            maybe(alloc, out, &c.base)?;
-            block(alloc, out, &c.body)
+            out.word("class", c.at);
+            out.place(s.at);
+            decorators(out, &c.decorators);
+            out.text(" ");
+            out.name(&c.name);
+            maybe(out, &c.base);
+            block(out, &c.body);
         }
-        _ => simple(alloc, out, s),
+        _ => simple(out, s),
     }
 }
 
 /// Statements, each in parentheses, with the place of each part.
 #[cycle(show)]
-pub fn block(alloc: Global, out: &mut String, stmts: &[Stmt]) -> Result<(), AllocError> {
-    out.push_str(" {")?;
+pub fn block(out: &mut Printer, stmts: &[Stmt]) {
+    out.text(" {");
     for s in stmts {
-        out.push_str("(")?;
-        compound(alloc, out, s)?;
-        out.push_str(")")?;
+        out.text("(");
+        compound(out, s);
+        out.text(")");
     }
-    out.push_str("}")
+    out.text("}");
 }

@@ -1,9 +1,10 @@
 // Rows on classes.
 
-use crate::objects::class;
+use crate::objects::{added, class};
 use crate::shown::value_told;
-use crate::spelled::{Tried, characters, copied, count, values};
-use py_calls::py_kinds::builtins::{builtin_value, first_heap};
+use crate::spelled::{Operands, Tried, copied};
+use crate::values::builtin;
+use py_calls::py_kinds::builtins::first_heap;
 use py_calls::py_kinds::classes::{is_a, root_of};
 use py_calls::py_kinds::kinds::class_name;
 use py_values::builtin::EXCEPTIONS;
@@ -16,15 +17,15 @@ use py_values::throw::throw_with;
 use py_values::value::{ObjId, Value};
 use std::alloc::Global;
 
-fn added(
+fn new_class(
     alloc: Global,
     heap: &mut Heap,
     name: &str,
     form: ClassForm,
     base: Option<ObjId>,
 ) -> Tried<ObjId> {
-    let obj = class(alloc, name, form, base)?;
-    heap.add(obj)
+    let class = class(alloc, name, form, base, Values::new(alloc))?;
+    heap.add(Obj::Class(class))
 }
 
 fn built_in(
@@ -34,37 +35,37 @@ fn built_in(
     class: ExcClass,
     base: Option<ObjId>,
 ) -> Tried<ObjId> {
-    added(alloc, heap, name, ClassForm::Exception(class), base)
+    new_class(alloc, heap, name, ClassForm::Exception(class), base)
 }
 
 fn source(alloc: Global, heap: &mut Heap, name: &str, base: Option<ObjId>) -> Tried<ObjId> {
-    added(alloc, heap, name, ClassForm::Source, base)
+    new_class(alloc, heap, name, ClassForm::Source, base)
 }
 
 fn pair(alloc: Global, heap: &mut Heap, a: ObjId, b: ObjId) -> Tried<Value> {
     let mut items = Values::new(alloc);
     items.push(Value::Ref(a))?;
     items.push(Value::Ref(b))?;
-    Ok(Value::Ref(heap.add(Obj::Tuple(items))?))
+    added(heap, Obj::Tuple(items))
 }
 
 /// An exception of a class of the sources that stands on `KeyError`; whether it is a `LookupError`, one of its own class, one of
 /// another, and one of the other or of `KeyError`.
-fn own_told(alloc: Global, operands: &str) -> Tried<String> {
-    let mut heap = Heap::new(alloc)?;
-    let args = values(alloc, &mut heap, operands)?;
-    let look = built_in(alloc, &mut heap, "LookupError", ExcClass::LookupError, None)?;
-    let key = built_in(alloc, &mut heap, "KeyError", ExcClass::KeyError, Some(look))?;
-    let own = source(alloc, &mut heap, "Missing", Some(key))?;
-    let other = source(alloc, &mut heap, "Other", None)?;
-    let both = pair(alloc, &mut heap, other, key)?;
-    let class = ClassRef::Defined(own);
-    let exc = throw_with(alloc, &mut heap, class, Values::from_vec(args))?;
-    let shown = value_told(alloc, &heap, exc)?;
-    let a = is_a(&heap, exc, Value::Ref(look));
-    let b = is_a(&heap, exc, Value::Ref(own));
-    let c = is_a(&heap, exc, Value::Ref(other));
-    let d = is_a(&heap, exc, both);
+pub fn own(alloc: Global, on: &mut Operands) -> Tried<String> {
+    let count = on.values.len();
+    let args = on.taken(alloc, count)?;
+    let heap = &mut on.heap;
+    let look = built_in(alloc, heap, "LookupError", ExcClass::LookupError, None)?;
+    let key = built_in(alloc, heap, "KeyError", ExcClass::KeyError, Some(look))?;
+    let own = source(alloc, heap, "Missing", Some(key))?;
+    let other = source(alloc, heap, "Other", None)?;
+    let both = pair(alloc, heap, other, key)?;
+    let exc = throw_with(alloc, heap, ClassRef::Defined(own), Values::from_vec(args))?;
+    let shown = value_told(alloc, heap, exc)?;
+    let a = is_a(heap, exc, Value::Ref(look));
+    let b = is_a(heap, exc, Value::Ref(own));
+    let c = is_a(heap, exc, Value::Ref(other));
+    let d = is_a(heap, exc, both);
     Ok(format!(in alloc; "{shown} {a} {b} {c} {d}")?)
 }
 
@@ -78,29 +79,22 @@ fn last_of(alloc: Global, heap: &mut Heap, first: ObjId, levels: usize) -> Tried
 }
 
 /// Whether an instance of the last is one of the first, and whether the last stands on no class of exceptions.
-fn chain_told(alloc: Global, levels: usize) -> Tried<String> {
-    let mut heap = Heap::new(alloc)?;
-    let first = source(alloc, &mut heap, "C", None)?;
-    let last = last_of(alloc, &mut heap, first, levels)?;
+pub fn chain(alloc: Global, heap: &mut Heap, levels: usize) -> Tried<String> {
+    let first = source(alloc, heap, "C", None)?;
+    let last = last_of(alloc, heap, first, levels)?;
     let names = Names::new(alloc);
-    let of = heap.add(Obj::Instance(InstanceObj { class: last, names }))?;
-    let below = is_a(&heap, Value::Ref(of), Value::Ref(first));
-    let none = root_of(&heap, ClassRef::Defined(last)).is_none();
+    let of = added(heap, Obj::Instance(InstanceObj { class: last, names }))?;
+    let below = is_a(heap, of, Value::Ref(first));
+    let none = root_of(heap, ClassRef::Defined(last)).is_none();
     Ok(format!(in alloc; "{below} {none}")?)
 }
 
-/// The value of a built-in name; `None` where there is none.
-fn named(alloc: Global, name: &str) -> Tried<Value> {
-    let name = characters(alloc, name)?;
-    Ok(builtin_value(&name).unwrap_or(Value::None))
-}
-
 /// The names of the built-in classes of exceptions of which a value is an instance.
-fn classes_told(alloc: Global, heap: &Heap, v: Value) -> Tried<String> {
+fn classes_of(alloc: Global, heap: &Heap, v: Value) -> Tried<String> {
     let mut all = String::new(alloc);
     for class in &EXCEPTIONS {
         let name = class_name(*class);
-        if is_a(heap, v, named(alloc, name)?) {
+        if is_a(heap, v, builtin(alloc, name)?) {
             if !all.is_empty() {
                 all.push(' ')?;
             }
@@ -120,36 +114,28 @@ fn class_of(heap: &Heap, id: ObjId) -> ClassRef {
     ClassRef::Defined(id)
 }
 
+/// The built-in classes of an exception of a class.
+fn classes_below(alloc: Global, heap: &mut Heap, class: ClassRef) -> Tried<String> {
+    let exc = throw_with(alloc, heap, class, Values::new(alloc))?;
+    classes_of(alloc, heap, exc)
+}
+
 /// The built-in classes of an exception of the class of a name.
-fn below_told(alloc: Global, name: &str) -> Tried<String> {
-    let mut heap = first_heap(alloc)?;
-    let Value::Ref(id) = named(alloc, name)? else {
+pub fn below(alloc: Global, name: &str) -> Tried<String> {
+    let Value::Ref(id) = builtin(alloc, name)? else {
         return copied(alloc, "no class");
     };
+    let mut heap = first_heap(alloc)?;
     let class = class_of(&heap, id);
-    let exc = throw_with(alloc, &mut heap, class, Values::new(alloc))?;
-    classes_told(alloc, &heap, exc)
+    classes_below(alloc, &mut heap, class)
 }
 
 /// The built-in classes of an exception of a class of the sources that stands on the class of a name.
-fn under_told(alloc: Global, name: &str) -> Tried<String> {
-    let mut heap = first_heap(alloc)?;
-    let Value::Ref(id) = named(alloc, name)? else {
+pub fn under(alloc: Global, name: &str) -> Tried<String> {
+    let Value::Ref(id) = builtin(alloc, name)? else {
         return copied(alloc, "no class");
     };
+    let mut heap = first_heap(alloc)?;
     let own = source(alloc, &mut heap, "Own", Some(id))?;
-    let class = ClassRef::Defined(own);
-    let exc = throw_with(alloc, &mut heap, class, Values::new(alloc))?;
-    classes_told(alloc, &heap, exc)
-}
-
-/// What is given, where a row asks for something of classes.
-pub fn given(alloc: Global, word: &str, rest: &str, operands: &str) -> Tried<Option<String>> {
-    match word {
-        "own" => Ok(Some(own_told(alloc, operands)?)),
-        "below" => Ok(Some(below_told(alloc, operands)?)),
-        "under" => Ok(Some(under_told(alloc, operands)?)),
-        "chain" => Ok(Some(chain_told(alloc, count(rest))?)),
-        _ => Ok(None),
-    }
+    classes_below(alloc, &mut heap, ClassRef::Defined(own))
 }

@@ -1,8 +1,7 @@
 // Rows on subscripts, slices, stores and deletions of items, and turns of a `for`.
 
 use crate::shown::{cost, ended, raised, repr_told};
-use crate::spelled::{Tried, at, copied, count, values};
-use crate::steps::{Act, told};
+use crate::spelled::{Operands, Tried, copied};
 use py_calls::py_items::iter::{IterAt, Turn};
 use py_calls::py_items::store::{delete_item, store_item};
 use py_calls::py_items::subscript::subscript;
@@ -22,7 +21,7 @@ pub enum ItemAct {
     Delete,
 }
 
-fn act_by(word: &str) -> Option<ItemAct> {
+pub fn item_act_by(word: &str) -> Option<ItemAct> {
     match word {
         "item" => Some(ItemAct::Subscript),
         "slice" => Some(ItemAct::Slice),
@@ -32,71 +31,63 @@ fn act_by(word: &str) -> Option<ItemAct> {
     }
 }
 
-fn part(vs: &[Value], place: usize) -> Option<Value> {
-    match at(vs, place) {
+/// A bound of a slice, where it isn't `None`.
+fn bound(on: &Operands, place: usize) -> Option<Value> {
+    match on.at(place) {
         Value::None => None,
         v => Some(v),
     }
 }
 
 /// How an act ends on its operands.
-pub fn done(
-    alloc: Global,
-    heap: &mut Heap,
-    act: ItemAct,
-    vs: &[Value],
-    budget: u64,
-) -> Tried<OpEnd> {
+fn done(alloc: Global, on: &mut Operands, act: ItemAct, budget: u64) -> Tried<OpEnd> {
+    let (of, at, v) = (on.at(0), on.at(1), on.at(2));
+    let index = match act {
+        ItemAct::Slice => Index::Slice(bound(on, 1), bound(on, 2), bound(on, 3)),
+        ItemAct::Subscript | ItemAct::Store | ItemAct::Delete => Index::At(at),
+    };
     match act {
-        ItemAct::Subscript => subscript(alloc, heap, at(vs, 0), &Index::At(at(vs, 1)), budget),
-        ItemAct::Slice => {
-            let index = Index::Slice(part(vs, 1), part(vs, 2), part(vs, 3));
-            subscript(alloc, heap, at(vs, 0), &index, budget)
-        }
-        ItemAct::Store => store_item(alloc, heap, at(vs, 0), at(vs, 1), at(vs, 2), budget),
-        ItemAct::Delete => delete_item(alloc, heap, at(vs, 0), at(vs, 1), budget),
+        ItemAct::Subscript | ItemAct::Slice => subscript(alloc, &mut on.heap, of, &index, budget),
+        ItemAct::Store => store_item(alloc, &mut on.heap, of, at, v, budget),
+        ItemAct::Delete => delete_item(alloc, &mut on.heap, of, at, budget),
     }
 }
 
-fn behind(alloc: Global, heap: &Heap, v: Value, end: &OpEnd) -> Tried<String> {
-    let text = repr_told(alloc, heap, v)?;
+/// The object behind a store or a deletion, with the cost.
+fn behind(alloc: Global, on: &Operands, end: &OpEnd) -> Tried<String> {
+    let text = repr_told(alloc, &on.heap, on.at(0))?;
     let cost = cost(end);
     Ok(format!(in alloc; "{text} {cost}")?)
 }
 
-/// What is told of an act's end; for a store and a deletion the object behind it.
-pub fn done_told(
-    alloc: Global,
-    heap: &Heap,
-    act: ItemAct,
-    vs: &[Value],
-    end: &OpEnd,
-) -> Tried<String> {
-    match (act, end) {
-        (ItemAct::Store | ItemAct::Delete, OpEnd::Value(_, _)) => {
-            behind(alloc, heap, at(vs, 0), end)
-        }
-        _ => ended(alloc, heap, end),
-    }
+/// What is told of an act's end, for a store and a deletion of the object behind it; and its steps.
+fn told_of(alloc: Global, on: &Operands, act: ItemAct, end: &OpEnd) -> Tried<(String, u64)> {
+    let text = match (act, end) {
+        (ItemAct::Store | ItemAct::Delete, OpEnd::Value(_, _)) => behind(alloc, on, end),
+        _ => ended(alloc, &on.heap, end),
+    };
+    Ok((text?, cost(end)))
 }
 
-fn turn_told(alloc: Global, heap: &Heap, turn: &Turn) -> Tried<String> {
-    match turn {
+/// What is told of an act within a budget, and its steps.
+pub fn told(alloc: Global, on: &mut Operands, act: ItemAct, budget: u64) -> Tried<(String, u64)> {
+    let end = done(alloc, on, act, budget)?;
+    told_of(alloc, on, act, &end)
+}
+
+/// A turn's element, or what else it is, and whether there may be another.
+fn turn_told(alloc: Global, heap: &Heap, turn: &Turn) -> Tried<(String, bool)> {
+    let text = match turn {
         Turn::Item(v) => repr_told(alloc, heap, *v),
         Turn::End => copied(alloc, "-"),
         Turn::Raised(raise) => raised(alloc, heap, raise),
-    }
+    };
+    Ok((text?, matches!(turn, Turn::Item(_))))
 }
 
-/// A turn's element, or what else it is.
 fn next_told(alloc: Global, heap: &mut Heap, place: &mut IterAt) -> Tried<(String, bool)> {
     let next = turn(alloc, heap, place)?;
-    let text = turn_told(alloc, heap, &next)?;
-    match next {
-        Turn::Item(_) => Ok((text, true)),
-        Turn::End => Ok((text, false)),
-        Turn::Raised(_) => Ok((text, false)),
-    }
+    turn_told(alloc, heap, &next)
 }
 
 /// Where a `for` over a value begins; over what isn't iterable it is at its start too.
@@ -112,70 +103,60 @@ fn start_of(heap: &Heap, of: Value) -> IterAt {
 }
 
 /// The elements that a `for` gives, up to nine turns, and how it ends.
-fn for_told(alloc: Global, operands: &str) -> Tried<String> {
-    let mut heap = Heap::new(alloc)?;
-    let vs = values(alloc, &mut heap, operands)?;
-    let mut place = start_of(&heap, at(&vs, 0));
+fn all_turns(alloc: Global, heap: &mut Heap, of: Value) -> Tried<String> {
+    let mut place = start_of(heap, of);
     let mut all = String::new(alloc);
     for _ in 0..9 {
-        let (text, goes_on) = next_told(alloc, &mut heap, &mut place)?;
+        let (text, goes_on) = next_told(alloc, heap, &mut place)?;
         all.push_str(text.as_str())?;
         if !goes_on {
             break;
         }
-        all.push_str(" ")?;
+        all.push(' ')?;
     }
     Ok(all)
 }
 
 /// Stores or deletes an item between turns.
-fn change(alloc: Global, heap: &mut Heap, by: &str, vs: &[Value]) -> Tried<OpEnd> {
+fn change(alloc: Global, heap: &mut Heap, by: &str, of: Value, at: Value) -> Tried<OpEnd> {
     match by {
-        "store" => store_item(alloc, heap, at(vs, 0), at(vs, 1), Value::None, 9),
-        _ => delete_item(alloc, heap, at(vs, 0), at(vs, 1), 9),
+        "store" => store_item(alloc, heap, of, at, Value::None, 9),
+        _ => delete_item(alloc, heap, of, at, 9),
     }
 }
 
 /// What the second turn gives when an item is stored or deleted behind the first.
-fn changed_told(alloc: Global, by: &str, operands: &str) -> Tried<String> {
-    let mut heap = Heap::new(alloc)?;
-    let vs = values(alloc, &mut heap, operands)?;
-    let mut place = start_of(&heap, at(&vs, 0));
-    let _first = turn(alloc, &mut heap, &mut place)?;
-    let _end = change(alloc, &mut heap, by, &vs)?;
-    let (text, _) = next_told(alloc, &mut heap, &mut place)?;
+fn changed_turn(alloc: Global, on: &mut Operands, by: &str) -> Tried<String> {
+    let (of, at) = (on.at(0), on.at(1));
+    let mut place = start_of(&on.heap, of);
+    let _first = turn(alloc, &mut on.heap, &mut place)?;
+    let _end = change(alloc, &mut on.heap, by, of, at)?;
+    let (text, _) = next_told(alloc, &mut on.heap, &mut place)?;
     Ok(text)
 }
 
+/// The turns of a `for`, or the second one where an item is stored or deleted behind the first.
+pub fn turns(alloc: Global, on: &mut Operands, by: &str) -> Tried<String> {
+    if by.is_empty() {
+        let of = on.at(0);
+        return all_turns(alloc, &mut on.heap, of);
+    }
+    changed_turn(alloc, on, by)
+}
+
 /// A dict behind the deletion of a key and two stores.
-fn order_told(alloc: Global, operands: &str) -> Tried<String> {
-    let mut heap = Heap::new(alloc)?;
-    let vs = values(alloc, &mut heap, operands)?;
-    let dict = at(&vs, 0);
-    let _gone = delete_item(alloc, &mut heap, dict, at(&vs, 1), 0)?;
-    let _again = store_item(alloc, &mut heap, dict, at(&vs, 2), at(&vs, 3), 0)?;
-    let _first = store_item(alloc, &mut heap, dict, at(&vs, 4), at(&vs, 5), 0)?;
-    repr_told(alloc, &heap, dict)
+pub fn order(alloc: Global, on: &mut Operands) -> Tried<String> {
+    let (dict, gone) = (on.at(0), on.at(1));
+    let (again, v, first, w) = (on.at(2), on.at(3), on.at(4), on.at(5));
+    let _gone = delete_item(alloc, &mut on.heap, dict, gone, 0)?;
+    let _again = store_item(alloc, &mut on.heap, dict, again, v, 0)?;
+    let _first = store_item(alloc, &mut on.heap, dict, first, w, 0)?;
+    repr_told(alloc, &on.heap, dict)
 }
 
 /// How the store of a key within a budget ends, in a dict that may be too large to be shown.
-fn key_told(alloc: Global, budget: u64, operands: &str) -> Tried<String> {
-    let mut heap = Heap::new(alloc)?;
-    let vs = values(alloc, &mut heap, operands)?;
-    let end = store_item(alloc, &mut heap, at(&vs, 0), at(&vs, 1), at(&vs, 2), budget)?;
-    ended(alloc, &heap, &end)
-}
-
-/// What is given, where a row asks for something with items.
-pub fn given(alloc: Global, word: &str, rest: &str, operands: &str) -> Tried<Option<String>> {
-    if let Some(act) = act_by(word) {
-        return Ok(Some(told(alloc, Act::Item(act), operands)?));
-    }
-    match (word, rest) {
-        ("for", "") => Ok(Some(for_told(alloc, operands)?)),
-        ("for", by) => Ok(Some(changed_told(alloc, by, operands)?)),
-        ("key", budget) => Ok(Some(key_told(alloc, count(budget) as u64, operands)?)),
-        ("order", _) => Ok(Some(order_told(alloc, operands)?)),
-        _ => Ok(None),
-    }
+pub fn key_stored(alloc: Global, on: &mut Operands, budget: u64) -> Tried<String> {
+    let (dict, key, v) = (on.at(0), on.at(1), on.at(2));
+    let end = store_item(alloc, &mut on.heap, dict, key, v, budget)?;
+    ended(alloc, &on.heap, &end)
 }

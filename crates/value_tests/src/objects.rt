@@ -1,16 +1,24 @@
 // Objects that no operator makes.
 
 use crate::spelled::{Tried, text};
-use py_values::builtin::Builtin;
-use py_values::class::ClassForm;
+use py_calls::py_kinds::builtins::builtin_name;
+use py_calls::py_kinds::kinds::class_name;
+use py_values::builtin::{BUILTINS, Builtin, EXCEPTIONS};
+use py_values::class::{ClassForm, ClassRef, ExcClass};
+use py_values::heap::Heap;
 use py_values::names::Names;
-use py_values::object::{BuiltinObj, ClassObj, FunctionObj, ModuleObj, Obj};
+use py_values::object::{BuiltinObj, ClassObj, ExceptionObj, FunctionObj, ModuleObj, Obj};
 use py_values::rows::{Params, Values};
-use py_values::value::ObjId;
+use py_values::value::{ObjId, Value};
 use std::alloc::Global;
 
-/// A function of a name, without parameters.
-pub fn function(alloc: Global, name: &str) -> Tried<Obj> {
+/// The value of a new object.
+pub fn added(heap: &mut Heap, object: Obj) -> Tried<Value> {
+    Ok(Value::Ref(heap.add(object)?))
+}
+
+/// A function of a name with marks, without parameters.
+pub fn function(alloc: Global, name: &str, marks: Values) -> Tried<Obj> {
     let path = text(alloc, "test_a.py")?;
     let name = text(alloc, name)?;
     let params = Params::from_vec(Vec::new(alloc));
@@ -20,7 +28,7 @@ pub fn function(alloc: Global, name: &str) -> Tried<Obj> {
         line: 3,
         params,
         yields: false,
-        marks: Values::new(alloc),
+        marks,
         class: None,
         code: 0,
     }))
@@ -42,16 +50,66 @@ pub fn builtin_function() -> Obj {
 }
 
 /// A class of a name, without names of its own.
-pub fn class(alloc: Global, name: &str, form: ClassForm, base: Option<ObjId>) -> Tried<Obj> {
+pub fn class(
+    alloc: Global,
+    name: &str,
+    form: ClassForm,
+    base: Option<ObjId>,
+    marks: Values,
+) -> Tried<ClassObj> {
     let path = text(alloc, "test_a.py")?;
     let name = text(alloc, name)?;
-    Ok(Obj::Class(ClassObj {
+    Ok(ClassObj {
         path,
         name,
         line: 1,
         form,
         base,
-        marks: Values::new(alloc),
+        marks,
         names: Names::new(alloc),
-    }))
+    })
+}
+
+/// The class of exceptions that is bound to a name, or `NameError`.
+fn bound_class(name: &str) -> ExcClass {
+    for class in &EXCEPTIONS {
+        if class_name(*class) == name {
+            return *class;
+        }
+    }
+    ExcClass::NameError
+}
+
+/// The class of exceptions of a name, or `NameError`.
+pub fn class_by(name: &str) -> ExcClass {
+    match name {
+        "Skipped" => ExcClass::Skipped,
+        "Failed" => ExcClass::Failed,
+        _ => bound_class(name),
+    }
+}
+
+/// The built-in class of a name: of a built-in kind, or else one of exceptions.
+fn class_form(name: &str) -> ClassForm {
+    for row in &BUILTINS {
+        if row.1 && builtin_name(row.0) == name {
+            return ClassForm::Kind(row.0);
+        }
+    }
+    ClassForm::Exception(class_by(name))
+}
+
+/// A built-in class of a name.
+pub fn builtin_class(alloc: Global, name: &str) -> Tried<Obj> {
+    let class = class(alloc, name, class_form(name), None, Values::new(alloc))?;
+    Ok(Obj::Class(class))
+}
+
+/// An exception that has no `args`.
+pub fn exception_without_args(alloc: Global, class: ExcClass) -> Obj {
+    Obj::Exception(ExceptionObj {
+        class: ClassRef::Builtin(class),
+        args: None,
+        names: Names::new(alloc),
+    })
 }

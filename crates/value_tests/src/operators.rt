@@ -1,15 +1,12 @@
 // Rows on operators.
 
-use crate::shown::{ended, repr_told};
-use crate::spelled::{Tried, at};
-use crate::steps::{Act, told};
+use crate::shown::{cost, ended, repr_told};
+use crate::spelled::{Operands, Tried};
 use py_calls::py_ops::binary::{augmented, binary, binary_text};
 use py_calls::py_ops::compare::{compare, compare_text};
 use py_calls::py_ops::unary::{unary, unary_text};
 use py_tree::{BinOp, CmpOp, UnOp};
 use py_values::end::OpEnd;
-use py_values::heap::Heap;
-use py_values::value::Value;
 use std::alloc::Global;
 
 const BINARY: [BinOp; 11] = [
@@ -77,7 +74,8 @@ fn unary_by(text: &str) -> Option<UnOp> {
     None
 }
 
-fn operator_by(word: &str, text: &str) -> Option<Operator> {
+/// The operator of a row: `binary`, `augmented`, `compare` or `unary`, and its text.
+pub fn operator_by(word: &str, text: &str) -> Option<Operator> {
     match word {
         "binary" => Some(Operator::Binary(binary_by(text)?)),
         "augmented" => Some(Operator::Augmented(binary_by(text)?)),
@@ -88,43 +86,30 @@ fn operator_by(word: &str, text: &str) -> Option<Operator> {
 }
 
 /// How an operator ends on its operands.
-pub fn applied(
-    alloc: Global,
-    heap: &mut Heap,
-    op: Operator,
-    vs: &[Value],
-    budget: u64,
-) -> Tried<OpEnd> {
+fn applied(alloc: Global, on: &mut Operands, op: Operator, budget: u64) -> Tried<OpEnd> {
+    let (a, b) = (on.at(0), on.at(1));
     match op {
-        Operator::Binary(op) => binary(alloc, heap, op, at(vs, 0), at(vs, 1), budget),
-        Operator::Augmented(op) => augmented(alloc, heap, op, at(vs, 0), at(vs, 1), budget),
-        Operator::Compare(op) => compare(alloc, heap, op, at(vs, 0), at(vs, 1), budget),
-        Operator::Unary(op) => unary(alloc, heap, op, at(vs, 0), budget),
+        Operator::Binary(op) => binary(alloc, &mut on.heap, op, a, b, budget),
+        Operator::Augmented(op) => augmented(alloc, &mut on.heap, op, a, b, budget),
+        Operator::Compare(op) => compare(alloc, &mut on.heap, op, a, b, budget),
+        Operator::Unary(op) => unary(alloc, &mut on.heap, op, a, budget),
     }
 }
 
-/// What is told of an operator's end; of an augmented one the left operand behind it first.
-pub fn applied_told(
-    alloc: Global,
-    heap: &Heap,
-    op: Operator,
-    vs: &[Value],
-    end: &OpEnd,
-) -> Tried<String> {
-    let text = ended(alloc, heap, end)?;
+/// What is told of an operator's end, of an augmented one the left operand behind it first; and its steps.
+fn told_of(alloc: Global, on: &Operands, op: Operator, end: &OpEnd) -> Tried<(String, u64)> {
+    let text = ended(alloc, &on.heap, end)?;
     match (op, end) {
         (Operator::Augmented(_), OpEnd::Value(_, _) | OpEnd::Raised(_, _)) => {
-            let left = repr_told(alloc, heap, at(vs, 0))?;
-            Ok(format!(in alloc; "{left} {text}")?)
+            let left = repr_told(alloc, &on.heap, on.at(0))?;
+            Ok((format!(in alloc; "{left} {text}")?, cost(end)))
         }
-        _ => Ok(text),
+        _ => Ok((text, cost(end))),
     }
 }
 
-/// What an operator gives, where a row asks for one.
-pub fn given(alloc: Global, word: &str, text: &str, operands: &str) -> Tried<Option<String>> {
-    match operator_by(word, text) {
-        Some(op) => Ok(Some(told(alloc, Act::Operator(op), operands)?)),
-        None => Ok(None),
-    }
+/// What is told of an operator within a budget, and its steps.
+pub fn told(alloc: Global, on: &mut Operands, op: Operator, budget: u64) -> Tried<(String, u64)> {
+    let end = applied(alloc, on, op, budget)?;
+    told_of(alloc, on, op, &end)
 }

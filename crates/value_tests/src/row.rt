@@ -1,7 +1,9 @@
 // A row, and whether it gives what it wants.
 
-use crate::spelled::{Tried, copied};
-use crate::{calls, classes, items, operators, values};
+use crate::collection::verdicts;
+use crate::spelled::{Operands, Tried, copied, count};
+use crate::steps::act_by;
+use crate::{calls, classes, collection, items, steps, values};
 use std::alloc::Global;
 
 /// What the picture of a control character stands for; any other character is itself.
@@ -10,6 +12,8 @@ fn unpictured(c: char) -> char {
         '␁' => '\u{1}',
         '␉' => '\t',
         '␊' => '\n',
+        '␋' => '\u{b}',
+        '␌' => '\u{c}',
         '␍' => '\r',
         '␟' => '\u{1f}',
         '␡' => '\u{7f}',
@@ -26,32 +30,63 @@ fn field(alloc: Global, written: &str) -> Tried<String> {
     Ok(all)
 }
 
-/// What is given for what is done (a word, and what stands behind it) with operands.
+/// What is told of items, classes and calls.
+fn of_items(alloc: Global, word: &str, rest: &str, on: &mut Operands) -> Tried<String> {
+    match word {
+        "for" => items::turns(alloc, on, rest),
+        "key" => items::key_stored(alloc, on, count(rest) as u64),
+        "order" => items::order(alloc, on),
+        "own" => classes::own(alloc, on),
+        "chain" => classes::chain(alloc, &mut on.heap, count(rest)),
+        "within" => calls::within(alloc, on, rest),
+        _ => copied(alloc, "no row"),
+    }
+}
+
+/// What is told of values, or of what else has operands.
+fn of_values(alloc: Global, word: &str, rest: &str, on: &mut Operands) -> Tried<String> {
+    match word {
+        "show" => values::shown(alloc, on),
+        "cut" => values::cut(alloc, on, count(rest)),
+        "message" => values::message_cut(alloc, on, count(rest)),
+        "budget" => values::compared(alloc, on, count(rest) as u64),
+        "throw" => values::thrown(alloc, on, rest),
+        "change" => values::changed(alloc, on, rest),
+        "push" => values::pushed(alloc, on),
+        _ => of_items(alloc, word, rest, on),
+    }
+}
+
+fn of_operands(alloc: Global, word: &str, rest: &str, operands: &str) -> Tried<String> {
+    let mut on = Operands::of(alloc, operands)?;
+    of_values(alloc, word, rest, &mut on)
+}
+
+/// What is told of names and of modules, or of what has operands.
+fn of_names(alloc: Global, word: &str, rest: &str, operands: &str) -> Tried<String> {
+    match word {
+        "name" => values::named(alloc, operands),
+        "bind" => values::bound(alloc, rest, operands),
+        "below" => classes::below(alloc, operands),
+        "under" => classes::under(alloc, operands),
+        "collect" => collection::collected(alloc, operands),
+        "phase" => verdicts::verdict(alloc, rest, operands),
+        _ => of_operands(alloc, word, rest, operands),
+    }
+}
+
+/// What is given for what is done: a word, and what stands behind it.
 fn given(alloc: Global, word: &str, rest: &str, operands: &str) -> Tried<String> {
-    if let Some(text) = operators::given(alloc, word, rest, operands)? {
-        return Ok(text);
+    match act_by(alloc, word, rest)? {
+        Some(act) => steps::told(alloc, act, rest, operands),
+        None => of_names(alloc, word, rest, operands),
     }
-    if let Some(text) = items::given(alloc, word, rest, operands)? {
-        return Ok(text);
-    }
-    if let Some(text) = values::given(alloc, word, rest, operands)? {
-        return Ok(text);
-    }
-    if let Some(text) = classes::given(alloc, word, rest, operands)? {
-        return Ok(text);
-    }
-    if let Some(text) = calls::given(alloc, word, rest, operands)? {
-        return Ok(text);
-    }
-    copied(alloc, "no row")
 }
 
 fn done(alloc: Global, act: &str, operands: &str) -> Tried<String> {
     let operands = field(alloc, operands)?;
-    match act.split_once(' ') {
-        Some((word, rest)) => given(alloc, word, rest, operands.as_str()),
-        None => given(alloc, act, "", operands.as_str()),
-    }
+    let (word, rest) = act.split_once(' ').unwrap_or((act, ""));
+    given(alloc, word, rest, operands.as_str())
 }
 
 /// What a row gives where it isn't what the row wants.

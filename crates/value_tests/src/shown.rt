@@ -6,28 +6,22 @@ use py_calls::py_kinds::truth::truth;
 use py_calls::py_repr::repr::{repr, str};
 use py_calls::py_repr::shown::Shown;
 use py_values::PyText;
-use py_values::builtin::EXCEPTIONS;
-use py_values::class::ExcClass;
 use py_values::end::{OpEnd, Raise};
 use py_values::heap::Heap;
 use py_values::value::Value;
 use std::alloc::Global;
 
-/// The class of exceptions of a name, or `NameError`.
-pub fn class_by(name: &str) -> ExcClass {
-    for class in &EXCEPTIONS {
-        if class_name(*class) == name {
-            return *class;
-        }
+/// Puts the characters of a text behind what is told.
+pub fn push_text(all: &mut String, text: &PyText) -> Tried<()> {
+    for c in text.chars() {
+        all.push(*c)?;
     }
-    ExcClass::NameError
+    Ok(())
 }
 
 pub fn string(alloc: Global, text: &PyText) -> Tried<String> {
     let mut all = String::new(alloc);
-    for c in text.chars() {
-        all.push(*c)?;
-    }
+    push_text(&mut all, text)?;
     Ok(all)
 }
 
@@ -68,9 +62,10 @@ pub fn length_told(alloc: Global, shown: &Shown) -> Tried<String> {
 pub fn raised(alloc: Global, heap: &Heap, raise: &Raise) -> Tried<String> {
     let class = class_name(raise.class);
     let text = match raise.arg {
-        Some(v) => repr_told(alloc, heap, v)?,
-        None => string(alloc, &raise.text)?,
+        Some(v) => repr_told(alloc, heap, v),
+        None => string(alloc, &raise.text),
     };
+    let text = text?;
     Ok(format!(in alloc; "{class}: {text}")?)
 }
 
@@ -94,10 +89,10 @@ pub fn cost(end: &OpEnd) -> u64 {
 
 /// A value's repr, or an exception's class and text, and the cost.
 pub fn ended(alloc: Global, heap: &Heap, end: &OpEnd) -> Tried<String> {
-    if let OpEnd::Exhausted = end {
-        return copied(alloc, "exhausted");
-    }
     let text = what(alloc, heap, end)?;
+    if let OpEnd::Exhausted = end {
+        return Ok(text);
+    }
     let cost = cost(end);
     Ok(format!(in alloc; "{text} {cost}")?)
 }

@@ -1,9 +1,10 @@
-// Values that rows spell with one sign: the same value again, values in themselves, values within many others.
+// Values that rows spell with one sign: values in themselves, values within many others, long ones.
 
-use crate::shown::class_by;
-use crate::spelled::{Tried, count, put, taken};
+use crate::objects::added;
+use crate::spelled::{Operands, Tried, put};
 use py_calls::py_ops::binary::binary;
 use py_tree::BinOp;
+use py_values::PyText;
 use py_values::change::Change;
 use py_values::class::{ClassRef, ExcClass};
 use py_values::dict::Dict;
@@ -23,32 +24,28 @@ pub fn own_list(alloc: Global, heap: &mut Heap) -> Tried<Value> {
     Ok(Value::Ref(id))
 }
 
-fn tuple_of(alloc: Global, heap: &mut Heap, v: Value) -> Tried<Value> {
+/// A value in a row of its own.
+fn sole(alloc: Global, v: Value) -> Tried<Values> {
     let mut items = Values::new(alloc);
     items.push(v)?;
-    Ok(Value::Ref(heap.add(Obj::Tuple(items))?))
+    Ok(items)
 }
 
 /// 1 within so many tuples.
 pub fn nested(alloc: Global, heap: &mut Heap, levels: usize) -> Tried<Value> {
     let mut v = Value::Int(1);
     for _ in 0..levels {
-        v = tuple_of(alloc, heap, v)?;
+        v = added(heap, Obj::Tuple(sole(alloc, v)?))?;
     }
     Ok(v)
-}
-
-fn exception_of(alloc: Global, heap: &mut Heap, v: Value) -> Tried<Value> {
-    let mut args = Values::new(alloc);
-    args.push(v)?;
-    throw_with(alloc, heap, ClassRef::Builtin(ExcClass::KeyError), args)
 }
 
 /// 7 within so many exceptions.
 pub fn nested_exception(alloc: Global, heap: &mut Heap, levels: usize) -> Tried<Value> {
     let mut v = Value::Int(7);
     for _ in 0..levels {
-        v = exception_of(alloc, heap, v)?;
+        let class = ClassRef::Builtin(ExcClass::KeyError);
+        v = throw_with(alloc, heap, class, sole(alloc, v)?)?;
     }
     Ok(v)
 }
@@ -59,31 +56,32 @@ pub fn full_dict(alloc: Global, heap: &mut Heap, keys: usize) -> Tried<Value> {
     for i in 0..keys {
         put(alloc, heap, &mut dict, Value::Int(i as i128), Value::None)?;
     }
-    Ok(Value::Ref(heap.add(Obj::Dict(dict))?))
+    added(heap, Obj::Dict(dict))
 }
 
-/// An exception, by how many of the values before it are its arguments, and its class.
-pub fn exception(
-    alloc: Global,
-    heap: &mut Heap,
-    stack: &mut Vec<Value>,
-    spelled: &str,
-) -> Tried<Value> {
-    let (args, class) = spelled.split_once(' ').unwrap_or((spelled, ""));
-    let args = Values::from_vec(taken(alloc, stack, count(args))?);
-    throw_with(alloc, heap, ClassRef::Builtin(class_by(class)), args)
+/// A list of the numbers below one, from the greatest on.
+pub fn numbers(alloc: Global, heap: &mut Heap, count: usize) -> Tried<Value> {
+    let mut items = Values::new(alloc);
+    for i in 0..count {
+        items.push(Value::Int((count - i - 1) as i128))?;
+    }
+    added(heap, Obj::List(items))
+}
+
+/// A text of so many spaces.
+pub fn spaces(alloc: Global, heap: &mut Heap, count: usize) -> Tried<Value> {
+    let mut chars = Vec::new(alloc);
+    for _ in 0..count {
+        chars.push(' ')?;
+    }
+    added(heap, Obj::Text(PyText::from_chars(alloc, &chars)?))
 }
 
 /// The value before it so many times, which it takes away.
-pub fn repeated(
-    alloc: Global,
-    heap: &mut Heap,
-    stack: &mut Vec<Value>,
-    spelled: &str,
-) -> Tried<Value> {
-    let v = stack.pop().unwrap_or(Value::None);
-    let times = Value::Int(count(spelled) as i128);
-    match binary(alloc, heap, BinOp::Mul, v, times, u64::MAX)? {
+pub fn repeated(alloc: Global, on: &mut Operands, times: usize) -> Tried<Value> {
+    let v = on.values.pop().unwrap_or(Value::None);
+    let times = Value::Int(times as i128);
+    match binary(alloc, &mut on.heap, BinOp::Mul, v, times, u64::MAX)? {
         OpEnd::Value(v, _) => Ok(v),
         OpEnd::Raised(_, _) | OpEnd::Exhausted => Ok(Value::None),
     }

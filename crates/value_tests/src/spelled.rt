@@ -1,34 +1,40 @@
 // Values that rows spell.
 
-use crate::objects::{builtin_function, function, module};
-use crate::special::{exception, full_dict, nested, nested_exception, own_list, repeated};
+use crate::objects::{
+    added, builtin_class, builtin_function, class_by, exception_without_args, function, module,
+};
+use crate::special::{full_dict, nested, nested_exception, numbers, own_list, repeated, spaces};
 use py_calls::py_kinds::keys::{Keyed, key};
+use py_values::class::ClassRef;
 use py_values::dict::Dict;
 use py_values::heap::Heap;
 use py_values::object::Obj;
 use py_values::range::RangeObj;
 use py_values::rows::Values;
+use py_values::throw::throw_with;
 use py_values::value::Value;
 use py_values::{OutOfMemory, PyText};
 use std::alloc::Global;
 
 pub type Tried<T> = Result<T, OutOfMemory>;
 
+/// The operands of a row, in a heap of their own.
+#[derive(Drop)]
+pub struct Operands {
+    pub heap: Heap,
+    pub values: Vec<Value>,
+}
+
 pub fn copied(alloc: Global, text: &str) -> Tried<String> {
     Ok(String::from_str(alloc, text)?)
 }
 
 pub fn characters(alloc: Global, spelled: &str) -> Tried<Vec<char>> {
-    let mut all = Vec::new(alloc);
-    for c in spelled.chars() {
-        all.push(c)?;
-    }
-    Ok(all)
+    Ok(spelled.chars().collect(alloc)?)
 }
 
 pub fn text(alloc: Global, spelled: &str) -> Tried<PyText> {
-    let chars = characters(alloc, spelled)?;
-    PyText::from_chars(alloc, &chars)
+    PyText::from_str(alloc, spelled)
 }
 
 /// A number that a row gives, or 0.
@@ -41,22 +47,11 @@ fn whole(spelled: &str) -> i128 {
 }
 
 /// The value at a place; `None` where there is none.
-pub fn at(values: &[Value], place: usize) -> Value {
+fn value_at(values: &[Value], place: usize) -> Value {
     match values.get(place) {
         Some(v) => *v,
         None => Value::None,
     }
-}
-
-/// The last so many values, which are taken away.
-pub fn taken(alloc: Global, stack: &mut Vec<Value>, count: usize) -> Tried<Vec<Value>> {
-    let mut items = Vec::new(alloc);
-    let from = stack.len().saturating_sub(count);
-    for place in from..stack.len() {
-        items.push(at(stack, place))?;
-    }
-    stack.truncate(from);
-    Ok(items)
 }
 
 /// How many numbers there are from a start by a step before a stop.
@@ -70,23 +65,20 @@ fn range_length(start: i128, stop: i128, step: i128) -> usize {
     usize::try_from(steps.saturating_add(1)).unwrap_or(0)
 }
 
-fn range_of(start: i128, stop: i128, step: i128) -> RangeObj {
-    RangeObj {
+fn range_of(start: i128, stop: i128, step: i128) -> Obj {
+    Obj::Range(RangeObj {
         start,
         stop,
         step,
         length: range_length(start, stop, step),
-    }
+    })
 }
 
 /// A range by its start, stop and step with commas between them.
-fn range(spelled: &str) -> RangeObj {
-    if let Some((start, rest)) = spelled.split_once(',') {
-        if let Some((stop, step)) = rest.split_once(',') {
-            return range_of(whole(start), whole(stop), whole(step));
-        }
-    }
-    range_of(0, 0, 1)
+fn range(spelled: &str) -> Obj {
+    let (start, rest) = spelled.split_once(',').unwrap_or(("0", ""));
+    let (stop, step) = rest.split_once(',').unwrap_or(("0", "1"));
+    range_of(whole(start), whole(stop), whole(step))
 }
 
 pub fn put(alloc: Global, heap: &Heap, dict: &mut Dict, from: Value, to: Value) -> Tried<()> {
@@ -97,18 +89,13 @@ pub fn put(alloc: Global, heap: &Heap, dict: &mut Dict, from: Value, to: Value) 
 }
 
 /// A dict of keys and values in turn.
-fn dict(alloc: Global, heap: &Heap, items: &[Value]) -> Tried<Dict> {
+fn dict(alloc: Global, heap: &Heap, items: &[Value]) -> Tried<Obj> {
     let mut dict = Dict::new(alloc);
     for n in 0..items.len() / 2 {
-        put(
-            alloc,
-            heap,
-            &mut dict,
-            at(items, 2 * n),
-            at(items, 2 * n + 1),
-        )?;
+        let (from, to) = (value_at(items, 2 * n), value_at(items, 2 * n + 1));
+        put(alloc, heap, &mut dict, from, to)?;
     }
-    Ok(dict)
+    Ok(Obj::Dict(dict))
 }
 
 /// `None`, a boolean or a number.
@@ -124,88 +111,127 @@ fn plain(part: &str) -> Option<Value> {
     }
 }
 
-fn pairs(alloc: Global, heap: &Heap, stack: &mut Vec<Value>, rest: &str) -> Tried<Obj> {
-    let items = taken(alloc, stack, count(rest).saturating_mul(2))?;
-    Ok(Obj::Dict(dict(alloc, heap, &items)?))
-}
-
-fn elements(alloc: Global, stack: &mut Vec<Value>, rest: &str) -> Tried<Values> {
-    Ok(Values::from_vec(taken(alloc, stack, count(rest))?))
-}
-
-fn object(
-    alloc: Global,
-    heap: &Heap,
-    stack: &mut Vec<Value>,
-    kind: char,
-    rest: &str,
-) -> Tried<Obj> {
-    match kind {
-        'R' => Ok(Obj::Range(range(rest))),
-        'L' => Ok(Obj::List(elements(alloc, stack, rest)?)),
-        'T' => Ok(Obj::Tuple(elements(alloc, stack, rest)?)),
-        'D' => pairs(alloc, heap, stack, rest),
-        'F' => function(alloc, rest),
-        'M' => module(alloc, rest),
-        'B' => Ok(builtin_function()),
-        _ => Ok(Obj::Text(text(alloc, rest)?)),
+impl Operands {
+    /// The operand at a place; `None` where there is none.
+    pub fn at(&self, place: usize) -> Value {
+        value_at(&self.values, place)
     }
-}
 
-/// The value that a part spells, by its first character and the rest.
-fn value(
-    alloc: Global,
-    heap: &mut Heap,
-    stack: &mut Vec<Value>,
-    kind: char,
-    rest: &str,
-) -> Tried<Value> {
-    match kind {
-        '@' => Ok(at(stack, count(rest))),
-        'O' => own_list(alloc, heap),
-        '(' => nested(alloc, heap, count(rest)),
-        'K' => full_dict(alloc, heap, count(rest)),
-        '!' => nested_exception(alloc, heap, count(rest)),
-        'X' => exception(alloc, heap, stack, rest),
-        '*' => repeated(alloc, heap, stack, rest),
-        _ => {
-            let obj = object(alloc, heap, stack, kind, rest)?;
-            Ok(Value::Ref(heap.add(obj)?))
+    /// The last so many values, which are taken away.
+    pub fn taken(&mut self, alloc: Global, count: usize) -> Tried<Vec<Value>> {
+        let mut items = Vec::new(alloc);
+        let from = self.values.len().saturating_sub(count);
+        for place in from..self.values.len() {
+            items.push(self.at(place))?;
+        }
+        self.values.truncate(from);
+        Ok(items)
+    }
+
+    /// The last so many values as a row, by how many they are.
+    fn elements(&mut self, alloc: Global, spelled: &str) -> Tried<Values> {
+        Ok(Values::from_vec(self.taken(alloc, count(spelled))?))
+    }
+
+    fn pairs(&mut self, alloc: Global, spelled: &str) -> Tried<Obj> {
+        let items = self.taken(alloc, count(spelled).saturating_mul(2))?;
+        dict(alloc, &self.heap, &items)
+    }
+
+    fn object(&mut self, alloc: Global, kind: char, rest: &str) -> Tried<Obj> {
+        match kind {
+            'R' => Ok(range(rest)),
+            'L' => Ok(Obj::List(self.elements(alloc, rest)?)),
+            'T' => Ok(Obj::Tuple(self.elements(alloc, rest)?)),
+            'D' => self.pairs(alloc, rest),
+            'F' => function(alloc, rest, Values::new(alloc)),
+            'M' => module(alloc, rest),
+            'B' => Ok(builtin_function()),
+            'C' => builtin_class(alloc, rest),
+            _ => Ok(Obj::Text(text(alloc, rest)?)),
         }
     }
-}
 
-fn part_value(alloc: Global, heap: &mut Heap, stack: &mut Vec<Value>, part: &str) -> Tried<Value> {
-    if let Some(v) = plain(part) {
-        return Ok(v);
+    /// An exception, by how many of the values before it are its arguments, and its class.
+    fn exception(&mut self, alloc: Global, spelled: &str) -> Tried<Value> {
+        match spelled.split_once(' ') {
+            Some((args, class)) => {
+                let args = self.elements(alloc, args)?;
+                let class = ClassRef::Builtin(class_by(class));
+                throw_with(alloc, &mut self.heap, class, args)
+            }
+            None => added(
+                &mut self.heap,
+                exception_without_args(alloc, class_by(spelled)),
+            ),
+        }
     }
-    let kind = part.chars().next().unwrap_or(' ');
-    value(
-        alloc,
-        heap,
-        stack,
-        kind,
-        part.strip_prefix(kind).unwrap_or(""),
-    )
-}
 
-/// The values of a row, with `|` between their parts; nothing spells none. A part is
-///
-/// - `None`, a boolean or a number;
-/// - `'` and a text, or `R` and a range's start, stop and step;
-/// - `L`, `T` or `D` and how many of the values before it are the elements of a list, a tuple or a dict (keys and values in turn);
-/// - `@` and the place of a value before it, for that value again, or `*` and how many times the value before it is repeated;
-/// - `O`, a list that holds 1 and itself; `(`, 1 within so many tuples; `!`, 7 within so many exceptions; `K`, a dict of so many keys;
-/// - `X`, how many of the values before it are an exception's arguments, and its class;
-/// - `F` and a function's name, `M` and a module's path, or `B`, the built-in function `print`.
-pub fn values(alloc: Global, heap: &mut Heap, spelled: &str) -> Tried<Vec<Value>> {
-    let mut stack = Vec::new(alloc);
-    if spelled.is_empty() {
-        return Ok(stack);
+    /// The value that a part spells, by its first character and the rest.
+    fn value(&mut self, alloc: Global, kind: char, rest: &str) -> Tried<Value> {
+        match kind {
+            '@' => Ok(self.at(count(rest))),
+            'X' => self.exception(alloc, rest),
+            '*' => repeated(alloc, self, count(rest)),
+            'O' => own_list(alloc, &mut self.heap),
+            '(' => nested(alloc, &mut self.heap, count(rest)),
+            '!' => nested_exception(alloc, &mut self.heap, count(rest)),
+            'K' => full_dict(alloc, &mut self.heap, count(rest)),
+            'N' => numbers(alloc, &mut self.heap, count(rest)),
+            'S' => spaces(alloc, &mut self.heap, count(rest)),
+            _ => {
+                let object = self.object(alloc, kind, rest)?;
+                added(&mut self.heap, object)
+            }
+        }
     }
-    for part in spelled.split('|') {
-        let v = part_value(alloc, heap, &mut stack, part)?;
-        stack.push(v)?;
+
+    fn part_value(&mut self, alloc: Global, part: &str) -> Tried<Value> {
+        if let Some(v) = plain(part) {
+            return Ok(v);
+        }
+        let kind = part.chars().next().unwrap_or(' ');
+        self.value(alloc, kind, part.strip_prefix(kind).unwrap_or(""))
     }
-    Ok(stack)
+
+    /// Puts the value that a part spells behind the others.
+    pub fn push(&mut self, alloc: Global, part: &str) -> Tried<()> {
+        let v = self.part_value(alloc, part)?;
+        Ok(self.values.push(v)?)
+    }
+
+    fn push_all(&mut self, alloc: Global, spelled: &str) -> Tried<()> {
+        if spelled.is_empty() {
+            return Ok(());
+        }
+        for part in spelled.split('|') {
+            self.push(alloc, part)?;
+        }
+        Ok(())
+    }
+
+    /// The operands that a row spells, with `|` between their parts; nothing spells none. A part is
+    ///
+    /// - `None`, a boolean or a number;
+    /// - `'` and a text, or `R` and a range's start, stop and step;
+    /// - `L`, `T` or `D` and how many of the values before it are the elements of a list, a tuple or a dict (keys and values in turn);
+    /// - `@` and the place of a value before it, for that value again, or `*` and how many times the value before it is repeated;
+    /// - `O`, a list that holds 1 and itself; `(`, 1 within so many tuples; `!`, 7 within so many exceptions; `K`, a dict of so many
+    ///   keys; `N`, a list of so many numbers; `S`, a text of so many spaces;
+    /// - `X`, how many of the values before it are an exception's arguments, a blank and its class, or `X` and the class of an
+    ///   exception that has no `args`;
+    /// - `F` and a function's name, `M` and a module's path, `C` and the name of a built-in class, or `B`, the built-in function
+    ///   `print`.
+    pub fn of(alloc: Global, spelled: &str) -> Tried<Operands> {
+        let heap = Heap::new(alloc)?;
+        let values = Vec::new(alloc);
+        let mut all = Operands { heap, values };
+        match all.push_all(alloc, spelled) {
+            Ok(()) => Ok(all),
+            Err(error) => {
+                drop(all);
+                Err(error)
+            }
+        }
+    }
 }

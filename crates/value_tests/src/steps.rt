@@ -1,12 +1,10 @@
 // What has a cost, run with all steps, with its own, and with one fewer.
 
-use crate::items::{ItemAct, done, done_told};
-use crate::operators::{Operator, applied, applied_told};
-use crate::shown::cost;
-use crate::spelled::{Tried, copied, values};
-use py_values::end::OpEnd;
-use py_values::heap::Heap;
-use py_values::value::Value;
+use crate::calls::{Call, call_by};
+use crate::items::{ItemAct, item_act_by};
+use crate::operators::{Operator, operator_by};
+use crate::spelled::{Operands, Tried, copied};
+use crate::{calls, items, operators};
 use std::alloc::Global;
 
 /// What has a cost.
@@ -14,41 +12,59 @@ use std::alloc::Global;
 pub enum Act {
     Operator(Operator),
     Item(ItemAct),
+    Call(Call),
 }
 
-fn end_of(alloc: Global, heap: &mut Heap, act: Act, vs: &[Value], budget: u64) -> Tried<OpEnd> {
-    match act {
-        Act::Operator(op) => applied(alloc, heap, op, vs, budget),
-        Act::Item(act) => done(alloc, heap, act, vs, budget),
+/// What has a cost, by its word and what stands behind it.
+pub fn act_by(alloc: Global, word: &str, rest: &str) -> Tried<Option<Act>> {
+    if let Some(op) = operator_by(word, rest) {
+        return Ok(Some(Act::Operator(op)));
+    }
+    if let Some(act) = item_act_by(word) {
+        return Ok(Some(Act::Item(act)));
+    }
+    match call_by(alloc, word)? {
+        Some(call) => Ok(Some(Act::Call(call))),
+        None => Ok(None),
     }
 }
 
-fn end_told(alloc: Global, heap: &Heap, act: Act, vs: &[Value], end: &OpEnd) -> Tried<String> {
+/// What is told of an act on operands within a budget, and its steps.
+fn told_on(
+    alloc: Global,
+    on: &mut Operands,
+    act: Act,
+    named: &str,
+    budget: u64,
+) -> Tried<(String, u64)> {
     match act {
-        Act::Operator(op) => applied_told(alloc, heap, op, vs, end),
-        Act::Item(act) => done_told(alloc, heap, act, vs, end),
+        Act::Operator(op) => operators::told(alloc, on, op, budget),
+        Act::Item(act) => items::told(alloc, on, act, budget),
+        Act::Call(call) => calls::told(alloc, on, call, named, budget),
     }
 }
 
-/// What is told of an act within a budget, and its steps.
-fn told_within(alloc: Global, act: Act, operands: &str, budget: u64) -> Tried<(String, u64)> {
-    let mut heap = Heap::new(alloc)?;
-    let vs = values(alloc, &mut heap, operands)?;
-    let end = end_of(alloc, &mut heap, act, &vs, budget)?;
-    let text = end_told(alloc, &heap, act, &vs, &end)?;
-    Ok((text, cost(&end)))
+fn told_within(
+    alloc: Global,
+    act: Act,
+    named: &str,
+    operands: &str,
+    budget: u64,
+) -> Tried<(String, u64)> {
+    let mut on = Operands::of(alloc, operands)?;
+    told_on(alloc, &mut on, act, named, budget)
 }
 
-/// What an act gives, or what is wrong with its steps.
-pub fn told(alloc: Global, act: Act, operands: &str) -> Tried<String> {
-    let (text, cost) = told_within(alloc, act, operands, u64::MAX)?;
-    let (again, _) = told_within(alloc, act, operands, cost)?;
+/// What an act gives, of a call with its named arguments, or what is wrong with its steps.
+pub fn told(alloc: Global, act: Act, named: &str, operands: &str) -> Tried<String> {
+    let (text, cost) = told_within(alloc, act, named, operands, u64::MAX)?;
+    let (again, _) = told_within(alloc, act, named, operands, cost)?;
     if again.as_str() != text.as_str() {
         return copied(alloc, "another end with its own steps");
     }
     if cost > 0 {
-        let (short, _) = told_within(alloc, act, operands, cost - 1)?;
-        if short.as_str() != "exhausted" {
+        let (short, _) = told_within(alloc, act, named, operands, cost - 1)?;
+        if !short.as_str().starts_with("exhausted") {
             return copied(alloc, "not exhausted with a step fewer");
         }
     }

@@ -1,7 +1,7 @@
 // Rows on values: what is shown of them, comparison within a budget, exceptions, names, and changes of objects.
 
 use crate::shown::{length_told, repr_told, value_told};
-use crate::spelled::{Tried, at, characters, copied, count, text, values};
+use crate::spelled::{Operands, Tried, characters, copied, text};
 use py_calls::py_kinds::builtins::{builtin_value, first_heap};
 use py_calls::py_repr::repr::{message, repr};
 use py_compare::equal::equal;
@@ -17,71 +17,68 @@ use py_values::throw::throw;
 use py_values::value::Value;
 use std::alloc::Global;
 
-fn shown_told(alloc: Global, operands: &str) -> Tried<String> {
-    let mut heap = Heap::new(alloc)?;
-    let vs = values(alloc, &mut heap, operands)?;
-    value_told(alloc, &heap, at(&vs, 0))
+/// A value's kind, repr, text and truth.
+pub fn shown(alloc: Global, on: &Operands) -> Tried<String> {
+    value_told(alloc, &on.heap, on.at(0))
 }
 
-/// The value of a built-in name; `None` where there is none.
-fn name_told(alloc: Global, name: &str) -> Tried<String> {
-    let heap = first_heap(alloc)?;
+/// The value of a built-in name in the first heap; `None` where there is none.
+pub fn builtin(alloc: Global, name: &str) -> Tried<Value> {
     let name = characters(alloc, name)?;
-    let v = builtin_value(&name).unwrap_or(Value::None);
+    Ok(builtin_value(&name).unwrap_or(Value::None))
+}
+
+/// What is shown of the value of a built-in name.
+pub fn named(alloc: Global, name: &str) -> Tried<String> {
+    let heap = first_heap(alloc)?;
+    let v = builtin(alloc, name)?;
     value_told(alloc, &heap, v)
 }
 
 /// The length of what is shown of a value within a length, whether it is cut, and whether it lies too deep.
-fn cut_told(alloc: Global, most: usize, operands: &str) -> Tried<String> {
-    let mut heap = Heap::new(alloc)?;
-    let vs = values(alloc, &mut heap, operands)?;
-    let shown = repr(alloc, &heap, at(&vs, 0), most)?;
+pub fn cut(alloc: Global, on: &Operands, most: usize) -> Tried<String> {
+    let shown = repr(alloc, &on.heap, on.at(0), most)?;
     length_told(alloc, &shown)
 }
 
 /// The same of an exception's message.
-fn message_told(alloc: Global, most: usize, operands: &str) -> Tried<String> {
-    let mut heap = Heap::new(alloc)?;
-    let vs = values(alloc, &mut heap, operands)?;
-    let shown = message(alloc, &heap, at(&vs, 0), most)?;
+pub fn message_cut(alloc: Global, on: &Operands, most: usize) -> Tried<String> {
+    let shown = message(alloc, &on.heap, on.at(0), most)?;
     length_told(alloc, &shown)
 }
 
 fn tested_told(alloc: Global, tested: Tested) -> Tried<String> {
-    match tested {
-        Tested::Yes(cost) => Ok(format!(in alloc; "yes {cost}")?),
-        Tested::No(cost) => Ok(format!(in alloc; "no {cost}")?),
-        Tested::TooDeep(cost) => Ok(format!(in alloc; "too deep {cost}")?),
-        Tested::NotOrdered(cost) => Ok(format!(in alloc; "not ordered {cost}")?),
-        Tested::Exhausted => copied(alloc, "exhausted"),
-    }
+    let (word, cost) = match tested {
+        Tested::Yes(cost) => ("yes", cost),
+        Tested::No(cost) => ("no", cost),
+        Tested::TooDeep(cost) => ("too deep", cost),
+        Tested::NotOrdered(cost) => ("not ordered", cost),
+        Tested::Exhausted => return copied(alloc, "exhausted"),
+    };
+    Ok(format!(in alloc; "{word} {cost}")?)
 }
 
 /// Whether two values are equal, and whether the first is less, within a budget.
-fn compared_told(alloc: Global, budget: u64, operands: &str) -> Tried<String> {
-    let mut heap = Heap::new(alloc)?;
-    let vs = values(alloc, &mut heap, operands)?;
-    let same = tested_told(alloc, equal(&heap, at(&vs, 0), at(&vs, 1), budget))?;
-    let less = tested_told(alloc, less(&heap, at(&vs, 0), at(&vs, 1), budget))?;
+pub fn compared(alloc: Global, on: &Operands, budget: u64) -> Tried<String> {
+    let same = tested_told(alloc, equal(&on.heap, on.at(0), on.at(1), budget))?;
+    let less = tested_told(alloc, less(&on.heap, on.at(0), on.at(1), budget))?;
     Ok(format!(in alloc; "{same}, {less}")?)
 }
 
 /// The exception of a raise with a text, and with an argument where there is an operand.
-fn thrown_told(alloc: Global, text: &str, operands: &str) -> Tried<String> {
-    let mut heap = Heap::new(alloc)?;
-    let vs = values(alloc, &mut heap, operands)?;
+pub fn thrown(alloc: Global, on: &mut Operands, text: &str) -> Tried<String> {
     let mut raise = Raise::from_ascii(alloc, ExcClass::NameError, text)?;
-    raise.arg = vs.first().copied();
-    let exc = throw(alloc, &mut heap, raise)?;
-    value_told(alloc, &heap, exc)
+    raise.arg = on.values.first().copied();
+    let exc = throw(alloc, &mut on.heap, raise)?;
+    value_told(alloc, &on.heap, exc)
 }
 
-fn name(alloc: Global, spelled: &str) -> Tried<Name> {
+pub fn name(alloc: Global, spelled: &str) -> Tried<Name> {
     Ok(Name::from_text(text(alloc, spelled)?))
 }
 
 /// Names bound to 1, 2 and so on in turn.
-fn bound(alloc: Global, spelled: &str) -> Tried<Names> {
+fn names_of(alloc: Global, spelled: &str) -> Tried<Names> {
     let mut names = Names::new(alloc);
     let mut n = 0i128;
     for part in spelled.split('|') {
@@ -106,66 +103,36 @@ fn first_of(names: &Names) -> Option<Value> {
 }
 
 /// What a name is bound to, and the value that stands first.
-fn found_told(alloc: Global, heap: &Heap, names: &Names, wanted: &str) -> Tried<String> {
+fn found_in(alloc: Global, names: &Names, wanted: &str) -> Tried<String> {
+    let heap = Heap::new(alloc)?;
     let wanted = name(alloc, wanted)?;
-    let there = found(alloc, heap, names.find(&wanted))?;
-    let first = found(alloc, heap, first_of(names))?;
+    let there = found(alloc, &heap, names.find(&wanted))?;
+    let first = found(alloc, &heap, first_of(names))?;
     Ok(format!(in alloc; "{there} {first}")?)
 }
 
 /// The same behind bindings.
-fn bound_told(alloc: Global, wanted: &str, spelled: &str) -> Tried<String> {
-    let heap = Heap::new(alloc)?;
-    let names = bound(alloc, spelled)?;
-    found_told(alloc, &heap, &names, wanted)
+pub fn bound(alloc: Global, wanted: &str, spelled: &str) -> Tried<String> {
+    let names = names_of(alloc, spelled)?;
+    found_in(alloc, &names, wanted)
 }
 
 /// A value whose object is written anew as a text.
-fn changed_told(alloc: Global, spelled: &str, operands: &str) -> Tried<String> {
-    let mut heap = Heap::new(alloc)?;
-    let vs = values(alloc, &mut heap, operands)?;
-    if let Value::Ref(id) = at(&vs, 0) {
-        if id.at < heap.len() {
-            *heap.obj_mut(id) = Obj::Text(text(alloc, spelled)?);
+pub fn changed(alloc: Global, on: &mut Operands, spelled: &str) -> Tried<String> {
+    let v = on.at(0);
+    if let Value::Ref(id) = v {
+        if id.at < on.heap.len() {
+            *on.heap.obj_mut(id) = Obj::Text(text(alloc, spelled)?);
         }
     }
-    value_told(alloc, &heap, at(&vs, 0))
+    value_told(alloc, &on.heap, v)
 }
 
 /// A list behind which a value is put.
-fn pushed_told(alloc: Global, operands: &str) -> Tried<String> {
-    let mut heap = Heap::new(alloc)?;
-    let vs = values(alloc, &mut heap, operands)?;
-    if let Value::Ref(id) = at(&vs, 0) {
-        heap.change(id, Change::Push(at(&vs, 1)))?;
+pub fn pushed(alloc: Global, on: &mut Operands) -> Tried<String> {
+    let (list, v) = (on.at(0), on.at(1));
+    if let Value::Ref(id) = list {
+        on.heap.change(id, Change::Push(v))?;
     }
-    repr_told(alloc, &heap, at(&vs, 0))
-}
-
-/// What is given, where a row asks for something of an object's own.
-fn given_of_objects(
-    alloc: Global,
-    word: &str,
-    rest: &str,
-    operands: &str,
-) -> Tried<Option<String>> {
-    match word {
-        "throw" => Ok(Some(thrown_told(alloc, rest, operands)?)),
-        "bind" => Ok(Some(bound_told(alloc, rest, operands)?)),
-        "change" => Ok(Some(changed_told(alloc, rest, operands)?)),
-        "push" => Ok(Some(pushed_told(alloc, operands)?)),
-        _ => Ok(None),
-    }
-}
-
-/// What is given, where a row asks for something of values.
-pub fn given(alloc: Global, word: &str, rest: &str, operands: &str) -> Tried<Option<String>> {
-    match word {
-        "show" => Ok(Some(shown_told(alloc, operands)?)),
-        "name" => Ok(Some(name_told(alloc, operands)?)),
-        "cut" => Ok(Some(cut_told(alloc, count(rest), operands)?)),
-        "message" => Ok(Some(message_told(alloc, count(rest), operands)?)),
-        "budget" => Ok(Some(compared_told(alloc, count(rest) as u64, operands)?)),
-        _ => given_of_objects(alloc, word, rest, operands),
-    }
+    repr_told(alloc, &on.heap, list)
 }

@@ -6,7 +6,7 @@ use Rattle.machine_state.specs.declared.machine.Doing.{Doing}
 use Rattle.machine_state.specs.Definings.{fn_behind, fn_made}
 use Rattle.machine_state.specs.Places.{parts_from}
 use Rattle.machine_state.specs.Frames.{rest_of, site_now, state_of, todo}
-use Rattle.machine_expr.specs.Parts.{IsNext}
+use Rattle.machine_immediate.specs.Parts.{IsNext}
 use Rattle.machine_define.proofs.Functions.{behind_all}
 use Rattle.machine_define.proofs.function.next_decorator.Goals as goal
 

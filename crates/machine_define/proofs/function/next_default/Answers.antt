@@ -3,7 +3,7 @@ use Rattle.machine_state.specs.py_world.Expressions.{arguments}
 use Rattle.machine_state.specs.core_meaning.Expressions.{CorePart}
 use Rattle.machine_state.specs.Definings.{fn_made}
 use Rattle.machine_state.specs.Frames.{rest_of, site_now, state_of}
-use Rattle.machine_expr.specs.Parts.{IsNext}
+use Rattle.machine_immediate.specs.Parts.{IsNext}
 use Rattle.machine_define.proofs.function.next_default.Goals as goal
 
 pub returns-in_ok-push-in-Some-clause-next : goal.returns-in_ok-push-in-Some-clause-next

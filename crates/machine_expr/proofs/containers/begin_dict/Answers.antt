@@ -4,7 +4,7 @@ use Rattle.machine_state.specs.py_world.Outcome.{costing}
 use Rattle.machine_state.specs.py_world.Site.{trace_of}
 use Rattle.machine_state.specs.py_world.World.{heap_of}
 use Rattle.machine_state.specs.Frames.{rest_of, site_now, state_of}
-use Rattle.machine_expr.specs.Parts.{IsNextPair}
+use Rattle.machine_expr.specs.Pairs.{IsNextPair}
 use Rattle.machine_expr.proofs.Displays.{pairs_begin}
 use Rattle.machine_expr.proofs.containers.begin_dict.Goals as goal
 

@@ -3,7 +3,7 @@ use Rattle.machine_state.specs.py_world.Displays.{displayed}
 use Rattle.machine_state.specs.py_world.Outcome.{costing}
 use Rattle.machine_state.specs.py_world.Site.{trace_of}
 use Rattle.machine_state.specs.Frames.{display_of, rest_of, site_now, state_of}
-use Rattle.machine_expr.specs.Parts.{IsNext}
+use Rattle.machine_immediate.specs.Parts.{IsNext}
 use Rattle.machine_expr.proofs.Displays.{display_begins}
 use Rattle.machine_expr.proofs.containers.begin_display.Goals as goal
 

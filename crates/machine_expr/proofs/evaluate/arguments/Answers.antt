@@ -5,7 +5,7 @@ use Rattle.machine_state.specs.py_world.Expressions.{call_on}
 use Rattle.machine_state.specs.declared.machine.Doing.{Doing}
 use Rattle.machine_state.specs.Places.{ends, parts_from}
 use Rattle.machine_state.specs.Frames.{rest_of, site_now, state_of, todo}
-use Rattle.machine_expr.proofs.Noted.{same_run}
+use Rattle.machine_turns.proofs.Same.{same_run}
 use Rattle.machine_expr.proofs.evaluate.arguments.Goals as goal
 
 pub returns-in-None-clause-next : goal.returns-in-None-clause-next

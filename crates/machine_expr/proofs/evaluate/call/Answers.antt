@@ -10,8 +10,8 @@ use Rattle.machine_state.specs.core_meaning.Expressions.{eval}
 use Rattle.machine_state.specs.declared.machine.Doing.{Doing}
 use Rattle.machine_state.specs.Places.{ends, parts_from}
 use Rattle.machine_state.specs.Frames.{rest_of, site_now, state_of, todo}
-use Rattle.machine_expr.proofs.AtOnces.{called_now}
-use Rattle.machine_expr.proofs.Noted.{same_run}
+use Rattle.machine_immediate.proofs.AtOnces.{called_now}
+use Rattle.machine_turns.proofs.Same.{same_run}
 use Rattle.machine_expr.proofs.evaluate.call.Goals as goal
 
 pub returns-in_ok-clone-in-Some-clause-next : goal.returns-in_ok-clone-in-Some-clause-next

@@ -2,8 +2,8 @@ use Rattle.std.proofs.Common.{◌<◌, arith, sym}
 use Rattle.machine_state.specs.core_meaning.Expressions.{eval}
 use Rattle.machine_state.specs.Frames.{rest_of}
 use Rattle.machine_state.specs.Work.{weight_at}
-use Rattle.machine_expr.specs.AtOnce.{IsImmediate}
-use Rattle.machine_expr.proofs.AtOnces.{found}
+use Rattle.machine_immediate.specs.AtOnce.{IsImmediate}
+use Rattle.machine_immediate.proofs.AtOnces.{found}
 use Rattle.machine_expr.proofs.Weights.{weighs}
 use Rattle.machine_expr.proofs.evaluate.evaluate.Goals as goal
 

@@ -7,7 +7,7 @@ use Rattle.machine_state.specs.core_meaning.Statements.{block, choice, choices}
 use Rattle.machine_state.specs.declared.machine.Doing.{Doing}
 use Rattle.machine_state.specs.Places.{ends}
 use Rattle.machine_state.specs.Frames.{layers_of, rest_of, site_now, state_of, todo}
-use Rattle.machine_expr.proofs.Noted.{same_run}
+use Rattle.machine_assign.proofs.machine_turns_lemmas.Same.{same_run}
 use Rattle.machine_flow.proofs.Flows.{branch_tests}
 use Rattle.machine_flow.proofs.Immediately.{branch_there}
 use Rattle.machine_flow.proofs.choice.begin_branch.Goals as goal

@@ -5,7 +5,7 @@ use Rattle.machine_unwind.specs.core_meaning.Expressions.{eval}
 use Rattle.machine_unwind.specs.machine_state.declared.machine.Doing.{Doing}
 use Rattle.machine_unwind.specs.machine_state.Places.{ends}
 use Rattle.machine_unwind.specs.machine_state.Frames.{rest_of, site_now, state_of, todo}
-use Rattle.machine_store.proofs.machine_expr_lemmas.Noted.{same_run}
+use Rattle.machine_store.proofs.machine_turns_lemmas.Same.{same_run}
 use Rattle.machine_simple.proofs.Immediately.{assign_there}
 use Rattle.std.specs.declared.alloc.Global.{Global}
 use Rattle.std.specs.declared.vec.Vec.{Vec}

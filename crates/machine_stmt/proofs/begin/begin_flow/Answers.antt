@@ -9,7 +9,7 @@ use Rattle.machine_state.specs.core_meaning.Statements.{block, choices, define_c
 use Rattle.machine_state.specs.declared.machine.Doing.{Doing}
 use Rattle.machine_state.specs.Places.{ends}
 use Rattle.machine_state.specs.Frames.{layers_of, rest_of, site_now, state_of, todo}
-use Rattle.machine_define.proofs.machine_expr_lemmas.Noted.{same_run}
+use Rattle.machine_unwind.proofs.machine_turns_lemmas.Same.{same_run}
 use Rattle.machine_stmt.proofs.Blocks.{loop_begins, choice_begins, class_begins, define_begins, for_begins, try_begins, with_begins}
 use Rattle.machine_stmt.proofs.begin.begin_flow.Goals as goal
 

@@ -7,7 +7,7 @@ use Rattle.machine_state.specs.Places.{ends, outcome, site_of}
 use Rattle.machine_state.specs.Frames.{after, ending, handling_of, here_in, layers_of, outer_of, resume, rest_of, site_now, state_of, todo}
 use Rattle.machine_state.specs.py_world.Outcome.{on_value}
 use Rattle.machine_state.specs.Definings.{on_define}
-use Rattle.machine_define.proofs.machine_expr_lemmas.Noted.{same_run}
+use Rattle.machine_unwind.proofs.machine_turns_lemmas.Same.{same_run}
 use Rattle.machine_stmt.proofs.run.take.Goals as goal
 
 pub returns-in-Operand-clause-next : goal.returns-in-Operand-clause-next

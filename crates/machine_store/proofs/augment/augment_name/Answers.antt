@@ -2,12 +2,12 @@ use Rattle.std.proofs.Common.{◌≡◌, ◌∙◌, Option, Some, IfSome, ap, sy
 use Rattle.std.proofs.lemmas.Result.{IfOk-weaker}
 use Rattle.py_values.specs.declared.end.Made.TheVariants.{Give}
 use Rattle.py_values.specs.declared.value.Value.{Value}
-use Rattle.machine_expr.specs.py_world.Names.{named}
-use Rattle.machine_expr.specs.py_world.Targets.{augment_name, augment_on, store_name}
-use Rattle.machine_expr.specs.core_meaning.Expressions.{eval}
-use Rattle.machine_expr.specs.machine_state.declared.machine.Doing.{Doing}
-use Rattle.machine_expr.specs.machine_state.Places.{ends}
-use Rattle.machine_expr.specs.machine_state.Frames.{rest_of, site_now, state_of, todo}
+use Rattle.machine_assign.specs.py_world.Names.{named}
+use Rattle.machine_assign.specs.py_world.Targets.{augment_name, augment_on, store_name}
+use Rattle.machine_assign.specs.core_meaning.Expressions.{eval}
+use Rattle.machine_assign.specs.machine_state.declared.machine.Doing.{Doing}
+use Rattle.machine_assign.specs.machine_state.Places.{ends}
+use Rattle.machine_assign.specs.machine_state.Frames.{rest_of, site_now, state_of, todo}
 use Rattle.machine_store.proofs.Looked.{augment_found}
 use Rattle.machine_store.proofs.augment.augment_name.Goals as goal
 

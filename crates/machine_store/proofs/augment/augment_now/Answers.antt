@@ -1,10 +1,10 @@
 use Rattle.std.proofs.Common.{◌≡◌, ◌∙◌, List, ℕ, ap, rules}
 use Rattle.std.proofs.lemmas.Result.{IfOk-weaker}
-use Rattle.machine_expr.specs.py_world.Targets.{augmented, store_name}
-use Rattle.machine_expr.specs.machine_state.declared.machine.Doing.{Doing}
-use Rattle.machine_expr.specs.machine_state.Places.{ends}
-use Rattle.machine_expr.specs.machine_state.Frames.{rest_of, site_now, state_of, todo}
-use Rattle.machine_expr.proofs.Noted.{same_run}
+use Rattle.machine_assign.specs.py_world.Targets.{augmented, store_name}
+use Rattle.machine_assign.specs.machine_state.declared.machine.Doing.{Doing}
+use Rattle.machine_assign.specs.machine_state.Places.{ends}
+use Rattle.machine_assign.specs.machine_state.Frames.{rest_of, site_now, state_of, todo}
+use Rattle.machine_assign.proofs.machine_turns_lemmas.Same.{same_run}
 use Rattle.machine_store.proofs.Immediately.{augmented_there}
 use Rattle.machine_store.proofs.augment.augment_now.Goals as goal
 

@@ -1,13 +1,13 @@
 use Rattle.std.proofs.Common.{◌≡◌, ◌∙◌, ap}
 use Rattle.std.proofs.lemmas.Result.{IfOk-weaker}
-use Rattle.machine_expr.specs.py_world.Targets.{augment_name, augment_on, store_name}
-use Rattle.machine_expr.specs.py_world.Outcome.{raised}
-use Rattle.machine_expr.specs.py_world.Site.{trace_of}
-use Rattle.machine_expr.specs.core_meaning.Expressions.{eval}
-use Rattle.machine_expr.specs.machine_state.declared.machine.Doing.{Doing}
-use Rattle.machine_expr.specs.machine_state.Places.{ends}
-use Rattle.machine_expr.specs.machine_state.Frames.{rest_of, site_now, state_of, todo}
-use Rattle.machine_expr.proofs.Noted.{same_run}
+use Rattle.machine_assign.specs.py_world.Targets.{augment_name, augment_on, store_name}
+use Rattle.machine_assign.specs.py_world.Outcome.{raised}
+use Rattle.machine_assign.specs.py_world.Site.{trace_of}
+use Rattle.machine_assign.specs.core_meaning.Expressions.{eval}
+use Rattle.machine_assign.specs.machine_state.declared.machine.Doing.{Doing}
+use Rattle.machine_assign.specs.machine_state.Places.{ends}
+use Rattle.machine_assign.specs.machine_state.Frames.{rest_of, site_now, state_of, todo}
+use Rattle.machine_assign.proofs.machine_turns_lemmas.Same.{same_run}
 use Rattle.machine_store.proofs.Looked.{augment_found, augment_fails}
 use Rattle.machine_store.proofs.augment.augment_unbound.Goals as goal
 

@@ -1,12 +1,12 @@
 use Rattle.std.proofs.Common.{◌≡◌, ◌∙◌, ◌∷◌, rules}
 use Rattle.std.proofs.lemmas.Result.{IfOk-weaker}
-use Rattle.machine_expr.specs.py_world.Targets.{augment_attribute}
-use Rattle.machine_expr.specs.core_meaning.Expressions.{eval}
-use Rattle.machine_expr.specs.machine_state.declared.frame.Frame.TheVariants.{Target}
-use Rattle.machine_expr.specs.machine_state.declared.frame.TargetFrame.TheVariants.{AugmentAttribute}
-use Rattle.machine_expr.specs.machine_state.declared.machine.Doing.{Doing}
-use Rattle.machine_expr.specs.machine_state.Places.{site_of}
-use Rattle.machine_expr.specs.machine_state.Frames.{after, handling_of, outer_of, rest_of, site_now, state_of, todo}
+use Rattle.machine_assign.specs.py_world.Targets.{augment_attribute}
+use Rattle.machine_assign.specs.core_meaning.Expressions.{eval}
+use Rattle.machine_assign.specs.machine_state.declared.frame.Frame.TheVariants.{Target}
+use Rattle.machine_assign.specs.machine_state.declared.frame.TargetFrame.TheVariants.{AugmentAttribute}
+use Rattle.machine_assign.specs.machine_state.declared.machine.Doing.{Doing}
+use Rattle.machine_assign.specs.machine_state.Places.{site_of}
+use Rattle.machine_assign.specs.machine_state.Frames.{after, handling_of, outer_of, rest_of, site_now, state_of, todo}
 use Rattle.machine_store.proofs.Begins.{augment_attribute_begins}
 use Rattle.machine_store.proofs.augment.begin_attribute.Goals as goal
 

@@ -1,13 +1,13 @@
 use Rattle.std.proofs.Common.{◌≡◌, ◌∙◌, ap, sym}
 use Rattle.std.proofs.lemmas.Result.{IfOk-weaker}
 use Rattle.py_core.specs.declared.stmt.CoreSingleKind.{CoreSingleKind}
-use Rattle.machine_expr.specs.py_world.Targets.{augment_attribute, augment_item}
-use Rattle.machine_expr.specs.core_meaning.Expressions.{eval}
-use Rattle.machine_expr.specs.core_meaning.Statements.{augment_at}
-use Rattle.machine_expr.specs.machine_state.declared.machine.Doing.{Doing}
-use Rattle.machine_expr.specs.machine_state.Places.{ends}
-use Rattle.machine_expr.specs.machine_state.Frames.{rest_of, site_now, state_of, todo}
-use Rattle.machine_expr.proofs.Noted.{same_run}
+use Rattle.machine_assign.specs.py_world.Targets.{augment_attribute, augment_item}
+use Rattle.machine_assign.specs.core_meaning.Expressions.{eval}
+use Rattle.machine_assign.specs.core_meaning.Statements.{augment_at}
+use Rattle.machine_assign.specs.machine_state.declared.machine.Doing.{Doing}
+use Rattle.machine_assign.specs.machine_state.Places.{ends}
+use Rattle.machine_assign.specs.machine_state.Frames.{rest_of, site_now, state_of, todo}
+use Rattle.machine_assign.proofs.machine_turns_lemmas.Same.{same_run}
 use Rattle.machine_store.proofs.augment.begin_augment.Goals as goal
 
 pub returns-in-Attribute-clause-next : goal.returns-in-Attribute-clause-next

@@ -4,11 +4,11 @@ use Rattle.std.proofs.lemmas.Result.{IfOk-weaker}
 use Rattle.py_kinds.specs.Kinds.{kind_name}
 use Rattle.py_items.specs.Items.{object_at}
 use Rattle.py_attributes.specs.Attributes.{no_attribute, own_value}
-use Rattle.machine_expr.specs.py_world.Attributes.{unset_attribute, without_attribute}
-use Rattle.machine_expr.specs.py_world.Outcome.{raised_at}
-use Rattle.machine_expr.specs.py_world.World.{with_heap}
-use Rattle.machine_expr.specs.machine_state.declared.machine.Doing.{Doing}
-use Rattle.machine_expr.specs.machine_state.Frames.{rest_of, site_now, state_of, todo}
+use Rattle.machine_assign.specs.py_world.Attributes.{unset_attribute, without_attribute}
+use Rattle.machine_assign.specs.py_world.Outcome.{raised_at}
+use Rattle.machine_assign.specs.py_world.World.{with_heap}
+use Rattle.machine_assign.specs.machine_state.declared.machine.Doing.{Doing}
+use Rattle.machine_assign.specs.machine_state.Frames.{rest_of, site_now, state_of, todo}
 use Rattle.machine_store.proofs.Attributes.{refused}
 use Rattle.machine_store.proofs.spot.unset_attribute.Goals as goal
 

@@ -1,55 +1,53 @@
-use Rattle.std.proofs.Common.{[], ap, ◌∙◌}
-use Rattle.py_tree.specs.Trees.{tree}
-use Rattle.py_grammar.specs.Context.{first_place, in_tree}
-use Rattle.py_context.specs.Parts.{firsts, first_argument}
-use Rattle.py_context.proofs.ExpressionPlaces.{each_goes, tuple_form, list_form, dict_form, call_form, slice_form, compare_form, and_form, or_form}
+use Rattle.std.proofs.Common.{[], ◌++◌}
+use Rattle.py_tree.specs.Trees.{tree, trees, some_tree}
+use Rattle.py_tree.specs.declared.expr.ExprKind.TheVariants as v
+use Rattle.py_grammar.specs.Context.{in_tree, in_trees, in_maybe, wrong_arguments, each}
+use Rattle.py_context.proofs.ExpressionPlaces.{each_goes, of_kind, tuple_form, list_form, dict_form, call_form, slice_form, compare_form, and_form, or_form}
 use Rattle.py_context.proofs.expressions.+expression.Goals as goal
 
-pub in_each-loop-item-preserved : goal.in_each-loop-item-preserved
-in_each-loop-item-preserved t c = each_goes c.args.items.now c.loop-item.item-index c.item-item.result c.deref.result.now c.deref-in-loop-item.result.now c.in_ok-first.first c.loop-item.all.items c.push.new.self.items _ c.loop-item-test.true c.item-item.is c.deref.ensures c.deref-in-loop-item.ensures c.in_ok-first.ensures c.in_ok-push.ensures.items c.loop-item.invariant
+pub parts_of-loop-item-preserved : goal.parts_of-loop-item-preserved
+parts_of-loop-item-preserved t c = each_goes c.args.items.now c.loop-item.item-index c.item-item.result c.deref.result.now c.deref-in-loop-item.result.now c.in_ok-first.first c.loop-item.all.items c.push.new.self.items _ c.loop-item-test.true c.item-item.is c.deref.ensures c.deref-in-loop-item.ensures c.in_ok-first.ensures c.in_ok-push.ensures.items c.loop-item.invariant
 
-pub in_expr-returns-in_ok-in_each-in-Tuple : goal.in_expr-returns-in_ok-in_each-in-Tuple
-in_expr-returns-in_ok-in_each-in-Tuple t c = tuple_form c.args.expr.now.at c.args.expr.now.kind c.in-Tuple.items c.deref-in-Tuple-3.result.now c.first_of.result c.in-Tuple.is
-    (c.deref-in-Tuple-3.ensures.value ∙ c.in_ok-in_each-in-Tuple.ensures ∙ ap firsts (c.deref-in-Tuple-2.ensures.value ∙ ap (λ v. v.items) c.deref-in-Tuple.ensures))
-    c.first_of.ensures
+pub in_expr-returns-in-Tuple : goal.in_expr-returns-in-Tuple
+in_expr-returns-in-Tuple t c = tuple_form c.args.expr.now.at c.args.expr.now.kind c.in_all.result c.in-Tuple.items c.in-Tuple.is c.in_all.ensures
 
-pub in_expr-returns-in_ok-in_each-in-List : goal.in_expr-returns-in_ok-in_each-in-List
-in_expr-returns-in_ok-in_each-in-List t c = list_form c.args.expr.now.at c.args.expr.now.kind c.in-List.items c.deref-in-List-3.result.now c.first_of-in-List.result c.in-List.is
-    (c.deref-in-List-3.ensures.value ∙ c.in_ok-in_each-in-List.ensures ∙ ap firsts (c.deref-in-List-2.ensures.value ∙ ap (λ v. v.items) c.deref-in-List.ensures))
-    c.first_of-in-List.ensures
+pub in_expr-returns-in-List : goal.in_expr-returns-in-List
+in_expr-returns-in-List t c = list_form c.args.expr.now.at c.args.expr.now.kind c.in_all-in-List.result c.in-List.items c.in-List.is c.in_all-in-List.ensures
 
-pub in_expr-returns-in_ok-values-in-Dict : goal.in_expr-returns-in_ok-values-in-Dict
-in_expr-returns-in_ok-values-in-Dict t c = dict_form c.args.expr.now.at c.args.expr.now.kind c.in-Dict.keys c.in-Dict.values c.deref-in-Dict-5.result.now c.deref-in-Dict-6.result.now c.first_by_turns.result c.in-Dict.is
-    (c.deref-in-Dict-5.ensures.value ∙ c.in_ok-keys-in-Dict.ensures ∙ ap firsts (c.deref-in-Dict-2.ensures.value ∙ ap (λ v. v.items) c.deref-in-Dict.ensures))
-    (c.deref-in-Dict-6.ensures.value ∙ c.in_ok-values-in-Dict.ensures ∙ ap firsts (c.deref-in-Dict-4.ensures.value ∙ ap (λ v. v.items) c.deref-in-Dict-3.ensures))
-    c.first_by_turns.ensures
+pub in_expr-returns-in-Dict : goal.in_expr-returns-in-Dict
+in_expr-returns-in-Dict t c = dict_form c.args.expr.now.at c.args.expr.now.kind c.in_turns.result c.in-Dict.keys c.in-Dict.values c.in-Dict.is (c.in_turns.ensures c.in-Dict.keys.value.items c.in-Dict.values.value.items c.in_each.ensures c.in_each-in-Dict.ensures)
 
-pub in_expr-returns-in_ok-first_argument-in-Call : goal.in_expr-returns-in_ok-first_argument-in-Call
-in_expr-returns-in_ok-first_argument-in-Call t c = call_form c.args.expr.now.at c.args.expr.now.kind c.in-Call.function c.in-Call.arguments c.in-Call.names c.in_ok-first-in-Call.first c.in_ok-first_argument-in-Call.field-0 c.sooner.result c.deref-in-Call-6.result.now c.in-Call.is
-    (c.in_ok-first-in-Call.ensures ∙ ap (λ e. first_place (in_tree (tree e))) c.deref-in-Call.ensures)
-    (c.deref-in-Call-6.ensures.value ∙ c.in_ok-arguments-in-Call.ensures ∙ ap firsts (c.deref-in-Call-3.ensures.value ∙ ap (λ v. v.items) c.deref-in-Call-2.ensures))
-    (c.in_ok-first_argument-in-Call.ensures ∙ ap (λ names. first_argument [] names c.deref-in-Call-6.result.now) (c.deref-in-Call-5.ensures.value ∙ ap (λ v. v.items) c.deref-in-Call-4.ensures))
-    c.sooner.ensures
+pub in_expr-returns-in-Call : goal.in_expr-returns-in-Call
+in_expr-returns-in-Call t c = call_form c.args.expr.now.at c.args.expr.now.kind c.join.result c.in-Call.function c.in-Call.arguments c.in-Call.names c.in-Call.is
+    (c.join.ensures (in_tree (tree c.in-Call.function.value)) (wrong_arguments [] c.in-Call.names.value.items (each (trees c.in-Call.arguments.value.items))) c.in_part-in-Call.ensures (c.in_arguments.ensures c.in-Call.arguments.value.items c.in_each-in-Call.ensures))
 
-pub in_expr-returns-in_ok-last-in-Slice : goal.in_expr-returns-in_ok-last-in-Slice
-in_expr-returns-in_ok-last-in-Slice t c = slice_form c.args.expr.now.at c.args.expr.now.kind c.in-Slice.of c.in-Slice.from c.in-Slice.to c.in-Slice.by c.in_ok-first-in-Slice.first c.in_ok-second-in-Slice.second c.in_ok-third-in-Slice.third c.in_ok-last-in-Slice.last c.sooner-in-Slice.result c.sooner-in-Slice-2.result c.sooner-in-Slice-3.result c.in-Slice.is
-    (c.in_ok-first-in-Slice.ensures ∙ ap (λ e. first_place (in_tree (tree e))) c.deref-in-Slice.ensures)
-    c.in_ok-second-in-Slice.ensures c.in_ok-third-in-Slice.ensures c.in_ok-last-in-Slice.ensures c.sooner-in-Slice.ensures c.sooner-in-Slice-2.ensures c.sooner-in-Slice-3.ensures
+pub in_expr-returns-in-Subscript : goal.in_expr-returns-in-Subscript
+in_expr-returns-in-Subscript t c = of_kind c.args.expr.now.at c.args.expr.now.kind c.join-in-Subscript.result (v.Subscript c.in-Subscript.of c.in-Subscript.index) c.in-Subscript.is
+    (c.join-in-Subscript.ensures (in_tree (tree c.in-Subscript.of.value)) (in_tree (tree c.in-Subscript.index.value)) c.in_part-in-Subscript.ensures c.in_part-in-Subscript-2.ensures)
 
-pub in_expr-returns-in_ok-in_each-in-Compare : goal.in_expr-returns-in_ok-in_each-in-Compare
-in_expr-returns-in_ok-in_each-in-Compare t c = compare_form c.args.expr.now.at c.args.expr.now.kind c.in-Compare.first c.in-Compare.field-1 c.in-Compare.further c.in_ok-first-in-Compare.first c.first_of-in-Compare.result c.sooner-in-Compare.result c.deref-in-Compare-4.result.now c.in-Compare.is
-    (c.in_ok-first-in-Compare.ensures ∙ ap (λ e. first_place (in_tree (tree e))) c.deref-in-Compare.ensures)
-    (c.deref-in-Compare-4.ensures.value ∙ c.in_ok-in_each-in-Compare.ensures ∙ ap firsts (c.deref-in-Compare-3.ensures.value ∙ ap (λ v. v.items) c.deref-in-Compare-2.ensures))
-    c.first_of-in-Compare.ensures c.sooner-in-Compare.ensures
+pub in_expr-returns-in-Slice : goal.in_expr-returns-in-Slice
+in_expr-returns-in-Slice t c = slice_form c.args.expr.now.at c.args.expr.now.kind c.join-in-Slice-3.result c.in-Slice.of c.in-Slice.from c.in-Slice.to c.in-Slice.by c.in-Slice.is
+    (c.join-in-Slice-3.ensures (in_tree (tree c.in-Slice.of.value)) (in_maybe (some_tree c.in-Slice.from) ++ (in_maybe (some_tree c.in-Slice.to) ++ in_maybe (some_tree c.in-Slice.by))) c.in_part-in-Slice.ensures
+    (c.join-in-Slice-2.ensures (in_maybe (some_tree c.in-Slice.from)) (in_maybe (some_tree c.in-Slice.to) ++ in_maybe (some_tree c.in-Slice.by)) c.in_optional.ensures
+    (c.join-in-Slice.ensures (in_maybe (some_tree c.in-Slice.to)) (in_maybe (some_tree c.in-Slice.by)) c.in_optional-in-Slice.ensures c.in_optional-in-Slice-2.ensures)))
 
-pub in_expr-returns-in_ok-in_each-in-And : goal.in_expr-returns-in_ok-in_each-in-And
-in_expr-returns-in_ok-in_each-in-And t c = and_form c.args.expr.now.at c.args.expr.now.kind c.in-And.first c.in-And.further c.in_ok-first-in-And.first c.first_of-in-And.result c.sooner-in-And.result c.deref-in-And-4.result.now c.in-And.is
-    (c.in_ok-first-in-And.ensures ∙ ap (λ e. first_place (in_tree (tree e))) c.deref-in-And.ensures)
-    (c.deref-in-And-4.ensures.value ∙ c.in_ok-in_each-in-And.ensures ∙ ap firsts (c.deref-in-And-3.ensures.value ∙ ap (λ v. v.items) c.deref-in-And-2.ensures))
-    c.first_of-in-And.ensures c.sooner-in-And.ensures
+pub in_expr-returns-in-Binary : goal.in_expr-returns-in-Binary
+in_expr-returns-in-Binary t c = of_kind c.args.expr.now.at c.args.expr.now.kind c.join-in-Binary.result (v.Binary c.in-Binary.left c.in-Binary.field-1 c.in-Binary.right) c.in-Binary.is
+    (c.join-in-Binary.ensures (in_tree (tree c.in-Binary.left.value)) (in_tree (tree c.in-Binary.right.value)) c.in_part-in-Binary.ensures c.in_part-in-Binary-2.ensures)
 
-pub in_expr-returns-in_ok-in_each-in-Or : goal.in_expr-returns-in_ok-in_each-in-Or
-in_expr-returns-in_ok-in_each-in-Or t c = or_form c.args.expr.now.at c.args.expr.now.kind c.in-Or.first c.in-Or.further c.in_ok-first-in-Or.first c.first_of-in-Or.result c.sooner-in-Or.result c.deref-in-Or-4.result.now c.in-Or.is
-    (c.in_ok-first-in-Or.ensures ∙ ap (λ e. first_place (in_tree (tree e))) c.deref-in-Or.ensures)
-    (c.deref-in-Or-4.ensures.value ∙ c.in_ok-in_each-in-Or.ensures ∙ ap firsts (c.deref-in-Or-3.ensures.value ∙ ap (λ v. v.items) c.deref-in-Or-2.ensures))
-    c.first_of-in-Or.ensures c.sooner-in-Or.ensures
+pub in_expr-returns-in-Compare : goal.in_expr-returns-in-Compare
+in_expr-returns-in-Compare t c = compare_form c.args.expr.now.at c.args.expr.now.kind c.join-in-Compare.result c.in-Compare.first c.in-Compare.field-1 c.in-Compare.further c.in-Compare.is
+    (c.join-in-Compare.ensures (in_tree (tree c.in-Compare.first.value)) (in_trees (trees c.in-Compare.further.value.items)) c.in_part-in-Compare.ensures c.in_all-in-Compare.ensures)
+
+pub in_expr-returns-in-And : goal.in_expr-returns-in-And
+in_expr-returns-in-And t c = and_form c.args.expr.now.at c.args.expr.now.kind c.join-in-And.result c.in-And.first c.in-And.further c.in-And.is
+    (c.join-in-And.ensures (in_tree (tree c.in-And.first.value)) (in_trees (trees c.in-And.further.value.items)) c.in_part-in-And.ensures c.in_all-in-And.ensures)
+
+pub in_expr-returns-in-Or : goal.in_expr-returns-in-Or
+in_expr-returns-in-Or t c = or_form c.args.expr.now.at c.args.expr.now.kind c.join-in-Or.result c.in-Or.first c.in-Or.further c.in-Or.is
+    (c.join-in-Or.ensures (in_tree (tree c.in-Or.first.value)) (in_trees (trees c.in-Or.further.value.items)) c.in_part-in-Or.ensures c.in_all-in-Or.ensures)
+
+pub in_expr-returns-in-IfElse : goal.in_expr-returns-in-IfElse
+in_expr-returns-in-IfElse t c = of_kind c.args.expr.now.at c.args.expr.now.kind c.join-in-IfElse-2.result (v.IfElse c.in-IfElse.value c.in-IfElse.condition c.in-IfElse.other) c.in-IfElse.is
+    (c.join-in-IfElse-2.ensures (in_tree (tree c.in-IfElse.value.value)) (in_tree (tree c.in-IfElse.condition.value) ++ in_tree (tree c.in-IfElse.other.value)) c.in_part-in-IfElse.ensures
+    (c.join-in-IfElse.ensures (in_tree (tree c.in-IfElse.condition.value)) (in_tree (tree c.in-IfElse.other.value)) c.in_part-in-IfElse-2.ensures c.in_part-in-IfElse-3.ensures))

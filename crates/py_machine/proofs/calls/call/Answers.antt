@@ -10,7 +10,7 @@ use Rattle.lower_law.specs.py_world.Arguments.{plain}
 use Rattle.lower_law.specs.py_world.Site.{no_call}
 use Rattle.machine_state.specs.Places.{CoreOutcome, ends}
 use Rattle.machine_state.specs.Frames.{state_of, world_of}
-use Rattle.py_machine.specs.Begun.{Begins}
+use Rattle.machine_runner.specs.Begun.{Begins}
 use Rattle.py_machine.proofs.Beginning.{call_fits, call_misfits}
 use Rattle.py_machine.proofs.calls.call.Goals as goal
 

@@ -10,9 +10,9 @@ use Rattle.lower_law.specs.core_meaning.Meaning.{core}
 use Rattle.lower_law.specs.core_meaning.Statements.{entry}
 use Rattle.machine_state.specs.Places.{CoreOutcome, ends}
 use Rattle.machine_state.specs.Frames.{state_of, world_of}
-use Rattle.py_machine.specs.declared.openings.Opening.TheVariants.{Body, Refused, Call}
+use Rattle.machine_runner.specs.declared.openings.Opening.TheVariants.{Body, Refused, Call}
 use Rattle.py_machine.specs.declared.resuming.Begun.{Begun}
-use Rattle.py_machine.specs.Openings.{opening_rest}
+use Rattle.machine_runner.specs.Openings.{opening_rest}
 use Rattle.py_machine.specs.Yields.{told_begun}
 use Rattle.py_machine.proofs.Resumed.{body_begins, body_refused, call_begins}
 use Rattle.py_machine.proofs.yields.begin.Goals as goal

@@ -11,7 +11,7 @@ use Rattle.lower_law.specs.core_meaning.Statements.{entry}
 use Rattle.machine_state.specs.Places.{CoreOutcome, ends}
 use Rattle.machine_state.specs.Frames.{state_of, world_of}
 use Rattle.py_machine.specs.declared.resuming.Begun.{Begun}
-use Rattle.py_machine.specs.Begun.{Begins}
+use Rattle.machine_runner.specs.Begun.{Begins}
 use Rattle.py_machine.specs.Yields.{told_begun}
 use Rattle.py_machine.proofs.Resumed.{called_fits, called_misfits}
 use Rattle.py_machine.proofs.yields.begin_called.Goals as goal

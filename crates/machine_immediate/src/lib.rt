@@ -1,0 +1,28 @@
+//! The values of expressions that are there at once.
+//!
+//! # What it is for
+//!
+//! What makes no object, raises nothing and calls nothing within the steps that are left is evaluated where it stands (`at_once`), without
+//! a frame and a turn, and pays each step that the meaning says. `value_by` and `answer_by` tell the value of an operator or a comparison
+//! that is a number or a boolean and is made of two values alone; `operate_now` looks there first. The parts of an expression are handed
+//! out by their places (`part_at`, `op_at`, `next_argument`).
+//!
+//! # What is proved
+//!
+//! - `at_once`, `operate_now`: the run of the expression is that of what follows its value, under the steps that are left behind it.
+//! - `value_by`: where it gives a value, the operator gives that one of these two values, over any heap, at no cost but its step.
+//! - `answer_by`: where it gives an answer, the comparison gives that boolean over this heap, at no cost but its step.
+//! - `part_at`, `next_argument`, `op_at`: the part or the operator at that place, and none behind the last.
+//!
+//! # What tests alone show
+//!
+//! That calls end where there is memory, in `machine_tests` through the whole machine.
+//!
+//! # What neither shows
+//!
+//! That a value is found at once where it could be; time.
+#![tactic(auto)]
+
+pub mod immediate;
+pub mod part;
+pub mod whole;

@@ -1,0 +1,5 @@
+pub mod Found
+pub mod Beginning
+pub mod Spelled
+pub mod TextLines
+pub mod Opened

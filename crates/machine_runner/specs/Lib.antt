@@ -1,0 +1,4 @@
+pub mod Begun
+pub mod Looking
+pub mod Lines
+pub mod Openings

@@ -1,0 +1,4 @@
+pub mod Binding
+pub mod Bodies
+pub mod Lists
+pub mod Same
