@@ -1,6 +1,6 @@
-# gather.py: docs/PROMISES.md from the //! heads, in the order of crates.txt
+# gather.py: writes docs/PROMISES.md of the repository that it stands in from the //! heads, in the order of crates.txt
 import re,os,sys
-os.chdir("/work/h/landB")
+os.chdir(os.path.join(os.path.dirname(os.path.abspath(__file__)),'..','..'))
 old=open('docs/PROMISES.md').read()
 intro=old[:old.index('## Base')]
 out=[intro.rstrip('\n'),'']
@@ -41,4 +41,4 @@ for l in open('crates.txt'):
         if not h: print('no head',m.group(1)); continue
         out+=[f'### {m.group(1)}','']+render(h)+['']
 new='\n'.join(out).rstrip('\n')+'\n'
-open('docs/PROMISES.md.new','w').write(new)
+open('docs/PROMISES.md','w').write(new)

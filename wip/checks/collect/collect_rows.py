@@ -1,4 +1,4 @@
-"""Rows of names_tests: random and chosen modules, told by the model."""
+"""Rows of value_tests on modules: random and chosen modules, told by the model."""
 import sys, random
 sys.path.insert(0, '/work/shared'); sys.path.insert(0, __file__.rsplit('/', 1)[0])
 from collect_compare import *
@@ -107,7 +107,7 @@ seen = set()
 def items(words):
     if words in seen: return
     seen.add(words)
-    rows.append('items\t%s\t%s' % (words, items_told(words)))
+    rows.append('collect\t%s\t%s' % (words, items_told(words)))
 rows.append('# Modules: what is collected of them, with the names for -m and -k, why an item is skipped, and what is expected of it; then the classes of tests')
 for w in ['f:test:', 'f:tes:', 'f:Test:', 'f:test_a: f:test_b: f:x:', 'n:test_n n:TestN', 'c:TestA: m:test_b: m:test_a: m:help:', 'c:TestA: m:test_b: m:__init__: m:test_c:', 'c:TestA: i:__init__ m:test_a:',
           'c:Tes: m:test_a:', 'c:Test: m:test:', 'e:TestE m:test_a:', 'x:TestX', 'k:TestK', 'c:TestEmpty: i:z f:test_a:', 'f:test_a: c:TestB: m:test_x: f:test_c: c:TestD: m:test_y:', 'c:TestB: m:test_x: f:test_a: a:TestC:TestB', 'f:x: a:test_x:x', 'c:Base: m:test_x: a:TestBase:Base',
@@ -124,11 +124,11 @@ for marks in ['', 'xfail', 'xfail(strict=True)', 'xfail(raises=KeyError)', 'xfai
     for phase in ['set-up', 'call', 'teardown']:
         for e in E:
             if len(marks) > 22 and len(e) == 2 and e[0] == 'Skipped': continue
-            rows.append('%s\t%s %s\t%s' % (phase, marks, ','.join(e), verdict_told(phase, marks, e)))
+            rows.append('phase %s\t%s %s\t%s' % (phase, marks, ','.join(e), verdict_told(phase, marks, e)))
 rows.append('# Rows that want what is not given')
-good = [r for r in rows if r.startswith('items')]
+good = [r for r in rows if r.startswith('collect')]
 wrong = []
-for act, with_, want in [('items', 'f:test_a:slow', 'a/b c/test_m.py::test_a|test_a|test_a|fast,|a,b c,test_m.py,test_a,slow,|||'), ('items', 'c:TestA: m:__init__: m:test_a:', '|TestA,'), ('items', 'f:test_a:', '|'), ('call', 'xfail ', 'Passed'), ('teardown', 'xfail KeyError', 'Xfailed'), ('nothing', '', '')]:
+for act, with_, want in [('collect', 'f:test_a:slow', 'a/b c/test_m.py::test_a|test_a|test_a|fast,|a,b c,test_m.py,test_a,slow,|||'), ('collect', 'c:TestA: m:__init__: m:test_a:', '|TestA,'), ('collect', 'f:test_a:', '|'), ('phase call', 'xfail ', 'Passed'), ('phase teardown', 'xfail KeyError', 'Xfailed'), ('phase nothing', '', '')]:
     wrong.append('wrong %s\t%s\t%s' % (act, with_, want))
 rows += wrong
 open(sys.argv[1], 'w').write('\n'.join(rows) + '\n')

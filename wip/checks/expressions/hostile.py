@@ -1,0 +1,76 @@
+#!/usr/bin/env python3
+"""hostile.py MODEL PROGRAM COUNT SEED: the verdict on hostile sources, of the plain model and of the code.
+
+Sources are those of `python3 -m model.langfuzz --tokens COUNT SEED`: mutated programs, odd numbers and literals, brackets, blanks, nesting
+at 97 to 103. MODEL is the folder that has the package `model`; PROGRAM is crates/expression_tests, as `rt try` or `rt run` builds it.
+Compared is whether a source has a tree, and if not the kind of its first fault with line and column. A source that is no UTF-8 is left
+out, and one without a line end at its end gets one, for a row of the program is a line. `python3 -m model.langfuzz --tokens COUNT SEED
+--program pytest_run` compares the whole program's reports of the same sources, byte by byte, in which a fault has no column."""
+import collections
+import os
+import subprocess
+import sys
+
+folder, program, count, seed = os.path.abspath(sys.argv[1]), os.path.abspath(sys.argv[2]), int(sys.argv[3]), int(sys.argv[4])
+sys.path.insert(0, folder)
+from model import lex, parse  # noqa: E402
+from model.api import FAULT_TEXT, SourceFault  # noqa: E402
+from model.langfuzz import Hostile, known  # noqa: E402
+
+sys.setrecursionlimit(100000)
+
+
+def by_model(data):
+    """`a tree`, or the first fault."""
+    try:
+        parse.parse(lex.tokens(lex.decode(data)))
+        return "a tree"
+    except SourceFault as fault:
+        return "%s@%d:%d" % (FAULT_TEXT[fault.kind], fault.line, fault.column)
+
+
+def by_program(texts):
+    rows = "".join("read\t%s\t?\n" % text.replace("\n", "␊") for text in texts)
+    done = subprocess.run([program], input=rows.encode(), stdout=subprocess.PIPE, check=True)
+    told = done.stdout.decode().split("\n")[:-2]
+    assert len(told) == len(texts), (len(told), len(texts))
+    for text, line in zip(texts, told):
+        head = "read, %s: " % text.replace("\n", "␊")
+        assert line.startswith(head), (head, line)
+        given = line[len(head):]
+        yield "a tree" if given[:1] in ("", " ") else given
+
+
+def main():
+    cases, left_out = [], 0
+    for k in range(seed, seed + count):
+        case = Hostile(k).case()
+        data = case.files["test_a.py"]
+        try:
+            text = data.decode()
+        except UnicodeDecodeError:
+            left_out += 1
+            continue
+        if "␊" in text:
+            left_out += 1
+            continue
+        cases.append((k, case, text[:-1] if text.endswith("\n") else text))
+    kinds, differing, later = collections.Counter(), 0, 0
+    for (k, case, text), given in zip(cases, by_program([text for _, _, text in cases])):
+        want = by_model((text + "\n").encode())
+        kinds[want.split("@")[0]] += 1
+        if given == want:
+            continue
+        if known("accepted", case, None):
+            later += 1
+            continue
+        differing += 1
+        print("---- seed %d: the model has %s, the program %s\n%s" % (k, want, given, text))
+    for kind, n in kinds.most_common():
+        print("%7d %s" % (n, kind))
+    print("%d sources, %d left out (no UTF-8), %d compared: %d differ; %d more differ by a character of a later version of Unicode than CPython's"
+          % (count, left_out, len(cases), differing, later))
+    return 1 if differing else 0
+
+
+sys.exit(main())
