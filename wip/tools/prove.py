@@ -6,6 +6,7 @@ path='/opt/rattle/bin/rt'
 ns={'__name__':'rtmain','__file__':path}
 exec(compile(open(path,encoding='utf-8').read(),path,'exec'),ns)
 lib=ns['rtlib']
+ns['STORE_MOST']=30_000_000_000   # (rt drops what is longest unused beyond 10 GB, and all proofs of the product take more)
 memo={}
 def below(self):
     k=self.folder
