@@ -12,7 +12,7 @@ use Rattle.py_tree.specs.Trees.{Tree, Trees, Empty, More, tree, trees, trees_beh
 use Rattle.py_values.specs.declared.object.Obj.{Obj}
 use Rattle.py_world.specs.World.{Temps}
 use Rattle.py_world.specs.Explained.{Shows, shows, evaluated, joined_shows, kept_count, kept_count_all, last_operand, last_pair, kept_text, kept_value, came_from, named_show, named_shows, pair_shows, show_all, show_evaluated, show_part, tree_count}
-use Rattle.assert_explain.specs.Texts.{attribute_show, in_parens, joined_with, name_at, with_operand, word_at}
+use Rattle.assert_explain.specs.Texts.{attribute_show, in_parens, joined_with, arg_name_at, with_operand, word_at}
 use Rattle.assert_explain.proofs.Counted.{trees_one_more}
 use Rattle.assert_explain.proofs.Evaluated.{heap_aside}
 
@@ -31,7 +31,7 @@ joined_any : (word : List ℕ) (xs : List Shows) (s : Shows) → joined_shows wo
 joined_any word [] s = refl
 joined_any word (x ∷ xs) s = joined_more word x xs s
 
-name_next : (n : Option ArgName) (names : List (Option ArgName)) (at : ℕ) → name_at (n ∷ names) (suc at) ≡ name_at names at
+name_next : (n : Option ArgName) (names : List (Option ArgName)) (at : ℕ) → arg_name_at (n ∷ names) (suc at) ≡ arg_name_at names at
 name_next n names at = refl
 
 no_names : (xs : List Shows) (s : Shows) → named_shows [] (xs ++ s ∷ []) ≡ named_shows [] xs ++ s ∷ []
@@ -39,7 +39,7 @@ no_names [] s = refl
 no_names (x ∷ xs) s = ap (λ (ys : List Shows). x ∷ ys) (no_names xs s)
 
 -- one argument more
-named_more : (names : List (Option ArgName)) (xs : List Shows) (s : Shows) → named_shows names (xs ++ s ∷ []) ≡ named_shows names xs ++ named_show (name_at names (length xs)) s ∷ []
+named_more : (names : List (Option ArgName)) (xs : List Shows) (s : Shows) → named_shows names (xs ++ s ∷ []) ≡ named_shows names xs ++ named_show (arg_name_at names (length xs)) s ∷ []
 named_more [] xs s = no_names xs s
 named_more (n ∷ names) [] s = refl
 named_more (n ∷ names) (x ∷ xs) s = ap (λ (ys : List Shows). named_show n x ∷ ys) (named_more names xs s)
@@ -86,17 +86,17 @@ module _ (heap : List Obj) (kept : Temps) where
 
     -- one argument more
     pub args_more : (word : List ℕ) (names : List (Option ArgName)) (b : Bool) (all arg out : Shows)
-        → all ≡ joined_shows word (named_shows names (show_all heap kept n (trees (take i es)))) → arg ≡ named_show (name_at names i) (show_part heap kept at (tree e'))
+        → all ≡ joined_shows word (named_shows names (show_all heap kept n (trees (take i es)))) → arg ≡ named_show (arg_name_at names i) (show_part heap kept at (tree e'))
         → b ≡ eqb i 0 → out ≡ joined_with word b all arg → out ≡ joined_shows word (named_shows names (show_all heap kept n (trees (take (i + 1) es))))
     args_more word names b all arg out so_far shown first joined =
         let xs = show_all heap kept n (trees (take i es)) in
         let p = show_part heap kept (n + kept_count_all (trees (take i es))) (tree e.value) in
         let size : length xs ≡ i = shows_count n (trees (take i es)) ∙ count_taken es i (omega arith) in
         let b' : b ≡ is_none (named_shows names xs) = first ∙ ap (λ (k : ℕ). eqb k 0) (sym size) ∙ sym (none_by xs) ∙ sym (named_none names xs) in
-        let one : arg ≡ named_show (name_at names (length xs)) p = shown ∙ ap (λ (x : Shows). named_show (name_at names i) x) here ∙ ap (λ (k : ℕ). named_show (name_at names k) p) (sym size) in
+        let one : arg ≡ named_show (arg_name_at names (length xs)) p = shown ∙ ap (λ (x : Shows). named_show (arg_name_at names i) x) here ∙ ap (λ (k : ℕ). named_show (arg_name_at names k) p) (sym size) in
         joined ∙ ap (λ (x : Bool). joined_with word x all arg) b' ∙ ap (λ (x : Shows). joined_with word (is_none (named_shows names xs)) x arg) so_far
         ∙ ap (λ (x : Shows). joined_with word (is_none (named_shows names xs)) (joined_shows word (named_shows names xs)) x) one
-        ∙ sym (joined_any word (named_shows names xs) (named_show (name_at names (length xs)) p))
+        ∙ sym (joined_any word (named_shows names xs) (named_show (arg_name_at names (length xs)) p))
         ∙ ap (joined_shows word) (sym (named_more names xs p))
         ∙ ap (λ (ts : Trees). joined_shows word (named_shows names (show_all heap kept n ts))) (sym (trees_one_more es i e w is))
 

@@ -22,12 +22,12 @@ abbrev pub called_with : Shows → Shows → Shows
 called_with how given = shows (how.text ++ (codes "(" ++ (given.text ++ codes ")"))) (how.facts ++ given.facts)
 
 -- the name of the argument at a place, where it has one
-abbrev pub name_in : Option (Option ArgName) → Option ArgName
-name_in (Some name) = name
-name_in None = None
+abbrev pub arg_name_in : Option (Option ArgName) → Option ArgName
+arg_name_in (Some name) = name
+arg_name_in None = None
 
-abbrev pub name_at : List (Option ArgName) → ℕ → Option ArgName
-name_at names at = name_in (slice_get names at)
+abbrev pub arg_name_at : List (Option ArgName) → ℕ → Option ArgName
+arg_name_at names at = arg_name_in (slice_get names at)
 
 -- the word of the operator at a place
 abbrev pub word_at : List CmpOp → ℕ → List ℕ

@@ -57,7 +57,7 @@ fn with_name(
     at: usize,
     part: Shows,
 ) -> Result<Shows, OutOfMemory>
-    ensures { IfOk result (λ s. s ≡ world.named_show (texts.name_at names.now at) part) }
+    ensures { IfOk result (λ s. s ≡ world.named_show (texts.arg_name_at names.now at) part) }
 {
     match names.get(at) {
         Some(Some(name)) => part.behind(alloc, "=", name.name.chars()),
@@ -136,7 +136,7 @@ fn show_arg(
     names: &[Option<ArgName>],
     at: usize,
 ) -> Result<Shows, OutOfMemory>
-    ensures { IfOk result (λ s. s ≡ world.named_show (texts.name_at names.now at) (world.show_part heap.now kept.now n (tree e.now))) }
+    ensures { IfOk result (λ s. s ≡ world.named_show (texts.arg_name_at names.now at) (world.show_part heap.now kept.now n (tree e.now))) }
 {
     let part = show_part(alloc, heap, kept, n, e)?;
     with_name(alloc, names, at, part)

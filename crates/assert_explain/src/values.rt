@@ -18,7 +18,7 @@ use std::alloc::Global;
 const MOST: usize = 240;
 
 /// The characters that are shown of a longer one.
-const FIRST: usize = 237;
+const FIRST: usize = MOST - 3;
 
 /// A value as it is shown.
 #[tactic(auto, using(crate::proofs::Shortened::cut, crate::proofs::Shortened::whole))]

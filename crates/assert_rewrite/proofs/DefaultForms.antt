@@ -12,7 +12,7 @@ use Rattle.py_tree.specs.Statements.{Parameter, parameter, parameters}
 use Rattle.py_core.specs.declared.expr.CoreExpr.{CoreExpr}
 use Rattle.py_core.specs.declared.stmt.CoreParam.{CoreParam}
 use Rattle.lower_law.specs.core_meaning.Statements.{written as core_written}
-use Rattle.lower_law.specs.source_meaning.Statements.{written, is_given}
+use Rattle.lower_law.specs.source_meaning.Statements.{source_written, is_given}
 use Rattle.lower_law.specs.Built.{BuiltParameters}
 use Rattle.lower_law.specs.Lowered as low
 use Rattle.lower_law.specs.Lowered.{LoweredEach, defaults_listed}
@@ -27,7 +27,7 @@ core_written_more : (xs ys : List CoreParam) → core_written (xs ++ ys) ≡ cor
 core_written_more [] ys = refl
 core_written_more (x ∷ xs) ys = ap (λ r. (x.name, x.has_default) ∷ r) (core_written_more xs ys)
 
-written_more : (ps qs : List Parameter) → written (ps ++ qs) ≡ written ps ++ written qs
+written_more : (ps qs : List Parameter) → source_written (ps ++ qs) ≡ source_written ps ++ source_written qs
 written_more [] qs = refl
 written_more (st.Parameter_at at name annotation default ∷ ps) qs = ap (λ r. (name, is_given default) ∷ r) (written_more ps qs)
 
@@ -35,20 +35,20 @@ given_is : (e : Option (Rc Expr Global)) → is_some e ≡ is_given (some_tree e
 given_is None = refl
 given_is (Some e) = refl
 
-params_last : (all : List Param) (xs : List CoreParam) (p : Param) (x : CoreParam) → core_written xs ≡ written (parameters all) → x.name ≡ p.name → x.has_default ≡ is_some p.default → core_written (xs ++ x ∷ []) ≡ written (parameters (all ++ p ∷ []))
+params_last : (all : List Param) (xs : List CoreParam) (p : Param) (x : CoreParam) → core_written xs ≡ source_written (parameters all) → x.name ≡ p.name → x.has_default ≡ is_some p.default → core_written (xs ++ x ∷ []) ≡ source_written (parameters (all ++ p ∷ []))
 params_last all xs p x same name has =
-    core_written_more xs (x ∷ []) ∙ (ap (λ r. r ++ (x.name, x.has_default) ∷ []) same ∙ (ap (λ n. written (parameters all) ++ (n, x.has_default) ∷ []) name ∙ (ap (λ b. written (parameters all) ++ (p.name, b) ∷ []) (has ∙ given_is p.default)
-    ∙ (sym (written_more (parameters all) (parameter p ∷ [])) ∙ ap written (sym (parameters_more all (p ∷ [])))))))
+    core_written_more xs (x ∷ []) ∙ (ap (λ r. r ++ (x.name, x.has_default) ∷ []) same ∙ (ap (λ n. source_written (parameters all) ++ (n, x.has_default) ∷ []) name ∙ (ap (λ b. source_written (parameters all) ++ (p.name, b) ∷ []) (has ∙ given_is p.default)
+    ∙ (sym (written_more (parameters all) (parameter p ∷ [])) ∙ ap source_written (sym (parameters_more all (p ∷ [])))))))
 
 -- one more parameter
-pub params_more : (all : List Param) (xs : List CoreParam) (i : ℕ) (p : Param) (x : CoreParam) → i < length all → p ≡ get_or all i p → core_written xs ≡ written (parameters (take i all)) → x.name ≡ p.name → x.has_default ≡ is_some p.default → core_written (xs ++ x ∷ []) ≡ written (parameters (take (i + 1) all))
+pub params_more : (all : List Param) (xs : List CoreParam) (i : ℕ) (p : Param) (x : CoreParam) → i < length all → p ≡ get_or all i p → core_written xs ≡ source_written (parameters (take i all)) → x.name ≡ p.name → x.has_default ≡ is_some p.default → core_written (xs ++ x ∷ []) ≡ source_written (parameters (take (i + 1) all))
 params_more all xs i p x lt is same name has = rw (take_more all i p lt, ← is) (params_last (take i all) xs p x same name has)
 
 pub params_none : (xs : List CoreParam) → xs ≡ [] → core_written xs ≡ []
 params_none xs is = ap core_written is
 
-pub params_all : (all : List Param) (i : ℕ) (done : Vec CoreParam Global) (r : Rc (Vec CoreParam Global) Global) → length all ≤ i → core_written done.items ≡ written (parameters (take i all)) → r.value ≡ done → core_written r.value.items ≡ written (parameters all)
-params_all all i done r le h is = rw is (h ∙ ap (λ ps. written (parameters ps)) (take_all i all le))
+pub params_all : (all : List Param) (i : ℕ) (done : Vec CoreParam Global) (r : Rc (Vec CoreParam Global) Global) → length all ≤ i → core_written done.items ≡ source_written (parameters (take i all)) → r.value ≡ done → core_written r.value.items ≡ source_written (parameters all)
+params_all all i done r le h is = rw is (h ∙ ap (λ ps. source_written (parameters ps)) (take_all i all le))
 
 pub ruleset params = (params_more, params_none, params_all)
 

@@ -15,10 +15,10 @@ use Rattle.py_core.specs.declared.stmt.CoreBlock.{CoreBlock}
 use Rattle.py_core.specs.declared.stmt.CoreGuard.{CoreGuard, roll-CoreGuard}
 use Rattle.py_core.specs.declared.stmt.CoreHandler.{CoreHandler, roll-CoreHandler}
 use Rattle.py_core.specs.declared.stmt.CoreStmtKind.TheBlock.{items_hidden-the_row-CoreHandler-2 as core_handlers_hidden, hidden-the_row-CoreHandler-2}
-use Rattle.lower_law.specs.source_meaning.Statements.{listed}
+use Rattle.lower_law.specs.source_meaning.Statements.{statements_listed}
 use Rattle.lower_law.specs.Built.{BuiltHandlers}
 use Rattle.lower_law.specs.Lowered as low
-use Rattle.lower_law.specs.Lowered.{LoweredSome, LoweredBody, LoweredHandlers, LoweredGuard, Catch, catch_at, handlers_listed}
+use Rattle.lower_law.specs.Lowered.{LoweredSome, LoweredBody, LoweredHandlers, LoweredGuard, ListedHandler, catch_at, handlers_listed}
 use Rattle.assert_rewrite.specs.Lowers.{LowersSome, LowersBody, LowersHandlers, Guards}
 
 -- a handler
@@ -29,7 +29,7 @@ handler_rolled before h = ap (λ b. st.Handler before (out-Handler h).at (some_t
 handler_is : (before : Handlers) (h : Handler) → handlers_behind before (h ∷ []) ≡ st.Handler before (out-Handler h).at (some_tree (out-Handler h).class) (out-Handler h).name (block (out-Handler h).body.value.items)
 handler_is before h = subst (λ y. handlers_behind before (y ∷ []) ≡ st.Handler before (out-Handler h).at (some_tree (out-Handler h).class) (out-Handler h).name (block (out-Handler h).body.value.items)) (roll-out-Handler h) (handler_rolled before h)
 
-handler_made : (z : Bool) (class : Maybe) (name : Option (List ℕ)) (body : Block) (x : Option (Rc CoreExpr Global)) (ys : Rc CoreBlock Global) → LoweredSome class x → LoweredBody z (listed body) ys.value → LoweredHandlers z (catch_at class name body ∷ []) (roll-CoreHandler (record { class = x; name = name; body = ys }) ∷ [])
+handler_made : (z : Bool) (class : Maybe) (name : Option (List ℕ)) (body : Block) (x : Option (Rc CoreExpr Global)) (ys : Rc CoreBlock Global) → LoweredSome class x → LoweredBody z (statements_listed body) ys.value → LoweredHandlers z (catch_at class name body ∷ []) (roll-CoreHandler (record { class = x; name = name; body = ys }) ∷ [])
 unfolding roll-CoreHandler denote.Hole.Carrier.roll
 handler_made z class name body x ys h g = low.LoweredHandlers.handles name h g low.LoweredHandlers.unhandled
 
@@ -40,7 +40,7 @@ handler_form z h x copy ys f same g =
 pub ruleset handler_forms = (handler_form)
 
 -- handlers, the first one first
-handlers_push : {z : Bool} {hs : List Catch} {xs : List CoreHandler} {gs : List Catch} {ys : List CoreHandler} → LoweredHandlers z hs xs → LoweredHandlers z gs ys → LoweredHandlers z (hs ++ gs) (xs ++ ys)
+handlers_push : {z : Bool} {hs : List ListedHandler} {xs : List CoreHandler} {gs : List ListedHandler} {ys : List CoreHandler} → LoweredHandlers z hs xs → LoweredHandlers z gs ys → LoweredHandlers z (hs ++ gs) (xs ++ ys)
 handlers_push low.LoweredHandlers.unhandled h = h
 handlers_push (low.LoweredHandlers.handles name f g rest) h = low.LoweredHandlers.handles name f g (handlers_push rest h)
 
@@ -75,6 +75,6 @@ guards_form source cores x y g is = rw is (guards_rolled source cores x y)
 
 pub ruleset guards = (guards_form)
 
-pub guard_made : (z : Bool) (all source : List Handler) (other last : Block) (cores : List CoreHandler) (x y : CoreBlock) (g : CoreGuard) → source ≡ all → Guards source cores x y g → LoweredHandlers z (handlers_listed (handlers all)) cores → LoweredBody z (listed other) x → LoweredBody z (listed last) y → LoweredGuard z (handlers all) (listed other) (listed last) g
+pub guard_made : (z : Bool) (all source : List Handler) (other last : Block) (cores : List CoreHandler) (x y : CoreBlock) (g : CoreGuard) → source ≡ all → Guards source cores x y g → LoweredHandlers z (handlers_listed (handlers all)) cores → LoweredBody z (statements_listed other) x → LoweredBody z (statements_listed last) y → LoweredGuard z (handlers all) (statements_listed other) (statements_listed last) g
 guard_made z all source other last cores x y g same is h f e =
-    low.LoweredGuard.guard (ap handlers (is.source ∙ same)) (subst (λ xs. LoweredHandlers z (handlers_listed (handlers all)) xs) (sym is.cores) h) (subst (λ b. LoweredBody z (listed other) b) (sym is.other) f) (subst (λ b. LoweredBody z (listed last) b) (sym is.last) e)
+    low.LoweredGuard.guard (ap handlers (is.source ∙ same)) (subst (λ xs. LoweredHandlers z (handlers_listed (handlers all)) xs) (sym is.cores) h) (subst (λ b. LoweredBody z (statements_listed other) b) (sym is.other) f) (subst (λ b. LoweredBody z (statements_listed last) b) (sym is.last) e)

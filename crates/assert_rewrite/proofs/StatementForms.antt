@@ -34,7 +34,7 @@ use Rattle.py_core.specs.declared.stmt.CoreStmtKind.{CoreStmtKind, items-the_row
 use Rattle.py_core.specs.declared.stmt.CoreStmtKind.TheBlock.{hidden-the_row-CoreStmt-1, items_hidden-the_row-CoreBranch-0 as core_branches_hidden, hidden-the_row-CoreBranch-0 as core_hide_branches}
 use Rattle.py_core.specs.declared.stmt.CoreStmtKind.TheVariants as c
 use Rattle.py_core.specs.declared.stmt.CoreTarget.{CoreTarget}
-use Rattle.lower_law.specs.source_meaning.Statements.{listed, function as source_function, written}
+use Rattle.lower_law.specs.source_meaning.Statements.{statements_listed, function as source_function, source_written}
 use Rattle.lower_law.specs.core_meaning.Statements.{written as core_written}
 use Rattle.lower_law.specs.Built.{BuiltStatement, BuiltBlock, BuiltBranches, BuiltHandlers}
 use Rattle.lower_law.specs.Lowered as low
@@ -43,14 +43,14 @@ use Rattle.std.specs.Prelude.{Bool}
 use Rattle.py_core.specs.Blocks.{explains_in, source_in, stmts_in}
 use Rattle.py_core.specs.declared.stmt.CoreBlock.{CoreBlock, roll-CoreBlock}
 use Rattle.lower_law.specs.Sourced.{function_in, module_of, sources_in}
-use Rattle.lower_law.specs.Lowered.{LoweredExpr, LoweredStatement, LoweredBlock, LoweredBody, LoweredBranches, LoweredHandlers, LoweredGuard, LoweredFunction, LoweredClass, LoweredModule, Choice, choice_at, branches_listed, handlers_listed, core_at}
+use Rattle.lower_law.specs.Lowered.{LoweredExpr, LoweredStatement, LoweredBlock, LoweredBody, LoweredBranches, LoweredHandlers, LoweredGuard, LoweredFunction, LoweredClass, LoweredModule, ListedBranch, choice_at, branches_listed, handlers_listed, core_at}
 use Rattle.assert_rewrite.specs.Lowers.{Lowers, LowersEach, LowersSome, LowersDefaults, LowersTarget, LowersStatement, LowersBlock, LowersBody, Carries, LowersBranches, LowersHandlers, Guards, LowersFunction, LowersClass}
 use Rattle.assert_rewrite.proofs.SimpleForms.{items_rolled}
 use Rattle.assert_rewrite.proofs.HandlerForms.{guard_made}
 
 -- blocks and branches, as rows
-body_row : (z : Bool) (stmts : Vec Stmt Global) (core : CoreBlock) → LowersBody z stmts.items core → BuiltBlock (block_on NoStatement (hidden-the_row-Stmt-1 stmts)) → LoweredBody z (listed (block_on NoStatement (hidden-the_row-Stmt-1 stmts))) core
-body_row z stmts core h = subst (λ t. BuiltBlock t → LoweredBody z (listed t) core) (sym (block_hidden stmts)) h.by
+body_row : (z : Bool) (stmts : Vec Stmt Global) (core : CoreBlock) → LowersBody z stmts.items core → BuiltBlock (block_on NoStatement (hidden-the_row-Stmt-1 stmts)) → LoweredBody z (statements_listed (block_on NoStatement (hidden-the_row-Stmt-1 stmts))) core
+body_row z stmts core h = subst (λ t. BuiltBlock t → LoweredBody z (statements_listed t) core) (sym (block_hidden stmts)) h.by
 
 branches_row : (z : Bool) (all : Vec Branch Global) (cores : Vec CoreBranch Global) → LowersBranches z all.items cores.items → BuiltBranches (branches_on NoBranch (hide_branches all)) → LoweredBranches z (branches_listed (branches_on NoBranch (hide_branches all))) (row_branches _ (core_hide_branches cores))
 branches_row z all cores h =
@@ -59,8 +59,8 @@ branches_row z all cores h =
 handlers_row : (z : Bool) (all : Vec Handler Global) (cores : List CoreHandler) → LowersHandlers z all.items cores → BuiltHandlers (handlers_on NoHandler (hide_handlers all)) → LoweredHandlers z (handlers_listed (handlers all.items)) cores
 handlers_row z all cores h = subst (λ t. BuiltHandlers t → LoweredHandlers z (handlers_listed (handlers all.items)) cores) (sym (handlers_hidden all)) h.by
 
-guard_row : (z : Bool) (all : Vec Handler Global) (source : List Handler) (other last : Block) (cores : List CoreHandler) (x y : CoreBlock) (g : CoreGuard) → source ≡ all.items → Guards source cores x y g → LoweredHandlers z (handlers_listed (handlers all.items)) cores → LoweredBody z (listed other) x → LoweredBody z (listed last) y → LoweredGuard z (handlers_on NoHandler (hide_handlers all)) (listed other) (listed last) g
-guard_row z all source other last cores x y g same is h f e = subst (λ t. LoweredGuard z t (listed other) (listed last) g) (sym (handlers_hidden all)) (guard_made z all.items source other last cores x y g same is h f e)
+guard_row : (z : Bool) (all : Vec Handler Global) (source : List Handler) (other last : Block) (cores : List CoreHandler) (x y : CoreBlock) (g : CoreGuard) → source ≡ all.items → Guards source cores x y g → LoweredHandlers z (handlers_listed (handlers all.items)) cores → LoweredBody z (statements_listed other) x → LoweredBody z (statements_listed last) y → LoweredGuard z (handlers_on NoHandler (hide_handlers all)) (statements_listed other) (statements_listed last) g
+guard_row z all source other last cores x y g same is h f e = subst (λ t. LoweredGuard z t (statements_listed other) (statements_listed last) g) (sym (handlers_hidden all)) (guard_made z all.items source other last cores x y g same is h f e)
 
 -- a function at its `def`
 def_rolled : (at : Pos) (f : Rc Function Global) → statement_at at (s.Def (record { ptr = f.ptr; value = roll-Function (out-Function f.value) })) ≡ st.Def at (trees (out-Function f.value).decorators.value.items) (out-Function f.value).at (out-Function f.value).name (parameters (out-Function f.value).params.value.items) (some_tree (out-Function f.value).returns) (block (out-Function f.value).body.value.items)
@@ -136,8 +136,8 @@ carries_form z ss source stmts b is same =
 pub body_form : (z : Bool) (ss : Rc (Vec Stmt Global) Global) (source : Rc (Vec Stmt Global) Global) (stmts : Vec CoreStmt Global) (b : Rc CoreBlock Global) → b.value ≡ roll-CoreBlock (record { source = source; explains = z; stmts = stmts }) → source.value ≡ ss.value → LowersBlock z ss.value.items stmts.items → LowersBody z ss.value.items b.value
 body_form z ss source stmts b is same h =
     rw is (record {
-      by = λ t. low.body (explains_rolled source z stmts) (ap (λ (xs : List Stmt). listed (block xs)) (source_rolled source z stmts) ∙ ap (λ (v : Vec Stmt Global). listed (block v.items)) same)
-          (subst (λ xs. LoweredBlock z (listed (block ss.value.items)) xs) (sym (items_rolled source z stmts)) (h.by t));
+      by = λ t. low.body (explains_rolled source z stmts) (ap (λ (xs : List Stmt). statements_listed (block xs)) (source_rolled source z stmts) ∙ ap (λ (v : Vec Stmt Global). statements_listed (block v.items)) same)
+          (subst (λ xs. LoweredBlock z (statements_listed (block ss.value.items)) xs) (sym (items_rolled source z stmts)) (h.by t));
     })
 
 pub ruleset bodies = (carries_form, body_form)
@@ -148,7 +148,7 @@ statements_push s at kind (low.LoweredBlock.goes_on y ys) h = low.LoweredBlock.g
 
 block_behind_last : (z : Bool) (ss : List Stmt) (xs : List CoreStmt) (s : Stmt) (kind : CoreStmtKind) → LowersBlock z ss xs → LowersStatement z s.at s.kind kind → LowersBlock z (ss ++ s ∷ []) (xs ++ core_at s.at kind ∷ [])
 block_behind_last z ss xs s kind all h =
-    record { by = subst (λ t. BuiltBlock t → LoweredBlock z (listed t) (xs ++ core_at s.at kind ∷ [])) (sym (block_more NoStatement ss s)) (λ b. statements_push (statement s) s.at kind (all.by b.0) (h.by b.1)) }
+    record { by = subst (λ t. BuiltBlock t → LoweredBlock z (statements_listed t) (xs ++ core_at s.at kind ∷ [])) (sym (block_more NoStatement ss s)) (λ b. statements_push (statement s) s.at kind (all.by b.0) (h.by b.1)) }
 
 -- one more statement is lowered
 pub statements_more : (z : Bool) (ss : List Stmt) (xs : List CoreStmt) (i : ℕ) (s : Stmt) (kind : CoreStmtKind) → i < length ss → s ≡ get_or ss i s → LowersBlock z (take i ss) xs → LowersStatement z s.at s.kind kind → LowersBlock z (take (i + 1) ss) (xs ++ core_at s.at kind ∷ [])
@@ -170,7 +170,7 @@ branch_rolled before b = ap (λ t. st.Branch before (out-Branch b).at (tree (out
 branch_is : (before : Branches) (b : Branch) → branches_behind before (b ∷ []) ≡ st.Branch before (out-Branch b).at (tree (out-Branch b).condition.value) (block (out-Branch b).body.value.items)
 branch_is before b = subst (λ y. branches_behind before (y ∷ []) ≡ st.Branch before (out-Branch b).at (tree (out-Branch b).condition.value) (block (out-Branch b).body.value.items)) (roll-out-Branch b) (branch_rolled before b)
 
-branch_made : (z : Bool) (at : Pos) (e : Tree) (body : Block) (x : Rc CoreExpr Global) (ys : Rc CoreBlock Global) → LoweredExpr e x.value → LoweredBody z (listed body) ys.value → LoweredBranches z (choice_at at e body ∷ []) (roll-CoreBranch (record { at = at; condition = x; body = ys }) ∷ [])
+branch_made : (z : Bool) (at : Pos) (e : Tree) (body : Block) (x : Rc CoreExpr Global) (ys : Rc CoreBlock Global) → LoweredExpr e x.value → LoweredBody z (statements_listed body) ys.value → LoweredBranches z (choice_at at e body ∷ []) (roll-CoreBranch (record { at = at; condition = x; body = ys }) ∷ [])
 unfolding roll-CoreBranch denote.Hole.Carrier.roll
 branch_made z at e body x ys h g = low.LoweredBranches.more at h g low.LoweredBranches.none
 
@@ -180,7 +180,7 @@ branch_form z b x ys h g =
 
 pub ruleset branch_forms = (branch_form)
 
-branches_push : {z : Bool} {bs : List Choice} {xs : List CoreBranch} {cs : List Choice} {ys : List CoreBranch} → LoweredBranches z bs xs → LoweredBranches z cs ys → LoweredBranches z (bs ++ cs) (xs ++ ys)
+branches_push : {z : Bool} {bs : List ListedBranch} {xs : List CoreBranch} {cs : List ListedBranch} {ys : List CoreBranch} → LoweredBranches z bs xs → LoweredBranches z cs ys → LoweredBranches z (bs ++ cs) (xs ++ ys)
 branches_push low.LoweredBranches.none h = h
 branches_push (low.LoweredBranches.more at x lowered rest) h = low.LoweredBranches.more at x lowered (branches_push rest h)
 
@@ -206,17 +206,17 @@ branches_all z all i done r le h is = rw is (subst (λ all. LowersBranches z all
 pub ruleset branch_lists = (branches_more, branches_none, branches_all)
 
 -- a function
-function_made : (z : Bool) (source : Rc Function Global) (word : Pos) (name : List ℕ) (params : List Parameter) (body : Block) (ps : Rc (Vec CoreParam Global) Global) (ls : List (List ℕ)) (yields : Bool) (ys : Rc CoreBlock Global) → function_in z source.value ≡ source_function z name params body → core_written ps.value.items ≡ written params → ls ≡ locals_of params body → yields ≡ yields_in body → LoweredBody z (listed body) ys.value → LoweredFunction word (source_function z name params body) (roll-CoreFn (record { source = source; at = word; name = name; params = ps; locals = ls; yields = yields; body = ys }))
+function_made : (z : Bool) (source : Rc Function Global) (word : Pos) (name : List ℕ) (params : List Parameter) (body : Block) (ps : Rc (Vec CoreParam Global) Global) (ls : List (List ℕ)) (yields : Bool) (ys : Rc CoreBlock Global) → function_in z source.value ≡ source_function z name params body → core_written ps.value.items ≡ source_written params → ls ≡ locals_of params body → yields ≡ yields_in body → LoweredBody z (statements_listed body) ys.value → LoweredFunction word (source_function z name params body) (roll-CoreFn (record { source = source; at = word; name = name; params = ps; locals = ls; yields = yields; body = ys }))
 unfolding roll-CoreFn denote.Hole.Carrier.roll
 function_made z source word name params body ps ls yields ys from p l y h = low.made word name from p l y h
 
-pub function_form : (z : Bool) (f : Function) (source : Rc Function Global) (name : List ℕ) (ps : Rc (Vec CoreParam Global) Global) (ls : List (List ℕ)) (yields : Bool) (ys : Rc CoreBlock Global) → source.value ≡ f → name ≡ (out-Function f).name → core_written ps.value.items ≡ written (parameters (out-Function f).params.value.items) → ls ≡ locals_of (parameters (out-Function f).params.value.items) (block (out-Function f).body.value.items) → yields ≡ yields_in (block (out-Function f).body.value.items) → LowersBody z (out-Function f).body.value.items ys.value → LowersFunction z f (roll-CoreFn (record { source = source; at = (out-Function f).at; name = name; params = ps; locals = ls; yields = yields; body = ys }))
+pub function_form : (z : Bool) (f : Function) (source : Rc Function Global) (name : List ℕ) (ps : Rc (Vec CoreParam Global) Global) (ls : List (List ℕ)) (yields : Bool) (ys : Rc CoreBlock Global) → source.value ≡ f → name ≡ (out-Function f).name → core_written ps.value.items ≡ source_written (parameters (out-Function f).params.value.items) → ls ≡ locals_of (parameters (out-Function f).params.value.items) (block (out-Function f).body.value.items) → yields ≡ yields_in (block (out-Function f).body.value.items) → LowersBody z (out-Function f).body.value.items ys.value → LowersFunction z f (roll-CoreFn (record { source = source; at = (out-Function f).at; name = name; params = ps; locals = ls; yields = yields; body = ys }))
 function_form z f source name ps ls yields ys is same p l y h = rw same (record { by = λ b. function_made z source (out-Function f).at (out-Function f).name (parameters (out-Function f).params.value.items) (block (out-Function f).body.value.items) ps ls yields ys (ap (function_in z) is ∙ function_is z f) p l y (h.by b) })
 
 pub ruleset functions = (function_form)
 
 -- a class
-class_made : (z : Bool) (word : Pos) (name : List ℕ) (body : Block) (ys : Rc CoreBlock Global) → LoweredBody z (listed body) ys.value → LoweredClass z word name body (roll-CoreClass (record { at = word; name = name; body = ys }))
+class_made : (z : Bool) (word : Pos) (name : List ℕ) (body : Block) (ys : Rc CoreBlock Global) → LoweredBody z (statements_listed body) ys.value → LoweredClass z word name body (roll-CoreClass (record { at = word; name = name; body = ys }))
 unfolding roll-CoreClass denote.Hole.Carrier.roll
 class_made z word name body ys h = low.classed word name h
 

@@ -2,7 +2,7 @@
 
 ghost use Rattle.std.specs.Prelude.{IfOk, ◌≡◌};
 ghost use Rattle.lower_law.specs.core_meaning.Statements.{written as core_written};
-ghost use Rattle.lower_law.specs.source_meaning.Statements.{written};
+ghost use Rattle.lower_law.specs.source_meaning.Statements.{source_written};
 ghost use Rattle.py_tree.specs.Statements.{parameters};
 ghost use Rattle.assert_rewrite.specs.Lowers.{LowersDefaults};
 
@@ -16,7 +16,7 @@ use std::rc::Rc;
 /// The names of parameters, and whether each has a default.
 #[tactic(auto, using(crate::proofs::DefaultForms::params))]
 pub fn core_params(alloc: Global, params: &[Param]) -> Result<Rc<Vec<CoreParam>>, OutOfMemory>
-    ensures { IfOk result (λ cores. core_written cores.value.items ≡ written (parameters params.now)) }
+    ensures { IfOk result (λ cores. core_written cores.value.items ≡ source_written (parameters params.now)) }
 {
     let mut done = Vec::new(alloc);
     for param in params {

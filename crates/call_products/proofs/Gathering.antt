@@ -3,8 +3,8 @@ use Rattle.std.proofs.Common.{ℕ, zero, suc, ◌+◌, ◌-◌, ◌<◌, List, [
 use Rattle.std.specs.Prelude.{option_map}
 use Rattle.call_products.specs.Products.{refs_from}
 use Rattle.call_products.specs.Elements.{keys_of, key_in, values_from, number_value, value_before}
-use Rattle.py_ops.specs.py_operands.Numbers.{fitting}
-use Rattle.py_ops.specs.py_operands.Ranges.{nth_of}
+use Rattle.py_operands.specs.Numbers.{fitting}
+use Rattle.py_operands.specs.Ranges.{nth_of}
 use Rattle.py_values.specs.Ends.{id_at}
 use Rattle.py_values.specs.declared.dict.Pair.{Pair}
 use Rattle.py_values.specs.declared.key.Atom.{Atom}

@@ -1,6 +1,6 @@
 -- The arguments of calls, by position and by name.
 use Rattle.std.specs.Prelude.{ℕ, Bool, true, false, List, [], ◌∷◌, Option, Some, None}
-use Rattle.py_ops.specs.Compare.{text_of}
+use Rattle.py_operands.specs.Texts.{text_of}
 use Rattle.py_values.specs.declared.object.Obj.{Obj}
 use Rattle.py_values.specs.declared.value.Value.{Value}
 
@@ -19,10 +19,10 @@ abbrev pub pair : List Value → List (List ℕ × Value) → Option (Value × V
 pair (v ∷ w ∷ []) [] = Some (v, w)
 pair _ _ = None
 
-abbrev pub text_in : List Obj → Option Value → Option (List ℕ)
-text_in heap (Some v) = text_of heap v
-text_in heap None = None
+abbrev pub given_text : List Obj → Option Value → Option (List ℕ)
+given_text heap (Some v) = text_of heap v
+given_text heap None = None
 
 -- the text that is the one argument of a call
 abbrev pub sole_text : List Obj → List Value → List (List ℕ × Value) → Option (List ℕ)
-sole_text heap args named = text_in heap (sole args named)
+sole_text heap args named = given_text heap (sole args named)

@@ -1,13 +1,13 @@
 -- The elements of what is iterated over (Python glossary, iterable).
 use Rattle.std.specs.Prelude.{ℕ, zero, suc, List, [], ◌∷◌, map, length, codes, Option, Some, None, ℤ, slice_get}
 use Rattle.call_products.specs.Products.{refs_from}
-use Rattle.call_products.specs.declared.elements.Gathered.{Gathered}
-use Rattle.call_products.specs.declared.elements.Gathered.TheVariants as gathered
-use Rattle.py_ops.specs.py_operands.Faults.{not_iterable}
-use Rattle.py_ops.specs.py_operands.Numbers.{fitting}
-use Rattle.py_ops.specs.py_operands.Ranges.{nth_of}
-use Rattle.py_ops.specs.py_kinds.Kinds.{kind_name}
-use Rattle.py_values.specs.Raises.{raise}
+use Rattle.call_products.specs.declared.elements.ElementsResult.{ElementsResult}
+use Rattle.call_products.specs.declared.elements.ElementsResult.TheVariants as gathered
+use Rattle.py_operands.specs.Faults.{not_iterable}
+use Rattle.py_operands.specs.Numbers.{fitting}
+use Rattle.py_operands.specs.Ranges.{nth_of}
+use Rattle.py_operands.specs.py_kinds.Kinds.{kind_name}
+use Rattle.py_values.specs.Raises.{text_raise}
 use Rattle.py_values.specs.declared.class.ExcClass.TheVariants.{OverflowError}
 use Rattle.py_values.specs.declared.dict.Pair.{Pair}
 use Rattle.py_values.specs.declared.key.Atom.{Atom}
@@ -18,7 +18,7 @@ use Rattle.py_values.specs.declared.value.Value.{Value}
 use Rattle.py_values.specs.declared.value.Value.TheVariants as val
 
 -- elements that are there already
-abbrev pub own : List Value → Gathered
+abbrev pub own : List Value → ElementsResult
 own vs = gathered.Elements (record { objects = []; values = vs })
 
 -- the text of a character
@@ -26,7 +26,7 @@ abbrev pub char_text : ℕ → Obj
 char_text c = obj.Text (c ∷ [])
 
 -- the elements of a text: a new text for each character
-abbrev pub text_elements : ℕ → List ℕ → Gathered
+abbrev pub text_elements : ℕ → List ℕ → ElementsResult
 text_elements from t = gathered.Elements (record { objects = map char_text t; values = refs_from from (length t) })
 
 abbrev pub key_in : Option Pair → List Value
@@ -59,18 +59,18 @@ values_from r at (suc n) = value_before (number_value (fitting (nth_of r at))) (
 abbrev pub range_values : RangeObj → Option (List Value)
 range_values r = values_from r 0 r.length
 
-abbrev pub values_or_refused : Option (List Value) → Gathered
+abbrev pub values_or_refused : Option (List Value) → ElementsResult
 values_or_refused (Some vs) = own vs
-values_or_refused None = gathered.Refused (raise OverflowError (codes "whole number out of range"))
+values_or_refused None = gathered.Refused (text_raise OverflowError (codes "whole number out of range"))
 
-abbrev pub range_elements : RangeObj → Gathered
+abbrev pub range_elements : RangeObj → ElementsResult
 range_elements r = values_or_refused (range_values r)
 
-abbrev pub refused : List Obj → Value → Gathered
+abbrev pub refused : List Obj → Value → ElementsResult
 refused heap v = gathered.Refused (not_iterable (kind_name heap v))
 
 -- texts, lists, tuples, dicts and ranges have elements
-abbrev pub object_elements : ℕ → Gathered → Option Obj → Gathered
+abbrev pub object_elements : ℕ → ElementsResult → Option Obj → ElementsResult
 object_elements from none (Some (obj.Text t)) = text_elements from t
 object_elements from none (Some (obj.List vs)) = own vs
 object_elements from none (Some (obj.Tuple vs)) = own vs
@@ -79,7 +79,7 @@ object_elements from none (Some (obj.Range r)) = range_elements r
 object_elements from none _ = none
 
 -- THE ELEMENTS OF A VALUE, or the raise in their place; new objects stand from a place on
-unfoldable pub elements_of : List Obj → ℕ → Value → Gathered
+unfoldable pub elements_of : List Obj → ℕ → Value → ElementsResult
 elements_of heap from (val.Ref id) = object_elements from (refused heap (val.Ref id)) (slice_get heap id.at)
 elements_of heap from val.None = refused heap val.None
 elements_of heap from (val.Bool b) = refused heap (val.Bool b)

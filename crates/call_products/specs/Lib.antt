@@ -1,6 +1,5 @@
-pub use Rattle.py_ops.specs.py_kinds
-pub use Rattle.py_ops.specs.py_operands
-pub use Rattle.py_ops.specs as py_ops
+pub use Rattle.py_operands.specs.py_kinds
+pub use Rattle.py_operands.specs as py_operands
 pub mod Products
 pub mod Arguments
 pub mod Elements

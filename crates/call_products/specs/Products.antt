@@ -2,11 +2,11 @@
 use Rattle.std.specs.Prelude.{ℕ, zero, suc, List, [], ◌∷◌, ◌++◌, codes, if◌then◌else◌, nat_lt, Option, Some, None}
 use Rattle.call_products.specs.declared.product.Product.{Product}
 use Rattle.py_values.specs.Ends.{cost_of, finished, id_at}
-use Rattle.py_values.specs.Raises.{raise}
+use Rattle.py_values.specs.Raises.{text_raise}
 use Rattle.py_values.specs.declared.class.ExcClass.{ExcClass}
 use Rattle.py_values.specs.declared.class.ExcClass.TheVariants.{TypeError}
-use Rattle.py_values.specs.declared.end.Made.{Made}
-use Rattle.py_values.specs.declared.end.Made.TheVariants.{Fail}
+use Rattle.py_values.specs.declared.end.Effect.{Effect}
+use Rattle.py_values.specs.declared.end.Effect.TheVariants.{Fail}
 use Rattle.py_values.specs.declared.end.OpEnd.{OpEnd}
 use Rattle.py_values.specs.declared.end.OpEnd.TheVariants as end
 use Rattle.py_values.specs.declared.object.Obj.{Obj}
@@ -14,12 +14,12 @@ use Rattle.py_values.specs.declared.value.Value.{Value}
 use Rattle.py_values.specs.declared.value.Value.TheVariants.{Ref}
 
 -- what is made without other objects
-abbrev pub plain : Made → Product
+abbrev pub plain : Effect → Product
 plain m = record { objects = []; made = m }
 
 -- what fails with a text, behind so many steps
 abbrev pub failed : ExcClass → List ℕ → ℕ → Product
-failed class text cost = plain (Fail (raise class text) cost)
+failed class text cost = plain (Fail (text_raise class text) cost)
 
 abbrev pub wrong : List ℕ → ℕ → Product
 wrong name cost = failed TypeError (codes "wrong arguments for " ++ name) cost

@@ -1,12 +1,11 @@
 // The arguments of calls.
 
 ghost use Rattle.std.specs.Prelude.{◌≡◌, option_copied};
-ghost use Rattle.py_ops.specs.Compare as compare;
 ghost use Rattle.call_products.specs.Arguments as arguments;
 
+use py_operands::texts::text_of;
 use py_values::PyText;
 use py_values::heap::Heap;
-use py_values::object::Obj;
 use py_values::value::Value;
 
 /// Whether a call has no arguments.
@@ -35,19 +34,6 @@ pub fn pair(args: &[Value], named: &[(PyText, Value)]) -> Option<(Value, Value)>
 {
     match (args, named) {
         ([v, w], []) => Some((*v, *w)),
-        _ => None,
-    }
-}
-
-/// The characters of a value, where it is a text.
-pub fn text_of(heap: &Heap, v: Value) -> Option<&PyText>
-    ensures { option_copied result ≡ compare.text_of heap.now v }
-{
-    let Value::Ref(id) = v else {
-        return None;
-    };
-    match heap.get(id) {
-        Some(Obj::Text(text)) => Some(text),
         _ => None,
     }
 }

@@ -2,12 +2,12 @@
 
 ghost use Rattle.std.specs.Prelude.{◌≡◌, ◌++◌, IfOk, OnOk, map, slice_get, option_copied};
 ghost use Rattle.call_products.specs.Elements as elements;
-ghost use Rattle.py_ops.specs.py_operands.Numbers.{fitting};
-ghost use Rattle.py_ops.specs.py_operands.Ranges.{nth_of};
+ghost use Rattle.py_operands.specs.Numbers.{fitting};
+ghost use Rattle.py_operands.specs.Ranges.{nth_of};
 
 use crate::product::{Objs, refs};
-use py_ops::py_operands::faults::not_iterable;
-use py_ops::py_operands::ranges::nth;
+use py_operands::faults::not_iterable;
+use py_operands::ranges::nth;
 use py_values::class::ExcClass;
 use py_values::dict::{Dict, Pair};
 use py_values::end::Raise;
@@ -29,16 +29,16 @@ pub struct Elements {
 
 /// The elements of a value, or the exception that is raised in their place.
 #[derive(Drop)]
-pub enum Gathered {
+pub enum ElementsResult {
     Elements(Elements),
     Refused(Raise),
 }
 
 /// Elements that are there already.
-fn own(alloc: Global, values: Vec<Value>) -> Gathered
+fn own(alloc: Global, values: Vec<Value>) -> ElementsResult
     ensures { result ≡ elements.own values.items }
 {
-    Gathered::Elements(Elements {
+    ElementsResult::Elements(Elements {
         objects: Seq::from_vec(Vec::new(alloc)),
         values: Values::from_vec(values),
     })
@@ -56,18 +56,18 @@ pub fn char_texts(alloc: Global, chars: &[char]) -> Result<Vec<Obj>, OutOfMemory
     Ok(objects)
 }
 
-fn text_elements(alloc: Global, from: usize, chars: &[char]) -> Result<Gathered, OutOfMemory>
+fn text_elements(alloc: Global, from: usize, chars: &[char]) -> Result<ElementsResult, OutOfMemory>
     ensures { IfOk result (λ g. g ≡ elements.text_elements from chars.now) }
 {
     let objects = char_texts(alloc, chars)?;
     let values = refs(alloc, from, chars.len())?;
-    Ok(Gathered::Elements(Elements {
+    Ok(ElementsResult::Elements(Elements {
         objects: Seq::from_vec(objects),
         values: Values::from_vec(values),
     }))
 }
 
-fn row_elements(alloc: Global, items: &[Value]) -> Result<Gathered, OutOfMemory>
+fn row_elements(alloc: Global, items: &[Value]) -> Result<ElementsResult, OutOfMemory>
     ensures { IfOk result (λ g. g ≡ elements.own items.now) }
 {
     let mut values = Vec::new(alloc);
@@ -119,11 +119,11 @@ fn numbers(alloc: Global, range: &RangeObj) -> Result<Option<Values>, OutOfMemor
     Ok(Some(Values::from_vec(values)))
 }
 
-fn range_elements(alloc: Global, range: &RangeObj) -> Result<Gathered, OutOfMemory>
+fn range_elements(alloc: Global, range: &RangeObj) -> Result<ElementsResult, OutOfMemory>
     ensures { IfOk result (λ g. g ≡ elements.range_elements range.now) }
 {
     match numbers(alloc, range)? {
-        Some(values) => Ok(Gathered::Elements(Elements {
+        Some(values) => Ok(ElementsResult::Elements(Elements {
             objects: Seq::from_vec(Vec::new(alloc)),
             values,
         })),
@@ -133,23 +133,23 @@ fn range_elements(alloc: Global, range: &RangeObj) -> Result<Gathered, OutOfMemo
                 ExcClass::OverflowError,
                 "whole number out of range",
             )?;
-            Ok(Gathered::Refused(raise))
+            Ok(ElementsResult::Refused(raise))
         }
     }
 }
 
-fn dict_elements(alloc: Global, dict: &Dict) -> Result<Gathered, OutOfMemory>
+fn dict_elements(alloc: Global, dict: &Dict) -> Result<ElementsResult, OutOfMemory>
     ensures { IfOk result (λ g. g ≡ elements.own (elements.keys_of dict.now)) }
 {
     let keys = keys_of(alloc, dict)?;
     Ok(own(alloc, keys))
 }
 
-fn refused(alloc: Global, heap: &Heap, v: Value) -> Result<Gathered, OutOfMemory>
+fn refused(alloc: Global, heap: &Heap, v: Value) -> Result<ElementsResult, OutOfMemory>
     ensures { IfOk result (λ g. g ≡ elements.refused heap.now v) }
 {
     let raise = not_iterable(alloc, heap, v)?;
-    Ok(Gathered::Refused(raise))
+    Ok(ElementsResult::Refused(raise))
 }
 
 fn object_elements(
@@ -157,7 +157,7 @@ fn object_elements(
     heap: &Heap,
     from: usize,
     id: ObjId,
-) -> Result<Gathered, OutOfMemory>
+) -> Result<ElementsResult, OutOfMemory>
     ensures { IfOk result (λ g. g ≡ elements.object_elements from (elements.refused heap.now (Value.Ref id)) (slice_get heap.now id.at)) }
 {
     match heap.get(id) {
@@ -176,7 +176,7 @@ pub fn elements_of(
     heap: &Heap,
     from: usize,
     v: Value,
-) -> Result<Gathered, OutOfMemory>
+) -> Result<ElementsResult, OutOfMemory>
     ensures { IfOk result (λ g. g ≡ elements.elements_of heap.now from v) }
 {
     match v {

@@ -24,8 +24,8 @@
 //! How long a call takes.
 #![tactic(auto)]
 
-pub use py_ops;
-pub use py_ops::{py_kinds, py_operands};
+pub use py_operands;
+pub use py_operands::py_kinds;
 
 pub mod arguments;
 pub mod elements;

@@ -6,7 +6,7 @@ ghost use Rattle.call_products.specs.Products as products;
 
 use py_values::OutOfMemory;
 use py_values::class::ExcClass;
-use py_values::end::{Made, OpEnd, Raise, finish, push_ascii};
+use py_values::end::{Effect, OpEnd, Raise, finish, push_ascii};
 use py_values::heap::Heap;
 use py_values::object::Obj;
 use py_values::value::{ObjId, Value};
@@ -21,11 +21,11 @@ pub type Objs = Seq<Obj>;
 #[derive(Drop)]
 pub struct Product {
     pub objects: Objs,
-    pub made: Made,
+    pub made: Effect,
 }
 
 /// What is made without other objects.
-pub fn plain(alloc: Global, made: Made) -> Product
+pub fn plain(alloc: Global, made: Effect) -> Product
     ensures { result ≡ products.plain made }
 {
     Product {
@@ -39,7 +39,7 @@ pub fn failed(alloc: Global, class: ExcClass, text: &str, cost: u64) -> Result<P
     ensures { IfOk result (λ p. p ≡ products.failed class text.now cost) }
 {
     let raise = Raise::from_ascii(alloc, class, text)?;
-    Ok(plain(alloc, Made::Fail(raise, cost)))
+    Ok(plain(alloc, Effect::Fail(raise, cost)))
 }
 
 /// The error that a call's arguments don't fit it, behind so many steps.
@@ -50,7 +50,7 @@ pub fn wrong(alloc: Global, name: &str, cost: u64) -> Result<Product, OutOfMemor
     push_ascii(&mut text, "wrong arguments for ")?;
     push_ascii(&mut text, name)?;
     let raise = Raise::from_chars(alloc, ExcClass::TypeError, &text)?;
-    Ok(plain(alloc, Made::Fail(raise, cost)))
+    Ok(plain(alloc, Effect::Fail(raise, cost)))
 }
 
 /// So many places behind one another, from one on. No heap has more places than numbers.
@@ -90,7 +90,7 @@ pub fn add_all(heap: &mut Heap, objects: Objs) -> Result<(), OutOfMemory>
 }
 
 /// Puts new objects into the heap, and what is made in the heap that has them.
-fn finish_behind(heap: &mut Heap, objects: Objs, made: Made) -> Result<OpEnd, OutOfMemory>
+fn finish_behind(heap: &mut Heap, objects: Objs, made: Effect) -> Result<OpEnd, OutOfMemory>
     ensures end { IfOk result (λ e. (e, heap.new) ≡ finished (heap.old ++ objects) (Some made)) }
     ensures cost { IfOk result (λ e. steps_of e ≡ cost_of made) }
 {

@@ -6,17 +6,17 @@ use Rattle.std.specs.List.{before_first, filter_map}
 use Rattle.std.specs.Option.{option_map}
 use Rattle.std.specs.Str.{bytes_eq}
 use Rattle.cli_words.specs.Info.{first_notice, notice_of}
-use Rattle.cli_words.specs.Options.{first_of}
-use Rattle.cli_words.specs.Parts.{HasNoFlag, Part, PathOf, asks, begins_with_dash, behind_flags, flag_part, flags, is_end, is_long, is_path, letters_ask, letters_say, long_option, next_valued, option_part, parts_of, says, short, short_option, spelled_asks, spelled_parts, takes_next, value_behind, valued}
+use Rattle.cli_words.specs.Options.{first_if_any}
+use Rattle.cli_words.specs.Parts.{HasNoFlag, CommandPart, PathOf, asks, begins_with_dash, behind_flags, flag_part, flags, is_double_dash, is_long, is_path, letters_ask, letters_say, long_option, next_valued, option_part, command_parts, says, short, short_option, spelled_asks, spelled_parts, takes_next, value_behind, option_with_value}
 use Rattle.cli_words.specs.Table.{takes_named}
-use Rattle.cli_words.specs.Values.{behind, setting_of}
+use Rattle.cli_words.specs.Values.{after_mark, setting_of}
 use Rattle.cli_words.proofs.Cut.{left, parts_of-cons, parts_of-end}
 use Rattle.cli_words.proofs.Letters.{first_dash, no_such_letter}
 use Rattle.cli_words.proofs.Outcomes.{first_of-append, first_of-append_none}
 use Rattle.cli_words.specs.declared.info.Notice.{Notice}
 use Rattle.cli_words.specs.declared.info.Notice.TheVariants.{Fault}
 use Rattle.cli_words.specs.declared.setting.Setting.{Setting}
-use Rattle.cli_words.specs.declared.table.Given.{Given}
+use Rattle.cli_words.specs.declared.table.FlagAction.{FlagAction}
 use Rattle.cli_words.specs.declared.table.Rule.{Rule}
 use Rattle.cli_words.specs.declared.table.Takes.{Takes}
 
@@ -25,11 +25,11 @@ some_map f b None e = e
 some_map f b (Some x) e = e
 
 -- values
-pub value_good : (option value : List ℕ) (found : Option Setting) → true ≡ is_some found → None ≡ notice_of (valued option value found)
+pub value_good : (option value : List ℕ) (found : Option Setting) → true ≡ is_some found → None ≡ notice_of (option_with_value option value found)
 value_good option value None e = absurd (cc e)
 value_good option value (Some s) e = refl
 
-pub value_bad : (option value : List ℕ) (found : Option Setting) → false ≡ is_some found → Some Fault ≡ notice_of (valued option value found)
+pub value_bad : (option value : List ℕ) (found : Option Setting) → false ≡ is_some found → Some Fault ≡ notice_of (option_with_value option value found)
 value_bad option value None e = refl
 value_bad option value (Some s) e = absurd (cc e)
 
@@ -39,54 +39,54 @@ next_absent option rule next e = rw e refl
 pub next_dash : (option : List ℕ) (rule : Rule) (next : Option (List ℕ)) (value : List ℕ) → next ≡ Some value → begins_with_dash value ≡ true → Some Fault ≡ notice_of (next_valued option rule next)
 next_dash option rule next value e dash = rw (e, dash) refl
 
-pub next_value : (option : List ℕ) (rule : Rule) (next : Option (List ℕ)) (value : List ℕ) (r : Option Notice) → next ≡ Some value → begins_with_dash value ≡ false → r ≡ notice_of (valued option value (setting_of rule value)) → r ≡ notice_of (next_valued option rule next)
+pub next_value : (option : List ℕ) (rule : Rule) (next : Option (List ℕ)) (value : List ℕ) (r : Option Notice) → next ≡ Some value → begins_with_dash value ≡ false → r ≡ notice_of (option_with_value option value (setting_of rule value)) → r ≡ notice_of (next_valued option rule next)
 next_value option rule next value r e dash told = rw (e, dash) told
 
 -- an option of a letter, or a long one
-pub letter_told : (takes named : Option Takes) (value behind next : Option (List ℕ)) (word option : List ℕ) (r : Option Notice) → takes ≡ named → value ≡ behind → r ≡ notice_of (option_part takes word option value next) → r ≡ notice_of (option_part named word option behind next)
-letter_told takes named value behind next word option r e f told = rw (← e, ← f) told
+pub letter_told : (takes named : Option Takes) (value after_mark next : Option (List ℕ)) (word option : List ℕ) (r : Option Notice) → takes ≡ named → value ≡ after_mark → r ≡ notice_of (option_part takes word option value next) → r ≡ notice_of (option_part named word option after_mark next)
+letter_told takes named value after_mark next word option r e f told = rw (← e, ← f) told
 
-pub letter_took : (takes named : Option Takes) (value behind : Option (List ℕ)) (r : Bool) → takes ≡ named → value ≡ behind → r ≡ asks takes value → r ≡ asks named behind
-letter_took takes named value behind r e f took = rw (← e, ← f) took
+pub letter_took : (takes named : Option Takes) (value after_mark : Option (List ℕ)) (r : Bool) → takes ≡ named → value ≡ after_mark → r ≡ asks takes value → r ≡ asks named after_mark
+letter_took takes named value after_mark r e f took = rw (← e, ← f) took
 
-cons_first : {X : Type 0} (f : Part → Option X) (p : Part) (x : Option X) → f p ≡ x → first_of (filter_map f (p ∷ [])) ≡ x
+cons_first : {X : Type 0} (f : CommandPart → Option X) (p : CommandPart) (x : Option X) → f p ≡ x → first_if_any (filter_map f (p ∷ [])) ≡ x
 cons_first f p None e = rw e refl
 cons_first f p (Some x) e = rw e refl
 
-pub first_alone : (p : Part) → first_notice (p ∷ []) ≡ notice_of p
+pub first_alone : (p : CommandPart) → first_notice (p ∷ []) ≡ notice_of p
 first_alone p = cons_first notice_of p (notice_of p) refl
 
-pub long_told : (word option : List ℕ) (value next : Option (List ℕ)) (takes : Option Takes) (r : Option Notice) → option ≡ before_first (λ c. c == 61) word → value ≡ behind 61 word → takes ≡ takes_named option → r ≡ notice_of (option_part takes word option value next) → r ≡ first_notice (spelled_parts word (Some (long_option word)) next)
+pub long_told : (word option : List ℕ) (value next : Option (List ℕ)) (takes : Option Takes) (r : Option Notice) → option ≡ before_first (λ c. c == 61) word → value ≡ after_mark 61 word → takes ≡ takes_named option → r ≡ notice_of (option_part takes word option value next) → r ≡ first_notice (spelled_parts word (Some (long_option word)) next)
 long_told word option value next takes r name is e told =
-    let all : r ≡ notice_of (option_part (takes_named (before_first (λ c. c == 61) word)) word (before_first (λ c. c == 61) word) (behind 61 word) next) = rw (← name, ← is, ← e) told in
-    all ∙ sym (first_alone (option_part (takes_named (before_first (λ c. c == 61) word)) word (before_first (λ c. c == 61) word) (behind 61 word) next))
+    let all : r ≡ notice_of (option_part (takes_named (before_first (λ c. c == 61) word)) word (before_first (λ c. c == 61) word) (after_mark 61 word) next) = rw (← name, ← is, ← e) told in
+    all ∙ sym (first_alone (option_part (takes_named (before_first (λ c. c == 61) word)) word (before_first (λ c. c == 61) word) (after_mark 61 word) next))
 
-pub long_took : (word option : List ℕ) (value : Option (List ℕ)) (takes : Option Takes) (r : Bool) → option ≡ before_first (λ c. c == 61) word → value ≡ behind 61 word → takes ≡ takes_named option → r ≡ asks takes value → r ≡ spelled_asks (Some (long_option word))
+pub long_took : (word option : List ℕ) (value : Option (List ℕ)) (takes : Option Takes) (r : Bool) → option ≡ before_first (λ c. c == 61) word → value ≡ after_mark 61 word → takes ≡ takes_named option → r ≡ asks takes value → r ≡ spelled_asks (Some (long_option word))
 long_took word option value takes r name is e took = rw (← name, ← is, ← e) took
 
 -- the letters of a short word
 pub rest_is : (letters rest : List ℕ) → HasNoFlag rest → behind_flags rest ≡ behind_flags letters → rest ≡ behind_flags letters
 rest_is letters rest none e = sym none.all ∙ e
 
-flags_tell : (givens : List Given) (parts : List Part) → filter_map notice_of (map flag_part givens ++ parts) ≡ filter_map notice_of parts
+flags_tell : (givens : List FlagAction) (parts : List CommandPart) → filter_map notice_of (map flag_part givens ++ parts) ≡ filter_map notice_of parts
 flags_tell [] parts = refl
 flags_tell (given ∷ givens) parts = flags_tell givens parts
 
 letters_told : (word letters : List ℕ) (next : Option (List ℕ)) → first_notice (letters_say word letters next) ≡ first_notice (spelled_parts word (short_option (behind_flags letters)) next)
 unfolding letters_say
-letters_told word letters next = ap first_of (flags_tell (flags letters) (spelled_parts word (short_option (behind_flags letters)) next))
+letters_told word letters next = ap first_if_any (flags_tell (flags letters) (spelled_parts word (short_option (behind_flags letters)) next))
 
 pub end_told : (letters rest word : List ℕ) (next : Option (List ℕ)) → rest ≡ behind_flags letters → true ≡ (length rest == 0) → None ≡ first_notice (letters_say word letters next)
 end_told letters [] word next f empty = sym (letters_told word letters next ∙ rw (← f) refl)
 end_told letters (letter ∷ rest) word next f empty = absurd (grind (arith, nat_tests))
 
-pub option_told : (letters rest behind word : List ℕ) (letter : ℕ) (next : Option (List ℕ)) (r : Option Notice) → rest ≡ behind_flags letters → rest ≡ letter ∷ behind → r ≡ notice_of (option_part (takes_named (short letter)) word (short letter) (value_behind behind) next) → r ≡ first_notice (letters_say word letters next)
-option_told letters rest behind word letter next r f first told =
-    told ∙ sym (letters_told word letters next ∙ rw (← f, first) (first_alone (option_part (takes_named (short letter)) word (short letter) (value_behind behind) next)))
+pub option_told : (letters rest after_mark word : List ℕ) (letter : ℕ) (next : Option (List ℕ)) (r : Option Notice) → rest ≡ behind_flags letters → rest ≡ letter ∷ after_mark → r ≡ notice_of (option_part (takes_named (short letter)) word (short letter) (value_behind after_mark) next) → r ≡ first_notice (letters_say word letters next)
+option_told letters rest after_mark word letter next r f first told =
+    told ∙ sym (letters_told word letters next ∙ rw (← f, first) (first_alone (option_part (takes_named (short letter)) word (short letter) (value_behind after_mark) next)))
 
-pub option_took : (letters rest behind : List ℕ) (letter : ℕ) (r : Bool) → rest ≡ behind_flags letters → rest ≡ letter ∷ behind → r ≡ asks (takes_named (short letter)) (value_behind behind) → r ≡ letters_ask letters
+pub option_took : (letters rest after_mark : List ℕ) (letter : ℕ) (r : Bool) → rest ≡ behind_flags letters → rest ≡ letter ∷ after_mark → r ≡ asks (takes_named (short letter)) (value_behind after_mark) → r ≡ letters_ask letters
 unfolding letters_ask
-option_took letters rest behind letter r f first took = rw (← f, first) took
+option_took letters rest after_mark letter r f first took = rw (← f, first) took
 
 unknown_part : (takes : Option Takes) (word option : List ℕ) (value next : Option (List ℕ)) → takes ≡ None → Some Fault ≡ notice_of (option_part takes word option value next)
 unknown_part takes word option value next e = rw e refl
@@ -144,23 +144,23 @@ paths_tell : (words : List (List ℕ)) → filter_map notice_of (map PathOf word
 paths_tell [] = refl
 paths_tell (word ∷ words) = paths_tell words
 
-pub at_end : (meant : Option Notice) (rest behind : List (List ℕ)) (word : List ℕ) → meant ≡ first_notice (parts_of rest) → rest ≡ word ∷ behind → true ≡ is_end word → None ≡ meant
-at_end meant rest behind word so_far e end =
-    sym (so_far ∙ ap (λ ws. first_notice (parts_of ws)) e ∙ ap first_notice (parts_of-end word behind end) ∙ ap first_of (paths_tell behind))
+pub at_end : (meant : Option Notice) (rest after_mark : List (List ℕ)) (word : List ℕ) → meant ≡ first_notice (command_parts rest) → rest ≡ word ∷ after_mark → true ≡ is_double_dash word → None ≡ meant
+at_end meant rest after_mark word so_far e end =
+    sym (so_far ∙ ap (λ ws. first_notice (command_parts ws)) e ∙ ap first_notice (parts_of-end word after_mark end) ∙ ap first_if_any (paths_tell after_mark))
 
-pub at_nothing : (meant : Option Notice) (rest : List (List ℕ)) → meant ≡ first_notice (parts_of rest) → rest ≡ [] → None ≡ meant
-at_nothing meant rest so_far e = sym (so_far ∙ ap (λ ws. first_notice (parts_of ws)) e)
+pub at_nothing : (meant : Option Notice) (rest : List (List ℕ)) → meant ≡ first_notice (command_parts rest) → rest ≡ [] → None ≡ meant
+at_nothing meant rest so_far e = sym (so_far ∙ ap (λ ws. first_notice (command_parts ws)) e)
 
-one_more : (meant : Option Notice) (rest behind : List (List ℕ)) (word : List ℕ) (first : Option (List ℕ)) → meant ≡ first_notice (parts_of rest) → rest ≡ word ∷ behind → false ≡ is_end word → first ≡ first_of behind → meant ≡ first_of (filter_map notice_of (says word first) ++ filter_map notice_of (parts_of (left (takes_next word) behind)))
-one_more meant rest behind word first so_far e end is =
-    rw is (so_far ∙ ap (λ ws. first_notice (parts_of ws)) e ∙ ap first_notice (parts_of-cons word behind end) ∙ ap first_of (filter_map-append notice_of (says word (first_of behind)) (parts_of (left (takes_next word) behind))))
+one_more : (meant : Option Notice) (rest after_mark : List (List ℕ)) (word : List ℕ) (first : Option (List ℕ)) → meant ≡ first_notice (command_parts rest) → rest ≡ word ∷ after_mark → false ≡ is_double_dash word → first ≡ first_if_any after_mark → meant ≡ first_if_any (filter_map notice_of (says word first) ++ filter_map notice_of (command_parts (left (takes_next word) after_mark)))
+one_more meant rest after_mark word first so_far e end is =
+    rw is (so_far ∙ ap (λ ws. first_notice (command_parts ws)) e ∙ ap first_notice (parts_of-cons word after_mark end) ∙ ap first_if_any (filter_map-append notice_of (says word (first_if_any after_mark)) (command_parts (left (takes_next word) after_mark))))
 
-pub at_notice : (meant notice : Option Notice) (rest behind : List (List ℕ)) (word : List ℕ) (first : Option (List ℕ)) → meant ≡ first_notice (parts_of rest) → rest ≡ word ∷ behind → false ≡ is_end word → first ≡ first_of behind → notice ≡ first_notice (says word first) → true ≡ is_some notice → notice ≡ meant
-at_notice meant None rest behind word first so_far e end is told some = absurd (cc some)
-at_notice meant (Some notice) rest behind word first so_far e end is told some =
-    sym (one_more meant rest behind word first so_far e end is ∙ first_of-append notice (filter_map notice_of (says word first)) (filter_map notice_of (parts_of (left (takes_next word) behind))) (sym told))
+pub at_notice : (meant notice : Option Notice) (rest after_mark : List (List ℕ)) (word : List ℕ) (first : Option (List ℕ)) → meant ≡ first_notice (command_parts rest) → rest ≡ word ∷ after_mark → false ≡ is_double_dash word → first ≡ first_if_any after_mark → notice ≡ first_notice (says word first) → true ≡ is_some notice → notice ≡ meant
+at_notice meant None rest after_mark word first so_far e end is told some = absurd (cc some)
+at_notice meant (Some notice) rest after_mark word first so_far e end is told some =
+    sym (one_more meant rest after_mark word first so_far e end is ∙ first_of-append notice (filter_map notice_of (says word first)) (filter_map notice_of (command_parts (left (takes_next word) after_mark))) (sym told))
 
-pub at_word : (meant notice : Option Notice) (rest behind after : List (List ℕ)) (word : List ℕ) (first : Option (List ℕ)) (took : Bool) → meant ≡ first_notice (parts_of rest) → rest ≡ word ∷ behind → false ≡ is_end word → first ≡ first_of behind → notice ≡ first_notice (says word first) → false ≡ is_some notice → took ≡ takes_next word → after ≡ left took behind → meant ≡ first_notice (parts_of after)
-at_word meant (Some notice) rest behind after word first took so_far e end is told none took_is after_is = absurd (cc none)
-at_word meant None rest behind after word first took so_far e end is told none took_is after_is =
-    rw (after_is, took_is) (one_more meant rest behind word first so_far e end is ∙ first_of-append_none (filter_map notice_of (says word first)) (filter_map notice_of (parts_of (left (takes_next word) behind))) (sym told))
+pub at_word : (meant notice : Option Notice) (rest after_mark after : List (List ℕ)) (word : List ℕ) (first : Option (List ℕ)) (took : Bool) → meant ≡ first_notice (command_parts rest) → rest ≡ word ∷ after_mark → false ≡ is_double_dash word → first ≡ first_if_any after_mark → notice ≡ first_notice (says word first) → false ≡ is_some notice → took ≡ takes_next word → after ≡ left took after_mark → meant ≡ first_notice (command_parts after)
+at_word meant (Some notice) rest after_mark after word first took so_far e end is told none took_is after_is = absurd (cc none)
+at_word meant None rest after_mark after word first took so_far e end is told none took_is after_is =
+    rw (after_is, took_is) (one_more meant rest after_mark word first so_far e end is ∙ first_of-append_none (filter_map notice_of (says word first)) (filter_map notice_of (command_parts (left (takes_next word) after_mark))) (sym told))

@@ -1,22 +1,22 @@
 -- What words may ask for in place of a run: pytest's reference, "Command-line Flags", `--help` and `--version`.
 use Rattle.std.specs.Prelude.{ℕ, List, [], ◌∷◌, ◌++◌, Option, None, Some, codes, flat_map}
 use Rattle.std.specs.List.{filter_map}
-use Rattle.cli_words.specs.Options.{first_of}
-use Rattle.cli_words.specs.Parts.{Part, PathOf, Sets, Wrong, Asks, parts_of}
+use Rattle.cli_words.specs.Options.{first_if_any}
+use Rattle.cli_words.specs.Parts.{CommandPart, PathOf, Sets, Wrong, Asks, command_parts}
 use Rattle.cli_words.specs.declared.info.Info.{Info}
 use Rattle.cli_words.specs.declared.info.Info.TheVariants.{Help, Version}
 use Rattle.cli_words.specs.declared.info.Notice.{Notice}
 use Rattle.cli_words.specs.declared.info.Notice.TheVariants.{Fault, Asked}
 
 -- what a part has to tell before anything is run
-abbrev pub notice_of : Part → Option Notice
+abbrev pub notice_of : CommandPart → Option Notice
 notice_of (PathOf path) = None
 notice_of (Sets setting) = None
 notice_of (Wrong fault) = Some Fault
 notice_of (Asks info) = Some (Asked info)
 
-abbrev pub first_notice : List Part → Option Notice
-first_notice parts = first_of (filter_map notice_of parts)
+abbrev pub first_notice : List CommandPart → Option Notice
+first_notice parts = first_if_any (filter_map notice_of parts)
 
 abbrev pub told_info : Option Notice → Option Info
 told_info None = None
@@ -25,7 +25,7 @@ told_info (Some (Asked info)) = Some info
 
 -- THE TEXT THAT WORDS ASK FOR: that of the first `--help` or `--version`, if no fault comes before it
 unfoldable pub info_of : List (List ℕ) → Option Info
-info_of words = told_info (first_notice (parts_of words))
+info_of words = told_info (first_notice (command_parts words))
 
 -- the lines of `--help`
 abbrev pub help_lines : List (List ℕ)

@@ -1,7 +1,7 @@
 -- What a command line asks for: of each option's settings the last counts.
 use Rattle.std.specs.Prelude.{◌≡◌, ℕ, List, [], ◌∷◌, ◌++◌, Bool, true, false, not, ◌&&◌, Option, None, Some, Result, Ok, Err, nat_lt, if◌then◌else◌}
 use Rattle.std.specs.List.{filter_map}
-use Rattle.cli_words.specs.Parts.{Part, PathOf, Sets, Wrong, parts_of}
+use Rattle.cli_words.specs.Parts.{CommandPart, PathOf, Sets, Wrong, command_parts}
 use Rattle.cli_words.specs.declared.fault.UsageFault.{UsageFault}
 use Rattle.cli_words.specs.declared.fault.UsageFault.TheVariants.{Conflict, OutOfMemory}
 use Rattle.cli_words.specs.declared.options.Options.{Options}
@@ -17,6 +17,10 @@ use Rattle.cli_words.specs.declared.table.Counter.TheVariants.{MaxFail, Workers,
 use Rattle.cli_words.specs.declared.table.TextOption.{TextOption}
 use Rattle.cli_words.specs.declared.table.TextOption.TheVariants.{Keyword, Marks, Ignore}
 
+-- the most steps of one activity, where no option sets it
+abbrev pub most_steps : ℕ
+most_steps = 1000000
+
 -- the options of an empty command line
 abbrev pub defaults : Options
 defaults = record {
@@ -31,7 +35,7 @@ defaults = record {
   collect_only = false;
   setup_show = false;
   verbose = false;
-  step_limit = 1000000;
+  step_limit = most_steps;
   generated = None;
 }
 
@@ -40,74 +44,74 @@ abbrev pub last_or : {X : Type 0} → X → List X → X
 last_or x [] = x
 last_or x (y ∷ ys) = last_or y ys
 
-abbrev pub path_of : Part → Option (List ℕ)
+abbrev pub path_of : CommandPart → Option (List ℕ)
 path_of (PathOf path) = Some path
 path_of _ = None
 
-abbrev pub fault_of : Part → Option UsageFault
-fault_of (Wrong fault) = Some fault
-fault_of _ = None
+abbrev pub usage_fault : CommandPart → Option UsageFault
+usage_fault (Wrong fault) = Some fault
+usage_fault _ = None
 
 -- what a part sets an option to, if it sets that option
-abbrev pub switch_of : Switch → Part → Option Bool
+abbrev pub switch_of : Switch → CommandPart → Option Bool
 switch_of Verbose (Sets (On Verbose)) = Some true
 switch_of CollectOnly (Sets (On CollectOnly)) = Some true
 switch_of SetupShow (Sets (On SetupShow)) = Some true
 switch_of _ _ = None
 
-abbrev pub count_of : Counter → Part → Option ℕ
-count_of MaxFail (Sets (Count MaxFail n)) = Some n
-count_of Workers (Sets (Count Workers n)) = Some n
-count_of StepLimit (Sets (Count StepLimit n)) = Some n
-count_of _ _ = None
+abbrev pub counter_value : Counter → CommandPart → Option ℕ
+counter_value MaxFail (Sets (Count MaxFail n)) = Some n
+counter_value Workers (Sets (Count Workers n)) = Some n
+counter_value StepLimit (Sets (Count StepLimit n)) = Some n
+counter_value _ _ = None
 
-abbrev pub text_of : TextOption → Part → Option (List ℕ)
-text_of Keyword (Sets (Text Keyword text)) = Some text
-text_of Marks (Sets (Text Marks text)) = Some text
-text_of Ignore (Sets (Text Ignore text)) = Some text
-text_of _ _ = None
+abbrev pub text_option_value : TextOption → CommandPart → Option (List ℕ)
+text_option_value Keyword (Sets (Text Keyword text)) = Some text
+text_option_value Marks (Sets (Text Marks text)) = Some text
+text_option_value Ignore (Sets (Text Ignore text)) = Some text
+text_option_value _ _ = None
 
-abbrev pub style_of : Part → Option Tb
+abbrev pub style_of : CommandPart → Option Tb
 style_of (Sets (Style style)) = Some style
 style_of _ = None
 
-abbrev pub distribution_of : Part → Option Dist
+abbrev pub distribution_of : CommandPart → Option Dist
 distribution_of (Sets (Distribution dist)) = Some dist
 distribution_of _ = None
 
-abbrev pub generated_of : Part → Option (Option (ℕ × ℕ))
+abbrev pub generated_of : CommandPart → Option (Option (ℕ × ℕ))
 generated_of (Sets (Generated seed files)) = Some (Some (seed, files))
 generated_of _ = None
 
 -- options, and then what the parts set: all paths, all paths to ignore, and else the last setting
-unfoldable pub with_parts : Options → List Part → Options
+unfoldable pub with_parts : Options → List CommandPart → Options
 with_parts o parts = record {
   paths = o.paths ++ filter_map path_of parts;
-  keyword = last_or o.keyword (filter_map (text_of Keyword) parts);
-  marks = last_or o.marks (filter_map (text_of Marks) parts);
-  maxfail = last_or o.maxfail (filter_map (count_of MaxFail) parts);
+  keyword = last_or o.keyword (filter_map (text_option_value Keyword) parts);
+  marks = last_or o.marks (filter_map (text_option_value Marks) parts);
+  maxfail = last_or o.maxfail (filter_map (counter_value MaxFail) parts);
   tb = last_or o.tb (filter_map style_of parts);
-  workers = last_or o.workers (filter_map (count_of Workers) parts);
+  workers = last_or o.workers (filter_map (counter_value Workers) parts);
   dist = last_or o.dist (filter_map distribution_of parts);
-  ignore = o.ignore ++ filter_map (text_of Ignore) parts;
+  ignore = o.ignore ++ filter_map (text_option_value Ignore) parts;
   collect_only = last_or o.collect_only (filter_map (switch_of CollectOnly) parts);
   setup_show = last_or o.setup_show (filter_map (switch_of SetupShow) parts);
   verbose = last_or o.verbose (filter_map (switch_of Verbose) parts);
-  step_limit = last_or o.step_limit (filter_map (count_of StepLimit) parts);
+  step_limit = last_or o.step_limit (filter_map (counter_value StepLimit) parts);
   generated = last_or o.generated (filter_map generated_of parts);
 }
 
-abbrev pub first_of : {X : Type 0} → List X → Option X
-first_of [] = None
-first_of (x ∷ xs) = Some x
+abbrev pub first_if_any : {X : Type 0} → List X → Option X
+first_if_any [] = None
+first_if_any (x ∷ xs) = Some x
 
-abbrev pub unless : Option UsageFault → Options → Result Options UsageFault
-unless None o = Ok o
-unless (Some fault) o = Err fault
+abbrev pub unless_fault : Option UsageFault → Options → Result Options UsageFault
+unless_fault None o = Ok o
+unless_fault (Some fault) o = Err fault
 
 -- the first fault of the parts, or the options with what the parts set
-unfoldable pub outcome : Options → List Part → Result Options UsageFault
-outcome o parts = unless (first_of (filter_map fault_of parts)) (with_parts o parts)
+unfoldable pub options_or_fault : Options → List CommandPart → Result Options UsageFault
+options_or_fault o parts = unless_fault (first_if_any (filter_map usage_fault parts)) (with_parts o parts)
 
 abbrev pub is_no : Dist → Bool
 is_no dist.No = true
@@ -124,7 +128,7 @@ checked (Ok o) = if asks_for_workers o && nat_lt 0 o.maxfail then Err Conflict e
 
 -- the meaning of a command line
 unfoldable pub options_of : List (List ℕ) → Result Options UsageFault
-options_of words = checked (outcome defaults (parts_of words))
+options_of words = checked (options_or_fault defaults (command_parts words))
 
 -- a fault that a reader may answer: the definition's, or want of memory
 abbrev pub Refuses : Result Options UsageFault → UsageFault → Type 0
@@ -132,6 +136,6 @@ Refuses meant OutOfMemory = Unit {0}
 Refuses meant fault = meant ≡ Err fault
 
 -- an answer of a reader that has set `now`
-abbrev pub Gives : {X : Type 0} → Result Options UsageFault → Options → Result X UsageFault → Type 0
-Gives meant now (Ok x) = meant ≡ Ok now
-Gives meant now (Err fault) = Refuses meant fault
+abbrev pub GivesOptions : {X : Type 0} → Result Options UsageFault → Options → Result X UsageFault → Type 0
+GivesOptions meant now (Ok x) = meant ≡ Ok now
+GivesOptions meant now (Err fault) = Refuses meant fault

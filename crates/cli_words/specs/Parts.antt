@@ -3,26 +3,26 @@ use Rattle.std.specs.Prelude.{◌≡◌, ◌<◌, length, ℕ, List, [], ◌∷�
 use Rattle.std.specs.List.{filter_map, take_while, prefix_len, before_first, starts_with}
 use Rattle.std.specs.Str.{IsUtf8, bytes_eq}
 use Rattle.cli_words.specs.Table.{takes_named}
-use Rattle.cli_words.specs.Values.{behind, given_setting, setting_of}
+use Rattle.cli_words.specs.Values.{after_mark, given_setting, setting_of}
 use Rattle.cli_words.specs.declared.fault.UsageFault.{UsageFault}
 use Rattle.cli_words.specs.declared.fault.UsageFault.TheVariants.{Unrecognized, NeedsValue, BadValue, TakesNoValue}
 use Rattle.cli_words.specs.declared.info.Info.{Info}
 use Rattle.cli_words.specs.declared.setting.Setting.{Setting}
-use Rattle.cli_words.specs.declared.table.Given.{Given}
+use Rattle.cli_words.specs.declared.table.FlagAction.{FlagAction}
 use Rattle.cli_words.specs.declared.table.Rule.{Rule}
 use Rattle.cli_words.specs.declared.table.Takes.{Takes}
 use Rattle.cli_words.specs.declared.table.Takes.TheVariants.{Nothing, Value, Tells}
 
 -- a part of the command line
-pub data Part : Type 0 where
-  PathOf : List ℕ → Part
-  Sets : Setting → Part
-  Wrong : UsageFault → Part
-  Asks : Info → Part
+pub data CommandPart : Type 0 where
+  PathOf : List ℕ → CommandPart
+  Sets : Setting → CommandPart
+  Wrong : UsageFault → CommandPart
+  Asks : Info → CommandPart
 
 -- `--`, behind which all words are paths
-abbrev pub is_end : List ℕ → Bool
-is_end word = bytes_eq word (codes "--")
+abbrev pub is_double_dash : List ℕ → Bool
+is_double_dash word = bytes_eq word (codes "--")
 
 abbrev pub begins_with_dash : List ℕ → Bool
 begins_with_dash word = starts_with nat_eq word (codes "-")
@@ -35,33 +35,33 @@ abbrev pub is_long : List ℕ → Bool
 is_long word = starts_with nat_eq word (codes "--")
 
 -- an option with this value
-abbrev pub valued : List ℕ → List ℕ → Option Setting → Part
-valued option value None = Wrong (BadValue option value)
-valued option value (Some setting) = Sets setting
+abbrev pub option_with_value : List ℕ → List ℕ → Option Setting → CommandPart
+option_with_value option value None = Wrong (BadValue option value)
+option_with_value option value (Some setting) = Sets setting
 
 -- an option whose value is to be the next word
-abbrev pub next_valued : List ℕ → Rule → Option (List ℕ) → Part
+abbrev pub next_valued : List ℕ → Rule → Option (List ℕ) → CommandPart
 next_valued option rule None = Wrong (NeedsValue option)
 next_valued option rule (Some next) =
-    if begins_with_dash next then Wrong (NeedsValue option) else valued option next (setting_of rule next)
+    if begins_with_dash next then Wrong (NeedsValue option) else option_with_value option next (setting_of rule next)
 
 -- an option that takes no value
-abbrev pub switched : List ℕ → Given → Option (List ℕ) → Part
+abbrev pub switched : List ℕ → FlagAction → Option (List ℕ) → CommandPart
 switched option given None = Sets (given_setting given)
 switched option given (Some value) = Wrong (TakesNoValue option)
 
 -- an option that asks for a text, and takes no value
-abbrev pub asking : List ℕ → Info → Option (List ℕ) → Part
+abbrev pub asking : List ℕ → Info → Option (List ℕ) → CommandPart
 asking option info None = Asks info
 asking option info (Some value) = Wrong (TakesNoValue option)
 
 -- what an option of a word says; its value may stand in the word or be the next word
-abbrev pub option_part : Option Takes → List ℕ → List ℕ → Option (List ℕ) → Option (List ℕ) → Part
+abbrev pub option_part : Option Takes → List ℕ → List ℕ → Option (List ℕ) → Option (List ℕ) → CommandPart
 option_part None word option value next = Wrong (Unrecognized word)
 option_part (Some (Nothing given)) word option value next = switched option given value
 option_part (Some (Tells info)) word option value next = asking option info value
 option_part (Some (Value rule)) word option None next = next_valued option rule next
-option_part (Some (Value rule)) word option (Some value) next = valued option value (setting_of rule value)
+option_part (Some (Value rule)) word option (Some value) next = option_with_value option value (setting_of rule value)
 
 -- whether an option takes the next word
 abbrev pub asks : Option Takes → Option (List ℕ) → Bool
@@ -78,20 +78,20 @@ Spelled = List ℕ × Option (List ℕ)
 -- `--name` or `--name=value`
 abbrev pub long_option : List ℕ → Spelled
 long_option word =
-    (before_first (λ c. c == 61) word, behind 61 word)
+    (before_first (λ c. c == 61) word, after_mark 61 word)
 
 -- the spelling of a short option
 abbrev pub short : ℕ → List ℕ
 short letter = 45 ∷ letter ∷ []
 
 -- what a letter sets, if it is an option without value
-abbrev pub given_of : Option Takes → Option Given
+abbrev pub given_of : Option Takes → Option FlagAction
 given_of (Some (Nothing given)) = Some given
 given_of (Some (Value rule)) = None
 given_of (Some (Tells info)) = None
 given_of None = None
 
-abbrev pub flag_of : ℕ → Option Given
+abbrev pub flag_of : ℕ → Option FlagAction
 flag_of letter = given_of (takes_named (short letter))
 
 abbrev pub is_flag : ℕ → Bool
@@ -108,14 +108,14 @@ short_option [] = None
 short_option (letter ∷ letters) = Some (short letter, value_behind letters)
 
 -- the flags at the front of a short word's letters, and what stands behind them
-abbrev pub flags : List ℕ → List Given
+abbrev pub flags : List ℕ → List FlagAction
 flags letters = filter_map flag_of (take_while is_flag letters)
 
 abbrev pub behind_flags : List ℕ → List ℕ
 behind_flags letters = drop (prefix_len is_flag letters) letters
 
 -- what an option of a word says, where there is one
-abbrev pub spelled_parts : List ℕ → Option Spelled → Option (List ℕ) → List Part
+abbrev pub spelled_parts : List ℕ → Option Spelled → Option (List ℕ) → List CommandPart
 spelled_parts word None next = []
 spelled_parts word (Some spelled) next = option_part (takes_named spelled.0) word spelled.0 spelled.1 next ∷ []
 
@@ -123,11 +123,11 @@ abbrev pub spelled_asks : Option Spelled → Bool
 spelled_asks None = false
 spelled_asks (Some spelled) = asks (takes_named spelled.0) spelled.1
 
-abbrev pub flag_part : Given → Part
+abbrev pub flag_part : FlagAction → CommandPart
 flag_part given = Sets (given_setting given)
 
 -- letters that start with an option without value, or with none
-pub record StartsWithFlag (letters : List ℕ) (given : Given) (rest : List ℕ) : Type 0 where
+pub record StartsWithFlag (letters : List ℕ) (given : FlagAction) (rest : List ℕ) : Type 0 where
   pub first : flags letters ≡ given ∷ flags rest
   pub behind : behind_flags letters ≡ behind_flags rest
   pub shorter : length rest < length letters
@@ -138,7 +138,7 @@ pub record HasNoFlag (letters : List ℕ) : Type 0 where
   pub all : behind_flags letters ≡ letters
 
 -- what the letters of a short word say
-unfoldable pub letters_say : List ℕ → List ℕ → Option (List ℕ) → List Part
+unfoldable pub letters_say : List ℕ → List ℕ → Option (List ℕ) → List CommandPart
 letters_say word letters next =
     map flag_part (flags letters) ++ spelled_parts word (short_option (behind_flags letters)) next
 
@@ -146,7 +146,7 @@ unfoldable pub letters_ask : List ℕ → Bool
 letters_ask letters = spelled_asks (short_option (behind_flags letters))
 
 -- what a word says, before the next word
-unfoldable pub says : List ℕ → Option (List ℕ) → List Part
+unfoldable pub says : List ℕ → Option (List ℕ) → List CommandPart
 says word next =
     if is_path word then PathOf word ∷ []
     else (if is_long word then spelled_parts word (Some (long_option word)) next
@@ -160,9 +160,9 @@ takes_next word =
     else letters_ask (drop 1 word))
 
 -- the parts of a command line
-abbrev pub parts_of : List (List ℕ) → List Part
-parts_of [] = []
-parts_of (word ∷ []) = if is_end word then [] else says word None
-parts_of (word ∷ next ∷ words) =
-    if is_end word then map PathOf (next ∷ words)
-    else says word (Some next) ++ (if takes_next word then parts_of words else parts_of (next ∷ words))
+abbrev pub command_parts : List (List ℕ) → List CommandPart
+command_parts [] = []
+command_parts (word ∷ []) = if is_double_dash word then [] else says word None
+command_parts (word ∷ next ∷ words) =
+    if is_double_dash word then map PathOf (next ∷ words)
+    else says word (Some next) ++ (if takes_next word then command_parts words else command_parts (next ∷ words))

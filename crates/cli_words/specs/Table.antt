@@ -5,7 +5,7 @@ use Rattle.std.specs.Map.{lookup}
 use Rattle.cli_words.specs.declared.table.Row.{Row}
 use Rattle.cli_words.specs.declared.table.Takes.{Takes}
 use Rattle.cli_words.specs.declared.table.Takes.TheVariants.{Nothing, Value, Tells}
-use Rattle.cli_words.specs.declared.table.Given.TheVariants.{On, Count}
+use Rattle.cli_words.specs.declared.table.FlagAction.TheVariants.{On, Count}
 use Rattle.cli_words.specs.declared.table.Rule.TheVariants.{Text, Number, Style, Distribution, SeedAndFiles}
 use Rattle.cli_words.specs.declared.info.Info.TheVariants.{Help, Version}
 use Rattle.cli_words.specs.declared.table.Switch.TheVariants.{Verbose, CollectOnly, SetupShow}

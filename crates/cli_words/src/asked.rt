@@ -1,6 +1,6 @@
 ghost use Rattle.std.specs.Prelude.{◌≡◌, List, ℕ, is_some, map, option_copied, string_bytes};
 ghost use Rattle.cli_words.specs.Info.{first_notice, info_of, notice_of};
-ghost use Rattle.cli_words.specs.Parts.{asks, behind_flags, letters_ask, letters_say, long_option, next_valued, option_part, parts_of, says, short, spelled_asks, spelled_parts, takes_next, value_behind, valued};
+ghost use Rattle.cli_words.specs.Parts.{asks, behind_flags, letters_ask, letters_say, long_option, next_valued, option_part, command_parts, says, short, spelled_asks, spelled_parts, takes_next, value_behind, option_with_value};
 ghost use Rattle.cli_words.specs.Table.{takes_named};
 ghost use Rattle.cli_words.specs.Values.{setting_of};
 
@@ -13,7 +13,7 @@ use crate::table::{Rule, Takes, takes_of};
 
 /// What a value of an option has to tell: a fault, where the option doesn't take it.
 fn value_notice(rule: Rule, value: &str) -> Option<Notice>
-    ensures { (option : List ℕ) → result ≡ notice_of (valued option value.now (setting_of rule value.now)) }
+    ensures { (option : List ℕ) → result ≡ notice_of (option_with_value option value.now (setting_of rule value.now)) }
 {
     if rule.takes(value) {
         return None;
@@ -126,7 +126,7 @@ fn word_notice(word: &str, next: Option<&str>) -> (Option<Notice>, bool)
 
 /// What words have to tell first.
 fn words_notice(words: &[String]) -> Option<Notice>
-    ensures { result ≡ first_notice (parts_of (map string_bytes words.now)) }
+    ensures { result ≡ first_notice (command_parts (map string_bytes words.now)) }
 {
     let mut rest = words;
     while let Some((word, behind)) = rest.split_first() {

@@ -8,6 +8,9 @@ use crate::word::{Word, Words};
 use seq::OutOfMemory;
 use std::alloc::Global;
 
+/// The most steps of one activity, where no option sets it.
+pub const MOST_STEPS: u64 = 1_000_000;
+
 /// How much a report tells of each failure: `--tb` of pytest's command line.
 #[derive(Clone, Copy, PartialEq, Eq)]
 pub enum Tb {
@@ -83,7 +86,7 @@ impl Options {
             collect_only: false,
             setup_show: false,
             verbose: false,
-            step_limit: 1_000_000,
+            step_limit: MOST_STEPS,
             generated: None,
         }
     }

@@ -3,14 +3,14 @@ ghost use Rattle.std.specs.List.{starts_with};
 ghost use Rattle.std.specs.Str.{IsUtf8};
 ghost use Rattle.cli_words.specs.Values.{given_setting, setting_of};
 ghost use Rattle.cli_words.specs.Table.{takes_named};
-ghost use Rattle.cli_words.specs.Parts.{Sets, PathOf, HasNoFlag, StartsWithFlag, asking, asks, begins_with_dash, behind_flags, flag_part, flags, is_long, is_path, letters_ask, letters_say, option_part, next_valued, parts_of, says, short, switched, takes_next, value_behind, valued};
-ghost use Rattle.cli_words.specs.Options.{Gives, Refuses, first_of, options_of, outcome, with_parts};
+ghost use Rattle.cli_words.specs.Parts.{Sets, PathOf, HasNoFlag, StartsWithFlag, asking, asks, begins_with_dash, behind_flags, flag_part, flags, is_long, is_path, letters_ask, letters_say, option_part, next_valued, command_parts, says, short, switched, takes_next, value_behind, option_with_value};
+ghost use Rattle.cli_words.specs.Options.{GivesOptions, Refuses, first_if_any, options_of, options_or_fault, with_parts};
 
 use crate::fault::UsageFault;
 use crate::info::Info;
 use crate::options::Options;
 use crate::setting::cut_at;
-use crate::table::{Given, Rule, Takes, takes_of};
+use crate::table::{FlagAction, Rule, Takes, takes_of};
 use crate::word::Word;
 use seq::OutOfMemory;
 use std::alloc::Global;
@@ -66,7 +66,7 @@ fn set_value(
     rule: Rule,
     value: &str,
 ) -> Result<(), UsageFault>
-    ensures { Gives (outcome options.old (valued option.now value.now (setting_of rule value.now) ∷ [])) options.new result }
+    ensures { GivesOptions (options_or_fault options.old (option_with_value option.now value.now (setting_of rule value.now) ∷ [])) options.new result }
 {
     let Some(setting) = rule.setting(alloc, value)? else {
         return Err(UsageFault::BadValue(
@@ -85,7 +85,7 @@ fn set_next(
     rule: Rule,
     next: Option<&str>,
 ) -> Result<(), UsageFault>
-    ensures { Gives (outcome options.old (next_valued option.now rule (option_copied next.entry) ∷ [])) options.new result }
+    ensures { GivesOptions (options_or_fault options.old (next_valued option.now rule (option_copied next.entry) ∷ [])) options.new result }
 {
     match next {
         Some(value) if !starts_with(value, "-") => set_value(alloc, options, option, rule, value),
@@ -97,10 +97,10 @@ fn read_switch(
     alloc: Global,
     options: &mut Options,
     option: &str,
-    given: Given,
+    given: FlagAction,
     value: Option<&str>,
 ) -> Result<(), UsageFault>
-    ensures { Gives (outcome options.old (switched option.now given (option_copied value.entry) ∷ [])) options.new result }
+    ensures { GivesOptions (options_or_fault options.old (switched option.now given (option_copied value.entry) ∷ [])) options.new result }
 {
     match value {
         Some(_) => Err(UsageFault::TakesNoValue(Word::from_str(alloc, option)?)),
@@ -113,7 +113,7 @@ fn read_switch(
 
 /// Reads an option that asks for a text: it sets nothing.
 fn read_asking(alloc: Global, option: &str, value: Option<&str>) -> Result<(), UsageFault>
-    ensures { (o : Options) (info : Info) → Gives (outcome o (asking option.now info (option_copied value.entry) ∷ [])) o result }
+    ensures { (o : Options) (info : Info) → GivesOptions (options_or_fault o (asking option.now info (option_copied value.entry) ∷ [])) o result }
 {
     match value {
         Some(_) => Err(UsageFault::TakesNoValue(Word::from_str(alloc, option)?)),
@@ -130,7 +130,7 @@ fn read_option(
     value: Option<&str>,
     next: Option<&str>,
 ) -> Result<bool, UsageFault>
-    ensures reading { Gives (outcome options.old (option_part (takes_named option.now) word.now option.now (option_copied value.entry) (option_copied next.entry) ∷ [])) options.new result }
+    ensures reading { GivesOptions (options_or_fault options.old (option_part (takes_named option.now) word.now option.now (option_copied value.entry) (option_copied next.entry) ∷ [])) options.new result }
     ensures took { IfOk result (λ took. took ≡ asks (takes_named option.now) (option_copied value.entry)) }
 {
     match takes_of(option.as_bytes()) {
@@ -157,7 +157,7 @@ fn read_option(
 }
 
 /// The option without value that a text of letters starts with, and the letters behind it.
-pub(crate) fn first_flag(letters: &str) -> Option<(Given, &str)>
+pub(crate) fn first_flag(letters: &str) -> Option<(FlagAction, &str)>
     ensures { MatchOption result (HasNoFlag letters.now) (λ p. StartsWithFlag letters.now p.0 p.1.now) }
 {
     let (letter, rest) = first_letter(letters)?;
@@ -188,7 +188,7 @@ fn read_letters(
     letters: &str,
     next: Option<&str>,
 ) -> Result<bool, UsageFault>
-    ensures reading { Gives (outcome options.old (letters_say word.now letters.now (option_copied next.entry))) options.new result }
+    ensures reading { GivesOptions (options_or_fault options.old (letters_say word.now letters.now (option_copied next.entry))) options.new result }
     ensures took { IfOk result (λ took. took ≡ letters_ask letters.now) }
 {
     let rest = read_flags(options, letters)?;
@@ -216,7 +216,7 @@ fn read_word(
     word: &str,
     next: Option<&str>,
 ) -> Result<bool, UsageFault>
-    ensures reading { Gives (outcome options.old (says word.now (option_copied next.entry))) options.new result }
+    ensures reading { GivesOptions (options_or_fault options.old (says word.now (option_copied next.entry))) options.new result }
     ensures took { IfOk result (λ took. took ≡ takes_next word.now) }
 {
     if is_path(word) {
@@ -234,7 +234,7 @@ fn read_word(
 }
 
 pub(crate) fn first_word(words: &[String]) -> Option<&str>
-    ensures { option_copied result ≡ first_of (map string_bytes words.now) }
+    ensures { option_copied result ≡ first_if_any (map string_bytes words.now) }
 {
     match words {
         [] => None,
@@ -263,7 +263,7 @@ fn read_paths(alloc: Global, options: &mut Options, words: &[String]) -> Result<
 }
 
 fn read_all(alloc: Global, options: &mut Options, words: &[String]) -> Result<(), UsageFault>
-    ensures { Gives (outcome options.old (parts_of (map string_bytes words.now))) options.new result }
+    ensures { GivesOptions (options_or_fault options.old (command_parts (map string_bytes words.now))) options.new result }
 {
     let mut rest = words;
     while let Some((word, behind)) = rest.split_first() {

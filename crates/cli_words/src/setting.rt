@@ -1,10 +1,10 @@
 ghost use Rattle.std.specs.Prelude.{◌≡◌, ◌≤◌, ◌<◌, ◌==◌, IfOk, is_some, option_copied};
 ghost use Rattle.std.specs.List.{list_all, before_first};
 ghost use Rattle.std.specs.Char.{is_ascii_digit};
-ghost use Rattle.cli_words.specs.Values.{behind, is_number, number_in, style_named, distribution_named, seed_and_files_in, setting_of, given_setting};
+ghost use Rattle.cli_words.specs.Values.{after_mark, is_number, number_between, style_named, distribution_named, seed_and_files_in, setting_of, given_setting};
 
 use crate::options::{Dist, Tb};
-use crate::table::{Counter, Given, Rule, Switch, TextOption};
+use crate::table::{Counter, FlagAction, Rule, Switch, TextOption};
 use crate::word::Word;
 use seq::OutOfMemory;
 use std::alloc::Global;
@@ -36,7 +36,7 @@ fn is_number(text: &[u8]) -> bool
 
 /// A number from `low` to `high`.
 fn number(text: &str, low: u32, high: u32) -> Option<u32>
-    ensures { result ≡ number_in low high text.now }
+    ensures { result ≡ number_between low high text.now }
 {
     if !is_number(text.as_bytes()) {
         return None;
@@ -73,7 +73,7 @@ fn distribution(text: &str) -> Option<Dist>
 pub(crate) fn cut_at(text: &str, mark: char) -> (&str, Option<&str>)
     requires { mark < 128 }
     ensures before { result.0.now ≡ before_first (λ c. c == mark) text.now }
-    ensures behind { option_copied result.1 ≡ behind mark text.now }
+    ensures behind { option_copied result.1 ≡ after_mark mark text.now }
 {
     match text.split_once(mark) {
         Some((before, behind)) => (before, Some(behind)),
@@ -91,13 +91,13 @@ fn seed_and_files(text: &str) -> Option<(u32, u32)>
     Some((seed, files))
 }
 
-impl Given {
+impl FlagAction {
     pub(crate) fn setting(self) -> Setting
         ensures { result ≡ given_setting self }
     {
         match self {
-            Given::On(switch) => Setting::On(switch),
-            Given::Count(counter, count) => Setting::Count(counter, count),
+            FlagAction::On(switch) => Setting::On(switch),
+            FlagAction::Count(counter, count) => Setting::Count(counter, count),
         }
     }
 }

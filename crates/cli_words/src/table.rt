@@ -29,7 +29,7 @@ pub enum TextOption {
 
 /// What an option without a value sets.
 #[derive(Clone, Copy)]
-pub enum Given {
+pub enum FlagAction {
     On(Switch),
     Count(Counter, u32),
 }
@@ -48,7 +48,7 @@ pub enum Rule {
 /// Whether an option takes a value.
 #[derive(Clone, Copy)]
 pub enum Takes {
-    Nothing(Given),
+    Nothing(FlagAction),
     Value(Rule),
     /// No value: the option asks for a text.
     Tells(Info),
@@ -73,11 +73,11 @@ const OPTIONS: [Row; 19] = [
     },
     Row {
         spelling: "-x",
-        takes: Takes::Nothing(Given::Count(Counter::MaxFail, 1)),
+        takes: Takes::Nothing(FlagAction::Count(Counter::MaxFail, 1)),
     },
     Row {
         spelling: "--exitfirst",
-        takes: Takes::Nothing(Given::Count(Counter::MaxFail, 1)),
+        takes: Takes::Nothing(FlagAction::Count(Counter::MaxFail, 1)),
     },
     Row {
         spelling: "--maxfail",
@@ -105,23 +105,23 @@ const OPTIONS: [Row; 19] = [
     },
     Row {
         spelling: "-v",
-        takes: Takes::Nothing(Given::On(Switch::Verbose)),
+        takes: Takes::Nothing(FlagAction::On(Switch::Verbose)),
     },
     Row {
         spelling: "--verbose",
-        takes: Takes::Nothing(Given::On(Switch::Verbose)),
+        takes: Takes::Nothing(FlagAction::On(Switch::Verbose)),
     },
     Row {
         spelling: "--collect-only",
-        takes: Takes::Nothing(Given::On(Switch::CollectOnly)),
+        takes: Takes::Nothing(FlagAction::On(Switch::CollectOnly)),
     },
     Row {
         spelling: "--co",
-        takes: Takes::Nothing(Given::On(Switch::CollectOnly)),
+        takes: Takes::Nothing(FlagAction::On(Switch::CollectOnly)),
     },
     Row {
         spelling: "--setup-show",
-        takes: Takes::Nothing(Given::On(Switch::SetupShow)),
+        takes: Takes::Nothing(FlagAction::On(Switch::SetupShow)),
     },
     Row {
         spelling: "--step-limit",

@@ -4,13 +4,13 @@ use Rattle.fixture_table.proofs.Nearest.{nearest_within}
 use Rattle.fixture_table.specs.Closing.{Grown, Done, More, asked, asked_all, asked_one, autouse_up, definition_if, entries_for, entry_for, entry_or, first_entries, has, with_one, with_unseen}
 use Rattle.fixture_table.specs.Faults.{IsClosure, by_ranks, by_scope, definitions_of, of_rank}
 use Rattle.fixture_table.specs.Nearest.{def_at, nearest_of}
-use Rattle.fixture_table.specs.Tree.{chain_of}
+use Rattle.fixture_table.specs.Tree.{iter_parents}
 use Rattle.fixture_table.specs.declared.entry.Entry.{Entry}
 use Rattle.fixture_table.specs.declared.entry.Entry.TheVariants.{Definition, Missing}
 use Rattle.fixture_table.specs.declared.types.CollectionNode.{CollectionNode}
 use Rattle.fixture_table.specs.declared.types.FixtureDef.{FixtureDef}
 use Rattle.session_types.proofs.Lists.{In-append, In-filter}
-use Rattle.session_types.specs.Members.{In}
+use Rattle.session_types.specs.Members.{IsMember}
 use Rattle.session_types.specs.Numbers.{among}
 use Rattle.session_types.specs.Scopes.{rank, scope_count}
 
@@ -35,14 +35,14 @@ low_unseen : (defs : List FixtureDef) (new es : List Entry) → AllLow defs new 
 low_unseen defs [] es l m = m
 low_unseen defs (e ∷ new) es l m = low_unseen defs new (with_one e es) l.1 (low_cond defs (has e es) es (es ++ e ∷ []) m (low_append defs es (e ∷ []) m (l.0, tt)))
 
-low_defs : (defs : List FixtureDef) (es : List Entry) (d : ℕ) → AllLow defs es → In d (definitions_of es) → d < length defs
+low_defs : (defs : List FixtureDef) (es : List Entry) (d : ℕ) → AllLow defs es → IsMember d (definitions_of es) → d < length defs
 low_defs defs [] d l i = absurd i
 low_defs defs (Definition e ∷ es) d l (inl same) = subst (λ (k : ℕ). k < length defs) (sym same) l.0
 low_defs defs (Definition e ∷ es) d l (inr i) = low_defs defs es d l.1 i
 low_defs defs (Missing name ∷ es) d l i = low_defs defs es d l.1 i
 
 -- what is sorted by scope was there
-in_ranks : (defs : List FixtureDef) (n : ℕ) (ds : List ℕ) (d : ℕ) → In d (by_ranks defs n ds) → In d ds
+in_ranks : (defs : List FixtureDef) (n : ℕ) (ds : List ℕ) (d : ℕ) → IsMember d (by_ranks defs n ds) → IsMember d ds
 in_ranks defs zero ds d i = absurd i
 in_ranks defs (suc n) ds d i = elim (In-append d (by_ranks defs n ds) (of_rank defs n ds) i) [
   | inl l ↦ in_ranks defs n ds d l
@@ -84,8 +84,8 @@ module _ (nodes : List CollectionNode) (defs : List FixtureDef) (item : ℕ) (bo
   low_grown _ _ _ (More es p e end at g) l = low_grown (with_unseen (asked nodes defs item bound e) es) (suc p) end g (low_unseen defs (asked nodes defs item bound e) es (low_asked e) l)
 
   -- the definitions of a closure are of the table
-  pub closure_low : (uses args closure : List ℕ) → IsClosure nodes defs item bound uses args closure → (d : ℕ) → In d closure → d < length defs
+  pub closure_low : (uses args closure : List ℕ) → IsClosure nodes defs item bound uses args closure → (d : ℕ) → IsMember d closure → d < length defs
   closure_low uses args closure c d i =
       low_defs defs c.entries d
-      (low_grown (first_entries nodes defs item bound uses args) 0 c.entries c.grown (low_unseen defs (entries_for nodes defs item bound (autouse_up defs (chain_of nodes item) ++ (uses ++ args))) [] (low_entries (autouse_up defs (chain_of nodes item) ++ (uses ++ args))) tt))
-      (in_ranks defs scope_count (definitions_of c.entries) d (subst (λ (ds : List ℕ). In d ds) c.sorted i))
+      (low_grown (first_entries nodes defs item bound uses args) 0 c.entries c.grown (low_unseen defs (entries_for nodes defs item bound (autouse_up defs (iter_parents nodes item) ++ (uses ++ args))) [] (low_entries (autouse_up defs (iter_parents nodes item) ++ (uses ++ args))) tt))
+      (in_ranks defs scope_count (definitions_of c.entries) d (subst (λ (ds : List ℕ). IsMember d ds) c.sorted i))

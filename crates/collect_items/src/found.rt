@@ -38,7 +38,7 @@ pub struct FoundItems {
 
 /// The tests that were found so far, with the nodes of each file beside its place.
 #[derive(Drop)]
-struct Listed {
+struct FoundTests {
     tests: Vec<FoundTest>,
     nodes: Vec<(usize, FileNodes)>,
 }
@@ -47,7 +47,7 @@ struct Listed {
 fn list_file(
     alloc: Global,
     heap: &Heap,
-    listed: &mut Listed,
+    listed: &mut FoundTests,
     placed: PlacedFile,
 ) -> Result<(), OutOfMemory>
     ensures tests { OnOk result (listed.new.tests.items ≡ listed.old.tests.items ++ tests_of heap.now placed) }
@@ -60,11 +60,11 @@ fn list_file(
     Ok(())
 }
 
-fn list_files(alloc: Global, heap: &Heap, placed: &[PlacedFile]) -> Result<Listed, OutOfMemory>
+fn list_files(alloc: Global, heap: &Heap, placed: &[PlacedFile]) -> Result<FoundTests, OutOfMemory>
     ensures tests { IfOk result (λ f. f.tests.items ≡ all_tests heap.now placed.now) }
     ensures nodes { IfOk result (λ f. f.nodes.items ≡ nodes.all_nodes heap.now 0 placed.now) }
 {
-    let mut listed = Listed {
+    let mut listed = FoundTests {
         tests: Vec::new(alloc),
         nodes: Vec::new(alloc),
     };
@@ -212,7 +212,7 @@ fn found_under(
     ensures nodes { IfOk result (λ f. f.nodes.items ≡ nodes.with_nodes (nodes.all_nodes heap.now 0 placed.now) (replicate (length walk.now) nodes.no_nodes)) }
     ensures tree { IfOk result (λ f. IsTree f.found.table.nodes) }
 {
-    let Listed { tests, nodes } = list_files(alloc, heap, placed)?;
+    let FoundTests { tests, nodes } = list_files(alloc, heap, placed)?;
     let nodes = by_place(alloc, walk.paths().len(), nodes)?;
     let places = places_of(alloc, &tests)?;
     match suite_under(alloc, heap, walk, folders, conftests, placed, &tests) {

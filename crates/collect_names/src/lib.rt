@@ -15,7 +15,7 @@
 //!
 //! # What tests alone show
 //!
-//! That the definitions give what pytest collects, row by row, and that the calls succeed with ample memory (`names_tests`).
+//! That the definitions give what pytest collects, row by row, and that the calls succeed with ample memory (`value_tests`).
 //!
 //! # What neither shows
 //!

@@ -4,7 +4,7 @@ use Rattle.std.specs.Prelude.{nat_lt, if◌then◌else◌}
 use Rattle.std.specs.List.{filter}
 use Rattle.cli_words.specs.declared.options.Options.{Options}
 use Rattle.collect_words.specs.Nodes.{first_missing, or_missing, reached, selected}
-use Rattle.collect_words.specs.Words.{Refuses, named_words}
+use Rattle.collect_words.specs.Words.{RefusesWords, named_words}
 use Rattle.collect_words.specs.declared.fault.WordFault.{WordFault}
 use Rattle.collect_words.specs.declared.fault.WordFault.TheVariants as word
 use Rattle.collect_words.specs.declared.named.NamedWord.{NamedWord}
@@ -13,7 +13,7 @@ use Rattle.edge_io.specs.Files.{File, paths_of}
 use Rattle.py_load.specs.Reading.{AreRead, ReadFile}
 use Rattle.tracebacks.specs.source_meaning.Meaning.{SourceWorld}
 use Rattle.collect_tree.specs.Collection.{End, collect, of_words, read_path}
-use Rattle.collect_tree.specs.Told.{end_told, fault_of}
+use Rattle.collect_tree.specs.Told.{collection_end, collect_fault}
 use Rattle.collect_tree.specs.Walk.{walk_of}
 use Rattle.collect_tree.specs.declared.fault.CollectFault.{CollectFault}
 use Rattle.collect_tree.proofs.ReadPaths.{read_paths}
@@ -28,16 +28,16 @@ is_same told one other h e = subst (Is told) e h
 module _ (options : Options) where
   -- words that name nothing
   pub refused_words : (sources : List ReadFile) (walk : List (List ℕ)) (meant : Result (List NamedWord) WordFault) (fault : WordFault) (w : SourceWorld)
-      → Refuses meant fault → Is (end_told (Err (fault_of fault)) w) (of_words options sources walk meant)
+      → RefusesWords meant fault → Is (collection_end (Err (collect_fault fault)) w) (of_words options sources walk meant)
   refused_words sources walk meant (word.NotFound name) w h = ap (of_words options sources walk) (sym h)
   refused_words sources walk meant word.TooManyItems w h = ap (of_words options sources walk) (sym h)
   refused_words sources walk meant word.OutOfMemory w h = tt
 
   pub refused_given : (sources : List ReadFile) (walk : List (List ℕ)) (meant given : Result (List NamedWord) WordFault) (fault : WordFault) (result : CollectFault) (w : SourceWorld)
-      → result ≡ fault_of fault → Refuses meant fault → meant ≡ given → Is (end_told (Err result) w) (of_words options sources walk given)
+      → result ≡ collect_fault fault → RefusesWords meant fault → meant ≡ given → Is (collection_end (Err result) w) (of_words options sources walk given)
   refused_given sources walk meant given fault result w s h e =
-      subst (λ (m : Result (List NamedWord) WordFault). Is (end_told (Err result) w) (of_words options sources walk m)) e
-      (subst (λ (r : CollectFault). Is (end_told (Err r) w) (of_words options sources walk meant)) (sym s) (refused_words sources walk meant fault w h))
+      subst (λ (m : Result (List NamedWord) WordFault). Is (collection_end (Err result) w) (of_words options sources walk m)) e
+      (subst (λ (r : CollectFault). Is (collection_end (Err r) w) (of_words options sources walk meant)) (sym s) (refused_words sources walk meant fault w h))
 
   -- the whole
   pub whole : (files : List File) (sources : List ReadFile) (walk : List (List ℕ)) (r : Result (List NamedWord) WordFault) → AreRead files sources

@@ -7,23 +7,23 @@ use Rattle.collect_items.specs.Chosen.{is_chosen}
 use Rattle.collect_items.specs.Items.{found_suite}
 use Rattle.collect_items.specs.Nodes.{item_places, nodes_by_place}
 use Rattle.collect_items.specs.declared.found.FoundSuite.{FoundSuite}
-use Rattle.collect_words.specs.Files.{conftests, is_among, walked}
-use Rattle.collect_words.specs.Nodes.{first_missing, items_named, numbers_of, or_missing, reached, selected}
+use Rattle.collect_words.specs.Files.{conftests, includes_number, walked}
+use Rattle.collect_words.specs.Nodes.{first_missing, items_named, item_numbers, or_missing, reached, selected}
 use Rattle.collect_words.specs.Words.{named_words}
 use Rattle.collect_words.specs.declared.fault.WordFault.{WordFault}
 use Rattle.collect_words.specs.declared.named.NamedWord.{NamedWord}
 use Rattle.collect_words.specs.declared.nodes.FileNodes.{FileNodes}
 use Rattle.collection_nodes.specs.declared.test_file.TestFile.{TestFile}
-use Rattle.fixture_world.specs.Items.{item_of}
+use Rattle.fixture_world.specs.Items.{item_in_session}
 use Rattle.py_load.specs.InTurn.{ConftestsEnd}
 use Rattle.py_load.specs.Reading.{ReadFile}
 use Rattle.report_parts.specs.Limits.{most_items}
 use Rattle.fixture_world.specs.report_rules.Collected.{Collected, ConftestFault, Refused, SelectedItem, Whole}
 use Rattle.fixture_world.specs.report_rules.Fits.{IsFit, chosen_item}
 use Rattle.fixture_world.specs.runtest_rules.Language.{python}
-use Rattle.session_rules.specs.Fits.{Distinct, Fits}
+use Rattle.session_rules.specs.Fits.{Distinct, HasFixtureClosure}
 use Rattle.session_rules.specs.World as session
-use Rattle.session_types.specs.Members.{In}
+use Rattle.session_types.specs.Members.{IsMember}
 use Rattle.tracebacks.specs.source_meaning.Meaning.{SourceWorld}
 use Rattle.test_suite.specs.Suites.{fixture_at, numbered_item}
 use Rattle.test_suite.specs.declared.item.Item.{Item}
@@ -39,16 +39,16 @@ use Rattle.collect_tree.proofs.Once.{Once, or_none, once_each, once_filter}
 -- ---- closures
 
 module _ (rules : session.Rules python) (found : FoundSuite) (m : IsMade found) (depth : rules.depth ≡ length found.suite.fixtures) (scopes : (d : ℕ) → rules.scope d ≡ (fixture_at found.suite d).scope) where
-  none_fits : (node : ℕ) → Fits rules (item_of found.table (item_or_none node None))
+  none_fits : (node : ℕ) → HasFixtureClosure rules (item_in_session found.table (item_or_none node None))
   none_fits node = record { known = λ d i. absurd i; whole = λ d e i. absurd i; scopes = λ d e i. absurd i; acyclic = λ d i. absurd i }
 
-  fits_or : (number : ℕ) (o : Option Item) → slice_get found.suite.items number ≡ o → Fits rules (item_of found.table (item_or_none (found.suite.outer + number) o))
+  fits_or : (number : ℕ) (o : Option Item) → slice_get found.suite.items number ≡ o → HasFixtureClosure rules (item_in_session found.table (item_or_none (found.suite.outer + number) o))
   fits_or number None e = none_fits (found.suite.outer + number)
   fits_or number (Some i) e = fits_made rules found m depth scopes (length m.outer + number) i (item_made found m number i e)
 
-  fits : (places ns : List ℕ) (c : SelectedItem) → In c (map (selected_by found places) ns) → Fits rules c.item
+  fits : (places ns : List ℕ) (c : SelectedItem) → IsMember c (map (selected_by found places) ns) → HasFixtureClosure rules c.item
   fits places [] c i = absurd i
-  fits places (n ∷ ns) c (inl same) = subst (λ (x : SelectedItem). Fits rules x.item) (sym same) (fits_or n (slice_get found.suite.items n) refl)
+  fits places (n ∷ ns) c (inl same) = subst (λ (x : SelectedItem). HasFixtureClosure rules x.item) (sym same) (fits_or n (slice_get found.suite.items n) refl)
   fits places (n ∷ ns) c (inr i) = fits places ns c i
 
 -- ---- nodes
@@ -67,12 +67,12 @@ two false e f = cc
 same_number : (o a b : ℕ) → o + a ≡ o + b → a ≡ b
 same_number o a b e = omega (arith, e)
 
-apart : (found : FoundSuite) (m : IsMade found) (places : List ℕ) (n : ℕ) (ns : List ℕ) → is_among n ns ≡ false
-    → (other : session.Item) → In other (map chosen_item (map (selected_by found places) ns)) → other.node ≡ found.suite.outer + n → ⊥
+apart : (found : FoundSuite) (m : IsMade found) (places : List ℕ) (n : ℕ) (ns : List ℕ) → includes_number n ns ≡ false
+    → (other : session.Item) → IsMember other (map chosen_item (map (selected_by found places) ns)) → other.node ≡ found.suite.outer + n → ⊥
 apart found m places n [] h other i e = i
 apart found m places n (k ∷ ns) h other (inl same) e =
-    two (k == n) (eq-eqb k n (same_number found.suite.outer k n (sym (node_is found m k) ∙ (sym (ap (λ (item : session.Item). item.node) same) ∙ e)))) (or_none (k == n) (is_among n ns) h).0
-apart found m places n (k ∷ ns) h other (inr i) e = apart found m places n ns (or_none (k == n) (is_among n ns) h).1 other i e
+    two (k == n) (eq-eqb k n (same_number found.suite.outer k n (sym (node_is found m k) ∙ (sym (ap (λ (item : session.Item). item.node) same) ∙ e)))) (or_none (k == n) (includes_number n ns) h).0
+apart found m places n (k ∷ ns) h other (inr i) e = apart found m places n ns (or_none (k == n) (includes_number n ns) h).1 other i e
 
 distinct : (found : FoundSuite) (m : IsMade found) (places ns : List ℕ) → Once ns → Distinct (map chosen_item (map (selected_by found places) ns))
 distinct found m places [] o = tt
@@ -104,7 +104,7 @@ once_selected : (most : ℕ) (walk : List (List ℕ)) (tests : List ℕ) (files 
 unfolding selected reached
 once_selected most walk tests files words =
     once_or (nat_lt most (length (reached walk tests files words))) _ _
-    (or_missing_once (first_missing files words) (reached walk tests files words) (once_each [] (flat_map (λ (w : NamedWord). numbers_of (items_named walk tests files w.named)) words) tt))
+    (or_missing_once (first_missing files words) (reached walk tests files words) (once_each [] (flat_map (λ (w : NamedWord). item_numbers (items_named walk tests files w.named)) words) tt))
 
 module _ (options : Options) where
   built_or : (b : Bool) (text : List ℕ) (c : Collected python Suite) → FitsAll c → FitsEnd (if b then Refused text else Whole c)

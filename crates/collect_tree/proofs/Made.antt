@@ -20,10 +20,10 @@ use Rattle.fixture_table.proofs.Settles.{settled}
 use Rattle.fixture_table.specs.Faults as table
 use Rattle.fixture_table.specs.Nearest.{def_at}
 use Rattle.fixture_table.specs.declared.types.CollectionNode.{CollectionNode}
-use Rattle.fixture_world.specs.Items.{closure_of, item_of}
+use Rattle.fixture_world.specs.Items.{closure_of, item_in_session}
 use Rattle.py_values.specs.declared.object.Obj.{Obj}
 use Rattle.fixture_world.specs.runtest_rules.Language.{python}
-use Rattle.session_rules.specs.Fits.{Directly, Fits, FitsClosure, Further, IsClosure, Reaches}
+use Rattle.session_rules.specs.Fits.{Directly, HasFixtureClosure, FitsClosure, Further, IsClosure, DependsOn}
 use Rattle.session_rules.specs.World as session
 use Rattle.session_types.proofs.Lists.{In-among, among-In}
 use Rattle.session_types.specs.Numbers.{among}
@@ -105,11 +105,11 @@ same_scope names number (one ∷ ds) zero = refl
 same_scope names number (one ∷ ds) (suc d) = same_scope names (number + 1) ds d
 
 -- what is reached in a session is reached in the table
-reached_in : (requests : ℕ → List ℕ) (d e : ℕ) → Reaches requests d e → table.Reaches requests d e
+reached_in : (requests : ℕ → List ℕ) (d e : ℕ) → DependsOn requests d e → table.RequestPath requests d e
 reached_in requests d _ (Directly e i) = table.Once d e (In-among e (requests d) i)
 reached_in requests d _ (Further e f r i) = behind d e f (reached_in requests d e r) (In-among f (requests e) i)
   where
-    behind : (a b c : ℕ) → table.Reaches requests a b → among c (requests b) ≡ true → table.Reaches requests a c
+    behind : (a b c : ℕ) → table.RequestPath requests a b → among c (requests b) ≡ true → table.RequestPath requests a c
     behind _ _ c (table.Once a b h) g = table.Then a b c h (table.Once b c g)
     behind _ _ c (table.Then a b z h r) g = table.Then a b c h (behind b z c r g)
 
@@ -145,7 +145,7 @@ module _ (rules : session.Rules python) (found : FoundSuite) (m : IsMade found) 
       (subst (λ (s : Scope). rank (def_at found.table.defs e).scope ≤ rank s) (scope_of d) l)
 
   whole_fits : (i : Item) (node : ℕ) (t : FoundTest) (ds : List ℕ) → i.node ≡ node → item_closure found.table m.names m.definitions node t ≡ closure.Whole ds
-      → IsClosure rules (item_of found.table i) ds
+      → IsClosure rules (item_in_session found.table i) ds
   unfolding requests_in
   whole_fits i node t ds n e =
       let at = subst (λ (k : ℕ). item_closure found.table m.names m.definitions k t ≡ closure.Whole ds) (sym n) e in
@@ -158,11 +158,11 @@ module _ (rules : session.Rules python) (found : FoundSuite) (m : IsMade found) 
         acyclic = λ d there r. s.apart d (In-among d ds there) (reached_in _ d d r);
       }
 
-  closure_fits : (i : Item) (node : ℕ) (t : FoundTest) (c : ItemClosure) → i.node ≡ node → item_closure found.table m.names m.definitions node t ≡ c → FitsClosure rules (item_of found.table i) (closure_of c)
+  closure_fits : (i : Item) (node : ℕ) (t : FoundTest) (c : ItemClosure) → i.node ≡ node → item_closure found.table m.names m.definitions node t ≡ c → FitsClosure rules (item_in_session found.table i) (closure_of c)
   closure_fits i node t (closure.Whole ds) n e = whole_fits i node t ds n e
   closure_fits i node t (closure.Fault text) n e = tt
 
-  pub fits_made : (node : ℕ) (i : Item) → IsItem m.heap m.walk (fixtures_with found.table m.names m.definitions) node i → Fits rules (item_of found.table i)
+  pub fits_made : (node : ℕ) (i : Item) → IsItem m.heap m.walk (fixtures_with found.table m.names m.definitions) node i → HasFixtureClosure rules (item_in_session found.table i)
   fits_made node i h =
-      subst (λ (x : Item). Fits rules (item_of found.table x)) (sym h.is)
+      subst (λ (x : Item). HasFixtureClosure rules (item_in_session found.table x)) (sym h.is)
       (closure_fits (item m.heap m.walk (fixtures_with found.table m.names m.definitions) node h.test) node h.test (item_closure found.table m.names m.definitions node h.test) refl refl)

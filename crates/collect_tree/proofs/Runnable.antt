@@ -8,7 +8,7 @@ use Rattle.collection_nodes.specs.declared.test_file.TestFile.{TestFile}
 use Rattle.fixture_table.specs.Tree.{IsTree}
 use Rattle.py_values.specs.declared.object.Obj.{Obj}
 use Rattle.fixture_world.specs.runtest_rules.Rules.{rules_within}
-use Rattle.test_suite.specs.Suites.{item_at, item_or}
+use Rattle.test_suite.specs.Suites.{item_with_node, item_or}
 use Rattle.test_suite.specs.declared.item.Item.{Item}
 use Rattle.test_suite.specs.declared.suite.Suite.{Suite}
 use Rattle.collect_tree.specs.Runnable.{IsAtHome, IsRunnable}
@@ -21,7 +21,7 @@ past_outer : (outer n : ℕ) → (outer + n) - outer ≡ n
 past_outer outer n = omega arith
 
 -- the item with a number is that with its node
-found_at : (suite : Suite) (n : ℕ) (i : Item) → slice_get suite.items n ≡ Some i → item_at suite (suite.outer + n) ≡ i
+found_at : (suite : Suite) (n : ℕ) (i : Item) → slice_get suite.items n ≡ Some i → item_with_node suite (suite.outer + n) ≡ i
 found_at suite n i e =
     ap (λ (b : Bool). item_or (if b then slice_get suite.items ((suite.outer + n) - suite.outer) else None)) (behind_outer suite.outer n)
     ∙ (ap (λ (k : ℕ). item_or (slice_get suite.items k)) (past_outer suite.outer n) ∙ ap item_or e)
@@ -29,7 +29,7 @@ found_at suite n i e =
 at_home : (found : FoundSuite) (m : IsMade found) (n : ℕ) (i : Item) → slice_get found.suite.items n ≡ Some i → IsAtHome found i
 at_home found m n i e =
     record {
-      at = ap (item_at found.suite) (node_is found m n i e) ∙ found_at found.suite n i e;
+      at = ap (item_with_node found.suite) (node_is found m n i e) ∙ found_at found.suite n i e;
       node = node_there found m n i e;
       fits = λ limit. fits_made (rules_within limit found.suite) found m refl (λ d. refl) _ i (item_made found m n i e);
     }

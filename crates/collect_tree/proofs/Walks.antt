@@ -13,7 +13,7 @@ use Rattle.std.proofs.lemmas.List.Splits.{join_with_byte-slice_split}
 use Rattle.std.proofs.lemmas.Map.Lookups.{exact_bytes}
 use Rattle.collect_words.specs.Paths.{parts}
 use Rattle.collect_words.specs.Walks.{walk_cmp, IsWalk}
-use Rattle.collect_tree.specs.Walk.{placed, placed_by, walk_of}
+use Rattle.collect_tree.specs.Walk.{insert_path, insert_path_by, walk_of}
 
 abbrev Path : Type 0
 Path = List ℕ
@@ -50,25 +50,25 @@ all_map P Q f [] all = tt
 all_map P Q f (x ∷ xs) all = (f x all.0, all_map P Q f xs all.1)
 
 all_by : (P : Path → Type 0) (c : Ordering) (path other : Path) (rest behind : List Path)
-    → P path → P other → AllByRecursion P rest → AllByRecursion P behind → AllByRecursion P (placed_by c path other rest behind)
+    → P path → P other → AllByRecursion P rest → AllByRecursion P behind → AllByRecursion P (insert_path_by c path other rest behind)
 all_by P Less path other rest behind p o all more = (p, (o, all))
 all_by P Equal path other rest behind p o all more = (o, all)
 all_by P Greater path other rest behind p o all more = (o, more)
 
-all_placed : (P : Path → Type 0) (path : Path) (walk : List Path) → P path → AllByRecursion P walk → AllByRecursion P (placed path walk)
+all_placed : (P : Path → Type 0) (path : Path) (walk : List Path) → P path → AllByRecursion P walk → AllByRecursion P (insert_path path walk)
 all_placed P path [] p all = (p, tt)
 all_placed P path (other ∷ rest) p all =
-    all_by P (walk_cmp path other) path other rest (placed path rest) p all.0 all.1 (all_placed P path rest p all.1)
+    all_by P (walk_cmp path other) path other rest (insert_path path rest) p all.0 all.1 (all_placed P path rest p all.1)
 
 sorted_by : (c : Ordering) (path other : Path) (rest : List Path) → walk_cmp path other ≡ c
-    → IsStrictlySortedBy walk_cmp (other ∷ rest) → IsStrictlySortedBy walk_cmp (placed path rest) → IsStrictlySortedBy walk_cmp (placed_by c path other rest (placed path rest))
+    → IsStrictlySortedBy walk_cmp (other ∷ rest) → IsStrictlySortedBy walk_cmp (insert_path path rest) → IsStrictlySortedBy walk_cmp (insert_path_by c path other rest (insert_path path rest))
 unfolding IsStrictlySortedBy
 sorted_by Less path other rest e h more =
     ((e, all_map (λ y. walk_cmp other y ≡ Less) (λ y. walk_cmp path y ≡ Less) (λ y l. walk_total.trans path other y e l) rest h.0), h)
 sorted_by Equal path other rest e h more = h
 sorted_by Greater path other rest e h more = (all_placed (λ y. walk_cmp other y ≡ Less) path rest (turned path other e) h.0, more)
 
-sorted_placed : (path : Path) (walk : List Path) → IsStrictlySortedBy walk_cmp walk → IsStrictlySortedBy walk_cmp (placed path walk)
+sorted_placed : (path : Path) (walk : List Path) → IsStrictlySortedBy walk_cmp walk → IsStrictlySortedBy walk_cmp (insert_path path walk)
 unfolding IsStrictlySortedBy
 sorted_placed path [] h = (tt, tt)
 sorted_placed path (other ∷ rest) h = sorted_by (walk_cmp path other) path other rest refl h (sorted_placed path rest h.1)
@@ -104,14 +104,14 @@ from_behind : (path other z : Path) (rest behind : List Path) → (Contains behi
 from_behind path other z rest behind f (inl e) = there path z (other ∷ rest) (first_is other z rest e)
 from_behind path other z rest behind f (inr c) = behind_other path other z rest (split path z rest (f c))
 
-had_by : (c : Ordering) (path other z : Path) (rest behind : List Path) → (Contains behind z → Contains (path ∷ rest) z) → Contains (placed_by c path other rest behind) z → Contains (path ∷ other ∷ rest) z
+had_by : (c : Ordering) (path other z : Path) (rest behind : List Path) → (Contains behind z → Contains (path ∷ rest) z) → Contains (insert_path_by c path other rest behind) z → Contains (path ∷ other ∷ rest) z
 had_by Less path other z rest behind f c = c
 had_by Equal path other z rest behind f c = there path z (other ∷ rest) c
 had_by Greater path other z rest behind f c = from_behind path other z rest behind f (split other z behind c)
 
-had : (path z : Path) (walk : List Path) → Contains (placed path walk) z → Contains (path ∷ walk) z
+had : (path z : Path) (walk : List Path) → Contains (insert_path path walk) z → Contains (path ∷ walk) z
 had path z [] c = c
-had path z (other ∷ rest) c = had_by (walk_cmp path other) path other z rest (placed path rest) (had path z rest) c
+had path z (other ∷ rest) c = had_by (walk_cmp path other) path other z rest (insert_path path rest) (had path z rest) c
 
 to_behind : (path other z : Path) (rest behind : List Path) → (Contains (path ∷ rest) z → Contains behind z) → (other ≡ z) ⊎ Contains rest z → Contains (other ∷ behind) z
 to_behind path other z rest behind f (inl e) = first_is other z behind e
@@ -126,14 +126,14 @@ same_path path other z rest s (inl e) = first_is other z rest (sym s ∙ e)
 same_path path other z rest s (inr c) = c
 
 kept_by : (c : Ordering) (path other z : Path) (rest behind : List Path) → walk_cmp path other ≡ c → (Contains (path ∷ rest) z → Contains behind z)
-    → Contains (path ∷ other ∷ rest) z → Contains (placed_by c path other rest behind) z
+    → Contains (path ∷ other ∷ rest) z → Contains (insert_path_by c path other rest behind) z
 kept_by Less path other z rest behind e f c = c
 kept_by Equal path other z rest behind e f c = same_path path other z rest (exact_walk path other e) (split path z (other ∷ rest) c)
 kept_by Greater path other z rest behind e f c = past_path path other z rest behind f (split path z (other ∷ rest) c)
 
-kept : (path z : Path) (walk : List Path) → Contains (path ∷ walk) z → Contains (placed path walk) z
+kept : (path z : Path) (walk : List Path) → Contains (path ∷ walk) z → Contains (insert_path path walk) z
 kept path z [] c = c
-kept path z (other ∷ rest) c = kept_by (walk_cmp path other) path other z rest (placed path rest) refl (kept path z rest) c
+kept path z (other ∷ rest) c = kept_by (walk_cmp path other) path other z rest (insert_path path rest) refl (kept path z rest) c
 
 further : (path z : Path) (one other : List Path) → (Contains one z → Contains other z) → (path ≡ z) ⊎ Contains one z → Contains (path ∷ other) z
 further path z one other f (inl e) = first_is path z other e

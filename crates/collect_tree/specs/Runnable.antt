@@ -2,18 +2,18 @@
 use Rattle.std.specs.Prelude.{◌≡◌, ℕ, ◌<◌, Some, length, slice_get}
 use Rattle.collect_items.specs.declared.found.FoundSuite.{FoundSuite}
 use Rattle.fixture_table.specs.Tree.{IsTree}
-use Rattle.fixture_world.specs.Items.{item_of}
+use Rattle.fixture_world.specs.Items.{item_in_session}
 use Rattle.fixture_world.specs.runtest_rules.Rules.{rules_within}
-use Rattle.session_rules.specs.Fits.{Fits}
+use Rattle.session_rules.specs.Fits.{HasFixtureClosure}
 use Rattle.setup_stack.specs.Scopes.{HasScopes}
-use Rattle.test_suite.specs.Suites.{item_at}
+use Rattle.test_suite.specs.Suites.{item_with_node}
 use Rattle.test_suite.specs.declared.item.Item.{Item}
 
 -- an item of a suite is found by its node, which stands in the table, and its closure fits the rules of the suite
 pub record IsAtHome (found : FoundSuite) (i : Item) : Type 0 where
-  pub at : item_at found.suite i.node ≡ i
+  pub at : item_with_node found.suite i.node ≡ i
   pub node : i.node < length found.table.nodes
-  pub fits : (limit : ℕ) → Fits (rules_within limit found.suite) (item_of found.table i)
+  pub fits : (limit : ℕ) → HasFixtureClosure (rules_within limit found.suite) (item_in_session found.table i)
 
 -- the nodes of the table are a tree, its definitions are the fixtures, with their scopes, and each item is at home
 pub record IsRunnable (found : FoundSuite) : Type 0 where

@@ -30,19 +30,19 @@ collected_told c w = record {
 }
 
 -- the refusal of words
-abbrev pub fault_of : WordFault → CollectFault
-fault_of (word.NotFound name) = NotFound name
-fault_of word.TooManyItems = TooManyItems
-fault_of word.OutOfMemory = OutOfMemory
+abbrev pub collect_fault : WordFault → CollectFault
+collect_fault (word.NotFound name) = NotFound name
+collect_fault word.TooManyItems = TooManyItems
+collect_fault word.OutOfMemory = OutOfMemory
 
 -- an answer, in the world behind it; want of memory tells nothing
-abbrev pub end_told : Result Collected CollectFault → SourceWorld → Option End
-end_told (Ok c) w = Some (Whole (collected_told c w))
-end_told (Err NotBuilt) w = Some (Refused (codes "not built"))
-end_told (Err (NotFound name)) w = Some (Refused (fault_text (word.NotFound name)))
-end_told (Err TooManyItems) w = Some (Refused (fault_text word.TooManyItems))
-end_told (Err (Conftest path told)) w = Some (ConftestFault path told)
-end_told (Err OutOfMemory) w = None
+abbrev pub collection_end : Result Collected CollectFault → SourceWorld → Option End
+collection_end (Ok c) w = Some (Whole (collected_told c w))
+collection_end (Err NotBuilt) w = Some (Refused (codes "not built"))
+collection_end (Err (NotFound name)) w = Some (Refused (fault_text (word.NotFound name)))
+collection_end (Err TooManyItems) w = Some (Refused (fault_text word.TooManyItems))
+collection_end (Err (Conftest path told)) w = Some (ConftestFault path told)
+collection_end (Err OutOfMemory) w = None
 
 -- what was collected can run, and its numbers are within the limits
 pub record IsWithin (c : Collected) : Type 0 where
@@ -52,17 +52,17 @@ pub record IsWithin (c : Collected) : Type 0 where
   pub suite : IsRunnable c.found
 
 -- loads behind those that are done
-abbrev pub after : LoadedTests → Loaded → Loaded
-after done rest = loaded_before done.files.items done.errors.items rest
+abbrev pub after_loads : LoadedTests → Loaded → Loaded
+after_loads done rest = loaded_before done.files.items done.errors.items rest
 
 -- one more load is done
-abbrev pub GoesOn : LoadedTests → LoadedTests → (Loaded → Loaded) → Type 0
-GoesOn old new one = (rest : Loaded) → after old (one rest) ≡ after new rest
+abbrev pub LoadsOne : LoadedTests → LoadedTests → (Loaded → Loaded) → Type 0
+LoadsOne old new one = (rest : Loaded) → after_loads old (one rest) ≡ after_loads new rest
 
 -- a refusal of words that is meant, or want of memory
-abbrev pub IsRefused : Result (List ℕ) WordFault → CollectFault → Type 0
-IsRefused meant NotBuilt = ⊥
-IsRefused meant (NotFound name) = meant ≡ Err (word.NotFound name)
-IsRefused meant TooManyItems = meant ≡ Err word.TooManyItems
-IsRefused meant (Conftest path told) = ⊥
-IsRefused meant OutOfMemory = Unit {0}
+abbrev pub IsWordRefusal : Result (List ℕ) WordFault → CollectFault → Type 0
+IsWordRefusal meant NotBuilt = ⊥
+IsWordRefusal meant (NotFound name) = meant ≡ Err (word.NotFound name)
+IsWordRefusal meant TooManyItems = meant ≡ Err word.TooManyItems
+IsWordRefusal meant (Conftest path told) = ⊥
+IsWordRefusal meant OutOfMemory = Unit {0}

@@ -9,7 +9,7 @@ ghost use Rattle.collect_words.specs.Files as files;
 ghost use Rattle.collect_tree.specs.Collection as collection;
 ghost use Rattle.collect_tree.specs.Loads.{test_loads};
 ghost use Rattle.collect_tree.specs.Runnable.{IsRunnable};
-ghost use Rattle.collect_tree.specs.Told.{IsWithin, end_told, loaded_told};
+ghost use Rattle.collect_tree.specs.Told.{IsWithin, collection_end, loaded_told};
 ghost use Rattle.collect_tree.specs.Walk.{walk_of};
 
 use crate::collected::Collected;
@@ -110,7 +110,7 @@ fn ended(
     requires exprs { AreExprs options.now exprs.now }
     requires few { length numbers.now ≤ most_items }
     requires runnable { IsRunnable found }
-    ensures told { IfSome (end_told result world.now) (λ e. e ≡ collection.ended_with options.now above.now found places.items (loaded_told loaded world.now) (Meant numbers.now)) }
+    ensures told { IfSome (collection_end result world.now) (λ e. e ≡ collection.ended_with options.now above.now found places.items (loaded_told loaded world.now) (Meant numbers.now)) }
     ensures within { IfOk result IsWithin }
 {
     let items = found.suite.items.items();
@@ -131,7 +131,7 @@ fn named_items(
 ) -> Result<Seq<usize>, CollectFault>
     ensures ok { IfOk result (λ numbers. nodes_selected options.now walk.now nodes.now words.now ≡ Meant numbers) }
     ensures few { IfOk result (λ numbers. length numbers ≤ most_items) }
-    ensures refused { IfErr result (IsRefused (nodes_selected options.now walk.now nodes.now words.now)) }
+    ensures refused { IfErr result (IsWordRefusal (nodes_selected options.now walk.now nodes.now words.now)) }
 {
     let tests = walked(alloc, walk, options.ignore.items())?;
     match selected(
@@ -149,7 +149,7 @@ fn named_items(
 
 ghost use Rattle.std.specs.Prelude.{IfErr};
 ghost use Rattle.collect_tree.specs.Collection.{nodes_selected};
-ghost use Rattle.collect_tree.specs.Told.{IsRefused};
+ghost use Rattle.collect_tree.specs.Told.{IsWordRefusal};
 
 use collect_words::FileNodes;
 use seq::Seq;
@@ -166,7 +166,7 @@ fn of_loaded(
     loaded: LoadedTests,
 ) -> Result<Collected, CollectFault>
     requires { AreExprs options.now exprs.now }
-    ensures told { IfSome (end_told result world.now) (λ e. e ≡ collection.of_loaded options.now walk.now words.now above.now (loaded_told loaded world.now)) }
+    ensures told { IfSome (collection_end result world.now) (λ e. e ≡ collection.of_loaded options.now walk.now words.now above.now (loaded_told loaded world.now)) }
     ensures within { IfOk result IsWithin }
 {
     let FoundItems {
@@ -207,7 +207,7 @@ fn with_tests(
     above: &[TestFile],
 ) -> Result<Collected, CollectFault>
     requires { AreExprs options.now exprs.now }
-    ensures told { IfSome (end_told result world.new) (λ e. e ≡ collection.of_loaded options.now walk.now words.now above.now (test_loads options.now.step_limit walk.now places.now world.old)) }
+    ensures told { IfSome (collection_end result world.new) (λ e. e ≡ collection.of_loaded options.now walk.now words.now above.now (test_loads options.now.step_limit walk.now places.now world.old)) }
     ensures within { IfOk result IsWithin }
 {
     let loaded = load_tests(alloc, world, options.step_limit, walk, places)?;
@@ -248,7 +248,7 @@ fn with_modules(
     modules: &[Value],
 ) -> Result<Collected, CollectFault>
     requires { AreExprs options.now exprs.now }
-    ensures told { IfSome (end_told result world.new) (λ e. e ≡ collection.of_loaded options.now walk.now words.now (collection.conftest_files above.now modules.now) (test_loads options.now.step_limit walk.now places.now world.old)) }
+    ensures told { IfSome (collection_end result world.new) (λ e. e ≡ collection.of_loaded options.now walk.now words.now (collection.conftest_files above.now modules.now) (test_loads options.now.step_limit walk.now places.now world.old)) }
     ensures within { IfOk result IsWithin }
 {
     let files = conftest_files(alloc, above, modules)?;
@@ -283,7 +283,7 @@ fn of_files(
     places: &[usize],
 ) -> Result<Collected, CollectFault>
     requires { AreExprs options.now exprs.now }
-    ensures told { IfSome (end_told result world.new) (λ e. e ≡ collection.of_files options.now walk.now words.now places.now world.old) }
+    ensures told { IfSome (collection_end result world.new) (λ e. e ≡ collection.of_files options.now walk.now words.now places.now world.old) }
     ensures within { IfOk result IsWithin }
 {
     let above = conftests(alloc, walk, places)?;
@@ -317,7 +317,7 @@ fn of_words(
     words: &[NamedWord],
 ) -> Result<Collected, CollectFault>
     requires { AreExprs options.now exprs.now }
-    ensures told { IfSome (end_told result world.new) (λ e. e ≡ collection.of_files options.now walk.now words.now (files.test_files walk.now (files.walked walk.now options.now.ignore) words.now) world.old) }
+    ensures told { IfSome (collection_end result world.new) (λ e. e ≡ collection.of_files options.now walk.now words.now (files.test_files walk.now (files.walked walk.now options.now.ignore) words.now) world.old) }
     ensures within { IfOk result IsWithin }
 {
     let tests = walked(alloc, walk, options.ignore.items())?;
@@ -358,7 +358,7 @@ fn of_sources(
     requires empty { world.old ≡ empty }
     requires order { InOrder (paths_of files.now) }
     requires exprs { AreExprs options.now exprs.now }
-    ensures told { (sources : List ReadFile) × AreRead files.now sources × IfSome (end_told result world.new) (λ e. e ≡ collection.of_words options.now sources walk.now (Meant words.now)) }
+    ensures told { (sources : List ReadFile) × AreRead files.now sources × IfSome (collection_end result world.new) (λ e. e ≡ collection.of_words options.now sources walk.now (Meant words.now)) }
     ensures within { IfOk result IsWithin }
 {
     has_reading();
@@ -382,7 +382,7 @@ fn of_walk(
     requires empty { world.old ≡ empty }
     requires order { InOrder (paths_of files.now) }
     requires exprs { AreExprs options.now exprs.now }
-    ensures told { (sources : List ReadFile) × AreRead files.now sources × IfSome (end_told result world.new) (λ e. e ≡ collection.of_words options.now sources walk.now (named_words walk.now options.now.paths)) }
+    ensures told { (sources : List ReadFile) × AreRead files.now sources × IfSome (collection_end result world.new) (λ e. e ≡ collection.of_words options.now sources walk.now (named_words walk.now options.now.paths)) }
     ensures within { IfOk result IsWithin }
 {
     has_reading();
@@ -409,7 +409,7 @@ pub fn collect(
     requires empty { world.old ≡ empty }
     requires order { InOrder (paths_of files.now) }
     requires exprs { AreExprs options.now exprs.now }
-    ensures told { (sources : List ReadFile) × AreRead files.now sources × IfSome (end_told result world.new) (λ e. e ≡ collection.collect options.now sources) }
+    ensures told { (sources : List ReadFile) × AreRead files.now sources × IfSome (collection_end result world.new) (λ e. e ≡ collection.collect options.now sources) }
     ensures within { IfOk result IsWithin }
 {
     has_reading();

@@ -30,7 +30,7 @@ impl From<OutOfMemory> for CollectFault {
 
 /// The refusal of words.
 pub fn word_fault(fault: WordFault) -> CollectFault
-    ensures { result ≡ fault_of fault }
+    ensures { result ≡ collect_fault fault }
 {
     match fault {
         WordFault::NotFound(word) => CollectFault::NotFound(word),
@@ -39,4 +39,4 @@ pub fn word_fault(fault: WordFault) -> CollectFault
     }
 }
 
-ghost use Rattle.collect_tree.specs.Told.{fault_of};
+ghost use Rattle.collect_tree.specs.Told.{collect_fault};

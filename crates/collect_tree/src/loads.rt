@@ -129,7 +129,7 @@ fn push_end(
     file: &LoadedFile,
     loaded: &mut LoadedTests,
 ) -> Result<(), OutOfMemory>
-    ensures { OnOk result (GoesOn loaded.old loaded.new (loads.ended_before limit path.now place (file_told file.now) world.now)) }
+    ensures { OnOk result (LoadsOne loaded.old loaded.new (loads.ended_before limit path.now place (file_told file.now) world.now)) }
 {
     match &file.end {
         Ok(v) => {
@@ -144,7 +144,7 @@ fn push_end(
     }
 }
 
-ghost use Rattle.collect_tree.specs.Told.{GoesOn, after, loaded_told};
+ghost use Rattle.collect_tree.specs.Told.{LoadsOne, after_loads, loaded_told};
 ghost use Rattle.py_load.specs.InTurn.{file_load, file_told};
 
 /// Loads a test file, and puts it behind the others.
@@ -156,7 +156,7 @@ fn load_test(
     place: usize,
     loaded: &mut LoadedTests,
 ) -> Result<(), OutOfMemory>
-    ensures { OnOk result ((places : List ℕ) → after loaded.old (loads.test_loads limit walk.now (place ∷ places) world.old) ≡ after loaded.new (loads.test_loads limit walk.now places world.new)) }
+    ensures { OnOk result ((places : List ℕ) → after_loads loaded.old (loads.test_loads limit walk.now (place ∷ places) world.old) ≡ after_loads loaded.new (loads.test_loads limit walk.now places world.new)) }
 {
     let path = path_text(walk, place);
     let file = load_file(world, path, limit)?;

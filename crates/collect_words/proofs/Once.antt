@@ -3,7 +3,7 @@ use Rattle.std.proofs.Common.{◌≡◌, ℕ, ◌+◌, ◌<◌, List, [], ◌∷
 use Rattle.std.specs.List.{flat_map}
 use Rattle.std.proofs.lemmas.List.{take_more, get_or_default, append-nil}
 use Rattle.std.proofs.lemmas.List.Concat.{flat_map-append}
-use Rattle.collect_words.specs.Files.{each_once, is_among}
+use Rattle.collect_words.specs.Files.{each_once, includes_number}
 
 cond_both : (b : Bool) (xs ys us vs : List ℕ) → xs ≡ us → ys ≡ vs → cond b xs ys ≡ cond b us vs
 cond_both true xs ys us vs h k = h
@@ -17,8 +17,8 @@ cond_out false xs ys zs = refl
 pub each_once_more : (taken xs ys : List ℕ) → each_once taken (xs ++ ys) ≡ each_once (each_once taken xs) ys
 each_once_more taken [] ys = refl
 each_once_more taken (x ∷ xs) ys =
-    cond_both (is_among x taken) _ _ _ _ (each_once_more taken xs ys) (each_once_more (taken ++ x ∷ []) xs ys)
-    ∙ cond_out (is_among x taken) (each_once taken xs) (each_once (taken ++ x ∷ []) xs) ys
+    cond_both (includes_number x taken) _ _ _ _ (each_once_more taken xs ys) (each_once_more (taken ++ x ∷ []) xs ys)
+    ∙ cond_out (includes_number x taken) (each_once taken xs) (each_once (taken ++ x ∷ []) xs) ys
 
 module _ {X : Type 0} where
   one_more : (xs : List X) (i : ℕ) (x : X) → i < length xs → x ≡ get_or xs i x → take (i + 1) xs ≡ take i xs ++ x ∷ []

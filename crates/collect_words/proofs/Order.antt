@@ -20,7 +20,7 @@ use Rattle.std.proofs.lemmas.Map.Lookups.{btree_set_from_contains, exact_bytes}
 use Rattle.std.proofs.lemmas.Map.Views.{Contains-from_any, list_any-from_Contains, tells_apart}
 use Rattle.collect_words.specs.Paths.{parts}
 use Rattle.collect_words.specs.Walks.{walk_cmp, IsWalk}
-use Rattle.collect_words.specs.Keys.{Key, IsKeyed, paths_of}
+use Rattle.collect_words.specs.Keys.{Key, IsKeyed, key_paths}
 
 -- ---- the order is total, and tells paths apart
 
@@ -99,7 +99,7 @@ not_before one other i j h =
     ∙ (ap (λ a. slice_cmp (slice_cmp nat_cmp) a (map (λ p. p.items) other.0.items)) i ∙ ap (slice_cmp (slice_cmp nat_cmp) (parts (path_of one))) j) in
     subst (λ o. is_lt o ≡ false) e (not_less _ _ h)
 
-sorted_paths : (keys : List Key) → All IsKeyed keys → IsSorted key_cmp keys → IsSorted walk_cmp (paths_of keys)
+sorted_paths : (keys : List Key) → All IsKeyed keys → IsSorted key_cmp keys → IsSorted walk_cmp (key_paths keys)
 sorted_paths [] a h k d l m = absurd (omega arith)
 sorted_paths (x ∷ xs) a h k d l m =
     let more : k + 1 < length (x ∷ xs) = simp length-map at m in
@@ -124,17 +124,17 @@ dedup-map (x ∷ xs) = dedup_from-map x xs
 -- sorted keys give the walk
 pub walk_from_keys :
     (paths : List (List ℕ)) (keys sorted : List Key) (texts kept : List (String Global))
-    → paths_of keys ≡ paths → All IsKeyed keys → IsPermutation keys sorted → IsSorted key_cmp sorted
-    → map string_bytes texts ≡ paths_of sorted → kept ≡ dedup string_eq texts → IsWalk paths (map string_bytes kept)
+    → key_paths keys ≡ paths → All IsKeyed keys → IsPermutation keys sorted → IsSorted key_cmp sorted
+    → map string_bytes texts ≡ key_paths sorted → kept ≡ dedup string_eq texts → IsWalk paths (map string_bytes kept)
 walk_from_keys paths keys sorted texts kept same keyed moved order are once =
-    let is : map string_bytes kept ≡ dedup same_bytes (paths_of sorted) = ap (map string_bytes) once ∙ (dedup-map texts ∙ ap (dedup same_bytes) are) in
-    let there : IsPermutation (paths_of keys) (paths_of sorted) = IsPermutation-map path_of keys sorted moved in
+    let is : map string_bytes kept ≡ dedup same_bytes (key_paths sorted) = ap (map string_bytes) once ∙ (dedup-map texts ∙ ap (dedup same_bytes) are) in
+    let there : IsPermutation (key_paths keys) (key_paths sorted) = IsPermutation-map path_of keys sorted moved in
     record {
       same = λ path. (
-        λ h. subst (λ ps. Contains ps path) same (Contains-permutation _ _ path (IsPermutation-sym _ _ there) (Contains-from_dedup same_bytes (paths_of sorted) path (subst (λ ps. Contains ps path) is h))),
-        λ h. subst (λ ps. Contains ps path) (sym is) (Contains-dedup nat_list_eq_equiv same_is (paths_of sorted) path (Contains-permutation _ _ path there (subst (λ ps. Contains ps path) (sym same) h))),
+        λ h. subst (λ ps. Contains ps path) same (Contains-permutation _ _ path (IsPermutation-sym _ _ there) (Contains-from_dedup same_bytes (key_paths sorted) path (subst (λ ps. Contains ps path) is h))),
+        λ h. subst (λ ps. Contains ps path) (sym is) (Contains-dedup nat_list_eq_equiv same_is (key_paths sorted) path (Contains-permutation _ _ path there (subst (λ ps. Contains ps path) (sym same) h))),
       );
-      order = rw is (IsStrictlySortedBy-dedup walk_total walk_ties (paths_of sorted) (sorted_paths sorted (All-permutation IsKeyed keys sorted moved keyed) order));
+      order = rw is (IsStrictlySortedBy-dedup walk_total walk_ties (key_paths sorted) (sorted_paths sorted (All-permutation IsKeyed keys sorted moved keyed) order));
     }
 
 -- ---- one walk

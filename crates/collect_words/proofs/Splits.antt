@@ -5,55 +5,55 @@ use Rattle.std.specs.List.{list_any, slice_split, starts_with, onto_first}
 use Rattle.std.proofs.lemmas.List.{append-nil, append_assoc, map-append, drop_more, drop-drop, get_or-drop, take-append-drop, drop_all, length-take, length-drop, take_more, drop-append-le, take_rest, take_all, length-take-le}
 use Rattle.std.proofs.lemmas.List.Folds.{list_any-append}
 use Rattle.collect_words.specs.Paths.{is_slash, name_of}
-use Rattle.collect_words.specs.Keys.{onto, parts_with}
+use Rattle.collect_words.specs.Keys.{before_parts, parts_with}
 use Rattle.std.specs.declared.vec.Vec.{Vec}
 use Rattle.std.specs.declared.alloc.Global.{Global}
 
 -- behind the last byte the name is the last part
-pub onto_end : (name : List ℕ) → onto name (slice_split is_slash []) ≡ name ∷ []
+pub onto_end : (name : List ℕ) → before_parts name (slice_split is_slash []) ≡ name ∷ []
 onto_end name = ap (λ n. n ∷ []) (append-nil name)
 
-behind_byte : (name : List ℕ) (b : ℕ) (parts : List (List ℕ)) → onto name (onto_first b parts) ≡ onto (name ++ b ∷ []) parts
+behind_byte : (name : List ℕ) (b : ℕ) (parts : List (List ℕ)) → before_parts name (onto_first b parts) ≡ before_parts (name ++ b ∷ []) parts
 behind_byte name b [] = refl
 behind_byte name b (part ∷ parts) = ap (λ n. n ∷ parts) (sym (append_assoc name (b ∷ []) part))
 
-onto_none : (b : ℕ) (parts : List (List ℕ)) → onto [] (onto_first b parts) ≡ onto_first b parts
+onto_none : (b : ℕ) (parts : List (List ℕ)) → before_parts [] (onto_first b parts) ≡ onto_first b parts
 onto_none b [] = refl
 onto_none b (part ∷ parts) = refl
 
-onto_cond : (t : Bool) (b : ℕ) (parts others : List (List ℕ)) → onto [] (cond t ([] ∷ parts) (onto_first b others)) ≡ cond t ([] ∷ parts) (onto_first b others)
+onto_cond : (t : Bool) (b : ℕ) (parts others : List (List ℕ)) → before_parts [] (cond t ([] ∷ parts) (onto_first b others)) ≡ cond t ([] ∷ parts) (onto_first b others)
 onto_cond true b parts others = refl
 onto_cond false b parts others = onto_none b others
 
 -- nothing before them changes no part
-pub onto_nothing : (path : List ℕ) → onto [] (slice_split is_slash path) ≡ slice_split is_slash path
+pub onto_nothing : (path : List ℕ) → before_parts [] (slice_split is_slash path) ≡ slice_split is_slash path
 onto_nothing [] = refl
 onto_nothing (b ∷ rest) = onto_cond (is_slash b) b (slice_split is_slash rest) (slice_split is_slash rest)
 
 -- a slash ends the name
-pub onto_slash : (name rest : List ℕ) (b : ℕ) → is_slash b ≡ true → onto name (slice_split is_slash (b ∷ rest)) ≡ name ∷ onto [] (slice_split is_slash rest)
+pub onto_slash : (name rest : List ℕ) (b : ℕ) → is_slash b ≡ true → before_parts name (slice_split is_slash (b ∷ rest)) ≡ name ∷ before_parts [] (slice_split is_slash rest)
 onto_slash name rest b h =
     let parts = slice_split is_slash rest in
-    ap (λ t. onto name (cond t ([] ∷ parts) (onto_first b parts))) h
+    ap (λ t. before_parts name (cond t ([] ∷ parts) (onto_first b parts))) h
     ∙ (ap (λ n. n ∷ parts) (append-nil name) ∙ ap (λ ps. name ∷ ps) (sym (onto_nothing rest)))
 
 -- any other byte goes behind it
-pub onto_byte : (name rest : List ℕ) (b : ℕ) → is_slash b ≡ false → onto name (slice_split is_slash (b ∷ rest)) ≡ onto (name ++ b ∷ []) (slice_split is_slash rest)
+pub onto_byte : (name rest : List ℕ) (b : ℕ) → is_slash b ≡ false → before_parts name (slice_split is_slash (b ∷ rest)) ≡ before_parts (name ++ b ∷ []) (slice_split is_slash rest)
 onto_byte name rest b h =
     let parts = slice_split is_slash rest in
-    ap (λ t. onto name (cond t ([] ∷ parts) (onto_first b parts))) h ∙ behind_byte name b parts
+    ap (λ t. before_parts name (cond t ([] ∷ parts) (onto_first b parts))) h ∙ behind_byte name b parts
 
 -- the parts with a slash before what is left, and with any other byte
 pub parts_slash : (names all : List (Vec ℕ Global)) (whole : Vec ℕ Global) (b : ℕ) → is_slash b ≡ true → all ≡ names ++ whole ∷ [] → (rest : List ℕ) → parts_with names whole.items (b ∷ rest) ≡ parts_with all [] rest
 parts_slash names all whole b h e rest =
     let items : Vec ℕ Global → List ℕ = λ done. done.items in
     ap (λ ps. map items names ++ ps) (onto_slash whole.items rest b h)
-    ∙ (sym (append_assoc (map items names) (whole.items ∷ []) (onto [] (slice_split is_slash rest)))
-    ∙ ap (λ ps. ps ++ onto [] (slice_split is_slash rest)) (sym (ap (map items) e ∙ map-append items names (whole ∷ []))))
+    ∙ (sym (append_assoc (map items names) (whole.items ∷ []) (before_parts [] (slice_split is_slash rest)))
+    ∙ ap (λ ps. ps ++ before_parts [] (slice_split is_slash rest)) (sym (ap (map items) e ∙ map-append items names (whole ∷ []))))
 
 pub parts_byte : (names : List (Vec ℕ Global)) (name new : List ℕ) (b : ℕ) → is_slash b ≡ false → new ≡ name ++ b ∷ [] → (rest : List ℕ) → parts_with names name (b ∷ rest) ≡ parts_with names new rest
 parts_byte names name new b h e rest =
-    ap (λ ps. map (λ (done : Vec ℕ Global). done.items) names ++ ps) (onto_byte name rest b h ∙ ap (λ n. onto n (slice_split is_slash rest)) (sym e))
+    ap (λ ps. map (λ (done : Vec ℕ Global). done.items) names ++ ps) (onto_byte name rest b h ∙ ap (λ n. before_parts n (slice_split is_slash rest)) (sym e))
 
 false_from : (t : Bool) → (t ≡ true → ⊥) → t ≡ false
 false_from true f = absurd (f refl)

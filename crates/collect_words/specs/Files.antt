@@ -4,17 +4,17 @@ use Rattle.std.specs.Option.{option_to_list}
 use Rattle.std.specs.List.{list_any, filter, filter_map, flat_map}
 use Rattle.collect_words.specs.Paths.{plain_path, is_test_file, is_below, folder_ends}
 use Rattle.collect_words.specs.Walks.{path_at, places, place_of}
-use Rattle.collect_words.specs.declared.named.Named.{Named}
-use Rattle.collect_words.specs.declared.named.Named.TheVariants.{Folder, File, Node}
+use Rattle.collect_words.specs.declared.named.WordTarget.{WordTarget}
+use Rattle.collect_words.specs.declared.named.WordTarget.TheVariants.{Folder, File, Node}
 use Rattle.collect_words.specs.declared.named.NamedWord.{NamedWord}
 
-abbrev pub is_among : ℕ → List ℕ → Bool
-is_among number numbers = list_any (λ one. one == number) numbers
+abbrev pub includes_number : ℕ → List ℕ → Bool
+includes_number number numbers = list_any (λ one. one == number) numbers
 
 -- numbers, and behind them the others of a list, each once at its first place
 abbrev pub each_once : List ℕ → List ℕ → List ℕ
 each_once taken [] = taken
-each_once taken (number ∷ numbers) = if is_among number taken then each_once taken numbers else each_once (taken ++ number ∷ []) numbers
+each_once taken (number ∷ numbers) = if includes_number number taken then each_once taken numbers else each_once (taken ++ number ∷ []) numbers
 
 -- a path to ignore, or below one
 abbrev pub is_ignored_by : List ℕ → List ℕ → Bool
@@ -32,14 +32,14 @@ unfoldable pub walked : List (List ℕ) → List (List ℕ) → List ℕ
 walked walk ignore = filter (λ place. is_walked ignore (path_at walk place)) (places walk)
 
 -- the files that are reached by what a word names: those of a folder that the walk comes to, or the file, whatever its name
-abbrev pub files_of : List (List ℕ) → List ℕ → Named → List ℕ
-files_of walk tests (Folder path) = filter (λ place. is_below path (path_at walk place)) tests
-files_of walk tests (File place) = place ∷ []
-files_of walk tests (Node place part) = place ∷ []
+abbrev pub files_named : List (List ℕ) → List ℕ → WordTarget → List ℕ
+files_named walk tests (Folder path) = filter (λ place. is_below path (path_at walk place)) tests
+files_named walk tests (File place) = place ∷ []
+files_named walk tests (Node place part) = place ∷ []
 
 -- the test files of the words, in their order; a file that two words reach stands at the first
 unfoldable pub test_files : List (List ℕ) → List ℕ → List NamedWord → List ℕ
-test_files walk tests words = each_once [] (flat_map (λ word. files_of walk tests word.named) words)
+test_files walk tests words = each_once [] (flat_map (λ word. files_named walk tests word.named) words)
 
 -- the conftest of a folder, which is given with its slash
 abbrev pub conftest_in : List (List ℕ) → List ℕ → List ℕ
@@ -54,7 +54,7 @@ unfoldable pub conftests : List (List ℕ) → List ℕ → List ℕ
 conftests walk files = each_once [] (flat_map (λ place. conftests_above walk (path_at walk place)) files)
 
 -- the file that a word has named, if it did
-abbrev pub named_file : Named → Option ℕ
+abbrev pub named_file : WordTarget → Option ℕ
 named_file (Folder path) = None
 named_file (File place) = Some place
 named_file (Node place part) = Some place

@@ -8,21 +8,21 @@ use Rattle.collect_words.specs.Paths.{parts}
 abbrev pub Key : Type 0
 Key = Vec (Vec ℕ Global) Global × String Global
 
-abbrev pub paths_of : List Key → List (List ℕ)
-paths_of keys = map (λ key. string_bytes key.1) keys
+abbrev pub key_paths : List Key → List (List ℕ)
+key_paths keys = map (λ key. string_bytes key.1) keys
 
 -- the parts are those of the path
 abbrev pub IsKeyed : Key → Type 0
 IsKeyed key = map (λ part. part.items) key.0.items ≡ parts (string_bytes key.1)
 
 -- a text before the parts of what follows it
-abbrev pub onto : List ℕ → List (List ℕ) → List (List ℕ)
-onto name [] = name ∷ []
-onto name (part ∷ parts) = (name ++ part) ∷ parts
+abbrev pub before_parts : List ℕ → List (List ℕ) → List (List ℕ)
+before_parts name [] = name ∷ []
+before_parts name (part ∷ parts) = (name ++ part) ∷ parts
 
 -- the names that are done, and the one that is begun, before the parts of what is left of a path
 abbrev pub parts_with : List (Vec ℕ Global) → List ℕ → List ℕ → List (List ℕ)
-parts_with names name rest = map (λ done. done.items) names ++ onto name (parts rest)
+parts_with names name rest = map (λ done. done.items) names ++ before_parts name (parts rest)
 
 -- what is left of a text behind a front, if it begins so: a text that goes on behind the front is compared with what is left
 abbrev pub Leaves : List ℕ → List ℕ → Option (Bor (List ℕ)) → Type 0

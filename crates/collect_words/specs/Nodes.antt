@@ -2,9 +2,9 @@
 use Rattle.std.specs.Prelude.{ℕ, List, [], ◌++◌, Bool, true, false, ◌||◌, not, Option, None, Some, Result, Ok, Err, map, length, codes, find, bytes_eq, nat_lt, slice_get, if◌then◌else◌}
 use Rattle.std.specs.Option.{option_map_or}
 use Rattle.std.specs.List.{list_any, filter, flat_map}
-use Rattle.collect_words.specs.Files.{each_once, files_of}
-use Rattle.collect_words.specs.declared.named.Named.{Named}
-use Rattle.collect_words.specs.declared.named.Named.TheVariants.{Folder, File, Node}
+use Rattle.collect_words.specs.Files.{each_once, files_named}
+use Rattle.collect_words.specs.declared.named.WordTarget.{WordTarget}
+use Rattle.collect_words.specs.declared.named.WordTarget.TheVariants.{Folder, File, Node}
 use Rattle.collect_words.specs.declared.named.NamedWord.{NamedWord}
 use Rattle.collect_words.specs.declared.nodes.FileNodes.{FileNodes}
 use Rattle.collect_words.specs.declared.nodes.ItemNames.{ItemNames}
@@ -40,23 +40,23 @@ abbrev pub items_of : List FileNodes → ℕ → List ItemNames
 items_of files place = option_map_or (λ file. file.items) (slice_get files place) []
 
 -- the items that are reached by what a word names
-abbrev pub items_named : List (List ℕ) → List ℕ → List FileNodes → Named → List ItemNames
-items_named walk tests files (Folder path) = flat_map (items_of files) (files_of walk tests (Folder path))
+abbrev pub items_named : List (List ℕ) → List ℕ → List FileNodes → WordTarget → List ItemNames
+items_named walk tests files (Folder path) = flat_map (items_of files) (files_named walk tests (Folder path))
 items_named walk tests files (File place) = items_of files place
 items_named walk tests files (Node place part) = filter (is_named part) (items_of files place)
 
-abbrev pub numbers_of : List ItemNames → List ℕ
-numbers_of items = map (λ item. item.number) items
+abbrev pub item_numbers : List ItemNames → List ℕ
+item_numbers items = map (λ item. item.number) items
 
 -- the items of the words, by number, in order of words; one that two words reach stands at the first
 unfoldable pub reached : List (List ℕ) → List ℕ → List FileNodes → List NamedWord → List ℕ
-reached walk tests files words = each_once [] (flat_map (λ word. numbers_of (items_named walk tests files word.named)) words)
+reached walk tests files words = each_once [] (flat_map (λ word. item_numbers (items_named walk tests files word.named)) words)
 
 -- a file has what a part names: an item, or a class without items; of a file that failed nothing is known
 abbrev pub has_node : List ℕ → FileNodes → Bool
 has_node part file = file.failed || (list_any (is_named part) file.items || list_any (λ class. bytes_eq class part) file.classes)
 
-abbrev pub is_found : List FileNodes → Named → Bool
+abbrev pub is_found : List FileNodes → WordTarget → Bool
 is_found files (Folder path) = true
 is_found files (File place) = true
 is_found files (Node place part) = option_map_or (has_node part) (slice_get files place) false

@@ -14,26 +14,26 @@ abbrev pub name_of : List ℕ → List ℕ
 name_of [] = []
 name_of (b ∷ rest) = if list_any is_slash (b ∷ rest) then name_of rest else (b ∷ rest)
 
-abbrev pub begins_with : List ℕ → List ℕ → Bool
-begins_with front text = starts_with nat_eq text front
+abbrev pub has_prefix : List ℕ → List ℕ → Bool
+has_prefix front text = starts_with nat_eq text front
 
 abbrev pub ends_in : List ℕ → List ℕ → Bool
 ends_in end text = ends_with nat_eq text end
 
 -- the files that pytest's `python_files` matches: `test_*.py` and `*_test.py`
 unfoldable pub is_test_file : List ℕ → Bool
-is_test_file path = ends_in (codes ".py") path && (begins_with (codes "test_") (name_of path) || ends_in (codes "_test.py") path)
+is_test_file path = ends_in (codes ".py") path && (has_prefix (codes "test_") (name_of path) || ends_in (codes "_test.py") path)
 
 unfoldable pub is_conftest : List ℕ → Bool
 is_conftest path = bytes_eq (name_of path) (codes "conftest.py")
 
 -- a path is below a folder: below the root, or a slash stands behind the folder at its front
 unfoldable pub is_below : List ℕ → List ℕ → Bool
-is_below folder path = (length folder == 0) || (begins_with folder path && begins_with (codes "/") (drop (length folder) path))
+is_below folder path = (length folder == 0) || (has_prefix folder path && has_prefix (codes "/") (drop (length folder) path))
 
 -- the front dropped once, where it stands there
 abbrev pub without_front : List ℕ → List ℕ → List ℕ
-without_front front text = if begins_with front text then drop (length front) text else text
+without_front front text = if has_prefix front text then drop (length front) text else text
 
 -- the end dropped once, where it stands there
 abbrev pub without_end : List ℕ → List ℕ → List ℕ

@@ -3,7 +3,7 @@ ghost use Rattle.std.specs.List.{flat_map};
 ghost use Rattle.collect_words.specs.Files.{conftest_in, conftests, conftests_above, each_once};
 
 use crate::paths::folder_ends;
-use crate::taken::Taken;
+use crate::taken::NumberSet;
 use crate::walk::Walk;
 use seq::{OutOfMemory, Seq};
 use std::alloc::Global;
@@ -20,7 +20,7 @@ fn conftest_path(alloc: Global, folder: &[u8]) -> Result<Vec<u8>, OutOfMemory>
 /// Takes the conftest of a folder, where it has one.
 fn take_conftest(
     alloc: Global,
-    taken: &mut Taken,
+    taken: &mut NumberSet,
     walk: &Walk,
     folder: &[u8],
 ) -> Result<(), OutOfMemory>
@@ -35,7 +35,7 @@ fn take_conftest(
 
 fn take_end(
     alloc: Global,
-    taken: &mut Taken,
+    taken: &mut NumberSet,
     walk: &Walk,
     path: &[u8],
     end: usize,
@@ -47,7 +47,7 @@ fn take_end(
 
 fn take_ends(
     alloc: Global,
-    taken: &mut Taken,
+    taken: &mut NumberSet,
     walk: &Walk,
     path: &[u8],
     ends: &[usize],
@@ -61,7 +61,12 @@ fn take_ends(
 }
 
 /// Takes the conftests of the folders above a file, from the root down.
-fn take_above(alloc: Global, taken: &mut Taken, walk: &Walk, path: &[u8]) -> Result<(), OutOfMemory>
+fn take_above(
+    alloc: Global,
+    taken: &mut NumberSet,
+    walk: &Walk,
+    path: &[u8],
+) -> Result<(), OutOfMemory>
     ensures { OnOk result (taken.new ≡ each_once taken.old (conftests_above walk.now path.now)) }
 {
     let ends = folder_ends(alloc, path)?;
@@ -73,7 +78,7 @@ fn take_above(alloc: Global, taken: &mut Taken, walk: &Walk, path: &[u8]) -> Res
 pub fn conftests(alloc: Global, walk: &Walk, files: &[usize]) -> Result<Seq<usize>, OutOfMemory>
     ensures { IfOk result (λ places. places ≡ conftests walk.now files.now) }
 {
-    let mut taken = Taken::new(alloc);
+    let mut taken = NumberSet::new(alloc);
     for place in files {
         take_above(alloc, &mut taken, walk, walk.path_at(*place))?;
     }

@@ -2,18 +2,18 @@ ghost use Rattle.std.specs.Prelude.{◌≡◌, ◌++◌, ◌∷◌, [], OnOk, If
 ghost use Rattle.std.specs.List.{filter};
 ghost use Rattle.collect_words.specs.Paths.{is_below};
 ghost use Rattle.collect_words.specs.Walks.{path_at};
-ghost use Rattle.collect_words.specs.Files.{each_once, files_of, named_file, named_files, test_files};
+ghost use Rattle.collect_words.specs.Files.{each_once, files_named, named_file, named_files, test_files};
 
-use crate::named::{Named, NamedWord};
+use crate::named::{NamedWord, WordTarget};
 use crate::paths::is_below;
-use crate::taken::Taken;
+use crate::taken::NumberSet;
 use crate::walk::Walk;
 use seq::{OutOfMemory, Seq};
 use std::alloc::Global;
 
 /// Takes a file, if it is below a folder.
 fn take_if_below(
-    taken: &mut Taken,
+    taken: &mut NumberSet,
     walk: &Walk,
     folder: &[u8],
     place: usize,
@@ -28,7 +28,7 @@ fn take_if_below(
 
 /// Takes those of the files that are below a folder.
 fn take_below(
-    taken: &mut Taken,
+    taken: &mut NumberSet,
     walk: &Walk,
     tests: &[usize],
     folder: &[u8],
@@ -43,17 +43,17 @@ fn take_below(
 
 /// Takes the files that are reached by what a word names.
 fn take_files(
-    taken: &mut Taken,
+    taken: &mut NumberSet,
     walk: &Walk,
     tests: &[usize],
-    named: &Named,
+    named: &WordTarget,
 ) -> Result<(), OutOfMemory>
-    ensures { OnOk result (taken.new ≡ each_once taken.old (files_of walk.now tests.now named.now)) }
+    ensures { OnOk result (taken.new ≡ each_once taken.old (files_named walk.now tests.now named.now)) }
 {
     match named {
-        Named::Folder(path) => take_below(taken, walk, tests, path.items()),
-        Named::File(place) => taken.take(*place),
-        Named::Node(place, _) => taken.take(*place),
+        WordTarget::Folder(path) => take_below(taken, walk, tests, path.items()),
+        WordTarget::File(place) => taken.take(*place),
+        WordTarget::Node(place, _) => taken.take(*place),
     }
 }
 
@@ -67,20 +67,20 @@ pub fn test_files(
 ) -> Result<Seq<usize>, OutOfMemory>
     ensures { IfOk result (λ places. places ≡ test_files walk.now tests.now words.now) }
 {
-    let mut taken = Taken::new(alloc);
+    let mut taken = NumberSet::new(alloc);
     for word in words {
         take_files(&mut taken, walk, tests, &word.named)?;
     }
     Ok(taken.into_seq())
 }
 
-fn named_file(named: &Named) -> Option<usize>
+fn named_file(named: &WordTarget) -> Option<usize>
     ensures { result ≡ named_file named.now }
 {
     match named {
-        Named::Folder(_) => None,
-        Named::File(place) => Some(*place),
-        Named::Node(place, _) => Some(*place),
+        WordTarget::Folder(_) => None,
+        WordTarget::File(place) => Some(*place),
+        WordTarget::Node(place, _) => Some(*place),
     }
 }
 

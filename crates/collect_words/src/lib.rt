@@ -49,7 +49,7 @@ pub use above::conftests;
 pub use fault::WordFault;
 pub use files::{named_files, test_files};
 pub use ignored::walked;
-pub use named::{Named, NamedWord};
+pub use named::{NamedWord, WordTarget};
 pub use nodes::{FileNodes, ItemNames};
 pub use paths::{is_conftest, is_test_file, plain_path};
 pub use select::selected;

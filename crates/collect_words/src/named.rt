@@ -1,7 +1,7 @@
 use seq::{ByteText, Seq};
 
 /// What a word names of a tree.
-pub enum Named {
+pub enum WordTarget {
     /// The folder with this path, which is empty for the root.
     Folder(Seq<u8>),
     /// The file at this place of the walk.
@@ -10,12 +10,12 @@ pub enum Named {
     Node(usize, Seq<u8>),
 }
 
-impl Drop for Named {
+impl Drop for WordTarget {
     fn drop(self) {
         match self {
-            Named::Folder(_) => {}
-            Named::File(_) => {}
-            Named::Node(_, _) => {}
+            WordTarget::Folder(_) => {}
+            WordTarget::File(_) => {}
+            WordTarget::Node(_, _) => {}
         }
     }
 }
@@ -23,7 +23,7 @@ impl Drop for Named {
 /// A word with what it names.
 pub struct NamedWord {
     pub word: ByteText,
-    pub named: Named,
+    pub named: WordTarget,
 }
 
 impl Drop for NamedWord {

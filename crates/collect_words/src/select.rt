@@ -2,16 +2,16 @@ ghost use Rattle.std.specs.Prelude.{◌≡◌, ◌∷◌, [], None, Some, Ok, by
 ghost use Rattle.std.specs.List.{filter, flat_map, list_any};
 ghost use Rattle.collect_words.specs.Paths.{is_below};
 ghost use Rattle.collect_words.specs.Walks.{path_at};
-ghost use Rattle.collect_words.specs.Words.{Refuses};
+ghost use Rattle.collect_words.specs.Words.{RefusesWords};
 ghost use Rattle.collect_words.specs.Files.{each_once};
-ghost use Rattle.collect_words.specs.Nodes.{first_missing, has_node, is_found, is_named, items_named, items_of, numbers_of, reached, selected};
+ghost use Rattle.collect_words.specs.Nodes.{first_missing, has_node, is_found, is_named, items_named, items_of, item_numbers, reached, selected};
 
 use crate::fault::WordFault;
-use crate::named::{Named, NamedWord};
+use crate::named::{NamedWord, WordTarget};
 use crate::naming::is_named;
 use crate::nodes::{FileNodes, ItemNames};
 use crate::paths::is_below;
-use crate::taken::Taken;
+use crate::taken::NumberSet;
 use crate::walk::Walk;
 use crate::words::not_found;
 use seq::{ByteText, OutOfMemory, Seq};
@@ -27,8 +27,8 @@ fn items_of(files: &[FileNodes], place: usize) -> &[ItemNames]
     }
 }
 
-fn take_all(taken: &mut Taken, items: &[ItemNames]) -> Result<(), OutOfMemory>
-    ensures { OnOk result (taken.new ≡ each_once taken.old (numbers_of items.now)) }
+fn take_all(taken: &mut NumberSet, items: &[ItemNames]) -> Result<(), OutOfMemory>
+    ensures { OnOk result (taken.new ≡ each_once taken.old (item_numbers items.now)) }
 {
     for item in items {
         taken.take(item.number)?;
@@ -37,8 +37,8 @@ fn take_all(taken: &mut Taken, items: &[ItemNames]) -> Result<(), OutOfMemory>
 }
 
 /// Takes an item, if a part names it.
-fn take_item(taken: &mut Taken, item: &ItemNames, part: &[u8]) -> Result<(), OutOfMemory>
-    ensures { OnOk result (taken.new ≡ each_once taken.old (numbers_of (filter (is_named part.now) (item.now ∷ [])))) }
+fn take_item(taken: &mut NumberSet, item: &ItemNames, part: &[u8]) -> Result<(), OutOfMemory>
+    ensures { OnOk result (taken.new ≡ each_once taken.old (item_numbers (filter (is_named part.now) (item.now ∷ [])))) }
 {
     if !is_named(part, item) {
         return Ok(());
@@ -46,8 +46,8 @@ fn take_item(taken: &mut Taken, item: &ItemNames, part: &[u8]) -> Result<(), Out
     taken.take(item.number)
 }
 
-fn take_named(taken: &mut Taken, items: &[ItemNames], part: &[u8]) -> Result<(), OutOfMemory>
-    ensures { OnOk result (taken.new ≡ each_once taken.old (numbers_of (filter (is_named part.now) items.now))) }
+fn take_named(taken: &mut NumberSet, items: &[ItemNames], part: &[u8]) -> Result<(), OutOfMemory>
+    ensures { OnOk result (taken.new ≡ each_once taken.old (item_numbers (filter (is_named part.now) items.now))) }
 {
     for item in items {
         take_item(taken, item, part)?;
@@ -57,13 +57,13 @@ fn take_named(taken: &mut Taken, items: &[ItemNames], part: &[u8]) -> Result<(),
 
 /// Takes the items of a file, if it is below a folder.
 fn take_file(
-    taken: &mut Taken,
+    taken: &mut NumberSet,
     walk: &Walk,
     files: &[FileNodes],
     folder: &[u8],
     place: usize,
 ) -> Result<(), OutOfMemory>
-    ensures { OnOk result (taken.new ≡ each_once taken.old (numbers_of (flat_map (items_of files.now) (filter (λ place. is_below folder.now (path_at walk.now place)) (place ∷ []))))) }
+    ensures { OnOk result (taken.new ≡ each_once taken.old (item_numbers (flat_map (items_of files.now) (filter (λ place. is_below folder.now (path_at walk.now place)) (place ∷ []))))) }
 {
     if !is_below(folder, walk.path_at(place)) {
         return Ok(());
@@ -72,13 +72,13 @@ fn take_file(
 }
 
 fn take_below(
-    taken: &mut Taken,
+    taken: &mut NumberSet,
     walk: &Walk,
     tests: &[usize],
     files: &[FileNodes],
     folder: &[u8],
 ) -> Result<(), OutOfMemory>
-    ensures { OnOk result (taken.new ≡ each_once taken.old (numbers_of (flat_map (items_of files.now) (filter (λ place. is_below folder.now (path_at walk.now place)) tests.now)))) }
+    ensures { OnOk result (taken.new ≡ each_once taken.old (item_numbers (flat_map (items_of files.now) (filter (λ place. is_below folder.now (path_at walk.now place)) tests.now)))) }
 {
     for place in tests {
         take_file(taken, walk, files, folder, *place)?;
@@ -88,18 +88,18 @@ fn take_below(
 
 /// Takes the items that are reached by what a word names.
 fn take_items(
-    taken: &mut Taken,
+    taken: &mut NumberSet,
     walk: &Walk,
     tests: &[usize],
     files: &[FileNodes],
-    named: &Named,
+    named: &WordTarget,
 ) -> Result<(), OutOfMemory>
-    ensures { OnOk result (taken.new ≡ each_once taken.old (numbers_of (items_named walk.now tests.now files.now named.now))) }
+    ensures { OnOk result (taken.new ≡ each_once taken.old (item_numbers (items_named walk.now tests.now files.now named.now))) }
 {
     match named {
-        Named::Folder(path) => take_below(taken, walk, tests, files, path.items()),
-        Named::File(place) => take_all(taken, items_of(files, *place)),
-        Named::Node(place, part) => take_named(taken, items_of(files, *place), part.items()),
+        WordTarget::Folder(path) => take_below(taken, walk, tests, files, path.items()),
+        WordTarget::File(place) => take_all(taken, items_of(files, *place)),
+        WordTarget::Node(place, part) => take_named(taken, items_of(files, *place), part.items()),
     }
 }
 
@@ -113,7 +113,7 @@ fn reached(
 ) -> Result<Seq<usize>, OutOfMemory>
     ensures { IfOk result (λ numbers. numbers ≡ reached walk.now tests.now files.now words.now) }
 {
-    let mut taken = Taken::new(alloc);
+    let mut taken = NumberSet::new(alloc);
     for word in words {
         take_items(&mut taken, walk, tests, files, &word.named)?;
     }
@@ -148,13 +148,13 @@ fn has_node(part: &[u8], file: &FileNodes) -> bool
     file.failed || has_item(file.items.items(), part) || has_class(file.classes.items(), part)
 }
 
-fn is_found(files: &[FileNodes], named: &Named) -> bool
+fn is_found(files: &[FileNodes], named: &WordTarget) -> bool
     ensures { result ≡ is_found files.now named.now }
 {
     match named {
-        Named::Folder(_) => true,
-        Named::File(_) => true,
-        Named::Node(place, part) => match files.get(*place) {
+        WordTarget::Folder(_) => true,
+        WordTarget::File(_) => true,
+        WordTarget::Node(place, part) => match files.get(*place) {
             Some(file) => has_node(part.items(), file),
             None => false,
         },
@@ -187,7 +187,7 @@ pub fn selected(
     words: &[NamedWord],
 ) -> Result<Seq<usize>, WordFault>
     ensures ok { IfOk result (λ numbers. selected most walk.now tests.now files.now words.now ≡ Ok numbers) }
-    ensures refused { IfErr result (λ e. Refuses (selected most walk.now tests.now files.now words.now) e) }
+    ensures refused { IfErr result (λ e. RefusesWords (selected most walk.now tests.now files.now words.now) e) }
 {
     let numbers = reached(alloc, walk, tests, files, words)?;
     if numbers.len() > most {

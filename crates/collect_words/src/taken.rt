@@ -1,5 +1,5 @@
 ghost use Rattle.std.specs.Prelude.{◌≡◌, ◌∷◌, [], ◌<◌, ℕ, length, OnOk, slice_index_or, false};
-ghost use Rattle.collect_words.specs.Files.{each_once, is_among};
+ghost use Rattle.collect_words.specs.Files.{each_once, includes_number};
 
 use seq::{OutOfMemory, Seq};
 use std::alloc::Global;
@@ -7,20 +7,20 @@ use std::marker::Model;
 
 /// Numbers, each once, with a mark for each. Contracts see it as the list.
 #[derive(Drop)]
-pub struct Taken {
+pub struct NumberSet {
     numbers: Vec<usize>,
     marks: Vec<bool>,
 }
 
-impl Model for Taken {
+impl Model for NumberSet {
     ghost use Rattle.std.specs.Prelude.{◌≡◌, List, ℕ, false, slice_index_or};
-    ghost use Rattle.collect_words.specs.Files.{is_among};
+    ghost use Rattle.collect_words.specs.Files.{includes_number};
 
     ghost Value = { List ℕ };
 
     ghost view = { λ taken. taken.numbers.items };
 
-    ghost invariant = { λ taken. (number : ℕ) → slice_index_or taken.marks.items number false ≡ is_among number taken.numbers.items };
+    ghost invariant = { λ taken. (number : ℕ) → slice_index_or taken.marks.items number false ≡ includes_number number taken.numbers.items };
 }
 
 /// Marks for all numbers up to this one.
@@ -34,11 +34,11 @@ fn reach(marks: &mut Vec<bool>, number: usize) -> Result<(), OutOfMemory>
     Ok(())
 }
 
-impl Taken {
+impl NumberSet {
     pub fn new(alloc: Global) -> Self
         ensures { result ≡ [] }
     {
-        Taken {
+        NumberSet {
             numbers: Vec::new(alloc),
             marks: Vec::new(alloc),
         }
@@ -46,7 +46,7 @@ impl Taken {
 
     /// Whether a number was taken.
     fn has(&self, number: usize) -> bool
-        ensures { result ≡ is_among number self.now }
+        ensures { result ≡ includes_number number self.now }
     {
         number < self.marks.len() && self.marks[number]
     }
@@ -68,7 +68,7 @@ impl Taken {
     pub fn into_seq(self) -> Seq<usize>
         ensures { result ≡ self }
     {
-        let Taken { numbers, .. } = self;
+        let NumberSet { numbers, .. } = self;
         Seq::from_vec(numbers)
     }
 }

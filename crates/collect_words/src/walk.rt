@@ -1,7 +1,7 @@
 ghost use Rattle.std.specs.Prelude.{◌≡◌, List, ℕ, map, string_bytes, IfOk, All};
 ghost use Rattle.collect_words.specs.Paths.{parts};
 ghost use Rattle.collect_words.specs.Walks.{IsWalk, path_at, place_of};
-ghost use Rattle.collect_words.specs.Keys.{paths_of, IsKeyed, Key};
+ghost use Rattle.collect_words.specs.Keys.{key_paths, IsKeyed, Key};
 
 use crate::paths::parts;
 use seq::{ByteText, OutOfMemory, Seq};
@@ -29,7 +29,7 @@ impl Model for Walk {
 
 /// Each path behind its parts, by which it is sorted.
 fn keyed(alloc: Global, paths: &[ByteText]) -> Result<Vec<(Vec<Vec<u8>>, String)>, OutOfMemory>
-    ensures same { IfOk result (λ keys. paths_of keys.items ≡ paths.now) }
+    ensures same { IfOk result (λ keys. key_paths keys.items ≡ paths.now) }
     ensures keyed { IfOk result (λ keys. All IsKeyed keys.items) }
 {
     let mut keys = Vec::new(alloc);
@@ -41,7 +41,7 @@ fn keyed(alloc: Global, paths: &[ByteText]) -> Result<Vec<(Vec<Vec<u8>>, String)
 }
 
 fn paths_in(alloc: Global, keys: &[(Vec<Vec<u8>>, String)]) -> Result<Vec<String>, OutOfMemory>
-    ensures { IfOk result (λ paths. map string_bytes paths.items ≡ paths_of keys.now) }
+    ensures { IfOk result (λ paths. map string_bytes paths.items ≡ key_paths keys.now) }
 {
     let mut paths = Vec::new(alloc);
     for key in keys {

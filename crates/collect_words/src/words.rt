@@ -2,11 +2,11 @@ ghost use Rattle.std.specs.Prelude.{◌≡◌, ◌⊎◌, None, Some, Ok, IfOk, 
 ghost use Rattle.std.specs.List.{list_any};
 ghost use Rattle.std.specs.Option.{option_copied};
 ghost use Rattle.collect_words.specs.Paths.{is_below};
-ghost use Rattle.collect_words.specs.Words.{Refuses, all_named, first_unnamed, is_folder, leads_out, named_by, named_words, or_not_found, part_named};
+ghost use Rattle.collect_words.specs.Words.{RefusesWords, all_named, first_unnamed, is_folder, leads_out, named_by, named_words, or_not_found, part_named};
 
 use crate::cut::cut;
 use crate::fault::WordFault;
-use crate::named::{Named, NamedWord};
+use crate::named::{NamedWord, WordTarget};
 use crate::paths::{is_below, leads_up, plain_path};
 use crate::walk::Walk;
 use seq::{ByteText, OutOfMemory, Seq};
@@ -43,14 +43,14 @@ fn is_folder(walk: &Walk, path: &[u8]) -> bool
 }
 
 /// What a path without `::` names.
-fn plain_named(alloc: Global, walk: &Walk, path: &[u8]) -> Result<Option<Named>, OutOfMemory>
+fn plain_named(alloc: Global, walk: &Walk, path: &[u8]) -> Result<Option<WordTarget>, OutOfMemory>
     ensures { IfOk result (λ named. named ≡ part_named walk.now path.now None) }
 {
     if let Some(place) = walk.place_of(path) {
-        return Ok(Some(Named::File(place)));
+        return Ok(Some(WordTarget::File(place)));
     }
     if is_folder(walk, path) {
-        return Ok(Some(Named::Folder(Seq::from_slice(alloc, path)?)));
+        return Ok(Some(WordTarget::Folder(Seq::from_slice(alloc, path)?)));
     }
     Ok(None)
 }
@@ -61,13 +61,13 @@ fn node_named(
     walk: &Walk,
     path: &[u8],
     part: &[u8],
-) -> Result<Option<Named>, OutOfMemory>
+) -> Result<Option<WordTarget>, OutOfMemory>
     ensures { IfOk result (λ named. named ≡ part_named walk.now path.now (Some part.now)) }
 {
     let Some(place) = walk.place_of(path) else {
         return Ok(None);
     };
-    Ok(Some(Named::Node(place, Seq::from_slice(alloc, part)?)))
+    Ok(Some(WordTarget::Node(place, Seq::from_slice(alloc, part)?)))
 }
 
 /// What a path and the part behind `::` name.
@@ -76,7 +76,7 @@ fn part_named(
     walk: &Walk,
     path: &[u8],
     part: Option<&[u8]>,
-) -> Result<Option<Named>, OutOfMemory>
+) -> Result<Option<WordTarget>, OutOfMemory>
     ensures { IfOk result (λ named. named ≡ part_named walk.now path.now (option_copied part.entry)) }
 {
     match part {
@@ -87,7 +87,7 @@ fn part_named(
 
 /// What a word names of a tree, or nothing.
 #[tactic(auto, unfolding(crate::specs::Words::named_by))]
-fn named_by(alloc: Global, walk: &Walk, word: &[u8]) -> Result<Option<Named>, OutOfMemory>
+fn named_by(alloc: Global, walk: &Walk, word: &[u8]) -> Result<Option<WordTarget>, OutOfMemory>
     ensures { IfOk result (λ named. named ≡ named_by walk.now word.now) }
 {
     let (given, part) = cut(word);
@@ -98,7 +98,7 @@ fn named_by(alloc: Global, walk: &Walk, word: &[u8]) -> Result<Option<Named>, Ou
 }
 
 /// A copy of a word with what it names.
-fn named_word(alloc: Global, word: &ByteText, named: Named) -> Result<NamedWord, OutOfMemory>
+fn named_word(alloc: Global, word: &ByteText, named: WordTarget) -> Result<NamedWord, OutOfMemory>
     ensures { IfOk result (λ one. one ≡ record { word = word.now; named = named }) }
 {
     Ok(NamedWord {
@@ -120,7 +120,7 @@ pub fn not_found(alloc: Global, word: &ByteText) -> WordFault
 /// Each word with what it names, up to the first that names nothing.
 fn all_named(alloc: Global, walk: &Walk, words: &[ByteText]) -> Result<Seq<NamedWord>, WordFault>
     ensures ok { IfOk result (λ names. or_not_found (first_unnamed walk.now words.now) (all_named walk.now words.now) ≡ Ok names) }
-    ensures refused { IfErr result (λ e. Refuses (or_not_found (first_unnamed walk.now words.now) (all_named walk.now words.now)) e) }
+    ensures refused { IfErr result (λ e. RefusesWords (or_not_found (first_unnamed walk.now words.now) (all_named walk.now words.now)) e) }
 {
     let mut names = Seq::new(alloc);
     for word in words {
@@ -140,7 +140,7 @@ pub fn named_words(
     words: &[ByteText],
 ) -> Result<Seq<NamedWord>, WordFault>
     ensures ok { IfOk result (λ names. named_words walk.now words.now ≡ Ok names) }
-    ensures refused { IfErr result (λ e. Refuses (named_words walk.now words.now) e) }
+    ensures refused { IfErr result (λ e. RefusesWords (named_words walk.now words.now) e) }
 {
     if words.len() > 0 {
         return all_named(alloc, walk, words);

@@ -29,10 +29,10 @@ use Rattle.py_core.specs.declared.stmt.CoreStmtKind.TheVariants as v
 use Rattle.py_tree.specs.declared.op.BinOp.{BinOp}
 use Rattle.py_tree.specs.Trees.{tree}
 use Rattle.core_meaning.specs.Expressions.{CorePart, eval, parts_of}
-use Rattle.core_meaning.specs.Requests.{core_kinds, Layer, Statements, Guard, Receives, Turn, StatementOf, TurnOf, ForOf}
+use Rattle.core_meaning.specs.Requests.{core_kinds, Layer, Statements, Guard, Receives, CoreTurn, StatementOf, TurnOf, ForOf}
 use Rattle.py_world.specs.Site.{site}
 use Rattle.py_world.specs.Outcome.{Body, After, Next, on_next}
-use Rattle.py_world.specs.Statements.{Choice, asked, expression_statement, return_value, yield_value, received, no_use, return_sent, pass, leave_loop, next_turn, fail, fail_explained, choose, loop, turn_of}
+use Rattle.py_world.specs.Statements.{IfClause, asked, expression_statement, return_value, yield_value, received, no_use, return_sent, pass, leave_loop, next_turn, fail, fail_explained, choose, loop, turn_of}
 use Rattle.py_world.specs.Definitions.{Written, define, class_statement}
 use Rattle.py_world.specs.Names.{delete_name}
 use Rattle.py_world.specs.Targets.{Store, store_name, store_attribute, store_item, store_all, unpack, assign, augment_name, augment_attribute, augment_item, delete_attribute, delete_item}
@@ -50,7 +50,7 @@ abbrev pub CoreStore : Type 0
 CoreStore = Store core_kinds
 
 abbrev pub CoreChoice : Type 0
-CoreChoice = Choice core_kinds
+CoreChoice = IfClause core_kinds
 
 abbrev pub CoreHandling : Type 0
 CoreHandling = Handling core_kinds
@@ -130,11 +130,11 @@ block_from ls b at [] scene s k = k (Next s)
 block_from ls b at (st ∷ rest) scene s k =
     begun (Statements b (at + 1) ∷ ls) st (site scene st.at.line) s (λ o. on_next o k (λ s. block_from ls b (at + 1) rest scene s k))
 
-abbrev pub block : List Layer → CoreBlock → CoreBody
-block ls b = block_from ls b 0 (stmts_in b)
+abbrev pub core_block_body : List Layer → CoreBlock → CoreBody
+core_block_body ls b = block_from ls b 0 (stmts_in b)
 
 abbrev pub handling_of : List Layer → handler.CoreHandler → CoreHandling
-handling_of ls (handler.CoreHandler' class name p body) = (some_part class, (name, block ls body))
+handling_of ls (handler.CoreHandler' class name p body) = (some_part class, (name, core_block_body ls body))
 
 -- the handlers of a `try`
 abbrev pub handlings : List Layer → List handler.CoreHandler → List CoreHandling
@@ -143,7 +143,7 @@ handlings ls (h ∷ hs) = handling_of ls h ∷ handlings ls hs
 
 -- what guards the block of a `try`
 abbrev pub guard : List Layer → CoreGuard → After core_kinds
-guard ls g = guarded (handlings ls (handlers_in g)) (block ls (other_in g)) (block ls (last_in g))
+guard ls g = guarded (handlings ls (handlers_in g)) (core_block_body ls (other_in g)) (core_block_body ls (last_in g))
 
 -- what remains of a body does with the end of the part before it, the innermost block first
 abbrev pub remains : List Layer → After core_kinds
@@ -153,17 +153,17 @@ remains (Guard g line ∷ ls) p o k = guard ls g (site p.scene line) o (λ o. re
 remains (Receives u ∷ ls) p o k = received (use_of u) p o (λ o. remains ls p o k)
 
 abbrev pub choice : List Layer → branch.CoreBranch → CoreChoice
-choice ls (branch.CoreBranch' at condition p body) = (at.line, (eval condition.value, block ls body))
+choice ls (branch.CoreBranch' at condition p body) = (at.line, (eval condition.value, core_block_body ls body))
 
 abbrev pub choices : List Layer → List branch.CoreBranch → List CoreChoice
 choices ls [] = []
 choices ls (b ∷ rest) = choice ls b ∷ choices ls rest
 
 abbrev pub entry : CoreFn → Entry core_kinds
-entry (fn.CoreFn' source at name params locals yields p body) = record { name = name; own = locals; body = block [] body }
+entry (fn.CoreFn' source at name params locals yields p body) = record { name = name; own = locals; body = core_block_body [] body }
 
 abbrev pub core_body : Core → CoreBody
-core_body code = block [] code.body.value
+core_body code = core_block_body [] code.body.value
 
 -- parameters as they are written
 abbrev pub written : List CoreParam → List Written
@@ -174,11 +174,11 @@ abbrev pub define_fn : List CorePart → List CorePart → CoreFn → CorePart
 define_fn ds es (fn.CoreFn' source at name params locals yields p body) = define ds es (written params.value.items) name at.line yields (fn.CoreFn' source at name params locals yields p body)
 
 abbrev pub define_class : List CorePart → Option CorePart → class.CoreClass → CorePart
-define_class ds base (class.CoreClass' at name p body) = class_statement ds base name at.line (block [] body)
+define_class ds base (class.CoreClass' at name p body) = class_statement ds base name at.line (core_block_body [] body)
 
 -- a `try`, which guards its block on its line
 abbrev pub try_at : List Layer → CoreBlock → CoreGuard → CorePart
-try_at ls body g p s k = try_statement (block (Guard g p.line ∷ ls) body) (handlings ls (handlers_in g)) (block ls (other_in g)) (block ls (last_in g)) p s k
+try_at ls body g p s k = try_statement (core_block_body (Guard g p.line ∷ ls) body) (handlings ls (handlers_in g)) (core_block_body ls (other_in g)) (core_block_body ls (last_in g)) p s k
 
 -- WHAT A STATEMENT DOES, its step being taken
 abbrev pub statement_at : List Layer → CoreStmtKind → CorePart
@@ -192,22 +192,22 @@ statement_at ls (v.Yield e u) = yield_value (some_part e) (Receives u.value ∷ 
 statement_at ls v.Pass = pass
 statement_at ls v.Break = leave_loop
 statement_at ls v.Continue = next_turn
-statement_at ls (f.If' p n branches q other) = choose (choices ls (items-the_row-CoreBranch _ branches)) (block ls other)
+statement_at ls (f.If' p n branches q other) = choose (choices ls (items-the_row-CoreBranch _ branches)) (core_block_body ls other)
 statement_at ls (f.While' e p body) = loop (TurnOf e.value body) (eval e.value)
 statement_at ls (f.Def' ds es p fn) = define_fn (parts_of ds.value.items) (parts_of es.value.items) fn
 statement_at ls (v.Raise e) = raise_value entry (some_part e)
 statement_at ls (v.Del t) = delete_at t.kind
 statement_at ls (f.For' t e p body) = for_statement (ForOf t.value body) (eval e.value)
 statement_at ls (f.Try' p body q g) = try_at ls body g
-statement_at ls (f.With' e name p body) = with_statement (eval e.value) name (block [] body)
+statement_at ls (f.With' e name p body) = with_statement (eval e.value) name (core_block_body [] body)
 statement_at ls (f.Class' ds base p c) = define_class (parts_of ds.value.items) (some_part base) c
 statement_at ls (v.Import names alias) = import_statement core_body names.value.items alias
 statement_at ls (v.ImportFrom names all) = import_from core_body names.value.items all.value.items
 
-abbrev pub statement : List Layer → CoreStmt → CorePart
-statement ls st = statement_at ls st.kind
+abbrev pub core_statement : List Layer → CoreStmt → CorePart
+core_statement ls st = statement_at ls st.kind
 
-abbrev pub act : Turn → CorePart
-act (StatementOf ls st) = statement ls st
-act (TurnOf e body) = turn_of (TurnOf e body) (eval e) (block [] body)
-act (ForOf t body at) = for_turn (ForOf t body) (store t) (block [] body) at
+abbrev pub act : CoreTurn → CorePart
+act (StatementOf ls st) = core_statement ls st
+act (TurnOf e body) = turn_of (TurnOf e body) (eval e) (core_block_body [] body)
+act (ForOf t body at) = for_turn (ForOf t body) (store t) (core_block_body [] body) at

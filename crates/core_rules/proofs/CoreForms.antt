@@ -33,14 +33,14 @@ use Rattle.core_meaning.specs.py_core.declared.stmt.CoreSingle.{CoreSingle}
 use Rattle.core_meaning.specs.py_core.Blocks.{stmts_in, handlers_in, other_in, last_in}
 use Rattle.core_meaning.specs.py_core.declared.stmt.CoreStmtKind.TheVariants as k
 use Rattle.py_tree.specs.Trees as Rattle_tree
-use Rattle.core_meaning.specs.Requests.{core_kinds, Layer, Statements, Guard, Receives, Turn, StatementOf, TurnOf, ForOf}
+use Rattle.core_meaning.specs.Requests.{core_kinds, Layer, Statements, Guard, Receives, CoreTurn, StatementOf, TurnOf, ForOf}
 use Rattle.core_meaning.specs.Meaning.{core}
 use Rattle.core_meaning.specs.Expressions.{CorePart, eval_at, eval, parts, parts_of, held}
-use Rattle.core_meaning.specs.Statements.{remains, store_at, store_singles, store, stores, use_of, augment_at, delete_at, some_part, failure, begun_at, block_from, block, handlings, guard, choices, core_body, written, define_fn, define_class, try_at, statement_at, statement, act, entry}
-use Rattle.source_meaning.specs.py_world.World.{State}
+use Rattle.core_meaning.specs.Statements.{remains, store_at, store_singles, store, stores, use_of, augment_at, delete_at, some_part, failure, begun_at, block_from, core_block_body, handlings, guard, choices, core_body, written, define_fn, define_class, try_at, statement_at, core_statement, act, entry}
+use Rattle.source_meaning.specs.py_world.World.{CallState}
 use Rattle.source_meaning.specs.py_world.Site.{Around, Scene, Site, site}
 use Rattle.source_meaning.specs.py_world.Arguments.{Arguments, arguments_of}
-use Rattle.source_meaning.specs.py_world.Outcome.{Then}
+use Rattle.source_meaning.specs.py_world.Outcome.{Continuation}
 use Rattle.source_meaning.specs.py_world.Calls.{invoke, body_of}
 use Rattle.core_rules.proofs.LinearFlow as flow
 use Rattle.core_rules.proofs.LinearClasses as more
@@ -148,7 +148,7 @@ from_linear : (ls : List Layer) (b : CoreBlock) (at : ℕ) (ss : List CoreStmt) 
 from_linear ls b at [] = record { does = λ scene s k l. refl }
 from_linear ls b at (st ∷ rest) = record { does = λ scene s k l. line.then_linear (begun_linear st.kind (Statements b (at + 1) ∷ ls) st) (site scene st.at.line) s _ _ l (line.next_bind k l _ _ (λ s. (from_linear ls b (at + 1) rest).does scene s k l)) }
 
-block_linear : (ls : List Layer) (b : CoreBlock) → LinearBody (block ls b)
+block_linear : (ls : List Layer) (b : CoreBlock) → LinearBody (core_block_body ls b)
 block_linear ls b = record { does = λ scene s k l. (from_linear ls b 0 (stmts_in b)).does scene s k l }
 
 handlings_linear : (ls : List Layer) (hs : List handler.CoreHandler) → flow.LinearHandlers (handlings ls hs)
@@ -208,7 +208,7 @@ statement_linear ls (c.Class' ds base p x) = class_linear ds.value.items base x
 statement_linear ls (k.Import names alias) = more.import_linear core_body (λ code. block_linear [] code.body.value) names.value.items alias
 statement_linear ls (k.ImportFrom names all) = more.from_linear core_body (λ code. block_linear [] code.body.value) names.value.items all.value.items
 
-act_linear : (what : Turn) → Linear (act what)
+act_linear : (what : CoreTurn) → Linear (act what)
 act_linear (StatementOf ls st) = statement_linear ls st.kind
 act_linear (TurnOf e body) = line.turn_linear _ (eval_linear e.at e.kind) (block_linear [] body)
 act_linear (ForOf t body at) = flow.for_turn_linear (ForOf t body) (store_linear t) (block_linear [] body) at
@@ -216,14 +216,14 @@ act_linear (ForOf t body at) = flow.for_turn_linear (ForOf t body) (store_linear
 core_linear : LinearMeaning core
 core_linear = record { entries = entry_linear; acts = act_linear; bodies = λ code. block_linear [] code.body.value; remains = remains_linear }
 
-pub expressions : (e : CoreExpr) (p : Site) (s : State core_kinds) (k : Then core_kinds) (budget : ℕ) → run (body_of core) budget (eval e p s k) ≡ follow (body_of core) (run (body_of core) budget (eval e p s Done)) k
+pub expressions : (e : CoreExpr) (p : Site) (s : CallState core_kinds) (k : Continuation core_kinds) (budget : ℕ) → run (body_of core) budget (eval e p s k) ≡ follow (body_of core) (run (body_of core) budget (eval e p s Done)) k
 expressions e p s k budget = line.part_runs core core_linear (eval_linear e.at e.kind) p s k budget
 
-pub statements : (ls : List Layer) (st : CoreStmt) (p : Site) (s : State core_kinds) (k : Then core_kinds) (budget : ℕ) → run (body_of core) budget (statement ls st p s k) ≡ follow (body_of core) (run (body_of core) budget (statement ls st p s Done)) k
+pub statements : (ls : List Layer) (st : CoreStmt) (p : Site) (s : CallState core_kinds) (k : Continuation core_kinds) (budget : ℕ) → run (body_of core) budget (core_statement ls st p s k) ≡ follow (body_of core) (run (body_of core) budget (core_statement ls st p s Done)) k
 statements ls st p s k budget = line.part_runs core core_linear (statement_linear ls st.kind) p s k budget
 
-pub blocks : (ls : List Layer) (b : CoreBlock) (scene : Scene) (s : State core_kinds) (k : Then core_kinds) (budget : ℕ) → run (body_of core) budget (block ls b scene s k) ≡ follow (body_of core) (run (body_of core) budget (block ls b scene s Done)) k
+pub blocks : (ls : List Layer) (b : CoreBlock) (scene : Scene) (s : CallState core_kinds) (k : Continuation core_kinds) (budget : ℕ) → run (body_of core) budget (core_block_body ls b scene s k) ≡ follow (body_of core) (run (body_of core) budget (core_block_body ls b scene s Done)) k
 blocks ls b scene s k budget = line.body_runs core core_linear (block_linear ls b) scene s k budget
 
-pub calls : (callee : Value) (args : Arguments) (a : Around) (s : State core_kinds) (k : Then core_kinds) (budget : ℕ) → run (body_of core) budget (invoke entry callee args a s k) ≡ follow (body_of core) (run (body_of core) budget (invoke entry callee args a s Done)) k
+pub calls : (callee : Value) (args : Arguments) (a : Around) (s : CallState core_kinds) (k : Continuation core_kinds) (budget : ℕ) → run (body_of core) budget (invoke entry callee args a s k) ≡ follow (body_of core) (run (body_of core) budget (invoke entry callee args a s Done)) k
 calls callee args a s k budget = line.call_runs core core_linear callee args a s k budget

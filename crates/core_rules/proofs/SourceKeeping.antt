@@ -7,11 +7,11 @@ use Rattle.py_tree.specs.Statements as st
 use Rattle.py_tree.specs.Statements.{Statement, Block, Branches, Handlers, Place, NamePlace, AttributePlace, SubscriptPlace, Taker, One, Unpack, Parameter, Parameter_at}
 use Rattle.py_values.specs.declared.value.Value.TheVariants as val
 use Rattle.source_meaning.specs.py_kinds.Truth.{truth}
-use Rattle.source_meaning.specs.Requests.{source_kinds, Use, NoUse, Targets, ReturnIt, Layer, Statements, Guard, Receives, Turn, StatementOf, TurnOf, ForOf, Function, Script}
-use Rattle.source_meaning.specs.Meaning.{source}
+use Rattle.source_meaning.specs.Requests.{source_kinds, Use, NoUse, Targets, ReturnIt, SourceLayer, Statements, Guard, Receives, SourceTurn, StatementOf, TurnOf, ForOf, Function, Script}
+use Rattle.source_meaning.specs.Meaning.{source_semantics}
 use Rattle.source_meaning.specs.Watched.{watch, watch_all}
 use Rattle.source_meaning.specs.Expressions.{SourcePart, eval, parts, some_part}
-use Rattle.source_meaning.specs.Statements.{SourceBody, SourceChoice, SourceHandling, position, store_place, store_places, store, stores, use_of, augment, delete, assert, assert_as, handlings, guard, remains, listed, sequence, choices, script_body, written, with_part, default_parts, try_at, statement, act, entry}
+use Rattle.source_meaning.specs.Statements.{SourceBody, SourceChoice, SourceHandling, position, store_place, store_places, source_store, source_stores, source_use, augment, delete, source_assert, assert_as, source_handlings, source_guard, source_remains, statements_listed, source_sequence, source_choices, script_body, source_written, with_part, default_parts, source_try, source_statement, source_act, source_entry}
 use Rattle.source_meaning.specs.py_world.World.{World, heap_of, unset}
 use Rattle.source_meaning.specs.py_world.Site.{site}
 use Rattle.source_meaning.specs.py_world.Arguments.{arguments_of}
@@ -79,15 +79,15 @@ module _ (Good : World source_kinds → Type 0) (Fresh : List ℕ → Type 0) (c
   places_kept [] = flow.nil
   places_kept (p ∷ ps) = flow.cons (place_kept p) (places_kept ps)
 
-  store_kept : (x : Taker) → flow.StoreKept Good Fresh closed (store x)
+  store_kept : (x : Taker) → flow.StoreKept Good Fresh closed (source_store x)
   store_kept (One p) = place_kept p
   store_kept (Unpack ps) = flow.unpack_kept Good Fresh closed (places_kept ps)
 
-  stores_kept : (xs : List Taker) → flow.StoresKept Good Fresh closed (stores xs)
+  stores_kept : (xs : List Taker) → flow.StoresKept Good Fresh closed (source_stores xs)
   stores_kept [] = flow.nil
   stores_kept (x ∷ xs) = flow.cons (store_kept x) (stores_kept xs)
 
-  use_kept : (u : Use) → flow.StoreKept Good Fresh closed (use_of u)
+  use_kept : (u : Use) → flow.StoreKept Good Fresh closed (source_use u)
   use_kept NoUse = flow.no_use_kept Good Fresh closed
   use_kept (Targets ts) = flow.all_stored_kept Good Fresh closed (stores_kept ts)
   use_kept ReturnIt = flow.return_sent_kept Good Fresh closed
@@ -130,52 +130,52 @@ module _ (Good : World source_kinds → Type 0) (Fresh : List ℕ → Type 0) (c
     watch_all_kept n Empty = keep.nil
     watch_all_kept n (More es e) = all_more (watch_all_kept n es) (watch_kept _ e)
 
-  assert_kept : {e f : SourcePart} → PartKept e → PartKept f → PartKept (assert e f)
+  assert_kept : {e f : SourcePart} → PartKept e → PartKept f → PartKept (source_assert e f)
   assert_kept e f = record { does = λ p s g k h. e.does p (unset s) g _ (keep.value_kept Good Fresh closed k h _ (λ v s g. keep.if_kept Good Fresh closed (truth (heap_of s) v) _ _ (h _ g) (f.does p s g k h))) }
 
   assert_as_kept : (x : Bool) (e : Tree) {m : Option SourcePart} → keep.SomeKept Good Fresh closed m → PartKept (assert_as x e m)
   assert_as_kept true e m = assert_kept (watch_kept 0 e) (keep.explained_kept Good Fresh closed e m)
   assert_as_kept false e m = assert_kept (eval_kept e) (keep.fail_kept Good Fresh closed m)
 
-  sequence_kept : (x : Bool) (ls : List Layer) (ss : List Statement) → BodyKept (sequence x ls ss)
+  sequence_kept : (x : Bool) (ls : List SourceLayer) (ss : List Statement) → BodyKept (source_sequence x ls ss)
   sequence_kept x ls [] = record { does = λ scene s g k h. h _ g }
-  sequence_kept x ls (st ∷ rest) = record { does = λ scene s g k h. (keep.asked_kept Good Fresh closed (StatementOf x (Statements x rest ∷ ls) st)).does (site scene (position st).line) s g (λ o. on_next o k (λ s. sequence x ls rest scene s k)) (keep.next_kept Good Fresh closed k h (λ s. sequence x ls rest scene s k) (λ s g. (sequence_kept x ls rest).does scene s g k h)) }
+  sequence_kept x ls (st ∷ rest) = record { does = λ scene s g k h. (keep.asked_kept Good Fresh closed (StatementOf x (Statements x rest ∷ ls) st)).does (site scene (position st).line) s g (λ o. on_next o k (λ s. source_sequence x ls rest scene s k)) (keep.next_kept Good Fresh closed k h (λ s. source_sequence x ls rest scene s k) (λ s g. (sequence_kept x ls rest).does scene s g k h)) }
 
   handlers_more : {hs : List SourceHandling} → flow.HandlersKept Good Fresh closed hs → {class : Option SourcePart} → keep.SomeKept Good Fresh closed class → (name : Option (List ℕ)) {b : SourceBody} → BodyKept b → flow.HandlersKept Good Fresh closed (hs ++ (class, (name, b)) ∷ [])
   handlers_more flow.nil class name b = flow.cons name class b flow.nil
   handlers_more (flow.cons n c x hs) class name b = flow.cons n c x (handlers_more hs class name b)
 
-  handlings_kept : (x : Bool) (ls : List Layer) (hs : Handlers) → flow.HandlersKept Good Fresh closed (handlings x ls hs)
+  handlings_kept : (x : Bool) (ls : List SourceLayer) (hs : Handlers) → flow.HandlersKept Good Fresh closed (source_handlings x ls hs)
   handlings_kept x ls st.NoHandler = flow.nil
-  handlings_kept x ls (st.Handler before at class name body) = handlers_more (handlings_kept x ls before) (some_kept class) name (sequence_kept x ls (listed body))
+  handlings_kept x ls (st.Handler before at class name body) = handlers_more (handlings_kept x ls before) (some_kept class) name (sequence_kept x ls (statements_listed body))
 
-  guard_kept : (x : Bool) (ls : List Layer) (hs : Handlers) (other last : List Statement) → AfterKept (guard x ls hs other last)
+  guard_kept : (x : Bool) (ls : List SourceLayer) (hs : Handlers) (other last : List Statement) → AfterKept (source_guard x ls hs other last)
   guard_kept x ls hs other last = flow.guarded_kept Good Fresh closed (handlings_kept x ls hs) (sequence_kept x ls other) (sequence_kept x ls last)
 
-  remains_kept : (ls : List Layer) → AfterKept (remains ls)
+  remains_kept : (ls : List SourceLayer) → AfterKept (source_remains ls)
   remains_kept [] = record { does = λ p o g k h. h o g }
   remains_kept (Statements x ss ∷ ls) =
-      record { does = λ p o g k h. keep.next_kept Good Fresh closed (λ o. remains ls p o k) (λ o g. (remains_kept ls).does p o g k h) (λ s. sequence x ls ss p.scene s (λ o. remains ls p o k)) (λ s g. (sequence_kept x ls ss).does p.scene s g (λ o. remains ls p o k) (λ o g. (remains_kept ls).does p o g k h)) o g }
-  remains_kept (Guard x n hs other last ∷ ls) = record { does = λ p o g k h. (guard_kept x ls hs other last).does (site p.scene n) o g (λ o. remains ls p o k) (λ o g. (remains_kept ls).does p o g k h) }
-  remains_kept (Receives u ∷ ls) = record { does = λ p o g k h. (flow.received_kept Good Fresh closed (use_kept u)).does p o g (λ o. remains ls p o k) (λ o g. (remains_kept ls).does p o g k h) }
+      record { does = λ p o g k h. keep.next_kept Good Fresh closed (λ o. source_remains ls p o k) (λ o g. (remains_kept ls).does p o g k h) (λ s. source_sequence x ls ss p.scene s (λ o. source_remains ls p o k)) (λ s g. (sequence_kept x ls ss).does p.scene s g (λ o. source_remains ls p o k) (λ o g. (remains_kept ls).does p o g k h)) o g }
+  remains_kept (Guard x n hs other last ∷ ls) = record { does = λ p o g k h. (guard_kept x ls hs other last).does (site p.scene n) o g (λ o. source_remains ls p o k) (λ o g. (remains_kept ls).does p o g k h) }
+  remains_kept (Receives u ∷ ls) = record { does = λ p o g k h. (flow.received_kept Good Fresh closed (use_kept u)).does p o g (λ o. source_remains ls p o k) (λ o g. (remains_kept ls).does p o g k h) }
 
-  try_at_kept : (x : Bool) (ls : List Layer) (body : Block) (hs : Handlers) (other last : List Statement) → PartKept (try_at x ls body hs other last)
+  try_at_kept : (x : Bool) (ls : List SourceLayer) (body : Block) (hs : Handlers) (other last : List Statement) → PartKept (source_try x ls body hs other last)
   try_at_kept x ls body hs other last =
-      record { does = λ p s g k h. (flow.try_kept Good Fresh closed (sequence_kept x (Guard x p.line hs other last ∷ ls) (listed body)) (handlings_kept x ls hs) (sequence_kept x ls other) (sequence_kept x ls last)).does p s g k h }
+      record { does = λ p s g k h. (flow.try_kept Good Fresh closed (sequence_kept x (Guard x p.line hs other last ∷ ls) (statements_listed body)) (handlings_kept x ls hs) (sequence_kept x ls other) (sequence_kept x ls last)).does p s g k h }
 
   choices_more : {xs : List SourceChoice} → keep.ChoicesKept Good Fresh closed xs → (n : ℕ) {e : SourcePart} {b : SourceBody} → PartKept e → BodyKept b → keep.ChoicesKept Good Fresh closed (xs ++ (n, (e, b)) ∷ [])
   choices_more keep.nil n e b = keep.cons n e b keep.nil
   choices_more (keep.cons m x y xs) n e b = keep.cons m x y (choices_more xs n e b)
 
-  choices_kept : (x : Bool) (ls : List Layer) (bs : Branches) → keep.ChoicesKept Good Fresh closed (choices x ls bs)
+  choices_kept : (x : Bool) (ls : List SourceLayer) (bs : Branches) → keep.ChoicesKept Good Fresh closed (source_choices x ls bs)
   choices_kept x ls st.NoBranch = keep.nil
-  choices_kept x ls (st.Branch before at e b) = choices_more (choices_kept x ls before) at.line (eval_kept e) (sequence_kept x ls (listed b))
+  choices_kept x ls (st.Branch before at e b) = choices_more (choices_kept x ls before) at.line (eval_kept e) (sequence_kept x ls (statements_listed b))
 
-  pub entry_kept : (x : Function) → BodyKept (entry x).body
-  entry_kept x = sequence_kept x.explains [] (listed x.body)
+  pub entry_kept : (x : Function) → BodyKept (source_entry x).body
+  entry_kept x = sequence_kept x.explains [] (statements_listed x.body)
 
   pub script_kept : (m : Script) → BodyKept (script_body m)
-  script_kept m = sequence_kept m.explains [] (listed m.body)
+  script_kept m = sequence_kept m.explains [] (statements_listed m.body)
 
   with_kept : (default : Maybe) {es : List SourcePart} → PartsKept es → PartsKept (with_part default es)
   with_kept Absent es = es
@@ -185,7 +185,7 @@ module _ (Good : World source_kinds → Type 0) (Fresh : List ℕ → Type 0) (c
   defaults_kept [] = keep.nil
   defaults_kept (Parameter_at at name annotation default ∷ ps) = with_kept default (defaults_kept ps)
 
-  statement_kept : (z : Bool) (ls : List Layer) (x : Statement) → PartKept (statement z ls x)
+  statement_kept : (z : Bool) (ls : List SourceLayer) (x : Statement) → PartKept (source_statement z ls x)
   statement_kept z ls (st.Do at e) = keep.expression_kept Good Fresh closed (eval_kept e)
   statement_kept z ls (st.Assign at ts e) = flow.assign_kept Good Fresh closed (stores_kept ts) (eval_kept e)
   statement_kept z ls (st.AugAssign at p op e) = augment_kept p op (eval_kept e)
@@ -195,26 +195,26 @@ module _ (Good : World source_kinds → Type 0) (Fresh : List ℕ → Type 0) (c
   statement_kept z ls (st.Pass at) = keep.pass_kept Good Fresh closed
   statement_kept z ls (st.Break at) = keep.leave_kept Good Fresh closed
   statement_kept z ls (st.Continue at) = keep.again_kept Good Fresh closed
-  statement_kept z ls (st.If at bs other) = keep.choose_kept Good Fresh closed (choices_kept z ls bs) (sequence_kept z ls (listed other))
+  statement_kept z ls (st.If at bs other) = keep.choose_kept Good Fresh closed (choices_kept z ls bs) (sequence_kept z ls (statements_listed other))
   statement_kept z ls (st.While at e body) = keep.loop_kept Good Fresh closed _ (eval_kept e)
-  statement_kept z ls (st.Def at ds word name params returns body) = more.define_kept Good Fresh closed (parts_kept ds) (defaults_kept params) (written params) name word.line _ _
+  statement_kept z ls (st.Def at ds word name params returns body) = more.define_kept Good Fresh closed (parts_kept ds) (defaults_kept params) (source_written params) name word.line _ _
   statement_kept z ls (st.AssignYield at ts word e) = keep.yield_kept Good Fresh closed (some_kept e) (Receives (Targets ts) ∷ ls)
   statement_kept z ls (st.ReturnYield at word e) = keep.yield_kept Good Fresh closed (some_kept e) (Receives ReturnIt ∷ ls)
-  statement_kept z ls (st.Raise at e) = more.raise_kept Good Fresh closed entry entry_kept (some_kept e)
+  statement_kept z ls (st.Raise at e) = more.raise_kept Good Fresh closed source_entry entry_kept (some_kept e)
   statement_kept z ls (st.Del at p) = delete_kept p
   statement_kept z ls (st.YieldOf at word e) = keep.yield_kept Good Fresh closed (some_kept e) (Receives NoUse ∷ ls)
   statement_kept z ls (st.Import at names alias) = more.import_kept Good Fresh closed script_body script_kept names alias
   statement_kept z ls (st.ImportFrom at names all) = more.from_kept Good Fresh closed script_body script_kept names all
   statement_kept z ls (st.For at x e body) = flow.for_kept Good Fresh closed (ForOf z x body) (eval_kept e)
-  statement_kept z ls (st.Try at body hs other final) = try_at_kept z ls body hs (listed other) (listed final)
-  statement_kept z ls (st.With at e name body) = flow.with_kept Good Fresh closed name (eval_kept e) (sequence_kept z [] (listed body))
-  statement_kept z ls (st.Class at ds word name base body) = more.class_kept Good Fresh closed (parts_kept ds) (some_kept base) name word.line (sequence_kept z [] (listed body))
+  statement_kept z ls (st.Try at body hs other final) = try_at_kept z ls body hs (statements_listed other) (statements_listed final)
+  statement_kept z ls (st.With at e name body) = flow.with_kept Good Fresh closed name (eval_kept e) (sequence_kept z [] (statements_listed body))
+  statement_kept z ls (st.Class at ds word name base body) = more.class_kept Good Fresh closed (parts_kept ds) (some_kept base) name word.line (sequence_kept z [] (statements_listed body))
 
-  act_kept : (what : Turn) → PartKept (act what)
+  act_kept : (what : SourceTurn) → PartKept (source_act what)
   act_kept (StatementOf z ls x) = statement_kept z ls x
-  act_kept (TurnOf z e body) = keep.turn_of_kept Good Fresh closed _ (eval_kept e) (sequence_kept z [] (listed body))
-  act_kept (ForOf z x body at) = flow.for_turn_kept Good Fresh closed (ForOf z x body) (store_kept x) (sequence_kept z [] (listed body)) at
+  act_kept (TurnOf z e body) = keep.turn_of_kept Good Fresh closed _ (eval_kept e) (sequence_kept z [] (statements_listed body))
+  act_kept (ForOf z x body at) = flow.for_turn_kept Good Fresh closed (ForOf z x body) (store_kept x) (sequence_kept z [] (statements_listed body)) at
 
   -- THE MEANING OF SOURCES keeps what is closed under what the forms do
-  pub source_kept : keep.MeaningKept Good Fresh closed source
+  pub source_kept : keep.MeaningKept Good Fresh closed source_semantics
   source_kept = record { entries = entry_kept; acts = act_kept; bodies = script_kept; remains = remains_kept }

@@ -16,9 +16,9 @@ use Rattle.source_meaning.specs.py_world.Outcome.{Outcome, Spent, Paused, Rest, 
 use Rattle.source_meaning.specs.py_world.Calls.{body_of}
 use Rattle.source_meaning.specs.py_world.Runs.{Told, told_by, ended_by, ended_spent, start, function_and, begun_by_runner}
 use Rattle.source_meaning.specs.py_world.Resuming.{Sent, SentValue, SentThrow, ToldBegun, frame_at, frozen_at, frozen_of, abandon_of, begun_over, begun_yielded, begun_by, sent_end, begin_arguments, begun_of, body_begun, function_opened, object_opened, opened_by_runner, resumed, resumed_by}
-use Rattle.source_meaning.specs.Requests.{source_kinds, Layer, Function}
-use Rattle.source_meaning.specs.Statements.{entry}
-use Rattle.source_meaning.specs.Meaning.{SourceWorld, source, source_begin, source_resume}
+use Rattle.source_meaning.specs.Requests.{source_kinds, SourceLayer, Function}
+use Rattle.source_meaning.specs.Statements.{source_entry}
+use Rattle.source_meaning.specs.Meaning.{SourceWorld, source_semantics, source_begin, source_resume}
 use Rattle.core_rules.specs.Keeps.{IsKeptIn, IsKeptBehind}
 use Rattle.core_rules.proofs.Keeping as keep
 use Rattle.core_rules.proofs.SourceKeeping.{entry_kept as source_entries, source_kept}
@@ -49,7 +49,7 @@ module _ (w : SourceWorld) where
       let h : IsKeptIn w f.state.world = run_kept_in w f.state.world g in
       record {
         kept = record { sources = h.sources; frozen = refl; objects = h.objects; codes = h.codes; printed = h.printed; loaded = h.loaded; failed = h.failed; known = h.known };
-        frames = (frozen_of f, ap length h.frozen, ap (λ (fs : List (Option (Frozen (List Layer)))). fs ++ Some (frozen_of f) ∷ []) h.frozen);
+        frames = (frozen_of f, ap length h.frozen, ap (λ (fs : List (Option (Frozen (List SourceLayer)))). fs ++ Some (frozen_of f) ∷ []) h.frozen);
       }
 
   behind : (budget : ℕ) (e : SourceEnding) → kept.KeptEnding (keep.GoodSpent (IsRunFrom w) (Fresh w) (run_from w)) (keep.GoodRequest (IsRunFrom w) (Fresh w) (run_from w)) (keep.GoodEnd (IsRunFrom w) (Fresh w) (run_from w)) (keep.GoodPaused (IsRunFrom w) (Fresh w) (run_from w)) e → IsKeptBehind w w.frozen (begun_by budget e)
@@ -57,30 +57,30 @@ module _ (w : SourceWorld) where
   behind budget (tree.Spent x) g = over_behind (ended_spent budget x) (spent_told budget x g)
   behind budget (tree.Frozen f left) g = yielded_behind f (budget - left) g
 
-  run_behind : (budget : ℕ) (t : Rest source_kinds) → Kept t → IsKeptBehind w w.frozen (begun_of source budget t)
-  run_behind budget t h = behind budget _ (run_kept _ _ _ _ (body_of source) (keep.requests_kept (IsRunFrom w) (Fresh w) (run_from w) source (source_kept (IsRunFrom w) (Fresh w) (run_from w))) budget t h)
+  run_behind : (budget : ℕ) (t : Rest source_kinds) → Kept t → IsKeptBehind w w.frozen (begun_of source_semantics budget t)
+  run_behind budget t h = behind budget _ (run_kept _ _ _ _ (body_of source_semantics) (keep.requests_kept (IsRunFrom w) (Fresh w) (run_from w) source_semantics (source_kept (IsRunFrom w) (Fresh w) (run_from w))) budget t h)
 
   -- a begin
-  called_kept : (f : Value) (args : List Value) → Kept (begun_by_runner source f args (start w))
+  called_kept : (f : Value) (args : List Value) → Kept (begun_by_runner source_semantics f args (start w))
   called_kept f args = runs.begun_kept (IsRunFrom w) (IsKeptIn w) (Fresh w) (run_from w) (run_kept_in w) spent_told f args w (run_from-refl w)
 
-  body_kept : (st : Stored Function) (r : Result Locals Raise) (at : List TraceFrame) → Kept (body_begun source st r at (start w))
-  body_kept st (Ok names) at = keep.entered_kept (IsRunFrom w) (Fresh w) (run_from w) entry (source_entries (IsRunFrom w) (Fresh w) (run_from w)) st (Ok names) no_call (start w) (run_from-refl w) (λ o. Done (call_end (start w) o)) (λ o d. keep.call_end_kept (IsRunFrom w) (Fresh w) (run_from w) (start w) o d)
+  body_kept : (st : Stored Function) (r : Result Locals Raise) (at : List TraceFrame) → Kept (body_begun source_semantics st r at (start w))
+  body_kept st (Ok names) at = keep.entered_kept (IsRunFrom w) (Fresh w) (run_from w) source_entry (source_entries (IsRunFrom w) (Fresh w) (run_from w)) st (Ok names) no_call (start w) (run_from-refl w) (λ o. Done (call_end (start w) o)) (λ o d. keep.call_end_kept (IsRunFrom w) (Fresh w) (run_from w) (start w) o d)
   body_kept st (Err r) at = keep.raised_kept (IsRunFrom w) (Fresh w) (run_from w) r at (start w) (run_from-refl w)
 
   kept_cond : (b : Bool) (t u : Rest source_kinds) → Kept t → Kept u → Kept (cond b t u)
   kept_cond true t u h g = h
   kept_cond false t u h g = g
 
-  function_kept : (c : Option (Stored Function)) (x : FunctionObj) (all : List Value) (f : Value) (args : List Value) → Kept (function_opened source c x all f args (start w))
+  function_kept : (c : Option (Stored Function)) (x : FunctionObj) (all : List Value) (f : Value) (args : List Value) → Kept (function_opened source_semantics c x all f args (start w))
   function_kept None x all f args = called_kept f args
   function_kept (Some st) x all f args = kept_cond x.yields _ _ (body_kept st (begin_arguments x all) (frame x.path x.line x.name ∷ [])) (called_kept f args)
 
-  object_kept : (o : Option (FunctionObj × List Value)) (f : Value) (args : List Value) → Kept (object_opened source o f args (start w))
+  object_kept : (o : Option (FunctionObj × List Value)) (f : Value) (args : List Value) → Kept (object_opened source_semantics o f args (start w))
   object_kept (Some x) f args = function_kept (slice_get w.codes x.0.code) x.0 x.1 f args
   object_kept None f args = called_kept f args
 
-  opened_kept : (f : Value) (args : List Value) → Kept (opened_by_runner source f args (start w))
+  opened_kept : (f : Value) (args : List Value) → Kept (opened_by_runner source_semantics f args (start w))
   opened_kept (val.Ref id) args = object_kept (function_and w.heap args (slice_get w.heap id.at)) (val.Ref id) args
   opened_kept val.None args = called_kept val.None args
   opened_kept (val.Bool b) args = called_kept (val.Bool b) args
@@ -91,10 +91,10 @@ module _ (w : SourceWorld) where
   sent_good (SentValue v) locals = run_from-refl w
   sent_good (SentThrow t) locals = run_from-refl w
 
-  remains_kept : (rest : List Layer) → keep.AfterKept (IsRunFrom w) (Fresh w) (run_from w) (source.remains rest)
-  remains_kept rest = let m : keep.MeaningKept (IsRunFrom w) (Fresh w) (run_from w) source = source_kept (IsRunFrom w) (Fresh w) (run_from w) in m.remains rest
+  remains_kept : (rest : List SourceLayer) → keep.AfterKept (IsRunFrom w) (Fresh w) (run_from w) (source_semantics.remains rest)
+  remains_kept rest = let m : keep.MeaningKept (IsRunFrom w) (Fresh w) (run_from w) source_semantics = source_kept (IsRunFrom w) (Fresh w) (run_from w) in m.remains rest
 
-  resumed_kept : (f : Frozen (List Layer)) (sent : Sent) → Kept (resumed source f sent w)
+  resumed_kept : (f : Frozen (List SourceLayer)) (sent : Sent) → Kept (resumed source_semantics f sent w)
   resumed_kept f sent = (remains_kept f.rest).does f.site (sent_end sent (state f.locals [] w)) (sent_good sent f.locals) (λ o. Done (call_end (start w) o)) (λ o d. keep.call_end_kept (IsRunFrom w) (Fresh w) (run_from w) (start w) o d)
 
 -- BEGINS
@@ -102,11 +102,11 @@ pub begins_keep : (w : SourceWorld) (f : Value) (args : List Value) (budget : �
 begins_keep w f args budget = run_behind w budget _ (opened_kept w f args)
 
 -- RESUMPTIONS
-set_absent : (fs : List (Option (Frozen (List Layer)))) (n : ℕ) → frame_at (slice_get fs n) ≡ None → slice_set fs n None ≡ fs
+set_absent : (fs : List (Option (Frozen (List SourceLayer)))) (n : ℕ) → frame_at (slice_get fs n) ≡ None → slice_set fs n None ≡ fs
 set_absent [] n h = refl
 set_absent (None ∷ fs) zero h = refl
 set_absent (Some f ∷ fs) zero h = absurd cc
-set_absent (f ∷ fs) (suc n) h = ap (λ (gs : List (Option (Frozen (List Layer)))). f ∷ gs) (set_absent fs n h)
+set_absent (f ∷ fs) (suc n) h = ap (λ (gs : List (Option (Frozen (List SourceLayer)))). f ∷ gs) (set_absent fs n h)
 
 -- the frame that goes on isn't out any more
 from_abandoned : (w : SourceWorld) (n : ℕ) (t : ToldBegun source_kinds) → IsKeptBehind (abandon_of n w) (abandon_of n w).frozen t → IsKeptBehind w (abandon_of n w).frozen t
@@ -114,7 +114,7 @@ from_abandoned w n t h =
     let k : IsKeptIn (abandon_of n w) (world_with_frozen (abandon_of n w).frozen t.1) = h.kept in
     record { kept = record { sources = k.sources; frozen = refl; objects = k.objects; codes = k.codes; printed = k.printed; loaded = k.loaded; failed = k.failed; known = k.known }; frames = h.frames }
 
-resumes_by : (w : SourceWorld) (f : Option (Frozen (List Layer))) (n : ℕ) (sent : Sent) (budget : ℕ) → frozen_at n w ≡ f → IsKeptBehind w (abandon_of n w).frozen (resumed_by source f n sent budget w)
+resumes_by : (w : SourceWorld) (f : Option (Frozen (List SourceLayer))) (n : ℕ) (sent : Sent) (budget : ℕ) → frozen_at n w ≡ f → IsKeptBehind w (abandon_of n w).frozen (resumed_by source_semantics f n sent budget w)
 resumes_by w None n sent budget is = record { kept = refrozen w w (run_kept_in w w (run_from-refl w)); frames = sym (set_absent w.frozen n is) }
 resumes_by w (Some f) n sent budget is = from_abandoned w n _ (run_behind (abandon_of n w) budget _ (resumed_kept (abandon_of n w) f sent))
 

@@ -14,7 +14,7 @@ use Rattle.py_values.specs.declared.object.Obj.TheVariants as obj
 use Rattle.py_values.specs.declared.value.ObjId.{ObjId}
 use Rattle.py_values.specs.declared.value.Value.{Value}
 use Rattle.py_values.specs.Names.{name_eq}
-use Rattle.py_values.specs.Raises.{raise, thrown, thrown_by, thrown_with}
+use Rattle.py_values.specs.Raises.{text_raise, thrown, thrown_by, thrown_with}
 use Rattle.source_meaning.specs.py_world.declared.load.Load.{Load}
 use Rattle.source_meaning.specs.py_world.declared.load.Load.TheVariants.{Running, Loaded, Failed}
 use Rattle.source_meaning.specs.py_world.declared.trace.TraceFrame.{TraceFrame}
@@ -215,14 +215,14 @@ module _ {K : Kinds} where
   kept_cond false w x y h g = g
 
   pub spent_kept_in : (budget : ℕ) (trace : List TraceFrame) (w x : World K) → IsKeptIn w x → IsKeptIn w (out_of_steps budget trace x)
-  spent_kept_in budget trace w x h = kept_cond (list_any is_running x.modules) w _ _ (running_kept_in w x (raise StepLimit (step_limit budget)) trace h) h
+  spent_kept_in budget trace w x h = kept_cond (list_any is_running x.modules) w _ _ (running_kept_in w x (text_raise StepLimit (step_limit budget)) trace h) h
 
   -- that a path is known is kept too
   pub known_closed : (path : List ℕ) → Closed (λ (w : World K). IsSome (load_at path w.modules)) (λ other. Unit {0})
   known_closed path = record { object = λ w o g. g; change = λ w f at g. g; print = λ w bytes g. g; code = λ w c g. g; trace = λ w at t g. g; fresh = λ w other h g. tt; load = λ w other l f g. known_put path other l w.modules g }
 
   pub known_spent : (path : List ℕ) (budget : ℕ) (trace : List TraceFrame) (w : World K) → IsSome (load_at path w.modules) → IsSome (load_at path (out_of_steps budget trace w).modules)
-  known_spent path budget trace w g = known_cond (list_any is_running w.modules) _ _ (still_known (thrown (raise StepLimit (step_limit budget)) w.heap).0 trace path _ _ (fails (thrown (raise StepLimit (step_limit budget)) w.heap).0 trace path w.modules) g) g where
+  known_spent path budget trace w g = known_cond (list_any is_running w.modules) _ _ (still_known (thrown (text_raise StepLimit (step_limit budget)) w.heap).0 trace path _ _ (fails (thrown (text_raise StepLimit (step_limit budget)) w.heap).0 trace path w.modules) g) g where
     known_cond : (b : Bool) (x y : World K) → IsSome (load_at path x.modules) → IsSome (load_at path y.modules) → IsSome (load_at path (cond b x y).modules)
     known_cond true x y h g = h
     known_cond false x y h g = g

@@ -1,13 +1,13 @@
 -- What an end of a part is, for what is said of exceptions.
 use Rattle.std.specs.Prelude.{List, Option, Some, None}
 use Rattle.source_meaning.specs.py_world.declared.trace.TraceFrame.{TraceFrame}
-use Rattle.source_meaning.specs.py_world.World.{Kinds, State}
+use Rattle.source_meaning.specs.py_world.World.{Kinds, CallState}
 use Rattle.source_meaning.specs.py_world.Site.{Scene, scene_handling}
 use Rattle.source_meaning.specs.py_world.Outcome.{Outcome, Gave, Next, Returned, Broke, Continued, Raised}
 
 module _ {K : Kinds} where
   -- the state behind an end
-  abbrev pub state_behind : Outcome K → State K
+  abbrev pub state_behind : Outcome K → CallState K
   state_behind (Gave v s) = s
   state_behind (Next s) = s
   state_behind (Returned v s) = s
@@ -16,7 +16,7 @@ module _ {K : Kinds} where
   state_behind (Raised e trace s) = s
 
   -- the same end in another state
-  abbrev pub end_in : Outcome K → State K → Outcome K
+  abbrev pub end_in : Outcome K → CallState K → Outcome K
   end_in (Gave v s) r = Gave v r
   end_in (Next s) r = Next r
   end_in (Returned v s) r = Returned v r

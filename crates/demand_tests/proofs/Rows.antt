@@ -1,7 +1,7 @@
 -- A table and a script side by side.
 use Rattle.std.proofs.Common.{◌≡◌, ℕ, ◌<◌, zero, suc, List, [], ◌∷◌, ◌++◌, sym, ap, ◌∙◌, arith, length, map, subst, lit<}
 use Rattle.std.proofs.lemmas.List.{length-map, map-append}
-use Rattle.session_types.specs.Members.{In}
+use Rattle.session_types.specs.Members.{IsMember}
 use Rattle.session_types.specs.declared.scope.Scope.{Scope}
 use Rattle.fixture_table.specs.declared.types.CollectionNode.{CollectionNode}
 use Rattle.fixture_table.specs.declared.types.FixtureDef.{FixtureDef}
@@ -9,7 +9,7 @@ use Rattle.fixture_table.specs.Faults.{Settled}
 use Rattle.fixture_table.specs.Nearest.{def_at}
 use Rattle.fixture_table.specs.Tables.{TableValue}
 use Rattle.fixture_table.specs.Tree.{IsTree, parent_of}
-use Rattle.fixture_instances.specs.Items.{bound_names, item_of}
+use Rattle.fixture_instances.specs.Items.{bound_names, item_for_session}
 use Rattle.fixture_instances.specs.declared.items.BoundValue.{BoundValue}
 use Rattle.fixture_instances.specs.declared.items.ItemRef.{ItemRef}
 use Rattle.setup_stack.specs.Asking.{AreReady, IsReady}
@@ -56,17 +56,17 @@ step_more parts defs p d same e =
     ∙ sym (map-append (λ (q : FixtureDef). q.scope) defs (d ∷ []))))
 
 -- what the closure of an item that binds nothing has is ready
-pub bench_ready : (script : Script) (table : TableValue) (item : ItemRef ℕ) (ids : List ℕ) → IsBench script table → item.bound ≡ [] → ((d : ℕ) → In d ids → d < length table.defs) → Settled table.nodes table.defs item.node [] ids → AreReady (logging script) (item_of table item) (length table.defs) (length script.parts) ids
+pub bench_ready : (script : Script) (table : TableValue) (item : ItemRef ℕ) (ids : List ℕ) → IsBench script table → item.bound ≡ [] → ((d : ℕ) → IsMember d ids → d < length table.defs) → Settled table.nodes table.defs item.node [] ids → AreReady (logging script) (item_for_session table item) (length table.defs) (length script.parts) ids
 bench_ready script table item ids b none within s =
     λ d m.
     closure_ready {L = spoken} (logging script) table item ids (bench_scopes script table b) (same_length script.parts table.defs b.step) within
     (subst (λ (bound : List (BoundValue ℕ)). Settled table.nodes table.defs item.node (bound_names bound) ids) (sym none) s) d m
 
 -- a definition is as ready with the same script and the same table
-pub ready_there : (script other : Script) (table another : TableValue) (item : ItemRef ℕ) (d : ℕ) → script ≡ other → table ≡ another → IsReady (logging other) (item_of another item) (length another.defs) (length other.parts) d → IsReady (logging script) (item_of table item) (length table.defs) (length script.parts) d
+pub ready_there : (script other : Script) (table another : TableValue) (item : ItemRef ℕ) (d : ℕ) → script ≡ other → table ≡ another → IsReady (logging other) (item_for_session another item) (length another.defs) (length other.parts) d → IsReady (logging script) (item_for_session table item) (length table.defs) (length script.parts) d
 ready_there script other table another item d e f r =
-    subst (λ (s : Script). IsReady (logging s) (item_of table item) (length table.defs) (length s.parts) d) (sym e)
-    (subst (λ (t : TableValue). IsReady (logging other) (item_of t item) (length t.defs) (length other.parts) d) (sym f) r)
+    subst (λ (s : Script). IsReady (logging s) (item_for_session table item) (length table.defs) (length s.parts) d) (sym e)
+    (subst (λ (t : TableValue). IsReady (logging other) (item_for_session t item) (length t.defs) (length other.parts) d) (sym f) r)
 
 pub bench_there : (script other : Script) (table another : TableValue) → script ≡ other → table ≡ another → IsBench other another → IsBench script table
 bench_there script other table another e f b =

@@ -62,11 +62,11 @@ resumed LoopsBehind d = Raised (cause.OutOfSteps d)
 abbrev pub finalizer_raised : Part → ℕ → Option Cause
 finalizer_raised part d = if part.fails then Some (cause.InFinalizer d) else None
 
-abbrev pub noted : Done → Log → Log
-noted one w = record w { lines = w.lines ++ one ∷ [] }
+abbrev pub with_log_line : Done → Log → Log
+with_log_line one w = record w { lines = w.lines ++ one ∷ [] }
 
-abbrev pub given_up : ℕ → Log → Log
-given_up rest w = record w { last = Some rest; before = w.last }
+abbrev pub rest_given_up : ℕ → Log → Log
+rest_given_up rest w = record w { last = Some rest; before = w.last }
 
 abbrev pub logging : Script → Rules spoken
 logging script =
@@ -77,13 +77,13 @@ logging script =
       make_instance = λ item w. record { answer = None; world = w };
       make_item = λ item w. record { answer = 0; world = w };
       ask = λ item d param w. record { request = Some d; world = w };
-      begin = λ item d param own values request w. record { how = begun (part_at script.parts d).way d; world = noted (done.Begun d) w };
+      begin = λ item d param own values request w. record { how = begun (part_at script.parts d).way d; world = with_log_line (done.Begun d) w };
       did_not_yield = λ d w. record { thrown = cause.NoYield d; world = w };
-      resume = λ rest w. record { how = resumed (part_at script.parts rest).way rest; world = noted (done.Resumed rest) w };
-      abandon = λ rest w. given_up rest w;
+      resume = λ rest w. record { how = resumed (part_at script.parts rest).way rest; world = with_log_line (done.Resumed rest) w };
+      abandon = λ rest w. rest_given_up rest w;
       yielded_again = λ d w. record { thrown = cause.SecondYield d; world = w };
-      close = λ request w. record { finalizers = request ∷ []; world = noted (done.Closed request) w };
-      finalize = λ f w. record { raised = finalizer_raised (part_at script.parts f) f; world = noted (done.Finalized f) w };
+      close = λ request w. record { finalizers = request ∷ []; world = with_log_line (done.Closed request) w };
+      finalize = λ f w. record { raised = finalizer_raised (part_at script.parts f) f; world = with_log_line (done.Finalized f) w };
       fault = λ item w. record { thrown = cause.InFault item; world = w };
       ask_test = λ item w. record { request = None; world = w };
       test = λ item own values request w. record { raised = None; world = w };

@@ -2,7 +2,7 @@
 
 ghost use Rattle.std.specs.Prelude.{◌≡◌, ◌<◌, [], length, IfOk, OnOk};
 ghost use Rattle.setup_stack.specs.Asking.{AreReady, IsReady};
-ghost use Rattle.fixture_instances.specs.Items.{item_of};
+ghost use Rattle.fixture_instances.specs.Items.{item_for_session};
 ghost use Rattle.demand_tests.specs.Logs.{IsBench, logging, two_items};
 
 use crate::logs::{Cause, Done, Log, Part, Script, Way};
@@ -169,7 +169,7 @@ pub fn end(bench: Bench) -> Log {
 fn demand(bench: &mut Bench, item: &ItemRef<u32>, def: DefId) -> Result<Seq<Cause>, OutOfMemory>
     requires bench { IsBench bench.old.script bench.old.table }
     requires node { item.now.node < 4 }
-    requires ready { IsReady (logging bench.old.script) (item_of bench.old.table item.now) (length bench.old.table.defs) (length bench.old.script.parts) def }
+    requires ready { IsReady (logging bench.old.script) (item_for_session bench.old.table item.now) (length bench.old.table.defs) (length bench.old.script.parts) def }
     ensures script { bench.new.script ≡ bench.old.script }
     ensures table { bench.new.table ≡ bench.old.table }
 {
@@ -195,7 +195,7 @@ fn demand_each(
 ) -> Result<Seq<Cause>, OutOfMemory>
     requires bench { IsBench bench.old.script bench.old.table }
     requires node { item.now.node < 4 }
-    requires ready { AreReady (logging bench.old.script) (item_of bench.old.table item.now) (length bench.old.table.defs) (length bench.old.script.parts) defs.now }
+    requires ready { AreReady (logging bench.old.script) (item_for_session bench.old.table item.now) (length bench.old.table.defs) (length bench.old.script.parts) defs.now }
     ensures script { OnOk result (bench.new.script ≡ bench.old.script) }
     ensures table { OnOk result (bench.new.table ≡ bench.old.table) }
 {
@@ -218,7 +218,7 @@ fn demand_all(
 ) -> Result<Seq<Cause>, OutOfMemory>
     requires bench { IsBench bench.old.script bench.old.table }
     requires node { item.now.node < 4 }
-    requires ready { AreReady (logging bench.old.script) (item_of bench.old.table item.now) (length bench.old.table.defs) (length bench.old.script.parts) defs.now }
+    requires ready { AreReady (logging bench.old.script) (item_for_session bench.old.table item.now) (length bench.old.table.defs) (length bench.old.script.parts) defs.now }
     ensures script { bench.new.script ≡ bench.old.script }
     ensures table { bench.new.table ≡ bench.old.table }
 {

@@ -3,7 +3,8 @@
 //! # What it is for
 //!
 //! `setup_stack` does what the rules of a session say; here stands that this is what pytest's fixture guide says. What is expected is written
-//! down from the guide, not computed: the journal of the world, and the exceptions in order.
+//! down from the guide, not computed: the journal of the world, and the exceptions in order. They stand in a crate of their own, so
+//! that a change of them proves no other crate again.
 //!
 //! # What is proved
 //!
@@ -26,8 +27,6 @@
 //! # What neither shows
 //!
 //! Time.
-//!
-//! They stand in a crate of their own, so that a change of them proves no other crate again.
 #![tactic(auto)]
 
 #[cfg(test)]

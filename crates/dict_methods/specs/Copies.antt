@@ -9,7 +9,7 @@ use Rattle.py_values.specs.Pairs.{find_pair, put_pair}
 use Rattle.py_values.specs.declared.change.Change.TheVariants as change
 use Rattle.py_values.specs.declared.class.ExcClass.TheVariants.{MemoryError}
 use Rattle.py_values.specs.declared.dict.Pair.{Pair}
-use Rattle.py_values.specs.declared.end.Made.TheVariants.{New, Put}
+use Rattle.py_values.specs.declared.end.Effect.TheVariants.{New, Put}
 use Rattle.py_values.specs.declared.key.Atom.{Atom}
 use Rattle.py_values.specs.declared.object.Obj.TheVariants as obj
 use Rattle.py_values.specs.declared.value.ObjId.{ObjId}

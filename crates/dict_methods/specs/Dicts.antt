@@ -4,14 +4,14 @@ use Rattle.call_products.specs.Arguments.{has_none, sole, pair}
 use Rattle.call_products.specs.Products.{plain, wrong}
 use Rattle.call_products.specs.declared.product.Product.{Product}
 use Rattle.dict_methods.specs.Copies.{copy_made, update_made}
-use Rattle.dict_methods.specs.Keyed.{key_args, get_of, pop_of, setdefault_of}
+use Rattle.dict_methods.specs.Keyed.{key_args, get_of, dict_pop, setdefault_of}
 use Rattle.dict_methods.specs.Views.{keys_made, values_made, items_made}
 use Rattle.call_products.specs.py_kinds.Builtins.{dict_method_name}
 use Rattle.py_values.specs.declared.builtin.DictMethod.{DictMethod}
 use Rattle.py_values.specs.declared.builtin.DictMethod.TheVariants as method
 use Rattle.py_values.specs.declared.change.Change.TheVariants as change
 use Rattle.py_values.specs.declared.dict.Pair.{Pair}
-use Rattle.py_values.specs.declared.end.Made.TheVariants.{New, Put}
+use Rattle.py_values.specs.declared.end.Effect.TheVariants.{New, Put}
 use Rattle.py_values.specs.declared.key.Atom.{Atom}
 use Rattle.py_values.specs.declared.object.Obj.{Obj}
 use Rattle.py_values.specs.declared.object.Obj.TheVariants as obj
@@ -20,8 +20,8 @@ use Rattle.py_values.specs.declared.value.Value.{Value}
 use Rattle.py_values.specs.declared.value.Value.TheVariants as val
 
 -- `clear()`: costs nothing
-abbrev pub clear_of : ObjId → Bool → Product
-clear_of id alone = if alone then plain (Put id (change.Whole (obj.Dict [])) val.None 0) else wrong (codes "clear") 0
+abbrev pub dict_clear : ObjId → Bool → Product
+dict_clear id alone = if alone then plain (Put id (change.Whole (obj.Dict [])) val.None 0) else wrong (codes "clear") 0
 
 -- `copy()`, `items()`, `keys()`, `values()`: cost the dict's length also where they raise
 abbrev pub copy_alone : List (List Atom × Pair) → Bool → Product
@@ -60,12 +60,12 @@ no_names (n ∷ ns) = false
 
 -- a method of a dict
 abbrev pub dict_called : List Obj → DictMethod → ObjId → List (List Atom × Pair) → List Value → List (List ℕ × Value) → Product
-dict_called heap method.Clear id es args named = clear_of id (has_none args named)
+dict_called heap method.Clear id es args named = dict_clear id (has_none args named)
 dict_called heap method.Copy id es args named = copy_alone es (has_none args named)
 dict_called heap method.Get id es args named = get_of heap es (key_args args (no_names named))
 dict_called heap method.Items id es args named = items_alone (length heap) es (has_none args named)
 dict_called heap method.Keys id es args named = keys_alone es (has_none args named)
-dict_called heap method.Pop id es args named = pop_of heap id es (key_args args (no_names named))
+dict_called heap method.Pop id es args named = dict_pop heap id es (key_args args (no_names named))
 dict_called heap method.SetDefault id es args named = setdefault_of heap id es (pair args named)
 dict_called heap method.Update id es args named = update_of heap id es (sole args named)
 dict_called heap method.Values id es args named = values_alone es (has_none args named)

@@ -10,11 +10,11 @@ use Rattle.py_values.specs.Pairs.{find_pair}
 use Rattle.py_values.specs.declared.change.Change.TheVariants as change
 use Rattle.py_values.specs.declared.class.ExcClass.TheVariants.{MemoryError}
 use Rattle.py_values.specs.declared.dict.Pair.{Pair}
-use Rattle.py_values.specs.declared.end.Made.TheVariants.{Give, Put, Fail}
+use Rattle.py_values.specs.declared.end.Effect.TheVariants.{Give, Put, Fail}
 use Rattle.py_values.specs.declared.key.Atom.{Atom}
 use Rattle.call_products.specs.py_kinds.declared.keys.KeyFault.{KeyFault}
-use Rattle.call_products.specs.py_kinds.declared.keys.Keyed.{Keyed}
-use Rattle.call_products.specs.py_kinds.declared.keys.Keyed.TheVariants as keyed
+use Rattle.call_products.specs.py_kinds.declared.keys.KeyResult.{KeyResult}
+use Rattle.call_products.specs.py_kinds.declared.keys.KeyResult.TheVariants as keyed
 use Rattle.py_values.specs.declared.object.Obj.{Obj}
 use Rattle.py_values.specs.declared.value.ObjId.{ObjId}
 use Rattle.py_values.specs.declared.value.Value.{Value}
@@ -46,7 +46,7 @@ abbrev pub got : Option Value → Option Value → ℕ → Product
 got (Some v) d n = plain (Give v n)
 got None d n = plain (Give (default_or_none d) n)
 
-abbrev pub get_by : List Obj → List (List Atom × Pair) → Option Value → Keyed → Product
+abbrev pub get_by : List Obj → List (List Atom × Pair) → Option Value → KeyResult → Product
 get_by heap es d (keyed.Key k) = got (value_under es k) d (length k - 1)
 get_by heap es d (keyed.Fault x n) = no_key_made heap x n
 
@@ -63,13 +63,13 @@ abbrev pub taken : ObjId → List Atom → Option Value → KeyArgs → Product
 taken id k (Some v) a = plain (Put id (change.WithoutPair k) v (length k - 1))
 taken id k None a = missed a.key a.default (length k - 1)
 
-abbrev pub pop_by : List Obj → ObjId → List (List Atom × Pair) → KeyArgs → Keyed → Product
+abbrev pub pop_by : List Obj → ObjId → List (List Atom × Pair) → KeyArgs → KeyResult → Product
 pop_by heap id es a (keyed.Key k) = taken id k (value_under es k) a
 pop_by heap id es a (keyed.Fault x n) = no_key_made heap x n
 
-abbrev pub pop_of : List Obj → ObjId → List (List Atom × Pair) → Option KeyArgs → Product
-pop_of heap id es (Some a) = pop_by heap id es a (key_of heap a.key)
-pop_of heap id es None = wrong (codes "pop") 0
+abbrev pub dict_pop : List Obj → ObjId → List (List Atom × Pair) → Option KeyArgs → Product
+dict_pop heap id es (Some a) = pop_by heap id es a (key_of heap a.key)
+dict_pop heap id es None = wrong (codes "pop") 0
 
 -- `setdefault(k, d)`
 abbrev pub settled : ObjId → ℕ → List Atom → Option Value → Value × Value → Product
@@ -77,7 +77,7 @@ settled id n k (Some v) a = plain (Give v (length k - 1))
 settled id n k None a =
     if nat_lt n most_elements then plain (Put id (change.Pair k a.0 a.1) a.1 (length k - 1)) else failed MemoryError (codes "sequence too long") (length k - 1)
 
-abbrev pub setdefault_by : List Obj → ObjId → List (List Atom × Pair) → Value × Value → Keyed → Product
+abbrev pub setdefault_by : List Obj → ObjId → List (List Atom × Pair) → Value × Value → KeyResult → Product
 setdefault_by heap id es a (keyed.Key k) = settled id (length es) k (value_under es k) a
 setdefault_by heap id es a (keyed.Fault x n) = no_key_made heap x n
 

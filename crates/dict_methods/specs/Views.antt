@@ -5,7 +5,7 @@ use Rattle.call_products.specs.Elements.{keys_of}
 use Rattle.call_products.specs.Products.{plain, refs_from}
 use Rattle.call_products.specs.declared.product.Product.{Product}
 use Rattle.py_values.specs.declared.dict.Pair.{Pair}
-use Rattle.py_values.specs.declared.end.Made.TheVariants.{New}
+use Rattle.py_values.specs.declared.end.Effect.TheVariants.{New}
 use Rattle.py_values.specs.declared.key.Atom.{Atom}
 use Rattle.py_values.specs.declared.object.Obj.{Obj}
 use Rattle.py_values.specs.declared.object.Obj.TheVariants as obj

@@ -8,7 +8,7 @@ use py_values::OutOfMemory;
 use py_values::change::Change;
 use py_values::class::ExcClass;
 use py_values::dict::Dict;
-use py_values::end::Made;
+use py_values::end::Effect;
 use py_values::key::Key;
 use py_values::limits::MOST_ELEMENTS;
 use py_values::object::Obj;
@@ -68,7 +68,7 @@ pub fn copy_made(alloc: Global, dict: &Dict, cost: u64) -> Result<Product, OutOf
     let keys = keys_steps(dict)?;
     let steps = steps_sum(steps_sum(cost, keys)?, dict.len() as u64)?;
     let copy = copied(alloc, dict)?;
-    Ok(plain(alloc, Made::New(Obj::Dict(copy), steps)))
+    Ok(plain(alloc, Effect::New(Obj::Dict(copy), steps)))
 }
 
 /// Whether a dict has room for a value under a key.
@@ -110,7 +110,7 @@ fn updated(alloc: Global, id: ObjId, all: Dict, fill: Fill) -> Result<Product, O
     match fill {
         Fill::Whole(cost) => {
             let change = Change::Whole(Obj::Dict(all));
-            Ok(plain(alloc, Made::Put(id, change, Value::None, cost)))
+            Ok(plain(alloc, Effect::Put(id, change, Value::None, cost)))
         }
         Fill::Full(cost) => failed(alloc, ExcClass::MemoryError, "sequence too long", cost),
     }

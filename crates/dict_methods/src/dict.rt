@@ -12,7 +12,7 @@ use call_products::py_kinds::builtins::builtin_name;
 use py_values::builtin::{Builtin, DictMethod};
 use py_values::change::Change;
 use py_values::dict::Dict;
-use py_values::end::Made;
+use py_values::end::Effect;
 use py_values::heap::Heap;
 use py_values::object::Obj;
 use py_values::value::{ObjId, Value};
@@ -20,13 +20,13 @@ use py_values::{OutOfMemory, PyText};
 use std::alloc::Global;
 
 fn clear(alloc: Global, id: ObjId, alone: bool) -> Result<Product, OutOfMemory>
-    ensures { IfOk result (λ p. p ≡ dicts.clear_of id alone) }
+    ensures { IfOk result (λ p. p ≡ dicts.dict_clear id alone) }
 {
     if !alone {
         return wrong(alloc, "clear", 0);
     }
     let change = Change::Whole(Obj::Dict(Dict::new(alloc)));
-    Ok(plain(alloc, Made::Put(id, change, Value::None, 0)))
+    Ok(plain(alloc, Effect::Put(id, change, Value::None, 0)))
 }
 
 fn copy_alone(alloc: Global, dict: &Dict, alone: bool) -> Result<Product, OutOfMemory>
@@ -156,7 +156,7 @@ pub fn dict(
     ensures { IfOk result (λ p. p ≡ dicts.dict_of heap.now args.now named.now) }
 {
     if has_none(args, named) {
-        return Ok(plain(alloc, Made::New(Obj::Dict(Dict::new(alloc)), 0)));
+        return Ok(plain(alloc, Effect::New(Obj::Dict(Dict::new(alloc)), 0)));
     }
     match dict_in(heap, sole(args, named)) {
         Some(other) => copy_made(alloc, other, 0),

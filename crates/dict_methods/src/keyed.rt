@@ -4,13 +4,13 @@ ghost use Rattle.std.specs.Prelude.{◌≡◌, IfOk};
 ghost use Rattle.dict_methods.specs.Keyed as keyed;
 
 use call_products::product::{Product, failed, plain, wrong};
-use call_products::py_kinds::keys::{KeyFault, Keyed, key};
+use call_products::py_kinds::keys::{KeyFault, KeyResult, key};
 use call_products::py_operands::faults::{key_fault, no_key};
 use py_values::OutOfMemory;
 use py_values::change::Change;
 use py_values::class::ExcClass;
 use py_values::dict::Dict;
-use py_values::end::Made;
+use py_values::end::Effect;
 use py_values::heap::Heap;
 use py_values::key::Key;
 use py_values::limits::MOST_ELEMENTS;
@@ -50,7 +50,7 @@ fn no_key_made(
     ensures { IfOk result (λ p. p ≡ keyed.no_key_made heap.now fault cost) }
 {
     let raise = key_fault(alloc, heap, fault)?;
-    Ok(plain(alloc, Made::Fail(raise, cost)))
+    Ok(plain(alloc, Effect::Fail(raise, cost)))
 }
 
 /// The value under a key.
@@ -67,8 +67,8 @@ fn got(alloc: Global, found: Option<Value>, default: Option<Value>, cost: u64) -
     ensures { result ≡ keyed.got found default cost }
 {
     match found {
-        Some(v) => plain(alloc, Made::Give(v, cost)),
-        None => plain(alloc, Made::Give(default.unwrap_or(Value::None), cost)),
+        Some(v) => plain(alloc, Effect::Give(v, cost)),
+        None => plain(alloc, Effect::Give(default.unwrap_or(Value::None), cost)),
     }
 }
 
@@ -85,8 +85,8 @@ pub fn get(
         return wrong(alloc, "get", 0);
     };
     match key(alloc, heap, args.key)? {
-        Keyed::Key(k) => Ok(got(alloc, value_under(dict, &k), args.default, k.cost())),
-        Keyed::Fault(fault, cost) => no_key_made(alloc, heap, fault, cost),
+        KeyResult::Key(k) => Ok(got(alloc, value_under(dict, &k), args.default, k.cost())),
+        KeyResult::Fault(fault, cost) => no_key_made(alloc, heap, fault, cost),
     }
 }
 
@@ -102,13 +102,13 @@ fn taken(
 {
     let cost = k.cost();
     if let Some(v) = found {
-        return Ok(plain(alloc, Made::Put(id, Change::WithoutPair(k), v, cost)));
+        return Ok(plain(alloc, Effect::Put(id, Change::WithoutPair(k), v, cost)));
     }
     match args.default {
-        Some(v) => Ok(plain(alloc, Made::Give(v, cost))),
+        Some(v) => Ok(plain(alloc, Effect::Give(v, cost))),
         None => {
             let raise = no_key(alloc, args.key)?;
-            Ok(plain(alloc, Made::Fail(raise, cost)))
+            Ok(plain(alloc, Effect::Fail(raise, cost)))
         }
     }
 }
@@ -121,17 +121,17 @@ pub fn pop(
     dict: &Dict,
     args: Option<KeyArgs>,
 ) -> Result<Product, OutOfMemory>
-    ensures { IfOk result (λ p. p ≡ keyed.pop_of heap.now id dict.now args) }
+    ensures { IfOk result (λ p. p ≡ keyed.dict_pop heap.now id dict.now args) }
 {
     let Some(args) = args else {
         return wrong(alloc, "pop", 0);
     };
     match key(alloc, heap, args.key)? {
-        Keyed::Key(k) => {
+        KeyResult::Key(k) => {
             let found = value_under(dict, &k);
             taken(alloc, id, k, found, args)
         }
-        Keyed::Fault(fault, cost) => no_key_made(alloc, heap, fault, cost),
+        KeyResult::Fault(fault, cost) => no_key_made(alloc, heap, fault, cost),
     }
 }
 
@@ -148,14 +148,14 @@ fn settled(
 {
     let cost = k.cost();
     if let Some(v) = found {
-        return Ok(plain(alloc, Made::Give(v, cost)));
+        return Ok(plain(alloc, Effect::Give(v, cost)));
     }
     if len >= MOST_ELEMENTS {
         return failed(alloc, ExcClass::MemoryError, "sequence too long", cost);
     }
     Ok(plain(
         alloc,
-        Made::Put(id, Change::Pair(k, args.0, args.1), args.1, cost),
+        Effect::Put(id, Change::Pair(k, args.0, args.1), args.1, cost),
     ))
 }
 
@@ -173,10 +173,10 @@ pub fn setdefault(
         return wrong(alloc, "setdefault", 0);
     };
     match key(alloc, heap, args.0)? {
-        Keyed::Key(k) => {
+        KeyResult::Key(k) => {
             let found = value_under(dict, &k);
             settled(alloc, id, dict.len(), k, found, args)
         }
-        Keyed::Fault(fault, cost) => no_key_made(alloc, heap, fault, cost),
+        KeyResult::Fault(fault, cost) => no_key_made(alloc, heap, fault, cost),
     }
 }

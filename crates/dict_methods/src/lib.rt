@@ -15,7 +15,7 @@
 //!
 //! # What tests alone show
 //!
-//! Worked calls with their values and errors as CPython has them, and their costs (`methods_tests`).
+//! Worked calls with their values and errors as CPython has them, and their costs (`value_tests`).
 //!
 //! # What neither shows
 //!

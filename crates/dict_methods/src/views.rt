@@ -8,7 +8,7 @@ use call_products::elements::keys_of;
 use call_products::product::{Product, plain, refs};
 use py_values::OutOfMemory;
 use py_values::dict::{Dict, Pair};
-use py_values::end::Made;
+use py_values::end::Effect;
 use py_values::heap::Heap;
 use py_values::object::Obj;
 use py_values::rows::Values;
@@ -20,7 +20,10 @@ fn list_made(alloc: Global, items: Vec<Value>, len: u64) -> Result<Product, OutO
     ensures { IfOk result (λ p. p ≡ views.list_made items.items len) }
 {
     let steps = steps_sum(len, items.len() as u64)?;
-    Ok(plain(alloc, Made::New(Obj::List(Values::from_vec(items)), steps)))
+    Ok(plain(
+        alloc,
+        Effect::New(Obj::List(Values::from_vec(items)), steps),
+    ))
 }
 
 /// A list of the keys.
@@ -96,6 +99,6 @@ pub fn items(alloc: Global, heap: &Heap, dict: &Dict) -> Result<Product, OutOfMe
     let values = refs(alloc, heap.len(), len)?;
     Ok(Product {
         objects: Seq::from_vec(objects),
-        made: Made::New(Obj::List(Values::from_vec(values)), steps),
+        made: Effect::New(Obj::List(Values::from_vec(values)), steps),
     })
 }

@@ -25,14 +25,14 @@ use Rattle.py_values.specs.Names.{bind_name}
 use Rattle.source_meaning.specs.py_calls.Called.{Called}
 use Rattle.source_meaning.specs.py_calls.Calls.{called_of}
 use Rattle.source_meaning.specs.py_world.declared.trace.TraceFrame.{TraceFrame}
-use Rattle.source_meaning.specs.py_world.World.{State, Stored, Locals, state, heap_of, unset, with_heap, with_objects, with_print}
+use Rattle.source_meaning.specs.py_world.World.{CallState, Stored, Locals, state, heap_of, unset, with_heap, with_objects, with_print}
 use Rattle.source_meaning.specs.py_world.Site.{Around, Own, InModule, InFunction, InClass, Scene, Site, site, trace_of}
 use Rattle.source_meaning.specs.py_world.Arguments.{Arguments, with_plain}
 use Rattle.source_meaning.specs.py_world.Names.{bound, bound_by, bound_global, bound_local, bound_class}
-use Rattle.source_meaning.specs.py_world.Outcome.{Outcome, Rest, Then, Part, After, Body, Request, onward, gave_in, raised, product_end, on_next, on_turn}
-use Rattle.source_meaning.specs.py_world.Statements.{Choice, asked, expression_statement, return_value, yield_value, pass, leave_loop, next_turn, assertion, fail, branches_on, choose, loop, turn_of}
-use Rattle.source_meaning.specs.py_world.Calls.{Meaning, Entry, most_open, wrong_arguments, not_callable, too_deep, arguments_for, function_of_object, class_takes, new_instance, init_of, init_end, scene_of, entered, function_called, function_with, builtin_called, mark_or, class_or, called_or, init_object, init_called, instance_made, class_called, value_called, invoke, body_of}
-use Rattle.source_meaning.specs.Requests.{Function, Script, Layer, Turn}
+use Rattle.source_meaning.specs.py_world.Outcome.{Outcome, Rest, Continuation, Denotation, After, Body, Request, onward, gave_in, raised, product_end, on_next, on_turn}
+use Rattle.source_meaning.specs.py_world.Statements.{IfClause, asked, expression_statement, return_value, yield_value, pass, leave_loop, next_turn, assertion, fail, branches_on, choose, loop, turn_of}
+use Rattle.source_meaning.specs.py_world.Calls.{Meaning, Entry, most_open, argument_error, not_callable, too_deep, arguments_for, function_of_object, class_takes, new_instance, init_of, init_end, scene_of, entered, function_called, function_with, builtin_called, mark_or, class_or, called_or, init_object, init_called, instance_made, class_called, value_called, invoke, body_of}
+use Rattle.source_meaning.specs.Requests.{Function, Script, SourceLayer, SourceTurn}
 use Rattle.explain_law.specs.Choices as alike
 use Rattle.explain_law.specs.Choices.{Choices, K, J, worlds, StatesAlike, states, EndsAlike, gave, next, returned, broke, continued, SpentAlike, out, PausedAlike, stops, RequestsAlike, calls, does, CodesAlike, CodesAt, ScriptsAt, LayersAt, TurnsAt, FailedApart, stored_with}
 use Rattle.explain_law.proofs.Parts as part
@@ -57,7 +57,7 @@ module _ (R : Choices) where
   found (alike.more p i x xs) zero = present p i x
   found (alike.more p i x xs) (suc n) = found xs n
 
-  abbrev States : State K → State J → Type 0
+  abbrev States : CallState K → CallState J → Type 0
   States = StatesAlike R false
 
   abbrev Ends : Outcome K → Outcome J → Type 0
@@ -66,75 +66,75 @@ module _ (R : Choices) where
   abbrev Follow : Rest K → Rest J → Type 0
   Follow = part.Follow R false
 
-  abbrev Behind : Then K → Then J → Type 0
+  abbrev Behind : Continuation K → Continuation J → Type 0
   Behind = part.Behind R false
 
-  abbrev PartSame : Part K → Part J → Type 0
+  abbrev PartSame : Denotation K → Denotation J → Type 0
   PartSame = part.PartSame R false
 
   -- two statements that do the same at the places of a module, and two blocks likewise
-  pub record PartAt (path : List ℕ) (e : Part K) (f : Part J) : Type 0 where
-    pub does : (p : Site) → p.scene.path ≡ path → {s : State K} {r : State J} → States s r → (k : Then K) (l : Then J) → Behind k l → Follow (e p s k) (f p r l)
+  pub record PartAt (path : List ℕ) (e : Denotation K) (f : Denotation J) : Type 0 where
+    pub does : (p : Site) → p.scene.path ≡ path → {s : CallState K} {r : CallState J} → States s r → (k : Continuation K) (l : Continuation J) → Behind k l → Follow (e p s k) (f p r l)
 
-  pub at_each : {path : List ℕ} {e : Part K} {f : Part J} → PartSame e f → PartAt path e f
+  pub at_each : {path : List ℕ} {e : Denotation K} {f : Denotation J} → PartSame e f → PartAt path e f
   at_each x = record { does = λ p is ss k l h. x.does p ss k l h }
 
   pub record BodySame (path : List ℕ) (b : Body K) (c : Body J) : Type 0 where
-    pub does : (scene : Scene) → scene.path ≡ path → {s : State K} {r : State J} → States s r → (k : Then K) (l : Then J) → Behind k l → Follow (b scene s k) (c scene r l)
+    pub does : (scene : Scene) → scene.path ≡ path → {s : CallState K} {r : CallState J} → States s r → (k : Continuation K) (l : Continuation J) → Behind k l → Follow (b scene s k) (c scene r l)
 
   -- what is done with ends that are alike
   pub record AfterSame (path : List ℕ) (f : After K) (g : After J) : Type 0 where
-    pub does : (p : Site) → p.scene.path ≡ path → {o : Outcome K} {q : Outcome J} → Ends o q → (k : Then K) (l : Then J) → Behind k l → Follow (f p o k) (g p q l)
+    pub does : (p : Site) → p.scene.path ≡ path → {o : Outcome K} {q : Outcome J} → Ends o q → (k : Continuation K) (l : Continuation J) → Behind k l → Follow (f p o k) (g p q l)
 
-  pub next_same : {o : Outcome K} {q : Outcome J} → Ends o q → (k : Then K) (l : Then J) → Behind k l → (go : State K → Rest K) (go' : State J → Rest J) → ((s : State K) (r : State J) → States s r → Follow (go s) (go' r)) → Follow (on_next o k go) (on_next q l go')
+  pub next_same : {o : Outcome K} {q : Outcome J} → Ends o q → (k : Continuation K) (l : Continuation J) → Behind k l → (go : CallState K → Rest K) (go' : CallState J → Rest J) → ((s : CallState K) (r : CallState J) → States s r → Follow (go s) (go' r)) → Follow (on_next o k go) (on_next q l go')
   next_same n k l h go go' g =
       let w : part.WaysSame R false (onward k) (onward l) = part.onward_same R false k l h in
       part.route_same R false (record { gave = w.gave; next = g; returned = w.returned; broke = w.broke; continued = w.continued; raised = w.raised }) n
 
-  pub turn_same : {o : Outcome K} {q : Outcome J} → Ends o q → (k : Then K) (l : Then J) → Behind k l → (go : State K → Rest K) (go' : State J → Rest J) → ((s : State K) (r : State J) → States s r → Follow (go s) (go' r)) → Follow (on_turn o k go) (on_turn q l go')
+  pub turn_same : {o : Outcome K} {q : Outcome J} → Ends o q → (k : Continuation K) (l : Continuation J) → Behind k l → (go : CallState K → Rest K) (go' : CallState J → Rest J) → ((s : CallState K) (r : CallState J) → States s r → Follow (go s) (go' r)) → Follow (on_turn o k go) (on_turn q l go')
   turn_same n k l h go go' g =
       let w : part.WaysSame R false (onward k) (onward l) = part.onward_same R false k l h in
       part.route_same R false (record { gave = w.gave; next = g; returned = w.returned; broke = w.next; continued = g; raised = w.raised }) n
 
-  pub unset_same : {s : State K} {r : State J} → States s r → States (unset s) (unset r)
+  pub unset_same : {s : CallState K} {r : CallState J} → States s r → States (unset s) (unset r)
   unset_same (states a t ws) = states a (part.none_kept false) ws
 
-  pub state_cond : (b : Bool) (s s' : State K) (r r' : State J) → States s r → States s' r' → States (cond b s s') (cond b r r')
+  pub state_cond : (b : Bool) (s s' : CallState K) (r r' : CallState J) → States s r → States s' r' → States (cond b s s') (cond b r r')
   state_cond true s s' r r' h g = h
   state_cond false s s' r r' h g = g
 
-  global_bound : (name : List ℕ) (v : Value) (scene : Scene) {s : State K} {r : State J} → States s r → States (bound_global name v scene s) (bound_global name v scene r)
+  global_bound : (name : List ℕ) (v : Value) (scene : Scene) {s : CallState K} {r : CallState J} → States s r → States (bound_global name v scene s) (bound_global name v scene r)
   global_bound name v scene (states a t (worlds ss cs fs modules heap printed traces)) = states a t (worlds ss cs fs modules _ printed traces)
 
-  local_bound : (name : List ℕ) (v : Value) {s : State K} {r : State J} → States s r → States (bound_local name v s) (bound_local name v r)
+  local_bound : (name : List ℕ) (v : Value) {s : CallState K} {r : CallState J} → States s r → States (bound_local name v s) (bound_local name v r)
   local_bound name v (states a t ws) = states (bind_name name v a) t ws
 
-  class_bound : (name : List ℕ) (v : Value) (at : ℕ) {s : State K} {r : State J} → States s r → States (bound_class name v at s) (bound_class name v at r)
+  class_bound : (name : List ℕ) (v : Value) (at : ℕ) {s : CallState K} {r : CallState J} → States s r → States (bound_class name v at s) (bound_class name v at r)
   class_bound name v at (states a t (worlds ss cs fs modules heap printed traces)) = states a t (worlds ss cs fs modules _ printed traces)
 
-  bound_by_same : (own : Own) (name : List ℕ) (v : Value) (scene : Scene) {s : State K} {r : State J} → States s r → States (bound_by own name v scene s) (bound_by own name v scene r)
+  bound_by_same : (own : Own) (name : List ℕ) (v : Value) (scene : Scene) {s : CallState K} {r : CallState J} → States s r → States (bound_by own name v scene s) (bound_by own name v scene r)
   bound_by_same InModule name v scene ss = global_bound name v scene ss
   bound_by_same (InFunction own) name v scene ss = state_cond (is_among own name) _ _ _ _ (local_bound name v ss) (global_bound name v scene ss)
   bound_by_same (InClass at) name v scene ss = class_bound name v at ss
 
-  pub bound_same : (name : List ℕ) (v : Value) (scene : Scene) {s : State K} {r : State J} → States s r → States (bound name v scene s) (bound name v scene r)
+  pub bound_same : (name : List ℕ) (v : Value) (scene : Scene) {s : CallState K} {r : CallState J} → States s r → States (bound name v scene s) (bound name v scene r)
   bound_same name v scene ss = bound_by_same scene.own name v scene ss
 
-  pub expression_same : {e : Part K} {f : Part J} → PartSame e f → PartSame (expression_statement e) (expression_statement f)
+  pub expression_same : {e : Denotation K} {f : Denotation J} → PartSame e f → PartSame (expression_statement e) (expression_statement f)
   expression_same x = record { does = λ p ss k l h. x.does p ss _ _ (λ o q n. part.value_same R false n k l h _ _ (λ v s r ss. h _ _ (next ss))) }
 
-  abbrev SomeSame : Option (Part K) → Option (Part J) → Type 0
+  abbrev SomeSame : Option (Denotation K) → Option (Denotation J) → Type 0
   SomeSame = part.SomeSame R false
 
-  pub return_same : {e : Option (Part K)} {f : Option (Part J)} → SomeSame e f → PartSame (return_value e) (return_value f)
+  pub return_same : {e : Option (Denotation K)} {f : Option (Denotation J)} → SomeSame e f → PartSame (return_value e) (return_value f)
   return_same part.absent = record { does = λ p ss k l h. h _ _ (returned val.None ss) }
   return_same (part.present x) = record { does = λ p ss k l h. x.does p ss _ _ (λ o q n. part.value_same R false n k l h _ _ (λ v s r ss. h _ _ (returned v ss))) }
 
   -- a body that stops
-  rest_here : {path other : List ℕ} → other ≡ path → {ls ks : List Layer} → LayersAt R path ls ks → LayersAt R other ls ks
+  rest_here : {path other : List ℕ} → other ≡ path → {ls ks : List SourceLayer} → LayersAt R path ls ks → LayersAt R other ls ks
   rest_here is {ls = ls} {ks = ks} rest = subst (λ at. LayersAt R at ls ks) (sym is) rest
 
-  pub yield_same : {path : List ℕ} {e : Option (Part K)} {f : Option (Part J)} → SomeSame e f → {ls ks : List Layer} → LayersAt R path ls ks → PartAt path (yield_value e ls) (yield_value f ks)
+  pub yield_same : {path : List ℕ} {e : Option (Denotation K)} {f : Option (Denotation J)} → SomeSame e f → {ls ks : List SourceLayer} → LayersAt R path ls ks → PartAt path (yield_value e ls) (yield_value f ks)
   yield_same part.absent rest = record { does = λ p is ss k l h. until.freeze (stops val.None p (rest_here is rest) ss) }
   yield_same (part.present x) rest = record { does = λ p is ss k l h. x.does p ss _ _ (λ o q n. part.value_same R false n k l h _ _ (λ v s r ss. until.freeze (stops v p (rest_here is rest) ss))) }
 
@@ -147,35 +147,35 @@ module _ (R : Choices) where
   pub again_same : PartSame next_turn next_turn
   again_same = record { does = λ p ss k l h. h _ _ (continued ss) }
 
-  pub fail_same : {e : Option (Part K)} {f : Option (Part J)} → SomeSame e f → PartSame (fail e) (fail f)
+  pub fail_same : {e : Option (Denotation K)} {f : Option (Denotation J)} → SomeSame e f → PartSame (fail e) (fail f)
   fail_same part.absent = record { does = λ p ss k l h. h _ _ (part.raised_same R false (assertion None) (trace_of p) ss) }
   fail_same (part.present x) = record { does = λ p ss k l h. x.does p ss _ _ (λ o q n. part.value_same R false n k l h _ _ (λ v s r ss. h _ _ (part.raised_same R false (assertion (Some v)) (trace_of p) ss))) }
 
-  pub asked_same : {what other : Turn} (p : Site) → TurnsAt R p.scene.path what other → {s : State K} {r : State J} → States s r → (k : Then K) (l : Then J) → Behind k l → Follow (asked what p s k) (asked other p r l)
+  pub asked_same : {what other : SourceTurn} (p : Site) → TurnsAt R p.scene.path what other → {s : CallState K} {r : CallState J} → States s r → (k : Continuation K) (l : Continuation J) → Behind k l → Follow (asked what p s k) (asked other p r l)
   asked_same p turn ss k l h = until.ask (out (trace_of p) ss) (does p turn ss) h
 
-  pub turn_here : {path other : List ℕ} → other ≡ path → {what turn : Turn} → TurnsAt R path what turn → TurnsAt R other what turn
+  pub turn_here : {path other : List ℕ} → other ≡ path → {what turn : SourceTurn} → TurnsAt R path what turn → TurnsAt R other what turn
   turn_here is {what = what} {turn = turn} h = subst (λ at. TurnsAt R at what turn) (sym is) h
 
-  pub loop_same : {path : List ℕ} {what other : Turn} → TurnsAt R path what other → {e : Part K} {f : Part J} → PartSame e f → PartAt path (loop what e) (loop other f)
+  pub loop_same : {path : List ℕ} {what other : SourceTurn} → TurnsAt R path what other → {e : Denotation K} {f : Denotation J} → PartSame e f → PartAt path (loop what e) (loop other f)
   loop_same turn x = record { does = λ p is ss k l h. x.does p ss _ _ (λ o q n. part.value_same R false n k l h _ _ (λ v s r ss. part.truth_same R false v ss _ _ _ _ (asked_same p (turn_here is turn) ss k l h) (h _ _ (next ss)))) }
 
-  pub turn_of_same : {path : List ℕ} {what other : Turn} → TurnsAt R path what other → {e : Part K} {f : Part J} {b : Body K} {c : Body J} → PartSame e f → BodySame path b c → PartAt path (turn_of what e b) (turn_of other f c)
+  pub turn_of_same : {path : List ℕ} {what other : SourceTurn} → TurnsAt R path what other → {e : Denotation K} {f : Denotation J} {b : Body K} {c : Body J} → PartSame e f → BodySame path b c → PartAt path (turn_of what e b) (turn_of other f c)
   turn_of_same turn x b = record { does = λ p is ss k l h. b.does p.scene is ss _ _ (λ o q n. turn_same n k l h _ _ (λ s r ss. (loop_same turn x).does p is ss k l h)) }
 
-  pub data ChoicesSame (path : List ℕ) : List (Choice K) → List (Choice J) → Type 0 where
+  pub data ChoicesSame (path : List ℕ) : List (IfClause K) → List (IfClause J) → Type 0 where
     none : ChoicesSame path [] []
-    more : (line : ℕ) {e : Part K} {f : Part J} {b : Body K} {c : Body J} {es : List (Choice K)} {fs : List (Choice J)} → PartSame e f → BodySame path b c → ChoicesSame path es fs → ChoicesSame path ((line, (e, b)) ∷ es) ((line, (f, c)) ∷ fs)
+    more : (line : ℕ) {e : Denotation K} {f : Denotation J} {b : Body K} {c : Body J} {es : List (IfClause K)} {fs : List (IfClause J)} → PartSame e f → BodySame path b c → ChoicesSame path es fs → ChoicesSame path ((line, (e, b)) ∷ es) ((line, (f, c)) ∷ fs)
 
-  pub choices_push : {path : List ℕ} {es : List (Choice K)} {fs : List (Choice J)} → ChoicesSame path es fs → (line : ℕ) {e : Part K} {f : Part J} {b : Body K} {c : Body J} → PartSame e f → BodySame path b c → ChoicesSame path (es ++ (line, (e, b)) ∷ []) (fs ++ (line, (f, c)) ∷ [])
+  pub choices_push : {path : List ℕ} {es : List (IfClause K)} {fs : List (IfClause J)} → ChoicesSame path es fs → (line : ℕ) {e : Denotation K} {f : Denotation J} {b : Body K} {c : Body J} → PartSame e f → BodySame path b c → ChoicesSame path (es ++ (line, (e, b)) ∷ []) (fs ++ (line, (f, c)) ∷ [])
   choices_push none line x y = more line x y none
   choices_push (more at z w xs) line x y = more at z w (choices_push xs line x y)
 
-  branches_same : {path : List ℕ} {es : List (Choice K)} {fs : List (Choice J)} → ChoicesSame path es fs → {b : Body K} {c : Body J} → BodySame path b c → BodySame path (branches_on es b) (branches_on fs c)
+  branches_same : {path : List ℕ} {es : List (IfClause K)} {fs : List (IfClause J)} → ChoicesSame path es fs → {b : Body K} {c : Body J} → BodySame path b c → BodySame path (branches_on es b) (branches_on fs c)
   branches_same none b = b
   branches_same (more line x y xs) b = record { does = λ scene is ss k l h. x.does (site scene line) ss _ _ (λ o q n. part.value_same R false n k l h _ _ (λ v s r ss. part.truth_same R false v ss _ _ _ _ (y.does scene is ss k l h) ((branches_same xs b).does scene is ss k l h))) }
 
-  pub choose_same : {path : List ℕ} {es : List (Choice K)} {fs : List (Choice J)} → ChoicesSame path es fs → {b : Body K} {c : Body J} → BodySame path b c → PartAt path (choose es b) (choose fs c)
+  pub choose_same : {path : List ℕ} {es : List (IfClause K)} {fs : List (IfClause J)} → ChoicesSame path es fs → {b : Body K} {c : Body J} → BodySame path b c → PartAt path (choose es b) (choose fs c)
   choose_same xs b = record { does = λ p is ss k l h. (branches_same xs b).does p.scene is (unset_same ss) k l h }
 
   pub record EntrySame (path : List ℕ) (e : Entry K) (f : Entry J) : Type 0 where
@@ -186,32 +186,32 @@ module _ (R : Choices) where
   -- two meanings that do the same
   pub record MeaningsSame (m : Meaning K) (n : Meaning J) : Type 0 where
     pub entries : (path : List ℕ) (c d : Function) → CodesAt R path c d → EntrySame path (m.entry c) (n.entry d)
-    pub acts : (what turn : Turn) (p : Site) → TurnsAt R p.scene.path what turn → (s : State K) (r : State J) → States s r → (k : Then K) (l : Then J) → Behind k l → Follow (m.act what p s k) (n.act turn p r l)
+    pub acts : (what turn : SourceTurn) (p : Site) → TurnsAt R p.scene.path what turn → (s : CallState K) (r : CallState J) → States s r → (k : Continuation K) (l : Continuation J) → Behind k l → Follow (m.act what p s k) (n.act turn p r l)
     pub bodies : (path : List ℕ) (c d : Script) → ScriptsAt R path c d → BodySame path (m.body c) (n.body d)
 
-  entered_same : (names : Locals) {s : State K} {r : State J} → States s r → States (state names [] s.world) (state names [] r.world)
+  entered_same : (names : Locals) {s : CallState K} {r : CallState J} → States s r → States (state names [] s.world) (state names [] r.world)
   entered_same names (states a t ws) = states names (part.none_kept false) ws
 
-  printed_same : (bytes : List ℕ) {s : State K} {r : State J} → States s r → States (with_print bytes s) (with_print bytes r)
+  printed_same : (bytes : List ℕ) {s : CallState K} {r : CallState J} → States s r → States (with_print bytes s) (with_print bytes r)
   printed_same bytes (states a t (worlds xs ys zs modules heap printed traces)) = states a t (worlds xs ys zs modules heap (printed ++ bytes) traces)
 
-  objects_same : (all : List Obj) {s : State K} {r : State J} → States s r → States (with_objects all s) (with_objects all r)
+  objects_same : (all : List Obj) {s : CallState K} {r : CallState J} → States s r → States (with_objects all s) (with_objects all r)
   objects_same all (states a t (worlds xs ys zs modules heap printed traces)) = states a t (worlds xs ys zs modules (heap ++ all) printed traces)
 
-  product_same : (x : Product) (trace : List TraceFrame) {s : State K} {r : State J} → States s r → Ends (product_end x trace s) (product_end x trace r)
+  product_same : (x : Product) (trace : List TraceFrame) {s : CallState K} {r : CallState J} → States s r → Ends (product_end x trace s) (product_end x trace r)
   product_same x trace ss = part.made_same R false x.made trace (objects_same x.objects ss)
 
-  with_heap_same : (heap : List Obj) {s : State K} {r : State J} → States s r → States (with_heap heap s) (with_heap heap r)
+  with_heap_same : (heap : List Obj) {s : CallState K} {r : CallState J} → States s r → States (with_heap heap s) (with_heap heap r)
   with_heap_same heap (states a t (worlds xs ys zs modules old printed traces)) = states a t (worlds xs ys zs modules heap printed traces)
 
   -- two calls that do the same
-  pub record CallSame (e : State K → Then K → Rest K) (f : State J → Then J → Rest J) : Type 0 where
-    pub does : {s : State K} {r : State J} → States s r → (k : Then K) (l : Then J) → Behind k l → Follow (e s k) (f r l)
+  pub record CallSame (e : CallState K → Continuation K → Rest K) (f : CallState J → Continuation J → Rest J) : Type 0 where
+    pub does : {s : CallState K} {r : CallState J} → States s r → (k : Continuation K) (l : Continuation J) → Behind k l → Follow (e s k) (f r l)
 
   raise_same : (e : Raise) (trace : List TraceFrame) → CallSame (λ s k. k (raised e trace s)) (λ s k. k (raised e trace s))
   raise_same e trace = record { does = λ ss k l h. h _ _ (part.raised_same R false e trace ss) }
 
-  call_cond : (b : Bool) {e e' : State K → Then K → Rest K} {f f' : State J → Then J → Rest J} → CallSame e f → CallSame e' f' → CallSame (λ s k. cond b (e s k) (e' s k)) (λ s k. cond b (f s k) (f' s k))
+  call_cond : (b : Bool) {e e' : CallState K → Continuation K → Rest K} {f f' : CallState J → Continuation J → Rest J} → CallSame e f → CallSame e' f' → CallSame (λ s k. cond b (e s k) (e' s k)) (λ s k. cond b (f s k) (f' s k))
   call_cond true h g = record { does = λ ss k l b. h.does ss k l b }
   call_cond false h g = record { does = λ ss k l b. g.does ss k l b }
 
@@ -249,24 +249,24 @@ module _ (R : Choices) where
     mark_same false x e a =
         record { does = λ ss k l h. spend_all_same (SpentAlike R) (RequestsAlike R) (EndsAlike R false) (PausedAlike R) (FailedApart R) (cost_of x.made) _ _ _ _ (out a.trace ss) (h _ _ (product_same x a.trace ss)) }
 
-    mark_here : (called : Bool) (x : List Obj → Product) (e : Raise) (a : Around) {s : State K} {r : State J} → States s r → (k : Then K) (l : Then J) → Behind k l → Follow (mark_or entry called (x (heap_of s)) e a s k) (mark_or other called (x (heap_of r)) e a r l)
+    mark_here : (called : Bool) (x : List Obj → Product) (e : Raise) (a : Around) {s : CallState K} {r : CallState J} → States s r → (k : Continuation K) (l : Continuation J) → Behind k l → Follow (mark_or entry called (x (heap_of s)) e a s k) (mark_or other called (x (heap_of r)) e a r l)
     mark_here called x e a (states b t (worlds xs ys zs modules heap printed traces)) k l h = (mark_same called (x heap) e a).does (states b t (worlds xs ys zs modules heap printed traces)) k l h
 
     -- what is called depends on the heap and the codes, which are alike
-    builtin_here : (c : List Obj → Called) (a : Around) {s : State K} {r : State J} → States s r → (k : Then K) (l : Then J) → Behind k l → Follow (builtin_called entry (c (heap_of s)) a s k) (builtin_called other (c (heap_of r)) a r l)
+    builtin_here : (c : List Obj → Called) (a : Around) {s : CallState K} {r : CallState J} → States s r → (k : Continuation K) (l : Continuation J) → Behind k l → Follow (builtin_called entry (c (heap_of s)) a s k) (builtin_called other (c (heap_of r)) a r l)
     builtin_here c a (states b t (worlds xs ys zs modules heap printed traces)) k l h = (builtin_same (c heap) a).does (states b t (worlds xs ys zs modules heap printed traces)) k l h
 
-    function_here : (f : FunctionObj) (e : Raise) (args : Arguments) (a : Around) {s : State K} {r : State J} → States s r → (k : Then K) (l : Then J) → Behind k l → Follow (function_called entry (slice_get s.world.codes f.code) f e args a s k) (function_called other (slice_get r.world.codes f.code) f e args a r l)
+    function_here : (f : FunctionObj) (e : Raise) (args : Arguments) (a : Around) {s : CallState K} {r : CallState J} → States s r → (k : Continuation K) (l : Continuation J) → Behind k l → Follow (function_called entry (slice_get s.world.codes f.code) f e args a s k) (function_called other (slice_get r.world.codes f.code) f e args a r l)
     function_here f e args a (states b t (worlds xs ys zs modules heap printed traces)) k l h = (function_same (found ys f.code) f e args a).does (states b t (worlds xs ys zs modules heap printed traces)) k l h
 
     with_same : (f : Option FunctionObj) (v : Value) (e : Raise) (args : Arguments) (a : Around) → CallSame (function_with entry f v e args a) (function_with other f v e args a)
     with_same None v e args a = record { does = λ ss k l h. (raise_same e a.trace).does ss k l h }
     with_same (Some f) v e args a = record { does = λ ss k l h. function_here f e (with_plain v args) a ss k l h }
 
-    method_here : (m : MethodObj) (e : Raise) (args : Arguments) (a : Around) {s : State K} {r : State J} → States s r → (k : Then K) (l : Then J) → Behind k l → Follow (function_with entry (function_of_object (slice_get (heap_of s) m.function.at)) m.receiver e args a s k) (function_with other (function_of_object (slice_get (heap_of r) m.function.at)) m.receiver e args a r l)
+    method_here : (m : MethodObj) (e : Raise) (args : Arguments) (a : Around) {s : CallState K} {r : CallState J} → States s r → (k : Continuation K) (l : Continuation J) → Behind k l → Follow (function_with entry (function_of_object (slice_get (heap_of s) m.function.at)) m.receiver e args a s k) (function_with other (function_of_object (slice_get (heap_of r) m.function.at)) m.receiver e args a r l)
     method_here m e args a (states b t (worlds xs ys zs modules heap printed traces)) k l h = (with_same (function_of_object (slice_get heap m.function.at)) m.receiver e args a).does (states b t (worlds xs ys zs modules heap printed traces)) k l h
 
-    class_or_same : (c : ClassForm) (args : Arguments) (a : Around) {s : State K} {r : State J} → States s r → (k : Then K) (l : Then J) → Behind k l → (x : Rest K) (y : Rest J) → Follow x y → Follow (class_or entry c args a s k x) (class_or other c args a r l y)
+    class_or_same : (c : ClassForm) (args : Arguments) (a : Around) {s : CallState K} {r : CallState J} → States s r → (k : Continuation K) (l : Continuation J) → Behind k l → (x : Rest K) (y : Rest J) → Follow x y → Follow (class_or entry c args a s k x) (class_or other c args a r l y)
     class_or_same (Kind b) args a ss k l h x y g = builtin_here (λ heap. called_of b heap args.plain args.named) a ss k l h
     class_or_same Source args a ss k l h x y g = g
     class_or_same (Exception c) args a ss k l h x y g = g
@@ -275,7 +275,7 @@ module _ (R : Choices) where
     abbrev Classes : (ClassObj → Rest K) → (ClassObj → Rest J) → Type 0
     Classes x y = (c : ClassObj) → Follow (x c) (y c)
 
-    called_or_same : (o : Option Obj) (e : Raise) (args : Arguments) (a : Around) {s : State K} {r : State J} → States s r → (k : Then K) (l : Then J) → Behind k l → (x : ClassObj → Rest K) (y : ClassObj → Rest J) → Classes x y → Follow (called_or entry o e args a s k x) (called_or other o e args a r l y)
+    called_or_same : (o : Option Obj) (e : Raise) (args : Arguments) (a : Around) {s : CallState K} {r : CallState J} → States s r → (k : Continuation K) (l : Continuation J) → Behind k l → (x : ClassObj → Rest K) (y : ClassObj → Rest J) → Classes x y → Follow (called_or entry o e args a s k x) (called_or other o e args a r l y)
     called_or_same (Some (obj.Function f)) e args a ss k l h x y g = function_here f e args a ss k l h
     called_or_same (Some (obj.Method m)) e args a ss k l h x y g = method_here m e args a ss k l h
     called_or_same (Some (obj.Builtin b)) e args a ss k l h x y g = builtin_here (λ heap. called_of b.which heap (with_receiver b.receiver args.plain) args.named) a ss k l h
@@ -300,14 +300,14 @@ module _ (R : Choices) where
     called_or_same None e args a ss k l h x y g = (raise_same e a.trace).does ss k l h
 
     -- an object of the heap is called
-    called_here : (at : ℕ) (e : Raise) (args : Arguments) (a : Around) {s : State K} {r : State J} → States s r → (k : Then K) (l : Then J) → Behind k l → (x : ClassObj → Rest K) (y : ClassObj → Rest J) → Classes x y → Follow (called_or entry (slice_get (heap_of s) at) e args a s k x) (called_or other (slice_get (heap_of r) at) e args a r l y)
+    called_here : (at : ℕ) (e : Raise) (args : Arguments) (a : Around) {s : CallState K} {r : CallState J} → States s r → (k : Continuation K) (l : Continuation J) → Behind k l → (x : ClassObj → Rest K) (y : ClassObj → Rest J) → Classes x y → Follow (called_or entry (slice_get (heap_of s) at) e args a s k x) (called_or other (slice_get (heap_of r) at) e args a r l y)
     called_here at e args a (states b t (worlds xs ys zs modules heap printed traces)) k l h x y g = called_or_same (slice_get heap at) e args a (states b t (worlds xs ys zs modules heap printed traces)) k l h x y g
 
     init_object_same : (f : Option FunctionObj) (id : ObjId) (v : Value) (e : Raise) (args : Arguments) (a : Around) → CallSame (init_object entry f id v e args a) (init_object other f id v e args a)
     init_object_same (Some f) id v e args a = record { does = λ ss k l h. (with_same (Some f) v e args a).does ss k l h }
     init_object_same None id v e args a = record { does = λ ss k l h. called_here id.at e args a ss k l h _ _ (λ c. until.ask (out a.trace ss) (calls (val.Ref id) args a ss) h) }
 
-    init_here : (id : ObjId) (v : Value) (e : Raise) (args : Arguments) (a : Around) {s : State K} {r : State J} → States s r → (k : Then K) (l : Then J) → Behind k l → Follow (init_object entry (function_of_object (slice_get (heap_of s) id.at)) id v e args a s k) (init_object other (function_of_object (slice_get (heap_of r) id.at)) id v e args a r l)
+    init_here : (id : ObjId) (v : Value) (e : Raise) (args : Arguments) (a : Around) {s : CallState K} {r : CallState J} → States s r → (k : Continuation K) (l : Continuation J) → Behind k l → Follow (init_object entry (function_of_object (slice_get (heap_of s) id.at)) id v e args a s k) (init_object other (function_of_object (slice_get (heap_of r) id.at)) id v e args a r l)
     init_here id v e args a (states b t (worlds xs ys zs modules heap printed traces)) k l h = (init_object_same (function_of_object (slice_get heap id.at)) id v e args a).does (states b t (worlds xs ys zs modules heap printed traces)) k l h
 
     init_same : (init v : Value) (e : Raise) (args : Arguments) (a : Around) → CallSame (init_called entry init v e args a) (init_called other init v e args a)
@@ -320,11 +320,11 @@ module _ (R : Choices) where
     give_same x = record { does = λ ss k l h. h _ _ (gave x.0 (with_heap_same x.1 ss)) }
 
     instance_same : (init : Option Value) (exc : Bool) (name : List ℕ) (x : Value × List Obj) (args : Arguments) (a : Around) → CallSame (instance_made entry init exc name x args a) (instance_made other init exc name x args a)
-    instance_same None exc name x args a = record { does = λ ss k l h. (call_cond (class_takes exc args) (give_same x) (raise_same (wrong_arguments name) a.trace)).does ss k l h }
+    instance_same None exc name x args a = record { does = λ ss k l h. (call_cond (class_takes exc args) (give_same x) (raise_same (argument_error name) a.trace)).does ss k l h }
     instance_same (Some init) exc name x args a =
         record { does = λ ss k l h. (init_same init x.0 (not_callable (kind_name x.1 init)) args a).does (with_heap_same x.1 ss) (λ o. k (init_end x.0 o)) (λ o. l (init_end x.0 o)) (λ o q n. h _ _ (init_end_same x.0 n)) }
 
-    class_same : (id : ObjId) (c : ClassObj) (args : Arguments) (a : Around) {s : State K} {r : State J} → States s r → (k : Then K) (l : Then J) → Behind k l → Follow (class_called entry id c args a s k) (class_called other id c args a r l)
+    class_same : (id : ObjId) (c : ClassObj) (args : Arguments) (a : Around) {s : CallState K} {r : CallState J} → States s r → (k : Continuation K) (l : Continuation J) → Behind k l → Follow (class_called entry id c args a s k) (class_called other id c args a r l)
     class_same id c args a (states b t (worlds xs ys zs modules heap printed traces)) k l h =
         (instance_same (init_of heap id) (is_exc_class heap (val.Ref id)) c.name (new_instance (is_exc_class heap (val.Ref id)) id c.form args.plain heap) args a).does (states b t (worlds xs ys zs modules heap printed traces)) k l h
 
@@ -334,13 +334,13 @@ module _ (R : Choices) where
     value_same (val.Bool c) e args a = record { does = λ ss k l h. (raise_same e a.trace).does ss k l h }
     value_same (val.Int z) e args a = record { does = λ ss k l h. (raise_same e a.trace).does ss k l h }
 
-    invoke_here : (v : Value) (args : Arguments) (a : Around) {s : State K} {r : State J} → States s r → (k : Then K) (l : Then J) → Behind k l → Follow (invoke entry v args a s k) (invoke other v args a r l)
+    invoke_here : (v : Value) (args : Arguments) (a : Around) {s : CallState K} {r : CallState J} → States s r → (k : Continuation K) (l : Continuation J) → Behind k l → Follow (invoke entry v args a s k) (invoke other v args a r l)
     invoke_here v args a (states b t (worlds xs ys zs modules heap printed traces)) k l h = (value_same v (not_callable (kind_name heap v)) args a).does (states b t (worlds xs ys zs modules heap printed traces)) k l h
 
     pub invoke_same : (callee : Value) (args : Arguments) (a : Around) → CallSame (invoke entry callee args a) (invoke other callee args a)
     invoke_same callee args a = record { does = λ ss k l h. invoke_here callee args a ss k l h }
 
   module _ (m : Meaning K) (n : Meaning J) (same : MeaningsSame m n) where
-    pub body_same : (r : Request K) (q : Request J) → RequestsAlike R r q → (k : Then K) (l : Then J) → Behind k l → Follow (body_of m r k) (body_of n q l)
+    pub body_same : (r : Request K) (q : Request J) → RequestsAlike R r q → (k : Continuation K) (l : Continuation J) → Behind k l → Follow (body_of m r k) (body_of n q l)
     body_same _ _ (calls callee args a ss) k l h = (invoke_same m.entry n.entry same.entries callee args a).does ss k l h
     body_same _ _ (does p turn ss) k l h = same.acts _ _ p turn _ _ ss k l h

@@ -11,17 +11,17 @@ use Rattle.py_values.specs.declared.object.Obj.TheVariants as obj
 use Rattle.py_values.specs.declared.value.Value.{Value}
 use Rattle.py_values.specs.declared.value.Value.TheVariants as val
 use Rattle.py_values.specs.Ends.{id_at}
-use Rattle.source_meaning.specs.py_world.World.{State, Temps, heap_of, state, unset}
+use Rattle.source_meaning.specs.py_world.World.{CallState, Temps, heap_of, state, unset}
 use Rattle.source_meaning.specs.py_world.Site.{Site, site, trace_of}
 use Rattle.source_meaning.specs.py_world.Arguments.{arguments_of}
 use Rattle.source_meaning.specs.py_world.Explained.{kept_count, kept_count_all, explanation}
-use Rattle.source_meaning.specs.py_world.Outcome.{Part, Then}
+use Rattle.source_meaning.specs.py_world.Outcome.{Denotation, Continuation}
 use Rattle.source_meaning.specs.py_world.Statements.{assertion, fail, fail_explained, failed_with}
-use Rattle.source_meaning.specs.Requests.{Use, NoUse, Targets, ReturnIt, Layer, Turn, Script, Function}
+use Rattle.source_meaning.specs.Requests.{Use, NoUse, Targets, ReturnIt, SourceLayer, SourceTurn, Script, Function}
 use Rattle.source_meaning.specs.Expressions.{eval, parts, some_part}
 use Rattle.source_meaning.specs.Watched.{watch, watch_all}
-use Rattle.source_meaning.specs.Statements.{position, store_place, store_places, store, stores, use_of, augment, delete, assert, assert_as, listed, sequence, block as block_of, handlings, remains, choices, entry, script_body, written, with_part, default_parts, statement, act}
-use Rattle.source_meaning.specs.Meaning.{source}
+use Rattle.source_meaning.specs.Statements.{position, store_place, store_places, source_store, source_stores, source_use, augment, delete, source_assert, assert_as, statements_listed, source_sequence, source_block_body as block_of, source_handlings, source_remains, source_choices, source_entry, script_body, source_written, with_part, default_parts, source_statement, source_act}
+use Rattle.source_meaning.specs.Meaning.{source_semantics}
 use Rattle.explain_law.specs.Until as until
 use Rattle.explain_law.specs.Choices.{Choices, K, J, worlds, world_with, StatesAlike, states, EndsAlike, next, LayersAt, no_layer, statements_at, guard_at, receives_at, TurnsAt, statement_at, turn_at, for_at, CodesAt, code_at, ScriptsAt, script_at, plain_first, explained_first}
 use Rattle.explain_law.proofs.Parts as part
@@ -152,13 +152,13 @@ module _ (R : Choices) where
     first_each n (More before e) = part.parts_push R false (first_each n before) (first_watch (n + kept_count_all before) e)
 
   -- A FAILED ASSERT
-  tight : {k : Then K} {l : Then J} → part.Behind R false k l → part.Behind R true k l
+  tight : {k : Continuation K} {l : Continuation J} → part.Behind R false k l → part.Behind R true k l
   tight h o q n = h o q (part.loosen_end R true n)
 
-  unset_tight : {s : State K} {r : State J} → StatesAlike R false s r → StatesAlike R true (unset s) (unset r)
+  unset_tight : {s : CallState K} {r : CallState J} → StatesAlike R false s r → StatesAlike R true (unset s) (unset r)
   unset_tight (states a t ws) = states a (part.none_kept true) ws
 
-  failed_same : (e : Tree) (v : Option Value) (p : Site) {s : State K} {r : State J} → StatesAlike R true s r → EndsAlike R true (failed_with (explanation e s.temps v (heap_of s)) p s) (failed_with (explanation e r.temps v (heap_of r)) p r)
+  failed_same : (e : Tree) (v : Option Value) (p : Site) {s : CallState K} {r : CallState J} → StatesAlike R true s r → EndsAlike R true (failed_with (explanation e s.temps v (heap_of s)) p s) (failed_with (explanation e r.temps v (heap_of r)) p r)
   failed_same e v p (states a t (worlds {ss = ss} {ts = ts} {cs = cs} {ds = ds} {fs = fs} {gs = gs} xs ys zs modules heap printed traces)) =
       subst
       (λ (u : Temps). EndsAlike R true (failed_with (explanation e t.first v heap) p (state a t.first (world_with ss modules heap cs printed fs traces))) (failed_with (explanation e u v heap) p (state a t.second (world_with ts modules heap ds printed gs traces))))
@@ -180,10 +180,10 @@ module _ (R : Choices) where
       record { does = λ p is ss k l h. (eval_same false m).does p ss _ _ (λ o q n. part.value_same R false n k l h _ _ (λ v s r ss. until.part _ _ k l (explained_first p (ap R.first is ∙ f) (ap R.second is ∙ g) c (Some v) ss) h refl refl)) }
 
   -- an assert, whose failures do the same or part
-  assert_same : {path : List ℕ} {e f : Part K} {e' f' : Part J} → part.PartSame R false e e' → block.PartAt R path f f' → block.PartAt R path (assert e f) (assert e' f')
+  assert_same : {path : List ℕ} {e f : Denotation K} {e' f' : Denotation J} → part.PartSame R false e e' → block.PartAt R path f f' → block.PartAt R path (source_assert e f) (source_assert e' f')
   assert_same x y = record { does = λ p is ss k l h. x.does p (block.unset_same R ss) _ _ (λ o q n. part.value_same R false n k l h _ _ (λ v s r ss. part.truth_same R false v ss _ _ _ _ (h _ _ (next ss)) (y.does p is ss k l h))) }
 
-  both_explain : {path : List ℕ} (e : Tree) (m : Maybe) → block.PartAt R path (assert (watch 0 e) (fail_explained e (some_part m))) (assert (watch 0 e) (fail_explained e (some_part m)))
+  both_explain : {path : List ℕ} (e : Tree) (m : Maybe) → block.PartAt R path (source_assert (watch 0 e) (fail_explained e (some_part m))) (source_assert (watch 0 e) (fail_explained e (some_part m)))
   both_explain e m =
       record {
         does = λ p is ss k l h. (watch_same 0 e).does p (unset_tight ss) _ _
@@ -206,11 +206,11 @@ module _ (R : Choices) where
   places_same [] = flow.none
   places_same (p ∷ ps) = flow.more (place_same p) (places_same ps)
 
-  taker_same : (x : Taker) → flow.StoreSame R (store x) (store x)
+  taker_same : (x : Taker) → flow.StoreSame R (source_store x) (source_store x)
   taker_same (One p) = place_same p
   taker_same (Unpack ps) = flow.unpack_same R (places_same ps)
 
-  takers_same : (xs : List Taker) → flow.StoresSame R (stores xs) (stores xs)
+  takers_same : (xs : List Taker) → flow.StoresSame R (source_stores xs) (source_stores xs)
   takers_same [] = flow.none
   takers_same (x ∷ xs) = flow.more (taker_same x) (takers_same xs)
 
@@ -225,7 +225,7 @@ module _ (R : Choices) where
   delete_same (SubscriptPlace at e i) = flow.delete_item_same R (eval_same false e) (eval_same false i)
 
   -- the defaults of parameters
-  with_same : (default : Maybe) {es : List (Part K)} {fs : List (Part J)} → part.PartsSame R false es fs → part.PartsSame R false (with_part default es) (with_part default fs)
+  with_same : (default : Maybe) {es : List (Denotation K)} {fs : List (Denotation J)} → part.PartsSame R false es fs → part.PartsSame R false (with_part default es) (with_part default fs)
   with_same Absent h = h
   with_same (Present e) h = part.more (eval_same false e) h
 
@@ -234,7 +234,7 @@ module _ (R : Choices) where
   defaults_same (st.Parameter_at at name annotation default ∷ ps) = with_same default (defaults_same ps)
 
   -- statements one after another, each of which is asked for by name
-  sequence_same : {path : List ℕ} {ls ks : List Layer} → LayersAt R path ls ks → (ss : List Statement) → block.BodySame R path (sequence (R.first path) ls ss) (sequence (R.second path) ks ss)
+  sequence_same : {path : List ℕ} {ls ks : List SourceLayer} → LayersAt R path ls ks → (ss : List Statement) → block.BodySame R path (source_sequence (R.first path) ls ss) (source_sequence (R.second path) ks ss)
   sequence_same hl [] = record { does = λ scene is ss k l h. h _ _ (next ss) }
   sequence_same hl (x ∷ rest) =
       record {
@@ -242,41 +242,41 @@ module _ (R : Choices) where
             (λ o q n. block.next_same R n k l h _ _ (λ s r ss. (sequence_same hl rest).does scene is ss k l h));
       }
 
-  block_same : {path : List ℕ} {ls ks : List Layer} → LayersAt R path ls ks → (b : Block) → block.BodySame R path (block_of (R.first path) ls b) (block_of (R.second path) ks b)
-  block_same hl b = sequence_same hl (listed b)
+  block_same : {path : List ℕ} {ls ks : List SourceLayer} → LayersAt R path ls ks → (b : Block) → block.BodySame R path (block_of (R.first path) ls b) (block_of (R.second path) ks b)
+  block_same hl b = sequence_same hl (statements_listed b)
 
-  handlings_same : {path : List ℕ} {ls ks : List Layer} → LayersAt R path ls ks → (hs : Handlers) → flow.HandlersSame R path (handlings (R.first path) ls hs) (handlings (R.second path) ks hs)
+  handlings_same : {path : List ℕ} {ls ks : List SourceLayer} → LayersAt R path ls ks → (hs : Handlers) → flow.HandlersSame R path (source_handlings (R.first path) ls hs) (source_handlings (R.second path) ks hs)
   handlings_same hl NoHandler = flow.none
   handlings_same hl (st.Handler before at class name body) = flow.handlers_push R (handlings_same hl before) name (some_same false class) (block_same hl body)
 
-  use_same : (u : Use) → flow.StoreSame R (use_of u) (use_of u)
+  use_same : (u : Use) → flow.StoreSame R (source_use u) (source_use u)
   use_same NoUse = flow.no_use_same R
   use_same (Targets ts) = flow.all_stored_same R (takers_same ts)
   use_same ReturnIt = flow.return_sent_same R
 
   -- what remains of a body
-  pub remains_same : {path : List ℕ} {ls ks : List Layer} → LayersAt R path ls ks → block.AfterSame R path (remains ls) (remains ks)
+  pub remains_same : {path : List ℕ} {ls ks : List SourceLayer} → LayersAt R path ls ks → block.AfterSame R path (source_remains ls) (source_remains ks)
   remains_same no_layer = record { does = λ p is n k l h. h _ _ n }
   remains_same (statements_at ss {ls = ls} {ks = ks} hl) =
-      record { does = λ p is n k l h. block.next_same R n (λ o. remains ls p o k) (λ o. remains ks p o l) (λ o q m. (remains_same hl).does p is m k l h) _ _ (λ s r us. (sequence_same hl ss).does p.scene is us (λ o. remains ls p o k) (λ o. remains ks p o l) (λ o q m. (remains_same hl).does p is m k l h)) }
+      record { does = λ p is n k l h. block.next_same R n (λ o. source_remains ls p o k) (λ o. source_remains ks p o l) (λ o q m. (remains_same hl).does p is m k l h) _ _ (λ s r us. (sequence_same hl ss).does p.scene is us (λ o. source_remains ls p o k) (λ o. source_remains ks p o l) (λ o q m. (remains_same hl).does p is m k l h)) }
   remains_same (guard_at line hs other last {ls = ls} {ks = ks} hl) =
-      record { does = λ p is n k l h. (flow.guarded_same R (handlings_same hl hs) (sequence_same hl other) (sequence_same hl last)).does (site p.scene line) is n (λ o. remains ls p o k) (λ o. remains ks p o l) (λ o q m. (remains_same hl).does p is m k l h) }
+      record { does = λ p is n k l h. (flow.guarded_same R (handlings_same hl hs) (sequence_same hl other) (sequence_same hl last)).does (site p.scene line) is n (λ o. source_remains ls p o k) (λ o. source_remains ks p o l) (λ o q m. (remains_same hl).does p is m k l h) }
   remains_same (receives_at u {ls = ls} {ks = ks} hl) =
-      record { does = λ p is n k l h. (flow.received_same R (use_same u)).does p is n (λ o. remains ls p o k) (λ o. remains ks p o l) (λ o q m. (remains_same hl).does p is m k l h) }
+      record { does = λ p is n k l h. (flow.received_same R (use_same u)).does p is n (λ o. source_remains ls p o k) (λ o. source_remains ks p o l) (λ o q m. (remains_same hl).does p is m k l h) }
 
-  choices_same : {path : List ℕ} {ls ks : List Layer} → LayersAt R path ls ks → (bs : Branches) → block.ChoicesSame R path (choices (R.first path) ls bs) (choices (R.second path) ks bs)
+  choices_same : {path : List ℕ} {ls ks : List SourceLayer} → LayersAt R path ls ks → (bs : Branches) → block.ChoicesSame R path (source_choices (R.first path) ls bs) (source_choices (R.second path) ks bs)
   choices_same hl NoBranch = block.none
   choices_same hl (st.Branch before at condition body) = block.choices_push R (choices_same hl before) at.line (eval_same false condition) (block_same hl body)
 
   -- what codes say
-  entries_same : (path : List ℕ) (c d : Function) → CodesAt R path c d → block.EntrySame R path (entry c) (entry d)
+  entries_same : (path : List ℕ) (c d : Function) → CodesAt R path c d → block.EntrySame R path (source_entry c) (source_entry d)
   entries_same path _ _ (code_at name params body) = record { name = refl; own = refl; body = block_same no_layer body }
 
   pub bodies_same : (path : List ℕ) (c d : Script) → ScriptsAt R path c d → block.BodySame R path (script_body c) (script_body d)
   bodies_same path _ _ (script_at body) = block_same no_layer body
 
   -- WHAT A STATEMENT DOES
-  statement_same : {path : List ℕ} {ls ks : List Layer} → LayersAt R path ls ks → (x : Statement) → block.PartAt R path (statement (R.first path) ls x) (statement (R.second path) ks x)
+  statement_same : {path : List ℕ} {ls ks : List SourceLayer} → LayersAt R path ls ks → (x : Statement) → block.PartAt R path (source_statement (R.first path) ls x) (source_statement (R.second path) ks x)
   statement_same hl (st.Do at e) = block.at_each R (block.expression_same R (eval_same false e))
   statement_same hl (st.Assign at ts e) = block.at_each R (flow.assign_same R (takers_same ts) (eval_same false e))
   statement_same hl (st.AugAssign at p op e) = block.at_each R (augment_same p op e)
@@ -288,25 +288,25 @@ module _ (R : Choices) where
   statement_same hl (st.Continue at) = block.at_each R (block.again_same R)
   statement_same hl (st.If at bs other) = block.choose_same R (choices_same hl bs) (block_same hl other)
   statement_same hl (st.While at e body) = block.loop_same R (turn_at e body) (eval_same false e)
-  statement_same hl (st.Def at ds word name params returns body) = classes.define_same R (parts_same false ds) (defaults_same params) (written params) name word.line (yields_in body) (code_at name params body)
+  statement_same hl (st.Def at ds word name params returns body) = classes.define_same R (parts_same false ds) (defaults_same params) (source_written params) name word.line (yields_in body) (code_at name params body)
   statement_same hl (st.YieldOf at word e) = block.yield_same R (some_same false e) (receives_at NoUse hl)
   statement_same hl (st.AssignYield at ts word e) = block.yield_same R (some_same false e) (receives_at (Targets ts) hl)
   statement_same hl (st.ReturnYield at word e) = block.yield_same R (some_same false e) (receives_at ReturnIt hl)
-  statement_same hl (st.Raise at e) = block.at_each R (classes.raise_same R entry entry entries_same (some_same false e))
+  statement_same hl (st.Raise at e) = block.at_each R (classes.raise_same R source_entry source_entry entries_same (some_same false e))
   statement_same hl (st.Del at p) = block.at_each R (delete_same p)
   statement_same hl (st.Import at names alias) = block.at_each R (loads.import_same R script_body script_body bodies_same names alias)
   statement_same hl (st.ImportFrom at names all) = block.at_each R (loads.from_same R script_body script_body bodies_same names all)
   statement_same hl (st.For at taker e body) = flow.for_same R (λ i. for_at taker body i) (eval_same false e)
   statement_same hl (st.Try at body hs other final) =
-      record { does = λ p is ss k l h. (flow.try_same R (block_same (guard_at p.line hs (listed other) (listed final) hl) body) (handlings_same hl hs) (sequence_same hl (listed other)) (sequence_same hl (listed final))).does p is ss k l h }
+      record { does = λ p is ss k l h. (flow.try_same R (block_same (guard_at p.line hs (statements_listed other) (statements_listed final) hl) body) (handlings_same hl hs) (sequence_same hl (statements_listed other)) (sequence_same hl (statements_listed final))).does p is ss k l h }
   statement_same hl (st.With at e name body) = flow.with_same R name (eval_same false e) (block_same no_layer body)
   statement_same hl (st.Class at ds word name base body) = classes.class_same R (parts_same false ds) (some_same false base) name word.line (block_same no_layer body)
 
-  acts_at : (p : Site) {what turn : Turn} → TurnsAt R p.scene.path what turn → (s : State K) (r : State J) → StatesAlike R false s r → (k : Then K) (l : Then J) → part.Behind R false k l → part.Follow R false (act what p s k) (act turn p r l)
+  acts_at : (p : Site) {what turn : SourceTurn} → TurnsAt R p.scene.path what turn → (s : CallState K) (r : CallState J) → StatesAlike R false s r → (k : Continuation K) (l : Continuation J) → part.Behind R false k l → part.Follow R false (source_act what p s k) (source_act turn p r l)
   acts_at p (statement_at x hl) s r ss k l h = (statement_same hl x).does p refl ss k l h
   acts_at p (turn_at e b) s r ss k l h = (block.turn_of_same R (turn_at e b) (eval_same false e) (block_same no_layer b)).does p refl ss k l h
   acts_at p (for_at x b at) s r ss k l h = (flow.for_turn_same R (λ i. for_at x b i) (taker_same x) (block_same no_layer b) at).does p refl ss k l h
 
   -- THE MEANING under each choice
-  pub meanings_same : block.MeaningsSame R source source
+  pub meanings_same : block.MeaningsSame R source_semantics source_semantics
   meanings_same = record { entries = entries_same; acts = λ what turn p h. acts_at p h; bodies = bodies_same }

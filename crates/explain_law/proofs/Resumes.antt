@@ -16,8 +16,8 @@ use Rattle.source_meaning.specs.py_world.Outcome.{Rest, Paused}
 use Rattle.source_meaning.specs.py_world.Calls.{body_of}
 use Rattle.source_meaning.specs.py_world.Runs.{Told, start, function_and}
 use Rattle.source_meaning.specs.py_world.Resuming.{Sent, SentValue, SentThrow, Yielded, Over, begun_with, frame_at, bare, abandon_of, begun_over, begun_yielded, begun_by, sent_end, begin_arguments, begun_of, body_begun, function_opened, object_opened, opened_by_runner, resumed, resumed_by}
-use Rattle.source_meaning.specs.Requests.{Layer, Function}
-use Rattle.source_meaning.specs.Meaning.{SourceWorld, source, source_begin, source_resume}
+use Rattle.source_meaning.specs.Requests.{SourceLayer, Function}
+use Rattle.source_meaning.specs.Meaning.{SourceWorld, source_semantics, source_begin, source_resume}
 use Rattle.explain_law.specs.Until as until
 use Rattle.explain_law.specs.Choices as alike
 use Rattle.explain_law.specs.Choices.{Choices, K, J, WorldsAlike, worlds, states, EndsAlike, gave, SpentAlike, PausedAlike, stops, RequestsAlike, FrozenAlike, LayersAt, CodesAt, frozen_with, stored_with}
@@ -29,7 +29,7 @@ use Rattle.explain_law.proofs.Forms.{meanings_same, remains_same}
 use Rattle.explain_law.proofs.Whole.{SourceEnding, ended_same, spent_told, runs_alike, begun_by_runner_same}
 
 abbrev Frames : Type 0
-Frames = List (Option (Frozen (List Layer)))
+Frames = List (Option (Frozen (List SourceLayer)))
 
 module _ (R : Choices) where
   -- frozen frames
@@ -38,7 +38,7 @@ module _ (R : Choices) where
   frozen_length (alike.FrozenAlike.taken hs) = ap suc (frozen_length hs)
   frozen_length (alike.FrozenAlike.more p a h hs) = ap suc (frozen_length hs)
 
-  frozen_more : {fs gs : Frames} → FrozenAlike R fs gs → (p : Site) (a : Locals) {l m : List Layer} → LayersAt R p.scene.path l m → FrozenAlike R (fs ++ Some (frozen_with l p a) ∷ []) (gs ++ Some (frozen_with m p a) ∷ [])
+  frozen_more : {fs gs : Frames} → FrozenAlike R fs gs → (p : Site) (a : Locals) {l m : List SourceLayer} → LayersAt R p.scene.path l m → FrozenAlike R (fs ++ Some (frozen_with l p a) ∷ []) (gs ++ Some (frozen_with m p a) ∷ [])
   frozen_more alike.FrozenAlike.none p a h = alike.FrozenAlike.more p a h alike.FrozenAlike.none
   frozen_more (alike.FrozenAlike.taken hs) p a h = alike.FrozenAlike.taken (frozen_more hs p a h)
   frozen_more (alike.FrozenAlike.more q b g hs) p a h = alike.FrozenAlike.more q b g (frozen_more hs p a h)
@@ -50,9 +50,9 @@ module _ (R : Choices) where
   frozen_taken (alike.FrozenAlike.more p a h hs) zero = alike.FrozenAlike.taken hs
   frozen_taken (alike.FrozenAlike.more p a h hs) (suc n) = alike.FrozenAlike.more p a h (frozen_taken hs n)
 
-  pub data FrameAlike : Option (Frozen (List Layer)) → Option (Frozen (List Layer)) → Type 0 where
+  pub data FrameAlike : Option (Frozen (List SourceLayer)) → Option (Frozen (List SourceLayer)) → Type 0 where
     absent : FrameAlike None None
-    present : (p : Site) (a : Locals) {l m : List Layer} → LayersAt R p.scene.path l m → FrameAlike (Some (frozen_with l p a)) (Some (frozen_with m p a))
+    present : (p : Site) (a : Locals) {l m : List SourceLayer} → LayersAt R p.scene.path l m → FrameAlike (Some (frozen_with l p a)) (Some (frozen_with m p a))
 
   frame_found : {fs gs : Frames} → FrozenAlike R fs gs → (n : ℕ) → FrameAlike (frame_at (slice_get fs n)) (frame_at (slice_get gs n))
   frame_found alike.FrozenAlike.none n = absent
@@ -85,29 +85,29 @@ module _ (R : Choices) where
   begun_same budget (tree.Frozen o m) (tree.Ended q n) h = elim h [ ]
   begun_same budget (tree.Frozen o m) (tree.Spent y) h = elim h [ ]
 
-  begun_until : (budget : ℕ) (x : Rest K) (y : Rest J) → RunsAlike R (tree.run (body_of source) budget x) (tree.run (body_of source) budget y) → BegunUntil R (begun_of source budget x) (begun_of source budget y)
+  begun_until : (budget : ℕ) (x : Rest K) (y : Rest J) → RunsAlike R (tree.run (body_of source_semantics) budget x) (tree.run (body_of source_semantics) budget y) → BegunUntil R (begun_of source_semantics budget x) (begun_of source_semantics budget y)
   begun_until budget x y (until.same h) = law.begun (begun_same budget _ _ h.1)
   begun_until budget x y (until.apart h) = law.begun_apart budget x y h
 
-  run_begun : (budget : ℕ) (x : Rest K) (y : Rest J) → Follow R x y → BegunUntil R (begun_of source budget x) (begun_of source budget y)
+  run_begun : (budget : ℕ) (x : Rest K) (y : Rest J) → Follow R x y → BegunUntil R (begun_of source_semantics budget x) (begun_of source_semantics budget y)
   run_begun budget x y h = begun_until budget x y (runs_alike R budget x y h)
 
   -- BEGINS
-  body_begun_same : (path : List ℕ) (home : ℕ) {c d : Function} → CodesAt R path c d → (r : Result Locals Raise) (at : List TraceFrame) {w z : SourceWorld} → WorldsAlike R w z → Follow R (body_begun source (stored_with path home c) r at (start w)) (body_begun source (stored_with path home d) r at (start z))
+  body_begun_same : (path : List ℕ) (home : ℕ) {c d : Function} → CodesAt R path c d → (r : Result Locals Raise) (at : List TraceFrame) {w z : SourceWorld} → WorldsAlike R w z → Follow R (body_begun source_semantics (stored_with path home c) r at (start w)) (body_begun source_semantics (stored_with path home d) r at (start z))
   body_begun_same path home h (Ok names) at ws =
-      (block.entered_by R source.entry source.entry (meanings_same R).entries path h home (Ok names) no_call).does (states [] (part.none_kept false) ws) _ _ (λ o q n. until.done (part.call_end_same R false (states [] (part.none_kept false) ws) n))
+      (block.entered_by R source_semantics.entry source_semantics.entry (meanings_same R).entries path h home (Ok names) no_call).does (states [] (part.none_kept false) ws) _ _ (λ o q n. until.done (part.call_end_same R false (states [] (part.none_kept false) ws) n))
   body_begun_same path home h (Err r) at ws = until.done (part.raised_same R false r at (states [] (part.none_kept false) ws))
 
-  function_opened_same : {x y : Option (Stored Function)} → block.FoundAlike R x y → (g : FunctionObj) (all : List Value) (f : Value) (args : List Value) {w z : SourceWorld} → WorldsAlike R w z → Follow R (function_opened source x g all f args (start w)) (function_opened source y g all f args (start z))
+  function_opened_same : {x y : Option (Stored Function)} → block.FoundAlike R x y → (g : FunctionObj) (all : List Value) (f : Value) (args : List Value) {w z : SourceWorld} → WorldsAlike R w z → Follow R (function_opened source_semantics x g all f args (start w)) (function_opened source_semantics y g all f args (start z))
   function_opened_same block.absent g all f args ws = begun_by_runner_same R f args ws
   function_opened_same (block.present path home h) g all f args ws =
       part.follow_cond R false g.yields _ _ _ _ (body_begun_same path home h (begin_arguments g all) (frame g.path g.line g.name ∷ []) ws) (begun_by_runner_same R f args ws)
 
-  object_opened_same : (o : Option (FunctionObj × List Value)) (f : Value) (args : List Value) {w z : SourceWorld} → WorldsAlike R w z → Follow R (object_opened source o f args (start w)) (object_opened source o f args (start z))
+  object_opened_same : (o : Option (FunctionObj × List Value)) (f : Value) (args : List Value) {w z : SourceWorld} → WorldsAlike R w z → Follow R (object_opened source_semantics o f args (start w)) (object_opened source_semantics o f args (start z))
   object_opened_same (Some x) f args (worlds xs ys zs modules heap printed traces) = function_opened_same (block.found R ys x.0.code) x.0 x.1 f args (worlds xs ys zs modules heap printed traces)
   object_opened_same None f args ws = begun_by_runner_same R f args ws
 
-  opened_same : (f : Value) (args : List Value) {w z : SourceWorld} → WorldsAlike R w z → Follow R (opened_by_runner source f args (start w)) (opened_by_runner source f args (start z))
+  opened_same : (f : Value) (args : List Value) {w z : SourceWorld} → WorldsAlike R w z → Follow R (opened_by_runner source_semantics f args (start w)) (opened_by_runner source_semantics f args (start z))
   opened_same (val.Ref id) args (worlds xs ys zs modules heap printed traces) = object_opened_same (function_and heap args (slice_get heap id.at)) (val.Ref id) args (worlds xs ys zs modules heap printed traces)
   opened_same val.None args ws = begun_by_runner_same R val.None args ws
   opened_same (val.Bool b) args ws = begun_by_runner_same R (val.Bool b) args ws
@@ -121,10 +121,10 @@ module _ (R : Choices) where
   sent_same (SentValue v) a ws = gave v (states a (part.none_kept false) ws)
   sent_same (SentThrow t) a ws = alike.raised t.exc t.trace (states a (part.none_kept false) ws)
 
-  resumed_same : (p : Site) (a : Locals) {l m : List Layer} → LayersAt R p.scene.path l m → (sent : Sent) {w z : SourceWorld} → WorldsAlike R w z → Follow R (resumed source (frozen_with l p a) sent w) (resumed source (frozen_with m p a) sent z)
+  resumed_same : (p : Site) (a : Locals) {l m : List SourceLayer} → LayersAt R p.scene.path l m → (sent : Sent) {w z : SourceWorld} → WorldsAlike R w z → Follow R (resumed source_semantics (frozen_with l p a) sent w) (resumed source_semantics (frozen_with m p a) sent z)
   resumed_same p a h sent ws = (remains_same R h).does p refl (sent_same sent a ws) _ _ (λ o q n. until.done (part.call_end_same R false (states [] (part.none_kept false) ws) n))
 
-  resumed_by_same : {x y : Option (Frozen (List Layer))} → FrameAlike x y → (n : ℕ) (sent : Sent) (budget : ℕ) {w z : SourceWorld} → WorldsAlike R w z → BegunUntil R (resumed_by source x n sent budget w) (resumed_by source y n sent budget z)
+  resumed_by_same : {x y : Option (Frozen (List SourceLayer))} → FrameAlike x y → (n : ℕ) (sent : Sent) (budget : ℕ) {w z : SourceWorld} → WorldsAlike R w z → BegunUntil R (resumed_by source_semantics x n sent budget w) (resumed_by source_semantics y n sent budget z)
   resumed_by_same absent n sent budget ws = law.begun (over_same _ _ (refl, ws))
   resumed_by_same (present p a h) n sent budget ws = run_begun budget _ _ (resumed_same p a h sent (abandoned n ws))
 

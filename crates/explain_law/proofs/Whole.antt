@@ -15,12 +15,12 @@ use Rattle.source_meaning.specs.py_world.declared.load.Load.TheVariants.{Running
 use Rattle.source_meaning.specs.py_world.declared.trace.TraceFrame.{TraceFrame}
 use Rattle.source_meaning.specs.py_world.World.{World, Locals, Stored}
 use Rattle.source_meaning.specs.py_world.Site.{no_call, frame}
-use Rattle.source_meaning.specs.py_world.Arguments.{plain}
+use Rattle.source_meaning.specs.py_world.Arguments.{positional_arguments}
 use Rattle.source_meaning.specs.py_world.Outcome.{Outcome, Rest, Spent, Paused, Request, call_end}
 use Rattle.source_meaning.specs.py_world.Calls.{arguments_for, invoke, body_of}
 use Rattle.source_meaning.specs.py_world.Runs.{ended_value, ended_spent, is_running, out_of_steps, ended_by, told_by, start, run_of, function_and, fitting_begun, function_begun, object_begun, begun_by_runner, loading, loaded_first, loaded_by, load_at}
 use Rattle.source_meaning.specs.Requests.{Script, Function}
-use Rattle.source_meaning.specs.Meaning.{SourceWorld, source, source_call, source_module}
+use Rattle.source_meaning.specs.Meaning.{SourceWorld, source_semantics, source_call, source_module}
 use Rattle.explain_law.specs.Until as until
 use Rattle.explain_law.specs.Choices as alike
 use Rattle.explain_law.specs.Choices.{Choices, K, J, WorldsAlike, worlds, states, EndsAlike, gave, next, returned, broke, continued, SpentAlike, out, PausedAlike, stops, RequestsAlike, FailedApart, ScriptsAt}
@@ -75,36 +75,36 @@ module _ (R : Choices) where
   told_same budget (tree.Frozen o m) (tree.Spent y) h = elim h [ ]
 
   -- runs of what is left to do
-  pub runs_alike : (budget : ℕ) (x : Rest K) (y : Rest J) → Follow R x y → RunsAlike R (tree.run (body_of source) budget x) (tree.run (body_of source) budget y)
-  runs_alike budget x y h = run_until _ _ _ _ _ (body_of source) (body_of source) (block.body_same R source source (meanings_same R)) budget h
+  pub runs_alike : (budget : ℕ) (x : Rest K) (y : Rest J) → Follow R x y → RunsAlike R (tree.run (body_of source_semantics) budget x) (tree.run (body_of source_semantics) budget y)
+  runs_alike budget x y h = run_until _ _ _ _ _ (body_of source_semantics) (body_of source_semantics) (block.body_same R source_semantics source_semantics (meanings_same R)) budget h
 
-  told_until : (budget : ℕ) (x : Rest K) (y : Rest J) → RunsAlike R (tree.run (body_of source) budget x) (tree.run (body_of source) budget y) → ToldUntil R (run_of source budget x) (run_of source budget y)
+  told_until : (budget : ℕ) (x : Rest K) (y : Rest J) → RunsAlike R (tree.run (body_of source_semantics) budget x) (tree.run (body_of source_semantics) budget y) → ToldUntil R (run_of source_semantics budget x) (run_of source_semantics budget y)
   told_until budget x y (until.same h) = law.told (told_same budget _ _ h.1)
   told_until budget x y (until.apart h) = law.parted budget x y h
 
-  run_told : (budget : ℕ) (x : Rest K) (y : Rest J) → Follow R x y → ToldUntil R (run_of source budget x) (run_of source budget y)
+  run_told : (budget : ℕ) (x : Rest K) (y : Rest J) → Follow R x y → ToldUntil R (run_of source_semantics budget x) (run_of source_semantics budget y)
   run_told budget x y h = told_until budget x y (runs_alike budget x y h)
 
   abbrev begun_plain : Value → List Value → SourceWorld → Rest K
-  begun_plain f args w = invoke source.entry f (plain args) no_call (start w) (λ o. Done (call_end (start w) o))
+  begun_plain f args w = invoke source_semantics.entry f (positional_arguments args) no_call (start w) (λ o. Done (call_end (start w) o))
 
   invoked : (f : Value) (args : List Value) (w z : SourceWorld) → WorldsAlike R w z → Follow R (begun_plain f args w) (begun_plain f args z)
   invoked f args w z ws =
-      (block.invoke_same R source.entry source.entry (meanings_same R).entries f (plain args) no_call).does (states [] (part.none_kept false) ws) _ _ (λ o q n. until.done (part.call_end_same R false (states [] (part.none_kept false) ws) n))
+      (block.invoke_same R source_semantics.entry source_semantics.entry (meanings_same R).entries f (positional_arguments args) no_call).does (states [] (part.none_kept false) ws) _ _ (λ o q n. until.done (part.call_end_same R false (states [] (part.none_kept false) ws) n))
 
-  fitting_begun_same : (r : Result Locals Raise) (at : List TraceFrame) (f : Value) (args : List Value) (w z : SourceWorld) → WorldsAlike R w z → Follow R (fitting_begun source r at f args (start w)) (fitting_begun source r at f args (start z))
+  fitting_begun_same : (r : Result Locals Raise) (at : List TraceFrame) (f : Value) (args : List Value) (w z : SourceWorld) → WorldsAlike R w z → Follow R (fitting_begun source_semantics r at f args (start w)) (fitting_begun source_semantics r at f args (start z))
   fitting_begun_same (Ok names) at f args w z ws = invoked f args w z ws
   fitting_begun_same (Err r) at f args w z ws = until.done (part.raised_same R false r at (states [] (part.none_kept false) ws))
 
-  function_begun_same : {x y : Option (Stored Function)} → block.FoundAlike R x y → (g : FunctionObj) (all : List Value) (f : Value) (args : List Value) (w z : SourceWorld) → WorldsAlike R w z → Follow R (function_begun source x g all f args (start w)) (function_begun source y g all f args (start z))
+  function_begun_same : {x y : Option (Stored Function)} → block.FoundAlike R x y → (g : FunctionObj) (all : List Value) (f : Value) (args : List Value) (w z : SourceWorld) → WorldsAlike R w z → Follow R (function_begun source_semantics x g all f args (start w)) (function_begun source_semantics y g all f args (start z))
   function_begun_same block.absent g all f args w z ws = invoked f args w z ws
-  function_begun_same (block.present path home h) g all f args w z ws = fitting_begun_same (arguments_for g (plain all)) (frame g.path g.line g.name ∷ []) f args w z ws
+  function_begun_same (block.present path home h) g all f args w z ws = fitting_begun_same (arguments_for g (positional_arguments all)) (frame g.path g.line g.name ∷ []) f args w z ws
 
-  object_begun_same : (o : Option (FunctionObj × List Value)) (f : Value) (args : List Value) {w z : SourceWorld} → WorldsAlike R w z → Follow R (object_begun source o f args (start w)) (object_begun source o f args (start z))
+  object_begun_same : (o : Option (FunctionObj × List Value)) (f : Value) (args : List Value) {w z : SourceWorld} → WorldsAlike R w z → Follow R (object_begun source_semantics o f args (start w)) (object_begun source_semantics o f args (start z))
   object_begun_same (Some x) f args (worlds xs ys zs modules heap printed traces) = function_begun_same (block.found R ys x.0.code) x.0 x.1 f args _ _ (worlds xs ys zs modules heap printed traces)
   object_begun_same None f args ws = invoked f args _ _ ws
 
-  pub begun_by_runner_same : (f : Value) (args : List Value) {w z : SourceWorld} → WorldsAlike R w z → Follow R (begun_by_runner source f args (start w)) (begun_by_runner source f args (start z))
+  pub begun_by_runner_same : (f : Value) (args : List Value) {w z : SourceWorld} → WorldsAlike R w z → Follow R (begun_by_runner source_semantics f args (start w)) (begun_by_runner source_semantics f args (start z))
   begun_by_runner_same (val.Ref id) args (worlds xs ys zs modules heap printed traces) = object_begun_same (function_and heap args (slice_get heap id.at)) (val.Ref id) args (worlds xs ys zs modules heap printed traces)
   begun_by_runner_same val.None args ws = invoked val.None args _ _ ws
   begun_by_runner_same (val.Bool b) args ws = invoked (val.Bool b) args _ _ ws
@@ -114,14 +114,14 @@ module _ (R : Choices) where
   pub calls_until : (w z : SourceWorld) → WorldsAlike R w z → (f : Value) (args : List Value) (budget : ℕ) → ToldUntil R (source_call f args budget w) (source_call f args budget z)
   calls_until w z ws f args budget = run_told budget _ _ (begun_by_runner_same f args ws)
 
-  loading_same : (path : List ℕ) (b code : Script) → ScriptsAt R path b code → {w z : SourceWorld} → WorldsAlike R w z → Follow R (loading source path b w) (loading source path code z)
-  loading_same path b code h ws = loads.executed_same R source.body source.body (bodies_same R) path b code h no_call ws (λ o. Done o) (λ o. Done o) (λ o q n. until.done n)
+  loading_same : (path : List ℕ) (b code : Script) → ScriptsAt R path b code → {w z : SourceWorld} → WorldsAlike R w z → Follow R (loading source_semantics path b w) (loading source_semantics path code z)
+  loading_same path b code h ws = loads.executed_same R source_semantics.body source_semantics.body (bodies_same R) path b code h no_call ws (λ o. Done o) (λ o. Done o) (λ o q n. until.done n)
 
-  loaded_first_until : {b code : Option Script} (path : List ℕ) → loads.CodeFound R path b code → (budget : ℕ) {w z : SourceWorld} → WorldsAlike R w z → ToldUntil R (loaded_first source b path budget w) (loaded_first source code path budget z)
+  loaded_first_until : {b code : Option Script} (path : List ℕ) → loads.CodeFound R path b code → (budget : ℕ) {w z : SourceWorld} → WorldsAlike R w z → ToldUntil R (loaded_first source_semantics b path budget w) (loaded_first source_semantics code path budget z)
   loaded_first_until path loads.none budget ws = law.told (refl, ws)
   loaded_first_until path (loads.some {b = b} {code = code} h) budget ws = run_told budget _ _ (loading_same path b code h ws)
 
-  loaded_by_until : (load : Option Load) (path : List ℕ) (budget : ℕ) {w z : SourceWorld} → WorldsAlike R w z → ToldUntil R (loaded_by source load path budget w) (loaded_by source load path budget z)
+  loaded_by_until : (load : Option Load) (path : List ℕ) (budget : ℕ) {w z : SourceWorld} → WorldsAlike R w z → ToldUntil R (loaded_by source_semantics load path budget w) (loaded_by source_semantics load path budget z)
   loaded_by_until (Some (Running id)) path budget ws = law.told (refl, ws)
   loaded_by_until (Some (Loaded id)) path budget ws = law.told (refl, ws)
   loaded_by_until (Some (Failed e trace)) path budget ws = law.told (refl, ws)

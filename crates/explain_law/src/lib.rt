@@ -15,7 +15,7 @@
 //!   of the begin of a body that yields, and of its resumption (`begins`, `resumes`; `BegunUntil`).
 //! - What is kept of a condition (temporaries) is no part of a world, and no other code reads it.
 //!
-//! # What neither proofs nor tests say
+//! # What neither shows
 //!
 //! What comes behind such a raise: code can read an exception's argument, and may go on otherwise.
 #![tactic(auto)]

@@ -16,7 +16,7 @@ source_seen (Ok m) = Ok (module_tree m)
 source_seen (Err fault) = Err fault
 
 -- the verdict on tokens, as a source
-pub record IsJudged (tokens : List Token) (said : Result Block SourceFault) : Type 0 where
+pub record IsSourceVerdict (tokens : List Token) (said : Result Block SourceFault) : Type 0 where
   pub verdict : Verdict
   pub holds : IsVerdict tokens verdict
   pub same : said ≡ source_by verdict

@@ -2,7 +2,7 @@
 
 ghost use Rattle.std.specs.Prelude.{◌≡◌, ◌==◌, IfOk, count_by};
 ghost use Rattle.py_tokens.specs.Layout.{EndsText};
-ghost use Rattle.file_source.specs.Reading.{HasTokens, IsJudged, source_seen};
+ghost use Rattle.file_source.specs.Reading.{HasTokens, IsSourceVerdict, source_seen};
 ghost use Rattle.file_source.specs.Sources.{IsSource, line_behind};
 
 use py_parse::{SyntaxFault, parse};
@@ -55,7 +55,7 @@ fn tokens_of(alloc: Global, bytes: &[u8]) -> Result<Result<Vec<Token>, SourceFau
 #[tactic(auto, using(crate::proofs::Read::verdicts))]
 fn tree_of(alloc: Global, tokens: &[Token]) -> Result<Result<Module, SourceFault>, OutOfMemory>
     requires { EndsText tokens.now }
-    ensures { IfOk result (λ m. IsJudged tokens.now (source_seen m)) }
+    ensures { IfOk result (λ m. IsSourceVerdict tokens.now (source_seen m)) }
 {
     match parse(alloc, tokens) {
         Ok(module) => Ok(Ok(module)),

@@ -1,2 +1,1 @@
-pub use Rattle.py_machine.proofs.world_codes
 pub mod Finalizers

@@ -7,7 +7,7 @@ use Rattle.py_world.specs.declared.ended.Outcome.TheVariants as out
 use Rattle.py_machine.specs.source_meaning.Meaning.{SourceWorld, source_call}
 use Rattle.test_suite.specs.declared.item.Item.{Item}
 use Rattle.fixture_calls.specs.Arguments.{positional}
-use Rattle.fixture_calls.specs.Failing.{exhausted, has_failed}
+use Rattle.fixture_calls.specs.Failing.{exhausted, some_failure}
 use Rattle.fixture_calls.specs.declared.failure.Failure.{Failure}
 use Rattle.fixture_calls.specs.declared.failure.Failure.TheVariants.{Exception}
 
@@ -15,7 +15,7 @@ use Rattle.fixture_calls.specs.declared.failure.Failure.TheVariants.{Exception}
 abbrev pub call_failure : ℕ → Outcome → SourceWorld → Option Failure × SourceWorld
 call_failure limit (out.Value v) w = (None, w)
 call_failure limit (out.Raised t) w = (Some (Exception t), w)
-call_failure limit (out.Exhausted trace) w = has_failed (exhausted limit trace w)
+call_failure limit (out.Exhausted trace) w = some_failure (exhausted limit trace w)
 
 abbrev pub ended_call : ℕ → Ended × SourceWorld → Option Failure × SourceWorld
 ended_call limit e = call_failure limit e.0.out e.1

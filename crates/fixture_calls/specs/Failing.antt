@@ -1,6 +1,6 @@
 -- The exceptions that the runner makes, and why a phase of an item did not pass.
 use Rattle.std.specs.Prelude.{ℕ, List, [], ◌∷◌, Option, Some}
-use Rattle.py_values.specs.Raises.{raise, thrown}
+use Rattle.py_values.specs.Raises.{text_raise, thrown}
 use Rattle.py_values.specs.declared.class.ExcClass.{ExcClass}
 use Rattle.py_values.specs.declared.class.ExcClass.TheVariants as class
 use Rattle.py_values.specs.declared.object.Obj.{Obj}
@@ -32,7 +32,7 @@ abbrev pub thrown_at : List TraceFrame → Value × SourceWorld → Thrown × So
 thrown_at trace made = (record { exc = made.0; trace = trace }, made.1)
 
 abbrev pub made_at : List TraceFrame → ExcClass → List ℕ → SourceWorld → Thrown × SourceWorld
-made_at trace class text w = thrown_at trace (in_heap (thrown (raise class text) w.heap) w)
+made_at trace class text w = thrown_at trace (in_heap (thrown (text_raise class text) w.heap) w)
 
 -- an exception that the runner makes for a function has the place of its `def`
 abbrev pub made_for : TraceFrame → ExcClass → List ℕ → SourceWorld → Thrown × SourceWorld
@@ -41,8 +41,8 @@ made_for defined class text w = made_at (defined ∷ []) class text w
 abbrev pub as_failure : Thrown × SourceWorld → Failure × SourceWorld
 as_failure made = (Exception made.0, made.1)
 
-abbrev pub has_failed : Failure × SourceWorld → Option Failure × SourceWorld
-has_failed made = (Some made.0, made.1)
+abbrev pub some_failure : Failure × SourceWorld → Option Failure × SourceWorld
+some_failure made = (Some made.0, made.1)
 
 -- a call that is exhausted has raised `StepLimit`
 abbrev pub exhausted : ℕ → List TraceFrame → SourceWorld → Failure × SourceWorld

@@ -1,7 +1,7 @@
 // The exceptions that the runner makes.
 
 ghost use Rattle.std.specs.Prelude.{◌≡◌, ◌∷◌, [], IfOk};
-ghost use Rattle.py_values.specs.Raises.{raise, thrown};
+ghost use Rattle.py_values.specs.Raises.{text_raise, thrown};
 ghost use Rattle.py_world.specs.Runs.{step_limit};
 ghost use Rattle.fixture_calls.specs.Failing as failing;
 
@@ -15,7 +15,7 @@ use py_world::{Thrown, Trace, TraceFrame};
 use std::alloc::Global;
 
 fn new_exception(world: &mut World, class: ExcClass, text: PyText) -> Result<Value, OutOfMemory>
-    ensures { IfOk result (λ v. (v, world.new) ≡ failing.in_heap (thrown (raise class text) world.old.heap) world.old) }
+    ensures { IfOk result (λ v. (v, world.new) ≡ failing.in_heap (thrown (text_raise class text) world.old.heap) world.old) }
 {
     make(world, &New::Exception(class, text))
 }

@@ -5,7 +5,7 @@ use Rattle.std.proofs.lemmas.List.Elements.{filter_agree}
 use Rattle.std.specs.List.{filter, list_any}
 use Rattle.std.specs.Option.{option_map}
 use Rattle.session_types.specs.Scopes.{rank, scope_count}
-use Rattle.session_types.specs.Live.{is_at, find, rests_on, dependents, is_off, has_off, not_on, of_scope, below_rank, down_order, without, numbered, numbers_in}
+use Rattle.session_types.specs.Live.{is_at, find, rests_on, dependents, is_off, has_off, not_on, of_scope, below_rank, down_order, without, instance_by_number, instance_numbers}
 use Rattle.session_types.specs.declared.instance.Instance.{Instance}
 use Rattle.fixture_instances.specs.Joined.{with_slot}
 
@@ -30,7 +30,7 @@ module _ {S T : Type 0} (h : Instance S → T) where
   abbrev pub dress : Instance S → Instance T
   dress i = with_slot (h i) i
 
-  pub numbers_dress : (is : List (Instance S)) → numbers_in (map dress is) ≡ numbers_in is
+  pub numbers_dress : (is : List (Instance S)) → instance_numbers (map dress is) ≡ instance_numbers is
   numbers_dress [] = refl
   numbers_dress (i ∷ is) = ap (λ (l : List ℕ). i.order ∷ l) (numbers_dress is)
 
@@ -42,10 +42,10 @@ module _ {S T : Type 0} (h : Instance S → T) where
         | false ↦ find_dress d node is
       ]
 
-  pub numbered_dress : (n : ℕ) (is : List (Instance S)) → numbered n (map dress is) ≡ option_map dress (numbered n is)
+  pub numbered_dress : (n : ℕ) (is : List (Instance S)) → instance_by_number n (map dress is) ≡ option_map dress (instance_by_number n is)
   numbered_dress n [] = refl
   numbered_dress n (i ∷ is) =
-      elim (eqb n i.order) as (λ b. cond b (Some (dress i)) (numbered n (map dress is)) ≡ option_map dress (cond b (Some i) (numbered n is))) [
+      elim (eqb n i.order) as (λ b. cond b (Some (dress i)) (instance_by_number n (map dress is)) ≡ option_map dress (cond b (Some i) (instance_by_number n is))) [
         | true ↦ refl
         | false ↦ numbered_dress n is
       ]
@@ -75,11 +75,11 @@ module _ {S T : Type 0} (h : Instance S → T) where
   down_order_dress is = below_rank_dress scope_count is
 
   -- the numbers of what goes down
-  pub down_numbers : (is : List (Instance S)) → numbers_in (down_order (map dress is)) ≡ numbers_in (down_order is)
-  down_numbers is = ap (λ (l : List (Instance T)). numbers_in l) (down_order_dress is) ∙ numbers_dress (down_order is)
+  pub down_numbers : (is : List (Instance S)) → instance_numbers (down_order (map dress is)) ≡ instance_numbers (down_order is)
+  down_numbers is = ap (λ (l : List (Instance T)). instance_numbers l) (down_order_dress is) ∙ numbers_dress (down_order is)
 
-  pub dependents_numbers : (n : ℕ) (is : List (Instance S)) → numbers_in (down_order (dependents n (map dress is))) ≡ numbers_in (down_order (dependents n is))
-  dependents_numbers n is = ap (λ (l : List (Instance T)). numbers_in (down_order l)) (dependents_dress n is) ∙ down_numbers (dependents n is)
+  pub dependents_numbers : (n : ℕ) (is : List (Instance S)) → instance_numbers (down_order (dependents n (map dress is))) ≡ instance_numbers (down_order (dependents n is))
+  dependents_numbers n is = ap (λ (l : List (Instance T)). instance_numbers (down_order l)) (dependents_dress n is) ∙ down_numbers (dependents n is)
 
-  pub not_on_numbers : (chain : List ℕ) (is : List (Instance S)) → numbers_in (down_order (not_on chain (map dress is))) ≡ numbers_in (down_order (not_on chain is))
-  not_on_numbers chain is = ap (λ (l : List (Instance T)). numbers_in (down_order l)) (not_on_dress chain is) ∙ down_numbers (not_on chain is)
+  pub not_on_numbers : (chain : List ℕ) (is : List (Instance S)) → instance_numbers (down_order (not_on chain (map dress is))) ≡ instance_numbers (down_order (not_on chain is))
+  not_on_numbers chain is = ap (λ (l : List (Instance T)). instance_numbers (down_order l)) (not_on_dress chain is) ∙ down_numbers (not_on chain is)

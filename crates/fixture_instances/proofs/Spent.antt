@@ -3,10 +3,10 @@ use Rattle.std.proofs.Common.{◌≡◌, ℕ, ◌+◌, ◌<◌, List, [], ◌∷
 use Rattle.std.proofs.lemmas.List.{at_drop_more, drop-set-lt, get_or-map, map-set, map_push, set-get_or, take_more_set}
 use Rattle.session_types.specs.declared.instance.Instance.{Instance}
 use Rattle.session_rules.specs.World.{Language, Rules}
-use Rattle.fixture_instances.specs.declared.ends.Held.{Held}
+use Rattle.fixture_instances.specs.declared.ends.CachedResult.{CachedResult}
 use Rattle.fixture_instances.specs.declared.live.Kept.{Kept}
 use Rattle.live_chains.specs.declared.id.LiveId.{LiveId}
-use Rattle.fixture_instances.specs.Joined.{LiveList, Pairs, joined, with_slot}
+use Rattle.fixture_instances.specs.Joined.{InstanceList, ArePaired, with_slots, with_slot}
 use Rattle.fixture_instances.specs.Resting.{AreKeptSpent, AreSpent, abandoned, abandoned_kept, given_up, spent, spent_held, spent_kept}
 
 pub not_both : {R : Type 0} (o : Option R) (x : R) → o ≡ None → o ≡ Some x → ⊥
@@ -20,24 +20,24 @@ module _ {V E R : Type 0} where
   pub popped : (xs ys : List (Kept V E R)) (k : Kept V E R) → xs ≡ ys ++ k ∷ [] → AreKeptSpent xs → AreKeptSpent ys × (k.held.rest ≡ None)
   popped xs ys k e h = last_spent ys k (subst (λ (l : List (Kept V E R)). AreKeptSpent l) e h)
 
-  pub kept_spent : (is : List (Instance ℕ)) (ks : List (Kept V E R)) → Pairs is ks → AreSpent (joined is ks) → AreKeptSpent ks
+  pub kept_spent : (is : List (Instance ℕ)) (ks : List (Kept V E R)) → ArePaired is ks → AreSpent (with_slots is ks) → AreKeptSpent ks
   kept_spent [] [] p s = tt
   kept_spent [] (k ∷ ks) p s = absurd p
   kept_spent (i ∷ is) [] p s = absurd p
   kept_spent (i ∷ is) (k ∷ ks) p s = (s.0, kept_spent is ks p.1 s.1)
 
-  pub joined_spent : (is : List (Instance ℕ)) (ks : List (Kept V E R)) → joined is (map spent_kept ks) ≡ map spent (joined is ks)
+  pub joined_spent : (is : List (Instance ℕ)) (ks : List (Kept V E R)) → with_slots is (map spent_kept ks) ≡ map spent (with_slots is ks)
   joined_spent [] ks = refl
   joined_spent (i ∷ is) [] = refl
-  joined_spent (i ∷ is) (k ∷ ks) = ap (λ (l : List (Instance (Held V E R))). with_slot (spent_held k.held) i ∷ l) (joined_spent is ks)
+  joined_spent (i ∷ is) (k ∷ ks) = ap (λ (l : List (Instance (CachedResult V E R))). with_slot (spent_held k.held) i ∷ l) (joined_spent is ks)
 
-  pub pairs_spent : (is : List (Instance ℕ)) (ks : List (Kept V E R)) → Pairs is ks → Pairs is (map spent_kept ks)
+  pub pairs_spent : (is : List (Instance ℕ)) (ks : List (Kept V E R)) → ArePaired is ks → ArePaired is (map spent_kept ks)
   pairs_spent [] [] p = tt
   pairs_spent [] (k ∷ ks) p = absurd p
   pairs_spent (i ∷ is) [] p = absurd p
   pairs_spent (i ∷ is) (k ∷ ks) p = (p.0, pairs_spent is ks p.1)
 
-  pub all_spent : (is : List (Instance (Held V E R))) → AreSpent (map spent is)
+  pub all_spent : (is : List (Instance (CachedResult V E R))) → AreSpent (map spent is)
   all_spent [] = tt
   all_spent (i ∷ is) = (refl, all_spent is)
 
@@ -65,31 +65,31 @@ abandoned_more {L} rules xs i d y rest w v a lt er ev h =
     ∙ (ap (λ (u : L.World). abandoned_kept rules (drop (i + 1) xs) u) (ev ∙ ap (λ (r : Option L.Rest). given_up rules r w) er)
     ∙ (sym (at_drop_more (λ (l : List (Kept L.Value L.Thrown L.Rest)). abandoned_kept rules l w) xs i d lt) ∙ h))
 
-pub abandoned_joined : {L : Language} (rules : Rules L) (is : List (Instance ℕ)) (ks : List (Kept L.Value L.Thrown L.Rest)) (w : L.World) → Pairs is ks → abandoned rules (joined is ks) w ≡ abandoned_kept rules ks w
+pub abandoned_joined : {L : Language} (rules : Rules L) (is : List (Instance ℕ)) (ks : List (Kept L.Value L.Thrown L.Rest)) (w : L.World) → ArePaired is ks → abandoned rules (with_slots is ks) w ≡ abandoned_kept rules ks w
 abandoned_joined rules [] [] w p = refl
 abandoned_joined rules [] (k ∷ ks) w p = absurd p
 abandoned_joined rules (i ∷ is) [] w p = absurd p
 abandoned_joined rules (i ∷ is) (k ∷ ks) w p = abandoned_joined rules is ks (given_up rules k.held.rest w) p.1
 
 -- the list whose frames were given up
-pub pairs_given : {V E R : Type 0} (is : List (Instance ℕ)) (ks new : List (Kept V E R)) → new ≡ map spent_kept ks → Pairs is ks → Pairs is new
-pairs_given {V} {E} {R} is ks new e p = subst (λ (l : List (Kept V E R)). Pairs is l) (sym e) (pairs_spent is ks p)
+pub pairs_given : {V E R : Type 0} (is : List (Instance ℕ)) (ks new : List (Kept V E R)) → new ≡ map spent_kept ks → ArePaired is ks → ArePaired is new
+pairs_given {V} {E} {R} is ks new e p = subst (λ (l : List (Kept V E R)). ArePaired is l) (sym e) (pairs_spent is ks p)
 
-abbrev pub listed : {V E R : Type 0} → List LiveId → ℕ → ℕ → List (Instance (Held V E R)) → LiveList V E R
+abbrev pub listed : {V E R : Type 0} → List LiveId → ℕ → ℕ → List (Instance (CachedResult V E R)) → InstanceList V E R
 listed ids spare next live = record { live = live; ids = ids; spare = spare; next = next }
 
-abbrev pub all_given : {V E R : Type 0} → LiveList V E R → LiveList V E R
+abbrev pub all_given : {V E R : Type 0} → InstanceList V E R → InstanceList V E R
 all_given v = record { live = map spent v.live; ids = v.ids; spare = v.spare; next = v.next }
 
-pub list_given : {V E R : Type 0} (is : List (Instance ℕ)) (ids : List LiveId) (ks new : List (Kept V E R)) (spare next : ℕ) (v : LiveList V E R) → new ≡ map spent_kept ks → listed ids spare next (joined is ks) ≡ v → listed ids spare next (joined is new) ≡ all_given v
+pub list_given : {V E R : Type 0} (is : List (Instance ℕ)) (ids : List LiveId) (ks new : List (Kept V E R)) (spare next : ℕ) (v : InstanceList V E R) → new ≡ map spent_kept ks → listed ids spare next (with_slots is ks) ≡ v → listed ids spare next (with_slots is new) ≡ all_given v
 list_given {V} {E} {R} is ids ks new spare next v e view =
-    ap (λ (l : List (Instance (Held V E R))). listed ids spare next l) (ap (λ (l : List (Kept V E R)). joined is l) e ∙ joined_spent is ks)
-    ∙ ap (λ (u : LiveList V E R). all_given u) view
+    ap (λ (l : List (Instance (CachedResult V E R))). listed ids spare next l) (ap (λ (l : List (Kept V E R)). with_slots is l) e ∙ joined_spent is ks)
+    ∙ ap (λ (u : InstanceList V E R). all_given u) view
 
-pub world_given : {L : Language} (rules : Rules L) (is : List (Instance ℕ)) (ids : List LiveId) (ks lent : List (Kept L.Value L.Thrown L.Rest)) (spare next : ℕ) (v : LiveList L.Value L.Thrown L.Rest) (w : L.World) → lent ≡ ks → Pairs is ks → listed ids spare next (joined is ks) ≡ v → abandoned_kept rules lent w ≡ abandoned rules v.live w
+pub world_given : {L : Language} (rules : Rules L) (is : List (Instance ℕ)) (ids : List LiveId) (ks lent : List (Kept L.Value L.Thrown L.Rest)) (spare next : ℕ) (v : InstanceList L.Value L.Thrown L.Rest) (w : L.World) → lent ≡ ks → ArePaired is ks → listed ids spare next (with_slots is ks) ≡ v → abandoned_kept rules lent w ≡ abandoned rules v.live w
 world_given {L} rules is ids ks lent spare next v w e p view =
     ap (λ (l : List (Kept L.Value L.Thrown L.Rest)). abandoned_kept rules l w) e
-    ∙ (sym (abandoned_joined rules is ks w p) ∙ ap (λ (u : LiveList L.Value L.Thrown L.Rest). abandoned rules u.live w) view)
+    ∙ (sym (abandoned_joined rules is ks w p) ∙ ap (λ (u : InstanceList L.Value L.Thrown L.Rest). abandoned rules u.live w) view)
 
-pub spent_now : {V E R : Type 0} (is new : List (Instance (Held V E R))) → new ≡ map spent is → AreSpent new
-spent_now {V} {E} {R} is new e = subst (λ (l : List (Instance (Held V E R))). AreSpent l) (sym e) (all_spent is)
+pub spent_now : {V E R : Type 0} (is new : List (Instance (CachedResult V E R))) → new ≡ map spent is → AreSpent new
+spent_now {V} {E} {R} is new e = subst (λ (l : List (Instance (CachedResult V E R))). AreSpent l) (sym e) (all_spent is)

@@ -9,7 +9,7 @@ use Rattle.fixture_table.specs.declared.types.CollectionNode.{CollectionNode}
 use Rattle.fixture_table.specs.declared.types.FixtureDef.{FixtureDef}
 use Rattle.fixture_table.specs.declared.types.NodeKind.{NodeKind}
 use Rattle.fixture_table.specs.declared.types.NodeKind.TheVariants as kind
-use Rattle.fixture_table.specs.Tree.{chain_of, node_at}
+use Rattle.fixture_table.specs.Tree.{iter_parents, node_at}
 use Rattle.fixture_table.specs.Nearest.{def_at, nearest_of}
 use Rattle.fixture_table.specs.Faults.{requests}
 use Rattle.fixture_table.specs.Tables.{TableValue}
@@ -48,12 +48,12 @@ inmost is_kind nodes other (at ∷ up) = if is_kind (node_at nodes at).kind then
 -- the root, the item's file, its class, or the item; class scope outside of classes is the item
 abbrev pub scope_node : List CollectionNode → ℕ → Scope → ℕ
 scope_node nodes item Session = 0
-scope_node nodes item Module = inmost is_file nodes item (chain_of nodes item)
-scope_node nodes item Class = inmost is_class nodes item (chain_of nodes item)
+scope_node nodes item Module = inmost is_file nodes item (iter_parents nodes item)
+scope_node nodes item Class = inmost is_class nodes item (iter_parents nodes item)
 scope_node nodes item Function = item
 
-unfoldable pub place_in : {V : Type 0} → TableValue → ItemRef V → ℕ → ℕ
-place_in table item d = scope_node table.nodes item.node (def_at table.defs d).scope
+unfoldable pub def_scope_node : {V : Type 0} → TableValue → ItemRef V → ℕ → ℕ
+def_scope_node table item d = scope_node table.nodes item.node (def_at table.defs d).scope
 
 -- the definition that an argument stands for, unless its name is bound or has none
 abbrev pub requested : List CollectionNode → List FixtureDef → ℕ → List ℕ → ℕ → ℕ → Option ℕ
@@ -69,14 +69,14 @@ unfoldable pub requests_in : {V : Type 0} → TableValue → ItemRef V → ℕ �
 requests_in table item d = requests table.nodes table.defs item.node (bound_names item.bound) d
 
 -- an item in the words of a session, as far as demands know it
-abbrev pub item_of : {V : Type 0} → TableValue → ItemRef V → Item
-item_of table item =
+abbrev pub item_for_session : {V : Type 0} → TableValue → ItemRef V → Item
+item_for_session table item =
     record {
       node = item.node;
       chain = [];
       requests = requests_in table item;
       parameter = parameter_in item.params;
-      place = place_in table item;
+      place = def_scope_node table item;
       closure = None;
       arguments = [];
     }

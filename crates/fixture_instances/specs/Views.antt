@@ -6,7 +6,7 @@ use Rattle.fixture_instances.specs.declared.ends.SetUpEnd.{SetUpEnd as KeptEnd}
 use Rattle.fixture_instances.specs.declared.ends.SetUpEnd.TheVariants as kept
 use Rattle.fixture_instances.specs.declared.ends.BodyEnd.{BodyEnd as CodeEnd}
 use Rattle.fixture_instances.specs.declared.ends.BodyEnd.TheVariants as body
-use Rattle.fixture_instances.specs.declared.ends.Held.{Held}
+use Rattle.fixture_instances.specs.declared.ends.CachedResult.{CachedResult}
 use Rattle.fixture_instances.specs.Joined.{with_slot}
 
 abbrev pub set_up_end : {L : Language} → Rules L → KeptEnd L.Value L.Thrown → SetUpEnd L
@@ -18,13 +18,13 @@ body_end rules (body.Returned v) = Returned v
 body_end rules (body.Yielded v rest) = Yielded v rest
 body_end rules (body.Raised e) = Raised e
 
-abbrev pub slot_of : {L : Language} → Rules L → Held L.Value L.Thrown L.Rest → Slot L
+abbrev pub slot_of : {L : Language} → Rules L → CachedResult L.Value L.Thrown L.Rest → Slot L
 slot_of rules h = record { kept = set_up_end rules h.kept; rest = h.rest; request = h.request }
 
-abbrev pub live_instance : {L : Language} → Rules L → Instance (Held L.Value L.Thrown L.Rest) → LiveInstance L
+abbrev pub live_instance : {L : Language} → Rules L → Instance (CachedResult L.Value L.Thrown L.Rest) → LiveInstance L
 live_instance rules i = with_slot (slot_of rules i.slot) i
 
-abbrev pub live_instances : {L : Language} → Rules L → List (Instance (Held L.Value L.Thrown L.Rest)) → List (LiveInstance L)
+abbrev pub live_instances : {L : Language} → Rules L → List (Instance (CachedResult L.Value L.Thrown L.Rest)) → List (LiveInstance L)
 live_instances rules is = map (live_instance rules) is
 
 -- what was kept, as what is answered: of an exception a list

@@ -14,7 +14,7 @@ pub enum BodyEnd<V, E, R> {
 }
 
 /// What is kept of an instance beside its place among the others.
-pub struct Held<V, E, R> {
+pub struct CachedResult<V, E, R> {
     pub kept: SetUpEnd<V, E>,
     /// What remains of its function behind the `yield`, where it stands at one.
     pub rest: Option<R>,

@@ -1,10 +1,10 @@
 ghost use Rattle.std.specs.Prelude.{◌≡◌, ℕ, ◌<◌, ◌++◌, List, [], ◌∷◌, length, None, Some, IfOk, IfSome, OnOk};
 ghost use Rattle.std.specs.Option.{option_to_list};
-ghost use Rattle.session_types.specs.Members.{In};
+ghost use Rattle.session_types.specs.Members.{IsMember};
 ghost use Rattle.session_types.specs.Numbers.{among};
-ghost use Rattle.fixture_table.specs.Tree.{IsTree, chain_of, node_at};
+ghost use Rattle.fixture_table.specs.Tree.{IsTree, iter_parents, node_at};
 ghost use Rattle.fixture_table.specs.Nearest.{def_at};
-ghost use Rattle.fixture_instances.specs.Items.{bound_names, inmost, is_class, is_file, parameter_in, place_in, requested, requests_in, scope_node};
+ghost use Rattle.fixture_instances.specs.Items.{bound_names, inmost, is_class, is_file, parameter_in, def_scope_node, requested, requests_in, scope_node};
 
 use fixture_table::{NodeKind, Table};
 use seq::{CharText, OutOfMemory, Seq};
@@ -135,7 +135,7 @@ fn is_class(kind: NodeKind) -> bool
 fn file_of(table: &Table, item: u32) -> u32
     requires tree { IsTree table.now.nodes }
     requires item { item < length table.now.nodes }
-    ensures { result ≡ inmost is_file table.now.nodes item (chain_of table.now.nodes item) }
+    ensures { result ≡ inmost is_file table.now.nodes item (iter_parents table.now.nodes item) }
 {
     let mut at = item;
     'up: while !is_file(table.node(at).kind) {
@@ -151,7 +151,7 @@ fn file_of(table: &Table, item: u32) -> u32
 fn class_of(table: &Table, item: u32) -> u32
     requires tree { IsTree table.now.nodes }
     requires item { item < length table.now.nodes }
-    ensures { result ≡ inmost is_class table.now.nodes item (chain_of table.now.nodes item) }
+    ensures { result ≡ inmost is_class table.now.nodes item (iter_parents table.now.nodes item) }
 {
     let mut at = item;
     'up: while !is_class(table.node(at).kind) {
@@ -177,12 +177,12 @@ fn scope_node(table: &Table, item: u32, scope: Scope) -> u32
 }
 
 /// The node on which an instance of a definition lives for an item.
-#[tactic(auto, unfolding(crate::specs::Items::place_in))]
+#[tactic(auto, unfolding(crate::specs::Items::def_scope_node))]
 pub fn place_of<V>(table: &Table, item: &ItemRef<V>, def: DefId) -> u32
     requires tree { IsTree table.now.nodes }
     requires def { def < length table.now.defs }
     requires node { item.now.node < length table.now.nodes }
-    ensures { result ≡ place_in table.now item.now def }
+    ensures { result ≡ def_scope_node table.now item.now def }
 {
     scope_node(table, item.node, table.def(def).scope)
 }
@@ -191,7 +191,7 @@ pub fn place_of<V>(table: &Table, item: &ItemRef<V>, def: DefId) -> u32
 pub fn chain_of(alloc: Global, table: &Table, item: u32) -> Result<Vec<u32>, OutOfMemory>
     requires tree { IsTree table.now.nodes }
     requires item { item < length table.now.nodes }
-    ensures { IfOk result (λ chain. chain.items ≡ chain_of table.now.nodes item) }
+    ensures { IfOk result (λ chain. chain.items ≡ iter_parents table.now.nodes item) }
 {
     let mut chain = Vec::new(alloc);
     let mut at = item;

@@ -1,27 +1,35 @@
 //! The instances of fixtures that live, what is kept of each, and the world in which the functions of fixtures run.
 //!
-//! - `Executor` is such a world: what a fixture's function, its rest behind a `yield`, its finalizers and its `request` do in it are the
-//!   acts of rules (session_rules), which depend on a setting of its own. Nothing here knows of a language.
-//! - `ItemRef` is an item as its set-up sees it. `LiveFixtures` is the list of live instances in order of set-up, over the linked chains of
-//!   live_chains, with what is kept of each (`Held`).
+//! # What it is for
 //!
-//! Proved:
+//! - `Executor` is such a world: what a fixture's function, its rest behind a `yield`, its finalizers and its `request` do in it
+//!   are the acts of rules (session_rules), which depend on a setting of its own. Nothing here knows of a language.
+//! - `ItemRef` is an item as its set-up sees it. `LiveFixtures` is the list of live instances in order of set-up, over the linked
+//!   chains of live_chains, with what is kept of each (`CachedResult`).
 //!
-//! - `requests_of` is what a definition asks for in an item by a table (`requests_in`), `parameter_in` its parameter, `place_of` the node
-//!   on which its instance lives for the item (`place_in`), `chain_of` the item's node and those above it, inmost first.
-//! - `LiveFixtures` is seen as the instances in order of set-up, their names, the room and the next number. `link` appends (`linked`),
-//!   `take` takes out (`taken`) and gives the instance with what was kept of it (`value`); `find` is by definition and node, of which at most
-//!   one lives; `dependents_of` and `off_of` give what goes down, in the order in which it goes down (`same`), each once (`once`).
-//!   `is_in_order` tells what holds of every such list. `reserve` makes room, and nothing else is refused.
-//! - `abandon_all` gives up every frozen frame that the list holds, in order of set-up (`world`, `live`). `close` ends a list that holds
-//!   none, and a list ends in no other way.
+//! # What is proved
 //!
-//! What remains of a body (`Rest`) may not be dropped: it is resumed, given up, or held by the list.
+//! - `requests_of` is what a definition asks for in an item by a table (`requests_in`), `parameter_in` its parameter, `place_of`
+//!   the node on which its instance lives for the item (`def_scope_node`), `chain_of` the item's node and those above it, inmost first.
+//! - `LiveFixtures` is seen as the instances in order of set-up, their names, the room and the next number. `link` appends
+//!   (`linked`), `take` takes out (`taken`) and gives the instance with what was kept of it (`value`); `find` is by definition and
+//!   node, of which at most one lives; `dependents_of` and `off_of` give what goes down, in the order in which it goes down
+//!   (`same`), each once (`once`). `is_in_order` tells what holds of every such list. `reserve` makes room for one more (`room`,
+//!   `count`) and changes nothing else (`same`); neither `link` nor `take` can fail.
+//! - `abandon_all` gives up every frozen frame that the list holds, in order of set-up (`world`, `live`). `close` ends a list that
+//!   holds none, and a list ends in no other way.
+//! - What remains of a body (`Rest`) may not be dropped: it is resumed, given up, or held by the list.
 //!
-//! Neither proved nor tested: that calls succeed with ample memory, and the time.
+//! # What tests alone show
 //!
-//! The definitions, in the order in which to read them: `specs/Items.antt` (an item as a demand sees it), `specs/Views.antt` (what the
-//! types stand for), `specs/Resting.antt` (frozen frames), `specs/Joined.antt` (the list with what is kept).
+//! That calls succeed with ample memory (`demand_tests`, through setup_stack).
+//!
+//! # What neither shows
+//!
+//! The time.
+//!
+//! The definitions, in the order in which to read them: `specs/Items.antt` (an item as a demand sees it), `specs/Views.antt` (what
+//! the types stand for), `specs/Resting.antt` (frozen frames), `specs/Joined.antt` (the list with what is kept).
 #![tactic(auto)]
 
 pub use live_chains;
@@ -31,7 +39,7 @@ mod executor;
 mod items;
 mod live;
 
-pub use ends::{BodyEnd, Held, SetUpEnd};
+pub use ends::{BodyEnd, CachedResult, SetUpEnd};
 pub use executor::Executor;
 pub use items::{BoundValue, ItemParam, ItemRef, chain_of, parameter_in, place_of, requests_of};
 pub use live::{LiveFixtures, abandon_all};

@@ -1,15 +1,15 @@
 ghost use Rattle.std.specs.Prelude.{◌≡◌, ℕ, ◌+◌, ◌-◌, ◌<◌, ◌≤◌, ◌^◌, List, [], ◌∷◌, ◌++◌, length, map, None, Some, IfOk, OnOk, IfSome, IsSome, vec_len, vec_capacity, slice_index_or};
 ghost use Rattle.std.specs.List.{HoldsAt};
 ghost use Rattle.std.specs.Option.{option_map};
-ghost use Rattle.session_types.specs.Members.{In};
-ghost use Rattle.session_types.specs.Live.{find, numbered, without, number_of, numbers_in, down_order, dependents, not_on};
+ghost use Rattle.session_types.specs.Members.{IsMember};
+ghost use Rattle.session_types.specs.Live.{find, instance_by_number, without, instance_number, instance_numbers, down_order, dependents, not_on};
 ghost use Rattle.session_types.specs.declared.instance.Instance.{Instance};
 ghost use Rattle.live_chains.specs.declared.id.LiveId.{LiveId};
 ghost use Rattle.live_chains.specs.Chained.{Apart, RisingBy, id_order, ids_without};
-ghost use Rattle.fixture_instances.specs.Joined.{with_slot, kept_at, kept_order, kept_without, place_key};
+ghost use Rattle.fixture_instances.specs.Joined.{with_slot, kept_at, kept_order, kept_without, def_and_node};
 ghost use Rattle.fixture_instances.specs.Resting.{AreKeptSpent, AreSpent, abandoned, abandoned_kept, given_up, spent, spent_kept};
 
-use crate::ends::Held;
+use crate::ends::CachedResult;
 use crate::executor::Executor;
 use live_chains::{Chains, Dying, LiveId, Steps};
 use seq::OutOfMemory;
@@ -21,7 +21,7 @@ use std::sync::ledger::{Blank, Ledger};
 /// What is kept of the instance of a number.
 pub(crate) struct Kept<V, E, R> {
     order: u64,
-    held: Held<V, E, R>,
+    held: CachedResult<V, E, R>,
 }
 
 /// The live instances in order of set-up, with what is kept of each.
@@ -34,13 +34,13 @@ pub struct LiveFixtures<V, E, R> {
 
 impl<V, E, R> Model for LiveFixtures<V, E, R> {
     ghost use Rattle.std.specs.Prelude.{◌≤◌, ◌+◌, vec_len, vec_capacity};
-    ghost use Rattle.fixture_instances.specs.Joined.{LiveList, Pairs, Below, joined};
+    ghost use Rattle.fixture_instances.specs.Joined.{InstanceList, ArePaired, OrdersBelow, with_slots};
 
-    ghost Value = { LiveList V E R };
+    ghost Value = { InstanceList V E R };
 
-    ghost view = { λ l. record { live = joined l.chains.live l.kept.items; ids = l.chains.ids; spare = l.spare; next = l.next } };
+    ghost view = { λ l. record { live = with_slots l.chains.live l.kept.items; ids = l.chains.ids; spare = l.spare; next = l.next } };
 
-    ghost invariant = { λ l. record { pairs : Pairs l.chains.live l.kept.items; below : Below l.chains.live l.next; chained : l.spare ≤ l.chains.spare; room : vec_len l.kept + l.spare ≤ vec_capacity l.kept } };
+    ghost invariant = { λ l. record { pairs : ArePaired l.chains.live l.kept.items; below : OrdersBelow l.chains.live l.next; chained : l.spare ≤ l.chains.spare; room : vec_len l.kept + l.spare ≤ vec_capacity l.kept } };
 }
 
 /// Puts an instance into the chains, without what is kept of it.
@@ -49,7 +49,7 @@ fn link<L: Ledger>(chains: &mut Chains, instance: Instance, blank: Blank) -> Liv
     requires parts { blank.parts ≡ L.parts }
     requires share { 0 < blank.parts }
     requires room { 0 < chains.old.spare }
-    requires latest { (j : Instance ℕ) → In j chains.old.live → j.order < instance.order }
+    requires latest { (j : Instance ℕ) → IsMember j chains.old.live → j.order < instance.order }
     requires free { find instance.def instance.node chains.old.live ≡ None }
     ensures linked { chains.new ≡ record { live = chains.old.live ++ instance ∷ []; ids = chains.old.ids ++ result ∷ []; spare = chains.old.spare - 1 } }
     ensures number { result.order ≡ instance.order }
@@ -63,8 +63,8 @@ fn unlink<L: Ledger>(chains: &mut Chains, id: LiveId, blank: Blank) -> Instance
     requires name { blank.name ≡ L.name }
     requires parts { blank.parts ≡ L.parts }
     requires share { 0 < blank.parts }
-    requires live { In id chains.old.ids }
-    ensures value { numbered id.order chains.old.live ≡ Some result }
+    requires live { IsMember id chains.old.ids }
+    ensures value { instance_by_number id.order chains.old.live ≡ Some result }
     ensures taken { chains.new ≡ record { live = without id.order chains.old.live; ids = ids_without id.order chains.old.ids; spare = chains.old.spare + 1 } }
 {
     let mut steps = Steps::<L>::new(blank);
@@ -87,7 +87,7 @@ fn place_of<V, E, R>(kept: &[Kept<V, E, R>], order: u64) -> usize
 }
 
 /// Takes out what is kept of the instance of a number.
-fn take_kept<V, E, R>(kept: &mut Vec<Kept<V, E, R>>, order: u64) -> Held<V, E, R>
+fn take_kept<V, E, R>(kept: &mut Vec<Kept<V, E, R>>, order: u64) -> CachedResult<V, E, R>
     requires some { IsSome (kept_at order kept.old.items) }
     requires rising { RisingBy kept_order kept.old.items }
     ensures value { kept_at order kept.old.items ≡ Some result }
@@ -101,7 +101,7 @@ fn take_kept<V, E, R>(kept: &mut Vec<Kept<V, E, R>>, order: u64) -> Held<V, E, R
 }
 
 /// What is kept of the instance of a number.
-fn held_in<V, E, R>(kept: &[Kept<V, E, R>], order: u64) -> &Held<V, E, R>
+fn held_in<V, E, R>(kept: &[Kept<V, E, R>], order: u64) -> &CachedResult<V, E, R>
     requires { IsSome (kept_at order kept.now) }
     ensures { kept_at order kept.now ≡ Some result.now }
 {
@@ -141,7 +141,7 @@ impl<V, E, R> LiveFixtures<V, E, R> {
     }
 
     /// Appends an instance, whose number is the next one.
-    pub fn link(&mut self, instance: Instance<Held<V, E, R>>) -> LiveId
+    pub fn link(&mut self, instance: Instance<CachedResult<V, E, R>>) -> LiveId
         requires room { 0 < self.old.spare }
         requires count { self.old.next + 1 < 2 ^ 64 }
         requires order { instance.order ≡ self.old.next }
@@ -175,9 +175,9 @@ impl<V, E, R> LiveFixtures<V, E, R> {
     }
 
     /// Takes an instance out, with what is kept of it.
-    pub fn take(&mut self, id: LiveId) -> Instance<Held<V, E, R>>
-        requires { In id self.old.ids }
-        ensures value { numbered id.order self.old.live ≡ Some result }
+    pub fn take(&mut self, id: LiveId) -> Instance<CachedResult<V, E, R>>
+        requires { IsMember id self.old.ids }
+        ensures value { instance_by_number id.order self.old.live ≡ Some result }
         ensures taken { self.new ≡ record { live = without id.order self.old.live; ids = ids_without id.order self.old.ids; spare = self.old.spare + 1; next = self.old.next } }
     {
         self.chains.is_in_order();
@@ -213,16 +213,16 @@ impl<V, E, R> LiveFixtures<V, E, R> {
 
     /// The instance of a name, without what is kept of it.
     pub fn get(&self, id: LiveId) -> &Instance
-        requires { In id self.now.ids }
-        ensures { option_map (with_slot result.now.slot) (numbered id.order self.now.live) ≡ Some result.now }
+        requires { IsMember id self.now.ids }
+        ensures { option_map (with_slot result.now.slot) (instance_by_number id.order self.now.live) ≡ Some result.now }
     {
         self.chains.get(id)
     }
 
     /// What is kept of the instance of a name.
-    pub fn held(&self, id: LiveId) -> &Held<V, E, R>
-        requires { In id self.now.ids }
-        ensures { option_map (λ i. i.slot) (numbered id.order self.now.live) ≡ Some result.now }
+    pub fn held(&self, id: LiveId) -> &CachedResult<V, E, R>
+        requires { IsMember id self.now.ids }
+        ensures { option_map (λ i. i.slot) (instance_by_number id.order self.now.live) ≡ Some result.now }
     {
         let _one = self.chains.get(id);
         held_in(&self.kept, id.order())
@@ -230,16 +230,16 @@ impl<V, E, R> LiveFixtures<V, E, R> {
 
     /// The instance of this definition on this node. There is at most one.
     pub fn find(&self, def: DefId, node: u32) -> Option<LiveId>
-        ensures same { option_map id_order result ≡ option_map number_of (find def node self.now.live) }
-        ensures live { IfSome result (λ id. In id self.now.ids) }
+        ensures same { option_map id_order result ≡ option_map instance_number (find def node self.now.live) }
+        ensures live { IfSome result (λ id. IsMember id self.now.ids) }
     {
         self.chains.find(def, node)
     }
 
     /// What goes down with an instance, in order: narrow scopes first, and within a scope the latest first.
     pub fn dependents_of(&self, alloc: Global, id: LiveId) -> Result<Vec<LiveId>, OutOfMemory>
-        ensures same { IfOk result (λ ids. map id_order ids.items ≡ numbers_in (down_order (dependents id.order self.now.live))) }
-        ensures live { IfOk result (λ ids. (id : LiveId) → In id ids.items → In id self.now.ids) }
+        ensures same { IfOk result (λ ids. map id_order ids.items ≡ instance_numbers (down_order (dependents id.order self.now.live))) }
+        ensures live { IfOk result (λ ids. (id : LiveId) → IsMember id ids.items → IsMember id self.now.ids) }
         ensures once { IfOk result (λ ids. Apart id_order ids.items) }
     {
         let ids = self.chains.down_of(alloc, &Dying::Dependents(id))?;
@@ -248,8 +248,8 @@ impl<V, E, R> LiveFixtures<V, E, R> {
 
     /// What goes down where a session goes on at these nodes, in order.
     pub fn off_of(&self, alloc: Global, chain: &[u32]) -> Result<Vec<LiveId>, OutOfMemory>
-        ensures same { IfOk result (λ ids. map id_order ids.items ≡ numbers_in (down_order (not_on chain.now self.now.live))) }
-        ensures live { IfOk result (λ ids. (id : LiveId) → In id ids.items → In id self.now.ids) }
+        ensures same { IfOk result (λ ids. map id_order ids.items ≡ instance_numbers (down_order (not_on chain.now self.now.live))) }
+        ensures live { IfOk result (λ ids. (id : LiveId) → IsMember id ids.items → IsMember id self.now.ids) }
         ensures once { IfOk result (λ ids. Apart id_order ids.items) }
     {
         let ids = self.chains.down_of(alloc, &Dying::NotOn(chain))?;
@@ -258,9 +258,9 @@ impl<V, E, R> LiveFixtures<V, E, R> {
 
     /// What holds of all live instances: their numbers rise, and each name is that of one.
     pub fn is_in_order(&self)
-        ensures rising { RisingBy number_of self.now.live }
-        ensures named { map id_order self.now.ids ≡ numbers_in self.now.live }
-        ensures single { Apart place_key self.now.live }
+        ensures rising { RisingBy instance_number self.now.live }
+        ensures named { map id_order self.now.ids ≡ instance_numbers self.now.live }
+        ensures single { Apart def_and_node self.now.live }
     {
         self.chains.is_in_order();
     }
@@ -308,7 +308,7 @@ fn end_kept<V: Copy, E: Drop, R>(mut kept: Vec<Kept<V, E, R>>)
 {
     'rest: while let Some(one) = kept.pop() {
         let Kept { order: _, held } = one;
-        let Held {
+        let CachedResult {
             kept: _kept,
             rest,
             request: _request,

@@ -5,25 +5,25 @@ use Rattle.fixture_sessions.proofs.Ended.{session_empty}
 use Rattle.fixture_sessions.specs.FixtureFrames.{AddsNone, KeepsFrames, StandsAt}
 use Rattle.fixture_sessions.specs.FixtureSession.{all_down_where, bad_call, bad_in, call_unless, ends_of, ends_with, fixture_call, fixture_item, fixture_leave, fixture_session, fixture_set_up, fixture_teardown, next_object, next_where, object_stands, onto_session, own_object, phase_run, session_from, skip_asked, skipped_or_set_up}
 use Rattle.session_rules.proofs.Holds.{rising_one}
-use Rattle.session_rules.specs.Demand.{AllGiven, Answer, Answers, Given, NewInstance, OneRefused, Refused, Replies, Reply, answer_of, ask_all, ask_next, begun, demand, failed_with, fresh, is_same, made, making, making_of, numbers_of, replace, reply, set_up, set_up_after, settle, values_of, with_arguments}
+use Rattle.session_rules.specs.Demand.{AllGiven, Answer, JointAnswer, Given, NewInstance, OneRefused, Refused, Replies, Reply, answer_of, ask_all, ask_next, call_fixture_func, demand, failed_with, fresh, is_same, made, making, making_of, numbers_of, replace, reply, set_up, set_up_after, settle, values_of, with_arguments}
 use Rattle.session_rules.specs.Hooks.{HookAnswer, HookGave, HookRaised}
-use Rattle.session_rules.specs.Session.{chain_of, demand_closure, demand_next, finalize_own, next_of, noted, opened, reaches, set_up_by, start, telling, test_with, values_for}
-use Rattle.session_rules.specs.Teardown.{Grant, State, Step, TeardownEnd, also, closed_request, down_all, down_more, down_one, emit, finalize_all, in_world, rest_ended, resumed, torn, torn_of}
+use Rattle.session_rules.specs.Session.{chain_of, demand_closure, demand_next, finalize_own, next_of, noted, with_new_instance, reaches, set_up_by, initial_state, telling, test_with, values_for}
+use Rattle.session_rules.specs.Teardown.{Grant, SessionState, Step, TeardownEnd, also_raised, closed_request, down_all, down_more, down_one, emit, finalize_all, in_world, rest_ended, resumed, torn, torn_of}
 use Rattle.session_rules.specs.World.{BodyEnd, Call, Item, Language, LiveInstance, Phase, Raised, Returned, Rules, SetUp, Teardown, Value, Yielded}
 use Rattle.session_types.proofs.Lists.{In-append, In-filter, In-left, In-right, filter-In}
 use Rattle.session_types.proofs.Order.{Rising, Rising-filter, Rising-push}
 use Rattle.session_types.specs.declared.journal.Event.TheVariants.{CallBegins}
-use Rattle.session_types.specs.Live.{dependents, down_order, find, not_on, numbered, numbers_in}
-use Rattle.session_types.specs.Members.{In}
+use Rattle.session_types.specs.Live.{dependents, down_order, find, not_on, instance_by_number, instance_numbers}
+use Rattle.session_types.specs.Members.{IsMember}
 
 -- a live instance holds this frame
 abbrev IsHeld : {L : Language} → L.Rest → List (LiveInstance L) → Type 0
-IsHeld {L} r live = (i : LiveInstance L) × In i live × (i.slot.rest ≡ Some r)
+IsHeld {L} r live = (i : LiveInstance L) × IsMember i live × (i.slot.rest ≡ Some r)
 
-numbered_In : {L : Language} (n : ℕ) (live : List (LiveInstance L)) (i : LiveInstance L) → numbered n live ≡ Some i → In i live
+numbered_In : {L : Language} (n : ℕ) (live : List (LiveInstance L)) (i : LiveInstance L) → instance_by_number n live ≡ Some i → IsMember i live
 numbered_In n [] i e = cc
 numbered_In {L} n (k ∷ ks) i e =
-    (elim (eqb n k.order) as (λ b. cond b (Some k) (numbered n ks) ≡ Some i → In i (k ∷ ks)) [
+    (elim (eqb n k.order) as (λ b. cond b (Some k) (instance_by_number n ks) ≡ Some i → IsMember i (k ∷ ks)) [
       | true ↦ λ z. (let same : i ≡ k = cc in inl same)
       | false ↦ λ z. inr (numbered_In n ks i z)
     ]) e
@@ -32,10 +32,10 @@ module _ {L : Language} (rules : Rules L) (is_out : L.Rest → L.World → Bool)
   -- each frame that is out was out at first, or a live instance holds it
   record Good (live : List (LiveInstance L)) (next : ℕ) (w : L.World) : Type 0 where
     rising : Rising live
-    low : (i : LiveInstance L) → In i live → i.order < next
+    low : (i : LiveInstance L) → IsMember i live → i.order < next
     held : (r : L.Rest) → is_out r w ≡ true → (is_out r first ≡ true) ⊎ IsHeld {L = L} r live
 
-  abbrev IsGood : State L → Type 0
+  abbrev IsGood : SessionState L → Type 0
   IsGood s = Good s.live s.next s.world
 
   abbrev Adds : L.World → L.World → Type 0
@@ -74,7 +74,7 @@ module _ {L : Language} (rules : Rules L) (is_out : L.Rest → L.World → Bool)
       let k = resumed_spends i.def i.slot.rest c.world r (finalize_adds c.finalizers (resumed rules i.def i.slot.rest c.world) r o) in
       (closed_adds i.slot.request w r k.0, k.1)
 
-  one_good : (n : ℕ) (s : State L) (o : Option (LiveInstance L)) → numbered n s.live ≡ o → IsGood s → IsGood (down_one rules o s).state
+  one_good : (n : ℕ) (s : SessionState L) (o : Option (LiveInstance L)) → instance_by_number n s.live ≡ o → IsGood s → IsGood (down_one rules o s).state
   one_good n s None e g = g
   one_good n s (Some i) e g =
       record {
@@ -91,14 +91,14 @@ module _ {L : Language} (rules : Rules L) (is_out : L.Rest → L.World → Bool)
         ]);
       }
 
-  more_good : (ns : List ℕ) (raised : List L.Thrown) (s : State L) → IsGood s → IsGood (down_more rules ns raised s).state
+  more_good : (ns : List ℕ) (raised : List L.Thrown) (s : SessionState L) → IsGood s → IsGood (down_more rules ns raised s).state
   more_good [] raised s g = g
   more_good (n ∷ ns) raised s g =
-      let r = down_one rules (numbered n s.live) s in
-      more_good ns (raised ++ r.raised) r.state (one_good n s (numbered n s.live) refl g)
+      let r = down_one rules (instance_by_number n s.live) s in
+      more_good ns (raised ++ r.raised) r.state (one_good n s (instance_by_number n s.live) refl g)
 
-  down_good : (set : List (LiveInstance L)) (s : State L) → IsGood s → IsGood (down_all rules set s).state
-  down_good set s g = more_good (numbers_in (down_order set)) [] s g
+  down_good : (set : List (LiveInstance L)) (s : SessionState L) → IsGood s → IsGood (down_all rules set s).state
+  down_good set s g = more_good (instance_numbers (down_order set)) [] s g
 
   -- DEMAND
 
@@ -116,7 +116,7 @@ module _ {L : Language} (rules : Rules L) (is_out : L.Rest → L.World → Bool)
   made_rest d request (Yielded v rest) w r s = ap (λ (x : L.Rest). Some x) s
   made_rest d request (Raised e) w r s = absurd s
 
-  born_good : (item : Item) (d : ℕ) (given : List (Grant L)) (m : NewInstance L) (s : State L) → ((r : L.Rest) → is_out r m.world ≡ true → (is_out r s.world ≡ true) ⊎ (m.held.rest ≡ Some r)) → IsGood s → IsGood (made rules item d given m s).state
+  born_good : (item : Item) (d : ℕ) (given : List (Grant L)) (m : NewInstance L) (s : SessionState L) → ((r : L.Rest) → is_out r m.world ≡ true → (is_out r s.world ≡ true) ⊎ (m.held.rest ≡ Some r)) → IsGood s → IsGood (made rules item d given m s).state
   born_good item d given m s h g =
       let i = fresh rules item d given s.next m.held in
       record {
@@ -131,21 +131,21 @@ module _ {L : Language} (rules : Rules L) (is_out : L.Rest → L.World → Bool)
         ];
       }
 
-  set_up_good : (item : Item) (d : ℕ) (given : List (Grant L)) (s : State L) → IsGood s → IsGood (set_up rules item d given s).state
+  set_up_good : (item : Item) (d : ℕ) (given : List (Grant L)) (s : SessionState L) → IsGood s → IsGood (set_up rules item d given s).state
   set_up_good item d given s g =
       let a = rules.ask item.node d (item.parameter d) s.world in
       let o = rules.begin item.node d (item.parameter d) s.instance (values_of given) a.request a.world in
-      born_good item d given (begun rules item d given s.instance a) s (λ r q.
+      born_good item d given (call_fixture_func rules item d given s.instance a) s (λ r q.
       elim (tame.begin item.node d (item.parameter d) s.instance (values_of given) a.request a.world r (made_adds d a.request o.how o.world r q)) [
         | inl b ↦ inl (tame.ask item.node d (item.parameter d) s.world r b)
         | inr z ↦ inr (made_rest d a.request o.how o.world r z)
       ]) g
 
-  after_good : (item : Item) (d : ℕ) (given : List (Grant L)) (raised : List L.Thrown) (s : State L) → IsGood s → IsGood (set_up_after rules item d given raised s).state
+  after_good : (item : Item) (d : ℕ) (given : List (Grant L)) (raised : List L.Thrown) (s : SessionState L) → IsGood s → IsGood (set_up_after rules item d given raised s).state
   after_good item d given [] s g = set_up_good item d given s g
   after_good item d given (e ∷ es) s g = g
 
-  settle_good : (item : Item) (d : ℕ) (given : List (Grant L)) (o : Option (LiveInstance L)) (s : State L) → IsGood s → IsGood (settle rules item d given o s).state
+  settle_good : (item : Item) (d : ℕ) (given : List (Grant L)) (o : Option (LiveInstance L)) (s : SessionState L) → IsGood s → IsGood (settle rules item d given o s).state
   settle_good item d given None s g = set_up_good item d given s g
   settle_good item d given (Some i) s g =
       let r = down_all rules (dependents i.order s.live) s in
@@ -154,29 +154,29 @@ module _ {L : Language} (rules : Rules L) (is_out : L.Rest → L.World → Bool)
         | false ↦ after_good item d given r.raised r.state (down_good (dependents i.order s.live) s g)
       ]
 
-  next_good : (rest : List (Grant L) → State L → Replies L) → ((given : List (Grant L)) (s : State L) → IsGood s → IsGood (rest given s).state) → (given : List (Grant L)) (a : Answer L) (s : State L) → IsGood s → IsGood (ask_next rest given a s).state
+  next_good : (rest : List (Grant L) → SessionState L → Replies L) → ((given : List (Grant L)) (s : SessionState L) → IsGood s → IsGood (rest given s).state) → (given : List (Grant L)) (a : Answer L) (s : SessionState L) → IsGood s → IsGood (ask_next rest given a s).state
   next_good rest law given (Given i) s g = law (given ++ i ∷ []) s g
   next_good rest law given (Refused es) s g = g
 
-  asked_good : (ask : ℕ → State L → Reply L) → ((d : ℕ) (s : State L) → IsGood s → IsGood (ask d s).state) → (ds : List ℕ) (given : List (Grant L)) (s : State L) → IsGood s → IsGood (ask_all ask ds given s).state
+  asked_good : (ask : ℕ → SessionState L → Reply L) → ((d : ℕ) (s : SessionState L) → IsGood s → IsGood (ask d s).state) → (ds : List ℕ) (given : List (Grant L)) (s : SessionState L) → IsGood s → IsGood (ask_all ask ds given s).state
   asked_good ask law [] given s g = g
   asked_good ask law (d ∷ ds) given s g = next_good (ask_all ask ds) (asked_good ask law ds) given (ask d s).answer (ask d s).state (law d s g)
 
-  with_good : (item : Item) (d : ℕ) (a : Answers L) (s : State L) → IsGood s → IsGood (with_arguments rules item d a s).state
+  with_good : (item : Item) (d : ℕ) (a : JointAnswer L) (s : SessionState L) → IsGood s → IsGood (with_arguments rules item d a s).state
   with_good item d (AllGiven given) s g = settle_good item d given (find d (item.place d) s.live) s g
   with_good item d (OneRefused es) s g = g
 
-  demand_good : (item : Item) (depth d : ℕ) (s : State L) → IsGood s → IsGood (demand rules item depth d s).state
+  demand_good : (item : Item) (depth d : ℕ) (s : SessionState L) → IsGood s → IsGood (demand rules item depth d s).state
   demand_good item zero d s g = moved s.live s.next s.world (rules.fault item.node s.world).world (tame.fault item.node s.world) g
   demand_good item (suc depth) d s g =
       let r = ask_all (demand rules item depth) (item.requests d) [] s in
       with_good item d r.answers r.state (asked_good (demand rules item depth) (demand_good item depth) (item.requests d) [] s g)
 
-  noted_good : (rest : State L → Step L) → ((s : State L) → IsGood s → IsGood (rest s).state) → (a : Answer L) (s : State L) → IsGood s → IsGood (demand_next rest a s).state
+  noted_good : (rest : SessionState L → Step L) → ((s : SessionState L) → IsGood s → IsGood (rest s).state) → (a : Answer L) (s : SessionState L) → IsGood s → IsGood (demand_next rest a s).state
   noted_good rest law (Given i) s g = law (noted i s) g
   noted_good rest law (Refused es) s g = g
 
-  closure_good : (item : Item) (ds : List ℕ) (s : State L) → IsGood s → IsGood (demand_closure rules item ds s).state
+  closure_good : (item : Item) (ds : List ℕ) (s : SessionState L) → IsGood s → IsGood (demand_closure rules item ds s).state
   closure_good item [] s g = g
   closure_good item (d ∷ ds) s g =
       let r = demand rules item rules.depth d s in
@@ -184,67 +184,67 @@ module _ {L : Language} (rules : Rules L) (is_out : L.Rest → L.World → Bool)
 
   -- PHASES
 
-  by_good : (item : Item) (closure : Option (List ℕ)) (s : State L) → IsGood s → IsGood (set_up_by rules item closure s).state
+  by_good : (item : Item) (closure : Option (List ℕ)) (s : SessionState L) → IsGood s → IsGood (set_up_by rules item closure s).state
   by_good item None s g = moved s.live s.next s.world (rules.fault item.node s.world).world (tame.fault item.node s.world) g
   by_good item (Some ds) s g = closure_good item ds s g
 
-  skipped_good : (item : Item) (answer : HookAnswer L.Value L.Thrown) (s : State L) → IsGood s → IsGood (skipped_or_set_up rules item answer s).state
+  skipped_good : (item : Item) (answer : HookAnswer L.Value L.Thrown) (s : SessionState L) → IsGood s → IsGood (skipped_or_set_up rules item answer s).state
   skipped_good item (HookGave value) s g = by_good item item.closure s g
   skipped_good item (HookRaised e) s g = g
 
-  phase_set_up : (item : Item) (s : State L) → IsGood s → IsGood (fixture_set_up rules item s).state
+  phase_set_up : (item : Item) (s : SessionState L) → IsGood s → IsGood (fixture_set_up rules item s).state
   phase_set_up item s g =
       let a = skip_asked rules item s.world in
       skipped_good item a.answer (in_world a.world s) (moved s.live s.next s.world a.world (tame.skip item.node s.world) g)
 
-  test_good : (item : Item) (values : Option (List L.Value)) (s : State L) → IsGood s → IsGood (test_with rules item values s).state
+  test_good : (item : Item) (values : Option (List L.Value)) (s : SessionState L) → IsGood s → IsGood (test_with rules item values s).state
   test_good item None s g = moved s.live s.next s.world (rules.wrong_arguments item.node s.world).world (tame.wrong_arguments item.node s.world) g
   test_good item (Some values) s g =
       let a = rules.ask_test item.node s.world in
       moved s.live s.next a.world (rules.test item.node s.instance values a.request a.world).world (tame.test item.node s.instance values a.request a.world)
       (moved s.live s.next s.world a.world (tame.ask_test item.node s.world) g)
 
-  own_good : (s : State L) → IsGood s → IsGood (finalize_own rules s).state
+  own_good : (s : SessionState L) → IsGood s → IsGood (finalize_own rules s).state
   own_good s g =
       let c = closed_request rules s.request s.world in
       moved s.live s.next s.world (finalize_all rules c.finalizers (torn [] c.world)).world
       (λ r o. closed_adds s.request s.world r (finalize_adds c.finalizers (torn [] c.world) r o)) g
 
-  leave_good : (next : Option Item) (s : State L) → IsGood s → IsGood (fixture_leave rules next s).state
+  leave_good : (next : Option Item) (s : SessionState L) → IsGood s → IsGood (fixture_leave rules next s).state
   leave_good next s g =
       let r = finalize_own rules s in
       down_good (not_on (chain_of next) r.state.live) (record r.state { given = [] }) (own_good s g)
 
   where_good : (maxfail : ℕ) (item : Item) (bad : ℕ) (r : Step L) → IsGood r.state → IsGood (all_down_where rules maxfail item bad r).state
   where_good maxfail item bad r g =
-      elim (reaches maxfail (bad + bad_in L Teardown (telling rules Teardown item r).told)) as (λ b. IsGood (cond b (also r.raised (down_all rules r.state.live r.state)) r).state) [
+      elim (reaches maxfail (bad + bad_in L Teardown (telling rules Teardown item r).told)) as (λ b. IsGood (cond b (also_raised r.raised (down_all rules r.state.live r.state)) r).state) [
         | true ↦ down_good r.state.live r.state g
         | false ↦ g
       ]
 
-  object_good : (node : ℕ) (s : State L) → IsGood s → IsGood (object_stands rules node s)
+  object_good : (node : ℕ) (s : SessionState L) → IsGood s → IsGood (object_stands rules node s)
   object_good node s g = moved s.live s.next s.world (rules.make_item node s.world).world (tame.make_item node s.world) g
 
-  next_object_good : (next : Option Item) (s : State L) → IsGood s → IsGood (next_object rules next s)
+  next_object_good : (next : Option Item) (s : SessionState L) → IsGood s → IsGood (next_object rules next s)
   next_object_good None s g = g
   next_object_good (Some next) s g = object_good next.node s g
 
-  own_object_good : (had : Bool) (node : ℕ) (s : State L) → IsGood s → IsGood (own_object rules had node s)
+  own_object_good : (had : Bool) (node : ℕ) (s : SessionState L) → IsGood s → IsGood (own_object rules had node s)
   own_object_good true node s g = g
   own_object_good false node s g = object_good node s g
 
   ended_good : (phase : Phase) (item : Item) (before : ℕ) (r : Step L) → IsGood r.state → IsGood (phase_run rules phase item before r).state
   ended_good phase item before r g = moved r.state.live r.state.next r.state.world (telling rules phase item r).world (tame.end_phase phase item.node r.raised r.state.world) g
 
-  call_good : (item : Item) (raised : List L.Thrown) (s : State L) → IsGood s → IsGood (call_unless rules item raised s).state
+  call_good : (item : Item) (raised : List L.Thrown) (s : SessionState L) → IsGood s → IsGood (call_unless rules item raised s).state
   call_good item [] s g =
-      let t : State L = emit (CallBegins item.node (numbers_of s.given [])) s in
+      let t : SessionState L = emit (CallBegins item.node (numbers_of s.given [])) s in
       ended_good Call item (length s.events) (fixture_call rules item s) (test_good item (values_for t.given item.arguments) t g)
   call_good item (e ∷ es) s g = g
 
-  item_good : (maxfail : ℕ) (had : Bool) (item : Item) (next : Option Item) (bad : ℕ) (s : State L) → IsGood s → IsGood (fixture_item rules maxfail had item next bad s).state
+  item_good : (maxfail : ℕ) (had : Bool) (item : Item) (next : Option Item) (bad : ℕ) (s : SessionState L) → IsGood s → IsGood (fixture_item rules maxfail had item next bad s).state
   item_good maxfail had item next bad s g =
-      let o = opened rules item s in
+      let o = with_new_instance rules item s in
       let u = own_object rules had item.node o in
       let p = phase_run rules SetUp item (length u.events) (fixture_set_up rules item u) in
       let c = call_unless rules item p.end.raised p.state in
@@ -261,7 +261,7 @@ module _ {L : Language} (rules : Rules L) (is_out : L.Rest → L.World → Bool)
       (own_object_good had item.node o
       (moved s.live s.next s.world (rules.make_instance item.node s.world).world (tame.make_instance item.node s.world) g))))))))
 
-  from_good : (maxfail : ℕ) (had : Bool) (items : List Item) (bad : ℕ) (s : State L) → IsGood s → IsGood (session_from rules maxfail had items bad s).state
+  from_good : (maxfail : ℕ) (had : Bool) (items : List Item) (bad : ℕ) (s : SessionState L) → IsGood s → IsGood (session_from rules maxfail had items bad s).state
   from_good maxfail had [] bad s g = g
   from_good maxfail had (item ∷ items) bad s g =
       let r = fixture_item rules maxfail had item (next_of items) bad s in
@@ -271,13 +271,13 @@ module _ {L : Language} (rules : Rules L) (is_out : L.Rest → L.World → Bool)
         | false ↦ from_good maxfail true items r.bad r.state i
       ]
 
-  start_good : IsGood (start first)
+  start_good : IsGood (initial_state first)
   start_good = record { rising = tt; low = λ i m. absurd m; held = λ r o. inl o }
 
   pub none_left : (maxfail : ℕ) (items : List Item) → AddsNone is_out first (fixture_session rules maxfail items first).state.world
   none_left maxfail items r o =
-      let g = from_good maxfail false items 0 (start first) start_good in
+      let g = from_good maxfail false items 0 (initial_state first) start_good in
       elim (g.held r o) [
         | inl a ↦ a
-        | inr b ↦ absurd (let m : In b.0 [] = subst (λ (l : List (LiveInstance L)). In b.0 l) (session_empty rules maxfail items first) b.1 in m)
+        | inr b ↦ absurd (let m : IsMember b.0 [] = subst (λ (l : List (LiveInstance L)). IsMember b.0 l) (session_empty rules maxfail items first) b.1 in m)
       ]

@@ -7,7 +7,7 @@ use Rattle.session_rules.specs.Fits.{Distinct}
 use Rattle.session_rules.specs.Session.{next_of, object_of}
 use Rattle.session_rules.specs.Teardown.{ItemObject}
 use Rattle.session_rules.specs.World.{Item, Language, Rules}
-use Rattle.session_types.specs.Members.{In}
+use Rattle.session_types.specs.Members.{IsMember}
 
 found : {L : Language} (node : ℕ) (os : List (ItemObject L)) (x : ItemObject L) → x.node ≡ node → object_of node os ≡ None → object_of node (os ++ x ∷ []) ≡ Some x.object
 found node [] x e n = rw (eq-eqb node x.node (sym e))
@@ -27,17 +27,17 @@ lacked {L} node (o ∷ os) x d n =
 
 -- the items behind the first have no object yet
 abbrev pub Lack : {L : Language} → List Item → List (ItemObject L) → Type 0
-Lack items os = (i : Item) → In i items → object_of i.node os ≡ None
+Lack items os = (i : Item) → IsMember i items → object_of i.node os ≡ None
 
 abbrev pub Objects : {L : Language} → Bool → List Item → List (ItemObject L) → Type 0
 Objects had [] os = Unit {0}
-Objects had (item ∷ items) os = HasObject had item.node os × ((i : Item) → In i items → object_of i.node os ≡ None)
+Objects had (item ∷ items) os = HasObject had item.node os × ((i : Item) → IsMember i items → object_of i.node os ≡ None)
 
 pub has_with : {L : Language} (rules : Rules L) (had : Bool) (item : Item) (w : L.World) (os : List (ItemObject L)) → HasObject had item.node os → HasObject true item.node (objects_with rules had item.node w os)
 has_with rules true item w os h = h
 has_with rules false item w os h = ((rules.make_item item.node w).answer, found item.node os (record { node = item.node; object = (rules.make_item item.node w).answer }) refl h)
 
-pub lack_with : {L : Language} (rules : Rules L) (had : Bool) (item : Item) (items : List Item) (w : L.World) (os : List (ItemObject L)) → ((other : Item) → In other items → other.node ≡ item.node → ⊥)
+pub lack_with : {L : Language} (rules : Rules L) (had : Bool) (item : Item) (items : List Item) (w : L.World) (os : List (ItemObject L)) → ((other : Item) → IsMember other items → other.node ≡ item.node → ⊥)
     → Lack items os → Lack items (objects_with rules had item.node w os)
 lack_with rules true item items w os d h = h
 lack_with rules false item items w os d h = λ i m. lacked i.node os (record { node = item.node; object = (rules.make_item item.node w).answer }) (λ e. d i m (sym e)) (h i m)

@@ -3,10 +3,10 @@ use Rattle.std.proofs.Common.{◌≡◌, ℕ, List, [], ◌∷◌, ◌++◌, map
 use Rattle.fixture_sessions.proofs.Items.{AreEnds, AreOfItem, IsCalled, session_leaves}
 use Rattle.fixture_sessions.specs.BuiltIn.{HasBuiltInHooks}
 use Rattle.fixture_sessions.specs.FixtureRows.{fixture_ran, fixture_rows}
-use Rattle.report_rules.specs.Rows.{Task, by_item, item_of, ran, rows_of, with_ends}
+use Rattle.report_rules.specs.Rows.{Task, by_item, task_item, ran, session_rows, with_ends}
 use Rattle.session_rules.specs.Fits.{Distinct}
 use Rattle.session_rules.specs.Session.{has_stopped, reaches}
-use Rattle.session_rules.specs.Teardown.{PhaseEnd, State}
+use Rattle.session_rules.specs.Teardown.{PhaseEnd, SessionState}
 use Rattle.session_rules.specs.World.{Call, Language, Rules, SetUp, Teardown}
 
 -- the phases of an item, in front of others, are cut off
@@ -30,21 +30,21 @@ all_cut {L} (mine ∷ others) ends h =
     ap (λ (l : List (PhaseEnd L)). by_item l) h.1
     ∙ (item_cut mine h.0 h.2 ∙ ap (λ (l : List (List (PhaseEnd L))). mine ∷ l) (all_cut others h.0 h.3))
 
-module _ {L : Language} (rules : Rules L) (p : HasBuiltInHooks rules) (world : L.World) (maxfail : ℕ) (tasks : List Task) (d : Distinct (map item_of tasks)) where
-  pub rows_same : rows_of rules world maxfail tasks ≡ fixture_rows rules world maxfail tasks
+module _ {L : Language} (rules : Rules L) (p : HasBuiltInHooks rules) (world : L.World) (maxfail : ℕ) (tasks : List Task) (d : Distinct (map task_item tasks)) where
+  pub rows_same : session_rows rules world maxfail tasks ≡ fixture_rows rules world maxfail tasks
   rows_same =
-      let l = session_leaves rules p maxfail (map item_of tasks) d world in
-      let ends : (ran rules world maxfail tasks).ends ≡ l.more = ap (λ (s : State L). s.ends) l.is ∙ l.ends in
+      let l = session_leaves rules p maxfail (map task_item tasks) d world in
+      let ends : (ran rules world maxfail tasks).ends ≡ l.more = ap (λ (s : SessionState L). s.ends) l.is ∙ l.ends in
       ap (λ (es : List (PhaseEnd L)). with_ends [] tasks (by_item es)) ends
       ∙ ap (λ (es : List (List (PhaseEnd L))). with_ends [] tasks es) (all_cut (fixture_ran rules world maxfail tasks).ends l.more l.told)
 
   pub journal_same : (ran rules world maxfail tasks).events ≡ (fixture_ran rules world maxfail tasks).state.events
-  journal_same = ap (λ (s : State L). s.events) (session_leaves rules p maxfail (map item_of tasks) d world).is
+  journal_same = ap (λ (s : SessionState L). s.events) (session_leaves rules p maxfail (map task_item tasks) d world).is
 
   pub world_same : (ran rules world maxfail tasks).world ≡ (fixture_ran rules world maxfail tasks).state.world
-  world_same = ap (λ (s : State L). s.world) (session_leaves rules p maxfail (map item_of tasks) d world).is
+  world_same = ap (λ (s : SessionState L). s.world) (session_leaves rules p maxfail (map task_item tasks) d world).is
 
   pub stopped_same : has_stopped maxfail (ran rules world maxfail tasks) ≡ reaches maxfail (fixture_ran rules world maxfail tasks).bad
   stopped_same =
-      let l = session_leaves rules p maxfail (map item_of tasks) d world in
-      ap (λ (s : State L). has_stopped maxfail s) l.is ∙ ap (λ (n : ℕ). reaches maxfail n) l.bad
+      let l = session_leaves rules p maxfail (map task_item tasks) d world in
+      ap (λ (s : SessionState L). has_stopped maxfail s) l.is ∙ ap (λ (n : ℕ). reaches maxfail n) l.bad

@@ -19,7 +19,7 @@
 //! - `no_frame_stays_out`: behind it no frozen frame is out that wasn't before, where each act of the rules keeps the frames
 //!   (`KeepsFrames`): a body that yields adds its own, one that goes on or is given up is spent, and nothing else adds any.
 //!
-//! # What neither proofs nor tests show
+//! # What neither shows
 //!
 //! That the rules of a language have the built-in hooks alone: that is the crate of these rules.
 //!

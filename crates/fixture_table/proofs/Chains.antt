@@ -2,11 +2,11 @@
 use Rattle.std.proofs.Common.{◌≡◌, ℕ, ◌<◌, ◌≤◌, refl, ap, sym, ◌∙◌, Bool, List, ◌∷◌, length, arith, zero, suc, eq-eqb, ◌||◌, inl, inr}
 use Rattle.std.proofs.lemmas.Bool.{ne_eqb, cases_eq}
 use Rattle.fixture_table.specs.declared.types.CollectionNode.{CollectionNode}
-use Rattle.fixture_table.specs.Tree.{IsTree, parent_of, chain, chain_of, covers, depth_of}
+use Rattle.fixture_table.specs.Tree.{IsTree, parent_of, parents_within, iter_parents, covers, node_depth}
 use Rattle.session_types.specs.Numbers.{among}
 
 -- any number that is enough gives the same chain
-pub chain_two : (nodes : List CollectionNode) → IsTree nodes → (m n at : ℕ) → at ≤ m → at ≤ n → at < length nodes → chain m nodes at ≡ chain n nodes at
+pub chain_two : (nodes : List CollectionNode) → IsTree nodes → (m n at : ℕ) → at ≤ m → at ≤ n → at < length nodes → parents_within m nodes at ≡ parents_within n nodes at
 chain_two nodes tree zero zero at le len lt = refl
 chain_two nodes tree zero (suc n) at le len lt = rw (eq-eqb at 0 (omega arith)) refl
 chain_two nodes tree (suc m) zero at le len lt = rw (eq-eqb at 0 (omega arith)) refl
@@ -18,7 +18,7 @@ chain_two nodes tree (suc m) (suc n) at le len lt =
     ]
 
 -- the chain of a node is the node and the chain of its parent
-pub chain_step : (nodes : List CollectionNode) → IsTree nodes → (at : ℕ) → (at ≡ 0 → ⊥) → at < length nodes → chain_of nodes at ≡ at ∷ chain_of nodes (parent_of nodes at)
+pub chain_step : (nodes : List CollectionNode) → IsTree nodes → (at : ℕ) → (at ≡ 0 → ⊥) → at < length nodes → iter_parents nodes at ≡ at ∷ iter_parents nodes (parent_of nodes at)
 chain_step nodes tree at ne lt =
     let up = tree.behind at (omega arith) lt in
     chain_two nodes tree at (suc at) at (omega arith) (omega arith) lt
@@ -27,5 +27,5 @@ chain_step nodes tree at ne lt =
 pub covers_step : (nodes : List CollectionNode) → IsTree nodes → (outer at : ℕ) → (at ≡ outer → ⊥) → (at ≡ 0 → ⊥) → at < length nodes → covers nodes outer (parent_of nodes at) ≡ covers nodes outer at
 covers_step nodes tree outer at other ne lt = sym (ap (among outer) (chain_step nodes tree at ne lt) ∙ ap (λ (b : Bool). b || covers nodes outer (parent_of nodes at)) (ne_eqb at outer other))
 
-pub depth_step : (nodes : List CollectionNode) → IsTree nodes → (at : ℕ) → (at ≡ 0 → ⊥) → at < length nodes → depth_of nodes at ≡ suc (depth_of nodes (parent_of nodes at))
+pub depth_step : (nodes : List CollectionNode) → IsTree nodes → (at : ℕ) → (at ≡ 0 → ⊥) → at < length nodes → node_depth nodes at ≡ suc (node_depth nodes (parent_of nodes at))
 depth_step nodes tree at ne lt = ap length (chain_step nodes tree at ne lt)

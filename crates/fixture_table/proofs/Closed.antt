@@ -11,7 +11,7 @@ use Rattle.session_types.specs.Numbers.{among}
 use Rattle.fixture_table.specs.Closing.{same_entry, has, with_one, with_unseen, asked, entry_at, entries_for, autouse_up, first_entries, Grown, Done, More}
 use Rattle.fixture_table.specs.Faults.{definitions_of}
 use Rattle.fixture_table.specs.Index.{IsShut}
-use Rattle.fixture_table.specs.Tree.{chain_of}
+use Rattle.fixture_table.specs.Tree.{iter_parents}
 use Rattle.fixture_table.proofs.Asked.{Extends, has_at, has_extends, unseen_has, entry_place, same_is, same_refl}
 use Rattle.fixture_table.proofs.Reached.{or_true, or_right}
 
@@ -92,7 +92,7 @@ single_grown nodes defs item bound _ _ _ (Done es p le) s = s
 single_grown nodes defs item bound _ _ _ (More es p e end at g) s = single_grown nodes defs item bound (with_unseen (asked nodes defs item bound e) es) (suc p) end g (single_unseen (asked nodes defs item bound e) es s)
 
 pub first_single : (nodes : List CollectionNode) (defs : List FixtureDef) (item : ℕ) (bound uses args : List ℕ) → Single (first_entries nodes defs item bound uses args)
-first_single nodes defs item bound uses args = single_unseen (entries_for nodes defs item bound (autouse_up defs (chain_of nodes item) ++ (uses ++ args))) [] tt
+first_single nodes defs item bound uses args = single_unseen (entries_for nodes defs item bound (autouse_up defs (iter_parents nodes item) ++ (uses ++ args))) [] tt
 
 -- two places of one entry are one
 pub one_at : (es : List Entry) → Single es → (p q : ℕ) → p < length es → q < length es → entry_at es p ≡ entry_at es q → p ≡ q

@@ -9,21 +9,21 @@ use Rattle.fixture_table.specs.declared.fault.FixtureFault.TheVariants.{Recursiv
 use Rattle.fixture_table.specs.declared.entry.Entry.{Entry}
 use Rattle.fixture_table.specs.declared.entry.Entry.TheVariants.{Definition, Missing}
 use Rattle.fixture_table.specs.Closing.{Grown, entry_at, first_entries}
-use Rattle.fixture_table.specs.Faults.{FirstFault, HasFault, IsClosure, IsFault, IsRecursive, IsSound, Once, Reaches, SoundTo, asks_in_vain, by_scope, definitions_of, first_narrower, requests}
+use Rattle.fixture_table.specs.Faults.{FirstFault, HasFault, IsClosure, IsFault, IsRecursive, IsSound, Once, RequestPath, SoundTo, asks_in_vain, by_scope, definitions_of, first_narrower, requests}
 use Rattle.fixture_table.specs.Nearest.{def_at}
 use Rattle.fixture_table.proofs.Ends.{ends, grown_one, requests_low}
 use Rattle.fixture_table.proofs.Reached.{complete, reaches_more}
 use Rattle.session_types.proofs.Lists.{In-among, In-append, In-filter, In-left, In-right, In-with_number, In-with_numbers, among-In, bool_cases, with_number-In, with_numbers-In}
-use Rattle.session_types.specs.Members.{In}
+use Rattle.session_types.specs.Members.{IsMember}
 use Rattle.session_types.specs.Numbers.{among, with_number, with_numbers}
 
 -- LISTS OF NUMBERS, EACH ONCE
 
 abbrev Single : List ℕ → Type 0
 Single [] = Unit {0}
-Single (x ∷ xs) = (In x xs → ⊥) × Single xs
+Single (x ∷ xs) = (IsMember x xs → ⊥) × Single xs
 
-single_push : (xs : List ℕ) (n : ℕ) → Single xs → (In n xs → ⊥) → Single (xs ++ n ∷ [])
+single_push : (xs : List ℕ) (n : ℕ) → Single xs → (IsMember n xs → ⊥) → Single (xs ++ n ∷ [])
 single_push [] n s out = ((λ m. absurd m), tt)
 single_push (x ∷ xs) n s out = (
   (λ m. elim (In-append x xs (n ∷ []) m) [ inl l ↦ s.0 l | inr r ↦ elim r [ inl e ↦ out (inl (sym e)) | inr z ↦ absurd z ] ]),
@@ -52,11 +52,11 @@ all_longer [] xs = omega arith
 all_longer (n ∷ ns) xs = (let a = with_longer n xs in let b = all_longer ns (with_number n xs) in omega (arith, a, b))
 
 -- all are there already, or the list becomes longer
-there_or_longer : (ns xs : List ℕ) → (((n : ℕ) → In n ns → In n xs) × (with_numbers ns xs ≡ xs)) ⊎ (length xs < length (with_numbers ns xs))
+there_or_longer : (ns xs : List ℕ) → (((n : ℕ) → IsMember n ns → IsMember n xs) × (with_numbers ns xs ≡ xs)) ⊎ (length xs < length (with_numbers ns xs))
 there_or_longer [] xs = inl ((λ n m. absurd m), refl)
-there_or_longer (n ∷ ns) xs = elim (among n xs) as (λ b. among n xs ≡ b → (((k : ℕ) → In k (n ∷ ns) → In k xs) × (with_numbers ns (cond b xs (xs ++ n ∷ [])) ≡ xs)) ⊎ (length xs < length (with_numbers ns (cond b xs (xs ++ n ∷ []))))) [
+there_or_longer (n ∷ ns) xs = elim (among n xs) as (λ b. among n xs ≡ b → (((k : ℕ) → IsMember k (n ∷ ns) → IsMember k xs) × (with_numbers ns (cond b xs (xs ++ n ∷ [])) ≡ xs)) ⊎ (length xs < length (with_numbers ns (cond b xs (xs ++ n ∷ []))))) [
   | true ↦ λ e. elim (there_or_longer ns xs) [
-    | inl l ↦ inl ((λ k m. elim m [ inl q ↦ subst (λ (j : ℕ). In j xs) (sym q) (among-In n xs e) | inr r ↦ l.0 k r ]), l.1)
+    | inl l ↦ inl ((λ k m. elim m [ inl q ↦ subst (λ (j : ℕ). IsMember j xs) (sym q) (among-In n xs e) | inr r ↦ l.0 k r ]), l.1)
     | inr r ↦ inr r
   ]
   | false ↦ λ e. (let a = push_longer xs n in let b = all_longer ns (xs ++ n ∷ []) in inr (omega (arith, a, b)))
@@ -69,11 +69,11 @@ there_or_longer (n ∷ ns) xs = elim (among n xs) as (λ b. among n xs ≡ b →
 abbrev others : ℕ → List ℕ → List ℕ
 others n xs = filter (λ x. not (nat_eq n x)) xs
 
-others_same : (n : ℕ) (xs : List ℕ) → (In n xs → ⊥) → others n xs ≡ xs
+others_same : (n : ℕ) (xs : List ℕ) → (IsMember n xs → ⊥) → others n xs ≡ xs
 others_same n [] apart = refl
 others_same n (x ∷ xs) apart = rw (ne_eqb n x (λ e. apart (inl e))) (ap (λ (l : List ℕ). x ∷ l) (others_same n xs (λ m. apart (inr m))))
 
-others-In : (n y : ℕ) (xs : List ℕ) → In y (others n xs) → In y xs × (n ≡ y → ⊥)
+others-In : (n y : ℕ) (xs : List ℕ) → IsMember y (others n xs) → IsMember y xs × (n ≡ y → ⊥)
 others-In n y xs m =
     let f = In-filter (λ x. not (nat_eq n x)) y xs m in
     (f.0, λ e. (let z : nat_eq n y ≡ true = eq-eqb n y e in let v : false ≡ true = ap not (sym z) ∙ f.1 in cc))
@@ -90,13 +90,13 @@ one_less : (n : ℕ) (xs : List ℕ) → Single xs → length xs ≤ length (oth
 one_less n [] s = omega arith
 one_less n (x ∷ xs) s =
     elim (cases_eq n x) [
-      | inl e ↦ (let q : others n xs ≡ xs = others_same n xs (λ m. s.0 (subst (λ (k : ℕ). In k xs) e m)) in
+      | inl e ↦ (let q : others n xs ≡ xs = others_same n xs (λ m. s.0 (subst (λ (k : ℕ). IsMember k xs) e m)) in
           rw (eq-eqb n x e, q) (omega arith))
       | inr ne ↦ (let q = one_less n xs s.1 in rw (ne_eqb n x ne) (omega (arith, q)))
     ]
 
 -- there are n numbers below n
-few : (n : ℕ) (xs : List ℕ) → Single xs → ((x : ℕ) → In x xs → x < n) → length xs ≤ n
+few : (n : ℕ) (xs : List ℕ) → Single xs → ((x : ℕ) → IsMember x xs → x < n) → length xs ≤ n
 few zero [] s low = omega arith
 few zero (x ∷ xs) s low = (let l = low x (inl refl) in absurd (omega (arith, l)))
 few (suc n) xs s low =
@@ -111,28 +111,28 @@ module _ (asks : ℕ → List ℕ) (most from : ℕ) (low : (d e : ℕ) → amon
   rounds (suc n) = with_numbers (flat_map asks (rounds n)) (rounds n)
 
   abbrev Shut : List ℕ → Type 0
-  Shut xs = (d e : ℕ) → In d xs → In e (asks d) → In e xs
+  Shut xs = (d e : ℕ) → IsMember d xs → IsMember e (asks d) → IsMember e xs
 
-  In-flat : (e : ℕ) (xs : List ℕ) → In e (flat_map asks xs) → (d : ℕ) × In d xs × In e (asks d)
+  In-flat : (e : ℕ) (xs : List ℕ) → IsMember e (flat_map asks xs) → (d : ℕ) × IsMember d xs × IsMember e (asks d)
   In-flat e [] m = absurd m
   In-flat e (x ∷ xs) m = elim (In-append e (asks x) (flat_map asks xs) m) [
     | inl l ↦ (x, inl refl, l)
     | inr r ↦ (let q = In-flat e xs r in (q.0, inr q.1, q.2))
   ]
 
-  flat-In : (d e : ℕ) (xs : List ℕ) → In d xs → In e (asks d) → In e (flat_map asks xs)
+  flat-In : (d e : ℕ) (xs : List ℕ) → IsMember d xs → IsMember e (asks d) → IsMember e (flat_map asks xs)
   flat-In d e [] m h = absurd m
-  flat-In d e (x ∷ xs) (inl q) h = In-left e (asks x) (flat_map asks xs) (subst (λ (k : ℕ). In e (asks k)) q h)
+  flat-In d e (x ∷ xs) (inl q) h = In-left e (asks x) (flat_map asks xs) (subst (λ (k : ℕ). IsMember e (asks k)) q h)
   flat-In d e (x ∷ xs) (inr m) h = In-right e (asks x) (flat_map asks xs) (flat-In d e xs m h)
 
-  sound : (n e : ℕ) → In e (rounds n) → Reaches asks from e
+  sound : (n e : ℕ) → IsMember e (rounds n) → RequestPath asks from e
   sound zero e m = elim (In-with_numbers e (asks from) [] m) [ inl l ↦ Once from e (In-among e (asks from) l) | inr z ↦ absurd z ]
   sound (suc n) e m = elim (In-with_numbers e (flat_map asks (rounds n)) (rounds n) m) [
     | inl l ↦ (let q = In-flat e (rounds n) l in reaches_more asks from q.0 e (sound n q.0 q.1) (In-among e (asks q.0) q.2))
     | inr r ↦ sound n e r
   ]
 
-  first_in : (n e : ℕ) → In e (asks from) → In e (rounds n)
+  first_in : (n e : ℕ) → IsMember e (asks from) → IsMember e (rounds n)
   first_in zero e m = with_numbers-In e (asks from) [] (inl m)
   first_in (suc n) e m = with_numbers-In e (flat_map asks (rounds n)) (rounds n) (inr (first_in n e m))
 
@@ -140,7 +140,7 @@ module _ (asks : ℕ → List ℕ) (most from : ℕ) (low : (d e : ℕ) → amon
   single zero = single_all (asks from) [] tt
   single (suc n) = single_all (flat_map asks (rounds n)) (rounds n) (single n)
 
-  below : (n e : ℕ) → In e (rounds n) → e < most
+  below : (n e : ℕ) → IsMember e (rounds n) → e < most
   below zero e m = elim (In-with_numbers e (asks from) [] m) [ inl l ↦ low from e (In-among e (asks from) l) | inr z ↦ absurd z ]
   below (suc n) e m = elim (In-with_numbers e (flat_map asks (rounds n)) (rounds n) m) [
     | inl l ↦ (let q = In-flat e (rounds n) l in low q.0 e (In-among e (asks q.0) q.2))
@@ -152,13 +152,13 @@ module _ (asks : ℕ → List ℕ) (most from : ℕ) (low : (d e : ℕ) → amon
   shut_or_long (suc n) = elim (there_or_longer (flat_map asks (rounds n)) (rounds n)) [
     | inl l ↦ inl (subst Shut (sym l.1) (λ d e m h. l.0 e (flat-In d e (rounds n) m h)))
     | inr r ↦ elim (shut_or_long n) [
-      | inl s ↦ (let none : (((k : ℕ) → In k (flat_map asks (rounds n)) → In k (rounds n))) = λ k m. (let q = In-flat k (rounds n) m in s q.0 k q.1 q.2) in
+      | inl s ↦ (let none : (((k : ℕ) → IsMember k (flat_map asks (rounds n)) → IsMember k (rounds n))) = λ k m. (let q = In-flat k (rounds n) m in s q.0 k q.1 q.2) in
           absurd (no_longer (flat_map asks (rounds n)) (rounds n) none r))
       | inr long ↦ inr (omega (arith, long, r))
     ]
   ]
     where
-      no_longer : (ns xs : List ℕ) → ((k : ℕ) → In k ns → In k xs) → length xs < length (with_numbers ns xs) → ⊥
+      no_longer : (ns xs : List ℕ) → ((k : ℕ) → IsMember k ns → IsMember k xs) → length xs < length (with_numbers ns xs) → ⊥
       no_longer [] xs sub l = omega (arith, l)
       no_longer (k ∷ ns) xs sub l =
           let e : among k xs ≡ true = In-among k xs (sub k (inl refl)) in
@@ -171,7 +171,7 @@ module _ (asks : ℕ → List ℕ) (most from : ℕ) (low : (d e : ℕ) → amon
     | inr long ↦ (let f = few most (rounds (suc most)) (single (suc most)) (below (suc most)) in absurd (omega (arith, long, f)))
   ]
 
-  pub decided : (e : ℕ) → Reaches asks from e ⊎ (Reaches asks from e → ⊥)
+  pub decided : (e : ℕ) → RequestPath asks from e ⊎ (RequestPath asks from e → ⊥)
   decided e =
       let xs = rounds (suc most) in
       elim (bool_cases (among e xs)) [

@@ -9,7 +9,7 @@ use Rattle.fixture_table.specs.declared.entry.Entry.{Entry}
 use Rattle.fixture_table.specs.declared.entry.Entry.TheVariants.{Definition, Missing}
 use Rattle.fixture_table.specs.Closing.{Done, Grown, More, asked, asked_all, asked_one, autouse_at, autouse_up, definition_if, entries_for, entry_at, entry_for, entry_or, first_entries, has, same_entry, with_one, with_unseen}
 use Rattle.fixture_table.specs.Nearest.{def_at, nearest_of}
-use Rattle.fixture_table.specs.Tree.{chain_of}
+use Rattle.fixture_table.specs.Tree.{iter_parents}
 use Rattle.fixture_table.proofs.Asked.{has_at, same_is, same_refl}
 use Rattle.fixture_table.proofs.Closed.{Single, defs_has, first_single, single_unseen, within}
 use Rattle.fixture_table.specs.Faults.{requests}
@@ -207,9 +207,9 @@ module _ (nodes : List CollectionNode) (defs : List FixtureDef) (item : ℕ) (bo
     | inr r ↦ entries_in list x (λ m k. sub m (or_right (nat_eq n m) (among m list) k)) r
   ]
 
-  first_names : (n : ℕ) → among n (autouse_up defs (chain_of nodes item) ++ (uses ++ args)) ≡ true → among n names ≡ true
-  first_names n h = among_append n (names_of defs) (args_of defs ++ (uses ++ args)) ∙ elim (or_cases (among n (autouse_up defs (chain_of nodes item))) (among n (uses ++ args)) (sym (among_append n (autouse_up defs (chain_of nodes item)) (uses ++ args)) ∙ h)) [
-    | inl l ↦ or_true (among n (names_of defs)) (among n (args_of defs ++ (uses ++ args))) (up_among n (chain_of nodes item) defs l)
+  first_names : (n : ℕ) → among n (autouse_up defs (iter_parents nodes item) ++ (uses ++ args)) ≡ true → among n names ≡ true
+  first_names n h = among_append n (names_of defs) (args_of defs ++ (uses ++ args)) ∙ elim (or_cases (among n (autouse_up defs (iter_parents nodes item))) (among n (uses ++ args)) (sym (among_append n (autouse_up defs (iter_parents nodes item)) (uses ++ args)) ∙ h)) [
+    | inl l ↦ or_true (among n (names_of defs)) (among n (args_of defs ++ (uses ++ args))) (up_among n (iter_parents nodes item) defs l)
     | inr r ↦ or_right (among n (names_of defs)) (among n (args_of defs ++ (uses ++ args))) (among_append n (args_of defs) (uses ++ args) ∙ or_right (among n (args_of defs)) (among n (uses ++ args)) r)
   ]
 
@@ -227,8 +227,8 @@ module _ (nodes : List CollectionNode) (defs : List FixtureDef) (item : ℕ) (bo
 
   pub ends : (end : List Entry) × Grown nodes defs item bound (first_entries nodes defs item bound uses args) 0 end
   ends = ends_from (length all) 0 (first_entries nodes defs item bound uses args) (omega arith) (first_single nodes defs item bound uses args)
-      (λ e h. elim (has_unseen (entries_for nodes defs item bound (autouse_up defs (chain_of nodes item) ++ (uses ++ args))) [] e h) [
-        | inl a ↦ entries_in (autouse_up defs (chain_of nodes item) ++ (uses ++ args)) e first_names a
+      (λ e h. elim (has_unseen (entries_for nodes defs item bound (autouse_up defs (iter_parents nodes item) ++ (uses ++ args))) [] e h) [
+        | inl a ↦ entries_in (autouse_up defs (iter_parents nodes item) ++ (uses ++ args)) e first_names a
         | inr b ↦ cc
       ])
 

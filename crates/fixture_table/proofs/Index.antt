@@ -10,7 +10,7 @@ use Rattle.fixture_table.specs.declared.types.FixtureDef.{FixtureDef}
 use Rattle.fixture_table.specs.Closing.{autouse_at}
 use Rattle.fixture_table.specs.Index.{IsIndex, autouse_names, placed_at, placed_from}
 use Rattle.fixture_table.specs.Marks.{row_of}
-use Rattle.fixture_table.specs.Nearest.{Stand, blank, def_at}
+use Rattle.fixture_table.specs.Nearest.{StandAtNodes, blank, def_at}
 
 abbrev pub node_of : List FixtureDef → ℕ → ℕ
 node_of defs d = (def_at defs d).node
@@ -129,7 +129,7 @@ index_push nodes defs rows def index lt new is same =
           ]);
     }
 
-pub stand_push : (nodes : List CollectionNode) (defs : List FixtureDef) (def : FixtureDef) → Stand nodes defs → def.node < length nodes → Stand nodes (defs ++ def ∷ [])
+pub stand_push : (nodes : List CollectionNode) (defs : List FixtureDef) (def : FixtureDef) → StandAtNodes nodes defs → def.node < length nodes → StandAtNodes nodes (defs ++ def ∷ [])
 stand_push nodes defs def stand lt d l =
     elim (cases_lt d (length defs)) [
       | inl w ↦ subst (λ (one : FixtureDef). one.node < length nodes) (sym (get_or-append defs (def ∷ []) blank d w)) (stand d w)

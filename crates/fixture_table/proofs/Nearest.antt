@@ -7,8 +7,8 @@ use Rattle.fixture_table.specs.declared.types.CollectionNode.{CollectionNode}
 use Rattle.fixture_table.specs.declared.types.FixtureDef.{FixtureDef}
 use Rattle.fixture_table.specs.Index.{HoldsOfNone, IsIndex, IsLast, is_called}
 use Rattle.fixture_table.specs.Marks.{row_of}
-use Rattle.fixture_table.specs.Nearest.{blank, deeper, def_at, may_answer, nearest_from, nearest_of}
-use Rattle.fixture_table.specs.Tree.{IsTree, covers, depth_of, parent_of}
+use Rattle.fixture_table.specs.Nearest.{blank, overriding_def, def_at, may_answer, nearest_from, nearest_of}
+use Rattle.fixture_table.specs.Tree.{IsTree, covers, node_depth, parent_of}
 use Rattle.fixture_table.proofs.Chains.{chain_step, covers_step, depth_step}
 use Rattle.fixture_table.proofs.Index.{in_row, node_of, row_is, row_rises}
 use Rattle.fixture_table.proofs.Reached.{or_right, or_true}
@@ -53,7 +53,7 @@ module _ (nodes : List CollectionNode) (defs : List FixtureDef) (name item : ℕ
   may d = may_answer nodes defs name item beyond d (def_at defs d)
 
   abbrev depth : ℕ → ℕ
-  depth d = depth_of nodes (node_of defs d)
+  depth d = node_depth nodes (node_of defs d)
 
   -- d answers before e, or is e
   abbrev pub Better : ℕ → ℕ → Type 0
@@ -88,7 +88,7 @@ module _ (nodes : List CollectionNode) (defs : List FixtureDef) (name item : ℕ
     ];
   })
 
-  take : (place : ℕ) (r : Option ℕ) → place < length defs → may place ≡ true → Found (place + 1) r → Found place (deeper nodes defs place r)
+  take : (place : ℕ) (r : Option ℕ) → place < length defs → may place ≡ true → Found (place + 1) r → Found place (overriding_def nodes defs place r)
   take place None lt m law = record {
     low = omega arith;
     within = lt;
@@ -139,7 +139,7 @@ module _ (nodes : List CollectionNode) (defs : List FixtureDef) (name item : ℕ
       let again : Found (place + 1) (nearest_from nodes defs name item beyond (place + 1) rest) = subst (λ (k : ℕ). Found k (nearest_from nodes defs name item beyond k rest)) q (found_from n (suc place) (omega (arith, e))) in
       let later = nearest_from nodes defs name item beyond (place + 1) rest in
       subst (λ (l : List FixtureDef). Found place (nearest_from nodes defs name item beyond place l)) (sym cut)
-      (elim (may place) as (λ b. may place ≡ b → Found place (cond b (deeper nodes defs place later) later)) [
+      (elim (may place) as (λ b. may place ≡ b → Found place (cond b (overriding_def nodes defs place later) later)) [
         | true ↦ λ h. take place later lt h again
         | false ↦ λ h. skip place later h again
       ] refl)
@@ -194,7 +194,7 @@ module _ (nodes : List CollectionNode) (defs : List FixtureDef) (name item : ℕ
   above_first d lt m = (split d m).1
 
   -- a node above another is less deep
-  less_deep : (tree : IsTree nodes) (n outer inner : ℕ) → inner ≤ n → inner < length nodes → covers nodes outer inner ≡ true → (inner ≡ outer → ⊥) → depth_of nodes outer < depth_of nodes inner
+  less_deep : (tree : IsTree nodes) (n outer inner : ℕ) → inner ≤ n → inner < length nodes → covers nodes outer inner ≡ true → (inner ≡ outer → ⊥) → node_depth nodes outer < node_depth nodes inner
   less_deep tree zero outer inner le lt c ne = (let z : inner ≡ 0 = omega (arith, le) in absurd (ne (z ∙ sym (root_only nodes outer (subst (λ (k : ℕ). covers nodes outer k ≡ true) z c)))))
   less_deep tree (suc n) outer inner le lt c ne =
       elim (cases_eq inner 0) [
@@ -205,7 +205,7 @@ module _ (nodes : List CollectionNode) (defs : List FixtureDef) (name item : ℕ
             let above : covers nodes outer p ≡ true = covers_step nodes tree outer inner ne nz lt ∙ c in
             let step = depth_step nodes tree inner nz lt in
             elim (cases_eq p outer) [
-              | inl e ↦ (let q : depth_of nodes p ≡ depth_of nodes outer = ap (depth_of nodes) e in omega (arith, step, q))
+              | inl e ↦ (let q : node_depth nodes p ≡ node_depth nodes outer = ap (node_depth nodes) e in omega (arith, step, q))
               | inr other ↦ (let l = less_deep tree n outer p (omega (arith, up, le)) (omega (arith, up, lt)) above other in omega (arith, step, l))
             ])
       ]
@@ -221,7 +221,7 @@ module _ (nodes : List CollectionNode) (defs : List FixtureDef) (name item : ℕ
         nearest_is d w m (λ e lt k. elim (cases_eq at (node_of defs e)) [
           | inl same ↦
               (let q = in_row nodes defs rows index at e lt (sym same) in
-              let deep : depth e ≡ depth d = ap (depth_of nodes) (sym same ∙ sym there) in
+              let deep : depth e ≡ depth d = ap (node_depth nodes) (sym same ∙ sym there) in
               let before : q.0 ≤ l.place = elim (cases_lt l.place q.0) [
                 | inl later ↦ absurd (let f = l.behind q.0 later q.1 in let g : is_called nodes defs name beyond e ≡ false = subst (λ (k : ℕ). is_called nodes defs name beyond k ≡ false) q.2 f in let z : true ≡ false = sym (split e k).0 ∙ g in cc)
                 | inr not_later ↦ not_later
@@ -231,7 +231,7 @@ module _ (nodes : List CollectionNode) (defs : List FixtureDef) (name item : ℕ
                 | inr ne ↦ (let z = row_rises nodes defs rows index at q.0 l.place (omega (arith, before, ne)) l.within in let a = q.2 in let b = l.is in omega (arith, z, a, b))
               ] in
               inr (omega (arith, deep), no_later))
-          | inr other ↦ inl (subst (λ (n : ℕ). depth e < depth_of nodes n) (sym there) (less_deep tree at (node_of defs e) at (omega arith) low (above e lt k) other))
+          | inr other ↦ inl (subst (λ (n : ℕ). depth e < node_depth nodes n) (sym there) (less_deep tree at (node_of defs e) at (omega arith) low (above e lt k) other))
         ])
 
     -- where none of the row is called so, all stand above

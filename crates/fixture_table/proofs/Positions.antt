@@ -7,7 +7,7 @@ use Rattle.fixture_table.specs.declared.types.FixtureDef.{FixtureDef}
 use Rattle.fixture_table.specs.declared.entry.Entry.{Entry}
 use Rattle.fixture_table.specs.declared.entry.Entry.TheVariants.{Definition, Missing}
 use Rattle.fixture_table.specs.Closing.{asked, entry_at, has, same_entry}
-use Rattle.fixture_table.specs.Faults.{Once, Reaches, Then, definitions_of, requests}
+use Rattle.fixture_table.specs.Faults.{Once, RequestPath, Then, definitions_of, requests}
 use Rattle.fixture_table.specs.Index.{AreRows}
 use Rattle.fixture_table.specs.Marks.{Below, row_of}
 use Rattle.fixture_table.proofs.Asked.{same_is, same_refl}
@@ -53,7 +53,7 @@ module _ (nodes : List CollectionNode) (defs : List FixtureDef) (item : ℕ) (bo
       has_defs e (asked nodes defs item bound (Definition d)) b
 
   -- a name without a definition asks for nothing
-  missing_ends : (c q n : ℕ) → c < length es → entry_at es c ≡ Missing n → Reaches (row_of asks) c q → ⊥
+  missing_ends : (c q n : ℕ) → c < length es → entry_at es c ≡ Missing n → RequestPath (row_of asks) c q → ⊥
   missing_ends c q n lt m r =
       let none : map (entry_at es) (row_of asks c) ≡ [] = (are.rows c lt).same ∙ ap (asked nodes defs item bound) m in
       elim r [
@@ -61,13 +61,13 @@ module _ (nodes : List CollectionNode) (defs : List FixtureDef) (item : ℕ) (bo
         | Then _ b _ h s ↦ none_among b (row_of asks c) (entry_at es) none h
       ]
 
-  pub out : (p q d e : ℕ) → p < length es → entry_at es p ≡ Definition d → entry_at es q ≡ Definition e → Reaches (row_of asks) p q → Reaches (requests nodes defs item bound) d e
+  pub out : (p q d e : ℕ) → p < length es → entry_at es p ≡ Definition d → entry_at es q ≡ Definition e → RequestPath (row_of asks) p q → RequestPath (requests nodes defs item bound) d e
   out p q d e lt at there (Once _ _ h) = Once d e (step p q d e lt at there h)
   out p q d e lt at there (Then _ c _ h r) =
       let low : c < length es = (are.rows p lt).below c h in
       pick (λ f is. out c q f e low is there r) (entry_at es c) refl low
     where
-      pick : ((f : ℕ) → entry_at es c ≡ Definition f → Reaches (requests nodes defs item bound) f e) → (x : Entry) → entry_at es c ≡ x → c < length es → Reaches (requests nodes defs item bound) d e
+      pick : ((f : ℕ) → entry_at es c ≡ Definition f → RequestPath (requests nodes defs item bound) f e) → (x : Entry) → entry_at es c ≡ x → c < length es → RequestPath (requests nodes defs item bound) d e
       pick again (Definition f) is l = Then d f e (step p c d f lt at is h) (again f is)
       pick again (Missing n) is l = absurd (missing_ends c q n l is r)
 
@@ -78,7 +78,7 @@ module _ (nodes : List CollectionNode) (defs : List FixtureDef) (item : ℕ) (bo
       let r = has_among (entry_at es) (Definition e) (row_of asks p) b in
       (r.0, (are.rows p lt).below r.0 r.1, r.1, r.2)
 
-  pub back : (p q d e : ℕ) → p < length es → q < length es → entry_at es p ≡ Definition d → entry_at es q ≡ Definition e → Reaches (requests nodes defs item bound) d e → Reaches (row_of asks) p q
+  pub back : (p q d e : ℕ) → p < length es → q < length es → entry_at es p ≡ Definition d → entry_at es q ≡ Definition e → RequestPath (requests nodes defs item bound) d e → RequestPath (row_of asks) p q
   back p q d e lt low at there (Once _ _ h) =
       let f = found p d e lt at h in
       Once p q (subst (λ (n : ℕ). among n (row_of asks p) ≡ true) (one_at es single f.0 q f.1 low (f.3 ∙ sym there)) f.2)

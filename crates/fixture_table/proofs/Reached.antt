@@ -4,8 +4,8 @@ use Rattle.std.proofs.lemmas.Bool.{cases_eq, ne_eqb, or_cases, eqb-true, cases_l
 use Rattle.std.proofs.Math.ListN.{get_or-eq_default}
 use Rattle.session_types.specs.Numbers.{among}
 use Rattle.std.proofs.lemmas.List.Folds.{list_any_more}
-use Rattle.fixture_table.specs.Marks.{Marks, Keeps}
-use Rattle.fixture_table.specs.Faults.{Reaches, Once, Then}
+use Rattle.fixture_table.specs.Marks.{Marks, IsPrefixOf}
+use Rattle.fixture_table.specs.Faults.{RequestPath, Once, Then}
 
 pub or_true : (a b : Bool) → a ≡ true → (a || b) ≡ true
 or_true true b e = refl
@@ -59,16 +59,16 @@ place_of e (x ∷ xs) h = elim (or_cases (nat_eq x e) (among e xs) h) [
 
 -- what is reached lies in a list that has the first requests, and all requests of what it has
 pub complete : (requests : ℕ → List ℕ) (xs : List ℕ) → ((d e : ℕ) → among d xs ≡ true → among e (requests d) ≡ true → among e xs ≡ true)
-    → (d e : ℕ) → Reaches requests d e → ((c : ℕ) → among c (requests d) ≡ true → among c xs ≡ true) → among e xs ≡ true
+    → (d e : ℕ) → RequestPath requests d e → ((c : ℕ) → among c (requests d) ≡ true → among c xs ≡ true) → among e xs ≡ true
 complete requests xs closed d e (Once _ _ h) first = first e h
 complete requests xs closed d e (Then _ c _ h r) first = complete requests xs closed c e r (λ b g. closed c b (first c h) g)
 
 -- one request more
-pub reaches_more : (requests : ℕ → List ℕ) (d c e : ℕ) → Reaches requests d c → among e (requests c) ≡ true → Reaches requests d e
+pub reaches_more : (requests : ℕ → List ℕ) (d c e : ℕ) → RequestPath requests d c → among e (requests c) ≡ true → RequestPath requests d e
 reaches_more requests d c e (Once _ _ h) g = Then d c e h (Once c e g)
 reaches_more requests d c e (Then _ b _ h r) g = Then d b e h (reaches_more requests b c e r g)
 
-pub keeps_all : (xs ys zs : List ℕ) → Keeps xs ys → Keeps ys zs → Keeps xs zs
+pub keeps_all : (xs ys zs : List ℕ) → IsPrefixOf xs ys → IsPrefixOf ys zs → IsPrefixOf xs zs
 keeps_all xs ys zs a b = record { longer = omega (arith, a.longer, b.longer); same = λ p lt. b.same p (omega (arith, a.longer)) ∙ a.same p lt }
 
 -- one more of the numbers to mark
@@ -81,13 +81,13 @@ members_more old next more i e now lt before after =
 pub all_listed : (requests : ℕ → List ℕ) (reached : List ℕ) (from place : ℕ) → length reached ≤ place
     → ((e : ℕ) → among e (requests from) ≡ true → among e reached ≡ true)
     → ((p e : ℕ) → p < place → p < length reached → among e (requests (get_or reached p 0)) ≡ true → among e reached ≡ true)
-    → (e : ℕ) → Reaches requests from e → among e reached ≡ true
+    → (e : ℕ) → RequestPath requests from e → among e reached ≡ true
 all_listed requests reached from place past first done e r =
     complete requests reached (λ d x hd hx. let p = place_of d reached hd in
     done p.0 x (let lt = p.1 in omega arith) p.1 (subst (λ (n : ℕ). among x (requests n) ≡ true) (sym p.2) hx)) from e r first
 
-module _ (requests : ℕ → List ℕ) (from place at : ℕ) (old next : List ℕ) (members : (e : ℕ) → among e next ≡ (among e old || among e (requests at))) (keeps : Keeps old next) (lt : place < length old) (is : get_or old place 0 ≡ at) where
-  pub sound_more : ((e : ℕ) → among e old ≡ true → Reaches requests from e) → (e : ℕ) → among e next ≡ true → Reaches requests from e
+module _ (requests : ℕ → List ℕ) (from place at : ℕ) (old next : List ℕ) (members : (e : ℕ) → among e next ≡ (among e old || among e (requests at))) (keeps : IsPrefixOf old next) (lt : place < length old) (is : get_or old place 0 ≡ at) where
+  pub sound_more : ((e : ℕ) → among e old ≡ true → RequestPath requests from e) → (e : ℕ) → among e next ≡ true → RequestPath requests from e
   sound_more sound e h = elim (or_cases (among e old) (among e (requests at)) (sym (members e) ∙ h)) [
     | inl g ↦ sound e g
     | inr g ↦ reaches_more requests from at e (sound at (subst (λ (n : ℕ). among n old ≡ true) is (among_at old place lt))) g

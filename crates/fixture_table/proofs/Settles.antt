@@ -10,7 +10,7 @@ use Rattle.session_types.proofs.Order.{rank_low}
 use Rattle.session_types.specs.Numbers.{among}
 use Rattle.fixture_table.specs.Nearest.{nearest_of, def_at}
 use Rattle.session_types.proofs.Lists.{In-among}
-use Rattle.session_types.specs.Members.{In}
+use Rattle.session_types.specs.Members.{IsMember}
 use Rattle.fixture_table.specs.Closing.{IsKnown, Known, has, asked, asked_one, asked_all, entry_or, definition_if}
 use Rattle.fixture_table.specs.Faults.{definitions_of, of_rank, by_ranks, by_scope, rank_or, is_narrower, IsSound, IsClosure, Settled}
 use Rattle.fixture_table.proofs.Asked.{definitions_append, entry_place}
@@ -142,7 +142,7 @@ module _ (nodes : List CollectionNode) (defs : List FixtureDef) (item : ℕ) (bo
           subst (IsSound nodes defs item bound) at.2 (c.sound at.0 at.1)
 
 -- a closure is of the table
-pub closure_known : (defs : List FixtureDef) (entries : List Entry) → Known defs entries → (d : ℕ) → In d (by_scope defs (definitions_of entries)) → d < length defs
+pub closure_known : (defs : List FixtureDef) (entries : List Entry) → Known defs entries → (d : ℕ) → IsMember d (by_scope defs (definitions_of entries)) → d < length defs
 closure_known defs entries known d m =
     let at = entry_place (Definition d) entries (defs_has d entries (scope_in defs d (definitions_of entries) (In-among d (by_scope defs (definitions_of entries)) m))) in
     subst (λ (e : Entry). IsKnown defs e) at.2 (known at.0 at.1)

@@ -6,7 +6,7 @@ use Rattle.fixture_table.specs.declared.types.CollectionNode.{CollectionNode}
 use Rattle.fixture_table.specs.declared.types.FixtureDef.{FixtureDef}
 use Rattle.fixture_table.specs.declared.entry.Entry.{Entry}
 use Rattle.fixture_table.specs.declared.entry.Entry.TheVariants.{Definition, Missing}
-use Rattle.fixture_table.specs.Tree.{chain_of}
+use Rattle.fixture_table.specs.Tree.{iter_parents}
 use Rattle.session_types.specs.Numbers.{among}
 use Rattle.fixture_table.specs.Nearest.{nearest_of, def_at}
 
@@ -78,7 +78,7 @@ module _ (nodes : List CollectionNode) (defs : List FixtureDef) (item : ℕ) (bo
 
   -- the visible autouse fixtures, then what is used, then the arguments
   abbrev pub first_entries : List ℕ → List ℕ → List Entry
-  first_entries uses args = with_unseen (entries_for (autouse_up defs (chain_of nodes item) ++ (uses ++ args))) []
+  first_entries uses args = with_unseen (entries_for (autouse_up defs (iter_parents nodes item) ++ (uses ++ args))) []
 
 -- each definition of the list is one of the table
 abbrev pub IsKnown : List FixtureDef → Entry → Type 0

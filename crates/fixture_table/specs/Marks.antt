@@ -10,7 +10,7 @@ abbrev pub Below : List ℕ → ℕ → Type 0
 Below xs m = (e : ℕ) → among e xs ≡ true → e < m
 
 -- what was listed stands where it stood
-pub record Keeps (xs ys : List ℕ) : Type 0 where
+pub record IsPrefixOf (xs ys : List ℕ) : Type 0 where
   pub longer : length xs ≤ length ys
   pub same : (p : ℕ) → p < length xs → slice_index_or ys p 0 ≡ slice_index_or xs p 0
 

@@ -3,7 +3,7 @@ use Rattle.std.specs.Prelude.{ℕ, ◌+◌, ◌<◌, Bool, true, false, List, []
 use Rattle.fixture_table.specs.declared.types.CollectionNode.{CollectionNode}
 use Rattle.fixture_table.specs.declared.types.FixtureDef.{FixtureDef}
 use Rattle.session_types.specs.declared.scope.Scope.TheVariants.{Function}
-use Rattle.fixture_table.specs.Tree.{covers, depth_of}
+use Rattle.fixture_table.specs.Tree.{covers, node_depth}
 
 -- what stands where there is no definition
 abbrev pub blank : FixtureDef
@@ -27,17 +27,17 @@ abbrev pub may_answer : List CollectionNode → List FixtureDef → ℕ → ℕ 
 may_answer nodes defs name item beyond d one = (one.name == name) && (is_visible nodes one item && is_beyond nodes defs beyond d one)
 
 -- of two, the one with the deeper node; at one node or one depth the later
-abbrev pub deeper : List CollectionNode → List FixtureDef → ℕ → Option ℕ → Option ℕ
-deeper nodes defs d None = Some d
-deeper nodes defs d (Some later) =
-    if nat_lt (depth_of nodes (def_at defs later).node) (depth_of nodes (def_at defs d).node) then Some d else Some later
+abbrev pub overriding_def : List CollectionNode → List FixtureDef → ℕ → Option ℕ → Option ℕ
+overriding_def nodes defs d None = Some d
+overriding_def nodes defs d (Some later) =
+    if nat_lt (node_depth nodes (def_at defs later).node) (node_depth nodes (def_at defs d).node) then Some d else Some later
 
 -- the deepest of the definitions from a place on that may answer
 abbrev pub nearest_from : List CollectionNode → List FixtureDef → ℕ → ℕ → Option ℕ → ℕ → List FixtureDef → Option ℕ
 nearest_from nodes defs name item beyond place [] = None
 nearest_from nodes defs name item beyond place (one ∷ rest) =
     if may_answer nodes defs name item beyond place one
-    then deeper nodes defs place (nearest_from nodes defs name item beyond (place + 1) rest)
+    then overriding_def nodes defs place (nearest_from nodes defs name item beyond (place + 1) rest)
     else nearest_from nodes defs name item beyond (place + 1) rest
 
 -- the nearest definition of a name
@@ -45,5 +45,5 @@ abbrev pub nearest_of : List CollectionNode → List FixtureDef → ℕ → ℕ 
 nearest_of nodes defs name item beyond = nearest_from nodes defs name item beyond 0 defs
 
 -- each definition stands at a node of the tree
-abbrev pub Stand : List CollectionNode → List FixtureDef → Type 0
-Stand nodes defs = (d : ℕ) → d < length defs → (def_at defs d).node < length nodes
+abbrev pub StandAtNodes : List CollectionNode → List FixtureDef → Type 0
+StandAtNodes nodes defs = (d : ℕ) → d < length defs → (def_at defs d).node < length nodes

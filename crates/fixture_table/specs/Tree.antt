@@ -19,17 +19,17 @@ pub record IsTree (nodes : List CollectionNode) : Type 0 where
   pub behind : (at : ℕ) → 0 < at → at < length nodes → parent_of nodes at < at
 
 -- the node and those above it, inmost first; there are no more than its number and one
-abbrev pub chain : ℕ → List CollectionNode → ℕ → List ℕ
-chain zero nodes at = at ∷ []
-chain (suc most) nodes at = at ∷ (if at == 0 then [] else chain most nodes (parent_of nodes at))
+abbrev pub parents_within : ℕ → List CollectionNode → ℕ → List ℕ
+parents_within zero nodes at = at ∷ []
+parents_within (suc most) nodes at = at ∷ (if at == 0 then [] else parents_within most nodes (parent_of nodes at))
 
-abbrev pub chain_of : List CollectionNode → ℕ → List ℕ
-chain_of nodes at = chain at nodes at
+abbrev pub iter_parents : List CollectionNode → ℕ → List ℕ
+iter_parents nodes at = parents_within at nodes at
 
 -- how many nodes there are from this one up
-abbrev pub depth_of : List CollectionNode → ℕ → ℕ
-depth_of nodes at = length (chain_of nodes at)
+abbrev pub node_depth : List CollectionNode → ℕ → ℕ
+node_depth nodes at = length (iter_parents nodes at)
 
 -- the one is the other or above it
 abbrev pub covers : List CollectionNode → ℕ → ℕ → Bool
-covers nodes outer inner = among outer (chain_of nodes inner)
+covers nodes outer inner = among outer (iter_parents nodes inner)

@@ -1,8 +1,8 @@
 ghost use Rattle.std.specs.Prelude.{◌≡◌, ◌<◌, ◌≤◌, ◌^◌, ◌++◌, length, IfSome, IfOk, OnOk, EachIndex, slice_index, if◌then◌else◌, []};
 ghost use Rattle.std.specs.Option.{ForSome, option_to_list};
-ghost use Rattle.fixture_table.specs.Tree.{IsTree, chain_of};
+ghost use Rattle.fixture_table.specs.Tree.{IsTree, iter_parents};
 ghost use Rattle.session_types.specs.Numbers.{among};
-ghost use Rattle.fixture_table.specs.Nearest.{Stand, def_at, nearest_of};
+ghost use Rattle.fixture_table.specs.Nearest.{StandAtNodes, def_at, nearest_of};
 ghost use Rattle.fixture_table.specs.Closing.{Known, IsKnown, entry_at, same_entry, has, with_one, with_unseen, entry_for, entries_for, asked_one, asked_all, asked, entry_or, definition_if, Grown, autouse_at, autouse_up, first_entries};
 ghost use Rattle.fixture_table.specs.Index.{IsIndex};
 
@@ -22,7 +22,7 @@ pub struct View<'t> {
     pub item: u32,
     pub bound: &'t [u32],
     ghost tree: { IsTree nodes.now },
-    ghost stand: { Stand nodes.now defs.now },
+    ghost stand: { StandAtNodes nodes.now defs.now },
     ghost index: { IsIndex nodes.now defs.now at_nodes.now },
     ghost item_in: { item < length nodes.now },
     ghost few: { length defs.now ≤ 2 ^ 32 },
@@ -128,7 +128,7 @@ fn definition_if(found: Option<usize>) -> Option<Entry>
 fn chain_up(alloc: Global, nodes: &[CollectionNode], item: u32) -> Result<Vec<u32>, OutOfMemory>
     requires tree { IsTree nodes.now }
     requires item { item < length nodes.now }
-    ensures chain { IfOk result (λ chain. chain.items ≡ chain_of nodes.now item) }
+    ensures chain { IfOk result (λ chain. chain.items ≡ iter_parents nodes.now item) }
     ensures within { IfOk result (λ chain. EachIndex chain.items (λ q. slice_index chain.items q < length nodes.now)) }
 {
     let mut chain = Vec::new(alloc);

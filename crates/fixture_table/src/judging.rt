@@ -1,6 +1,6 @@
 ghost use Rattle.std.specs.Prelude.{◌≡◌, ◌<◌, ℕ, length, None, Some, IfSome, IfOk, true, if◌then◌else◌};
 ghost use Rattle.fixture_table.specs.Nearest.{def_at};
-ghost use Rattle.fixture_table.specs.Faults.{asks_in_vain, rank_or, rank_at, is_narrower, first_narrower, requests, Reaches, IsRecursive, HasFault, IsSound, SoundTo, FirstFault};
+ghost use Rattle.fixture_table.specs.Faults.{asks_in_vain, rank_or, rank_at, is_narrower, first_narrower, requests, RequestPath, IsRecursive, HasFault, IsSound, SoundTo, FirstFault};
 ghost use Rattle.fixture_table.specs.declared.entry.Entry.TheVariants.{Definition};
 ghost use Rattle.fixture_table.specs.declared.fault.FixtureFault.{FixtureFault};
 ghost use Rattle.fixture_table.specs.Closing.{Known, IsKnown, entry_at};
@@ -90,8 +90,8 @@ impl View<'_> {
         requires at { at < length asks.now }
         requires place { place < length self.now.defs.now }
         requires below { (p : ℕ) → Below (row_of asks.now p) (length asks.now) }
-        requires out { Reaches (row_of asks.now) at at → Reaches (requests self.now.nodes.now self.now.defs.now self.now.item self.now.bound.now) place place }
-        requires back { Reaches (requests self.now.nodes.now self.now.defs.now self.now.item self.now.bound.now) place place → Reaches (row_of asks.now) at at }
+        requires out { RequestPath (row_of asks.now) at at → RequestPath (requests self.now.nodes.now self.now.defs.now self.now.item self.now.bound.now) place place }
+        requires back { RequestPath (requests self.now.nodes.now self.now.defs.now self.now.item self.now.bound.now) place place → RequestPath (row_of asks.now) at at }
         ensures yes { IfOk result (λ b. b ≡ true → IsRecursive self.now.nodes.now self.now.defs.now self.now.item self.now.bound.now place) }
         ensures no { IfOk result (λ b. IsRecursive self.now.nodes.now self.now.defs.now self.now.item self.now.bound.now place → b ≡ true) }
     {
@@ -112,8 +112,8 @@ impl View<'_> {
         requires known { IsKnown self.now.defs.now entry }
         requires at { at < length asks.now }
         requires below { (p : ℕ) → Below (row_of asks.now p) (length asks.now) }
-        requires out { (d : ℕ) → entry ≡ Definition d → Reaches (row_of asks.now) at at → Reaches (requests self.now.nodes.now self.now.defs.now self.now.item self.now.bound.now) d d }
-        requires back { (d : ℕ) → entry ≡ Definition d → Reaches (requests self.now.nodes.now self.now.defs.now self.now.item self.now.bound.now) d d → Reaches (row_of asks.now) at at }
+        requires out { (d : ℕ) → entry ≡ Definition d → RequestPath (row_of asks.now) at at → RequestPath (requests self.now.nodes.now self.now.defs.now self.now.item self.now.bound.now) d d }
+        requires back { (d : ℕ) → entry ≡ Definition d → RequestPath (requests self.now.nodes.now self.now.defs.now self.now.item self.now.bound.now) d d → RequestPath (row_of asks.now) at at }
         ensures fault { IfOk result (λ found. (fault : FixtureFault) → found ≡ Some fault → HasFault self.now.nodes.now self.now.defs.now self.now.item self.now.bound.now entry fault) }
         ensures sound { IfOk result (λ found. found ≡ None → IsSound self.now.nodes.now self.now.defs.now self.now.item self.now.bound.now entry) }
     {
@@ -144,8 +144,8 @@ impl View<'_> {
         requires known { Known self.now.defs.now entries.now }
         requires many { length asks.now ≡ length entries.now }
         requires below { (p : ℕ) → Below (row_of asks.now p) (length asks.now) }
-        requires out { (p d : ℕ) → p < length entries.now → entry_at entries.now p ≡ Definition d → Reaches (row_of asks.now) p p → Reaches (requests self.now.nodes.now self.now.defs.now self.now.item self.now.bound.now) d d }
-        requires back { (p d : ℕ) → p < length entries.now → entry_at entries.now p ≡ Definition d → Reaches (requests self.now.nodes.now self.now.defs.now self.now.item self.now.bound.now) d d → Reaches (row_of asks.now) p p }
+        requires out { (p d : ℕ) → p < length entries.now → entry_at entries.now p ≡ Definition d → RequestPath (row_of asks.now) p p → RequestPath (requests self.now.nodes.now self.now.defs.now self.now.item self.now.bound.now) d d }
+        requires back { (p d : ℕ) → p < length entries.now → entry_at entries.now p ≡ Definition d → RequestPath (requests self.now.nodes.now self.now.defs.now self.now.item self.now.bound.now) d d → RequestPath (row_of asks.now) p p }
         ensures fault { IfOk result (λ found. (fault : FixtureFault) → found ≡ Some fault → FirstFault self.now.nodes.now self.now.defs.now self.now.item self.now.bound.now entries.now fault) }
         ensures sound { IfOk result (λ found. found ≡ None → SoundTo self.now.nodes.now self.now.defs.now self.now.item self.now.bound.now entries.now (length entries.now)) }
     {

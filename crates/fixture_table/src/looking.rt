@@ -1,7 +1,7 @@
 ghost use Rattle.std.specs.Prelude.{◌≡◌, ◌<◌, length, IfNone, IfSome, EachIndex, slice_index};
 ghost use Rattle.std.specs.Option.{ForSome};
 ghost use Rattle.fixture_table.specs.Tree.{IsTree, covers};
-ghost use Rattle.fixture_table.specs.Nearest.{nearest_of, is_beyond, Stand, def_at};
+ghost use Rattle.fixture_table.specs.Nearest.{nearest_of, is_beyond, StandAtNodes, def_at};
 ghost use Rattle.fixture_table.specs.Index.{HoldsOfNone, IsIndex, IsLast, is_called};
 
 use crate::types::{CollectionNode, FixtureDef};
@@ -31,7 +31,7 @@ fn is_beyond(
     place: usize,
 ) -> bool
     requires tree { IsTree nodes.now }
-    requires stand { Stand nodes.now defs.now }
+    requires stand { StandAtNodes nodes.now defs.now }
     requires beyond { ForSome beyond (λ b. b < length defs.now) }
     requires place { place < length defs.now }
     ensures { result ≡ is_beyond nodes.now defs.now beyond place (def_at defs.now place) }
@@ -58,7 +58,7 @@ fn is_called(
     place: usize,
 ) -> bool
     requires tree { IsTree nodes.now }
-    requires stand { Stand nodes.now defs.now }
+    requires stand { StandAtNodes nodes.now defs.now }
     requires beyond { ForSome beyond (λ b. b < length defs.now) }
     requires place { place < length defs.now }
     ensures { result ≡ is_called nodes.now defs.now name beyond place }
@@ -75,7 +75,7 @@ fn last_called(
     beyond: Option<usize>,
 ) -> Option<usize>
     requires tree { IsTree nodes.now }
-    requires stand { Stand nodes.now defs.now }
+    requires stand { StandAtNodes nodes.now defs.now }
     requires beyond { ForSome beyond (λ b. b < length defs.now) }
     requires row { EachIndex row.now (λ q. slice_index row.now q < length defs.now) }
     ensures found { IfSome result (IsLast (is_called nodes.now defs.now name beyond) row.now) }
@@ -102,7 +102,7 @@ pub fn nearest(
     beyond: Option<usize>,
 ) -> Option<usize>
     requires tree { IsTree nodes.now }
-    requires stand { Stand nodes.now defs.now }
+    requires stand { StandAtNodes nodes.now defs.now }
     requires index { IsIndex nodes.now defs.now at_nodes.now }
     requires item { item < length nodes.now }
     requires beyond { ForSome beyond (λ b. b < length defs.now) }

@@ -1,7 +1,7 @@
 ghost use Rattle.std.specs.Prelude.{◌≡◌, ◌<◌, ◌≤◌, ◌||◌, ◌==◌, ℕ, List, [], length, true, IfOk, OnOk, slice_index_or};
 ghost use Rattle.session_types.specs.Numbers.{among};
-ghost use Rattle.fixture_table.specs.Marks.{Marks, Below, Keeps, row_of};
-ghost use Rattle.fixture_table.specs.Faults.{Reaches};
+ghost use Rattle.fixture_table.specs.Marks.{Marks, Below, IsPrefixOf, row_of};
+ghost use Rattle.fixture_table.specs.Faults.{RequestPath};
 
 use seq::{OutOfMemory, Seq};
 use std::alloc::Global;
@@ -16,7 +16,7 @@ pub fn mark_all(
     requires marks { Marks seen.old.items reached.old.items }
     ensures marks { OnOk result (Marks seen.new.items reached.new.items) }
     ensures members { OnOk result ((e : ℕ) → among e reached.new.items ≡ (among e reached.old.items || among e more.now)) }
-    ensures keeps { OnOk result (Keeps reached.old.items reached.new.items) }
+    ensures keeps { OnOk result (IsPrefixOf reached.old.items reached.new.items) }
     ensures size { length seen.new.items ≡ length seen.old.items }
 {
     for one in more {
@@ -30,7 +30,7 @@ fn mark_one(seen: &mut Vec<bool>, reached: &mut Vec<usize>, one: usize) -> Resul
     requires marks { Marks seen.old.items reached.old.items }
     ensures marks { OnOk result (Marks seen.new.items reached.new.items) }
     ensures members { OnOk result ((e : ℕ) → among e reached.new.items ≡ (among e reached.old.items || (one == e))) }
-    ensures keeps { OnOk result (Keeps reached.old.items reached.new.items) }
+    ensures keeps { OnOk result (IsPrefixOf reached.old.items reached.new.items) }
     ensures size { length seen.new.items ≡ length seen.old.items }
 {
     if seen[one] {
@@ -53,7 +53,7 @@ fn mark_asked(
     requires marks { Marks seen.old.items reached.old.items }
     ensures marks { OnOk result (Marks seen.new.items reached.new.items) }
     ensures members { OnOk result ((e : ℕ) → among e reached.new.items ≡ (among e reached.old.items || among e (row_of asks.now at))) }
-    ensures keeps { OnOk result (Keeps reached.old.items reached.new.items) }
+    ensures keeps { OnOk result (IsPrefixOf reached.old.items reached.new.items) }
     ensures size { length seen.new.items ≡ length seen.old.items }
 {
     mark_all(seen, reached, asks[at].items())
@@ -63,8 +63,8 @@ fn mark_asked(
 pub fn is_reached(alloc: Global, asks: &[Seq<usize>], from: usize) -> Result<bool, OutOfMemory>
     requires from { from < length asks.now }
     requires below { (d : ℕ) → Below (row_of asks.now d) (length asks.now) }
-    ensures yes { IfOk result (λ b. b ≡ true → Reaches (row_of asks.now) from from) }
-    ensures no { IfOk result (λ b. Reaches (row_of asks.now) from from → b ≡ true) }
+    ensures yes { IfOk result (λ b. b ≡ true → RequestPath (row_of asks.now) from from) }
+    ensures no { IfOk result (λ b. RequestPath (row_of asks.now) from from → b ≡ true) }
 {
     let mut seen = vec![in alloc; false; asks.len()]?;
     let mut reached = Vec::new(alloc);

@@ -3,7 +3,7 @@ ghost use Rattle.std.specs.Option.{ForSome};
 ghost use Rattle.fixture_table.specs.declared.fault.FixtureFault.TheVariants.{OutOfMemory as NoMemory};
 ghost use Rattle.fixture_table.specs.Marks.{row_of};
 ghost use Rattle.fixture_table.specs.Tree.{covers, node_at};
-ghost use Rattle.session_types.specs.Members.{In};
+ghost use Rattle.session_types.specs.Members.{IsMember};
 ghost use Rattle.fixture_table.specs.Nearest.{def_at, nearest_of};
 ghost use Rattle.fixture_table.specs.Faults.{IsClosure, IsFault, Settled};
 
@@ -38,7 +38,7 @@ impl Drop for Table {
 impl Model for Table {
     ghost use Rattle.std.specs.Prelude.{◌≤◌, ◌^◌, length};
     ghost use Rattle.fixture_table.specs.Tree.{IsTree};
-    ghost use Rattle.fixture_table.specs.Nearest.{Stand};
+    ghost use Rattle.fixture_table.specs.Nearest.{StandAtNodes};
     ghost use Rattle.fixture_table.specs.Index.{IsIndex};
     ghost use Rattle.fixture_table.specs.Tables.{TableValue};
 
@@ -46,7 +46,7 @@ impl Model for Table {
 
     ghost view = { λ t. record { nodes = t.nodes.items; defs = t.defs.items } };
 
-    ghost invariant = { λ t. record { tree : IsTree t.nodes.items; stand : Stand t.nodes.items t.defs.items; few : length t.defs.items ≤ 2 ^ 32; index : IsIndex t.nodes.items t.defs.items t.at_nodes.items } };
+    ghost invariant = { λ t. record { tree : IsTree t.nodes.items; stand : StandAtNodes t.nodes.items t.defs.items; few : length t.defs.items ≤ 2 ^ 32; index : IsIndex t.nodes.items t.defs.items t.at_nodes.items } };
 }
 
 impl Table {
@@ -146,7 +146,7 @@ impl Table {
         args: &[u32],
     ) -> Result<Vec<DefId>, FixtureFault>
         requires { item < length self.now.nodes }
-        ensures within { IfOk result (λ ids. (d : ℕ) → In d ids.items → d < length self.now.defs) }
+        ensures within { IfOk result (λ ids. (d : ℕ) → IsMember d ids.items → d < length self.now.defs) }
         ensures closure { IfOk result (λ ids. IsClosure self.now.nodes self.now.defs item bound.now uses.now args.now ids.items) }
         ensures settled { IfOk result (λ ids. Settled self.now.nodes self.now.defs item bound.now ids.items) }
         ensures fault { IfErr result (λ fault. fault ≡ NoMemory ⊎ IsFault self.now.nodes self.now.defs item bound.now uses.now args.now fault) }

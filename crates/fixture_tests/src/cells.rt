@@ -1,5 +1,5 @@
 ghost use Rattle.std.specs.Prelude.{◌≡◌, ◌≢◌, ℕ, ◌+◌, ◌<◌, ◌≤◌, List, IsSome, IfSome, Some};
-ghost use Rattle.link_cells.specs.Arena.{list_of, InUse};
+ghost use Rattle.link_cells.specs.Arena.{list_at_head, InUse};
 
 use link_cells::{CellId, Cells, Steps};
 use seq::OutOfMemory;
@@ -10,10 +10,10 @@ use std::test::Fail;
 
 /// Appends the numbers from 0 on.
 fn fill<L: Ledger>(cells: &mut Cells<u32>, head: usize, count: u32, steps: &mut Steps<L>)
-    requires head { IsSome (list_of cells.old head) }
+    requires head { IsSome (list_at_head cells.old head) }
     requires room { count ≤ cells.old.spare }
-    ensures head { IsSome (list_of cells.new head) }
-    ensures others { (k : ℕ) → k ≢ head → list_of cells.new k ≡ list_of cells.old k }
+    ensures head { IsSome (list_at_head cells.new head) }
+    ensures others { (k : ℕ) → k ≢ head → list_at_head cells.new k ≡ list_at_head cells.old k }
     ensures spare { cells.new.spare + count ≡ cells.old.spare }
 {
     for value in 0..count {
@@ -23,7 +23,7 @@ fn fill<L: Ledger>(cells: &mut Cells<u32>, head: usize, count: u32, steps: &mut 
 
 /// The cell behind so many others.
 fn nth(cells: &Cells<u32>, head: usize, place: u32) -> Option<CellId>
-    requires { IsSome (list_of cells.now head) }
+    requires { IsSome (list_at_head cells.now head) }
     ensures { IfSome result (InUse cells.now) }
 {
     let mut at = cells.first(head);
@@ -35,7 +35,7 @@ fn nth(cells: &Cells<u32>, head: usize, place: u32) -> Option<CellId>
 
 /// The values of a list, forward, and then their number by the way back.
 fn values_of(alloc: Global, cells: &Cells<u32>, head: usize) -> Result<Vec<u32>, AllocError>
-    requires { IsSome (list_of cells.now head) }
+    requires { IsSome (list_at_head cells.now head) }
 {
     let mut values = Vec::new(alloc);
     let mut at = cells.first(head);
@@ -51,7 +51,7 @@ fn values_of(alloc: Global, cells: &Cells<u32>, head: usize) -> Result<Vec<u32>,
 
 /// Whether a cell stands before the one at this place.
 fn has_before(cells: &Cells<u32>, head: usize, place: u32) -> Option<bool>
-    requires { IsSome (list_of cells.now head) }
+    requires { IsSome (list_at_head cells.now head) }
 {
     let id = nth(cells, head, place)?;
     Some(cells.prev(id).is_some())
@@ -59,8 +59,8 @@ fn has_before(cells: &Cells<u32>, head: usize, place: u32) -> Option<bool>
 
 fn two_heads(cells: &mut Cells<u32>) -> (usize, usize)
     requires { 2 ≤ cells.old.spare_heads }
-    ensures one { IsSome (list_of cells.new result.0) }
-    ensures other { IsSome (list_of cells.new result.1) }
+    ensures one { IsSome (list_at_head cells.new result.0) }
+    ensures other { IsSome (list_at_head cells.new result.1) }
     ensures apart { result.0 ≢ result.1 }
     ensures spare { cells.new.spare ≡ cells.old.spare }
 {
@@ -76,8 +76,8 @@ fn unlink_nth<L: Ledger>(
     place: u32,
     steps: &mut Steps<L>,
 ) -> Option<u32>
-    requires { IsSome (list_of cells.old head) }
-    ensures { (k : ℕ) → IsSome (list_of cells.old k) → IsSome (list_of cells.new k) }
+    requires { IsSome (list_at_head cells.old head) }
+    ensures { (k : ℕ) → IsSome (list_at_head cells.old k) → IsSome (list_at_head cells.new k) }
 {
     match nth(cells, head, place) {
         Some(id) => Some(cells.unlink(id, steps)),

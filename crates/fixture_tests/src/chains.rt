@@ -1,5 +1,5 @@
 ghost use Rattle.std.specs.Prelude.{◌≡◌, ℕ, ◌+◌, ◌<◌, ◌≤◌, [], IfOk, OnOk};
-ghost use Rattle.session_types.specs.Members.{In};
+ghost use Rattle.session_types.specs.Members.{IsMember};
 ghost use Rattle.session_types.specs.declared.instance.Instance.{Instance};
 
 use live_chains::{Chains, Dying, LiveId, PlainChains, Steps};
@@ -49,8 +49,8 @@ fn link_new<L: Ledger>(
     instance: Instance,
     steps: &mut Steps<L>,
 ) -> Result<(), OutOfMemory>
-    requires { (j : Instance ℕ) → In j chains.old.live → j.order < instance.order }
-    ensures { OnOk result ((j : Instance ℕ) → In j chains.new.live → j.order < instance.order + 1) }
+    requires { (j : Instance ℕ) → IsMember j chains.old.live → j.order < instance.order }
+    ensures { OnOk result ((j : Instance ℕ) → IsMember j chains.new.live → j.order < instance.order + 1) }
 {
     chains.reserve(1)?;
     match chains.find(instance.def, instance.node) {
@@ -64,8 +64,8 @@ fn link_new<L: Ledger>(
 
 /// Sets one up in the plain list.
 fn link_plain(plain: &mut PlainChains, instance: Instance) -> Result<(), OutOfMemory>
-    requires { (j : Instance ℕ) → In j plain.old.live → j.order < instance.order }
-    ensures { OnOk result ((j : Instance ℕ) → In j plain.new.live → j.order < instance.order + 1) }
+    requires { (j : Instance ℕ) → IsMember j plain.old.live → j.order < instance.order }
+    ensures { OnOk result ((j : Instance ℕ) → IsMember j plain.new.live → j.order < instance.order + 1) }
 {
     plain.reserve(1)?;
     let _number = plain.link(instance);
@@ -79,10 +79,10 @@ fn link_both<L: Ledger>(
     order: u32,
     steps: &mut Steps<L>,
 ) -> Result<(), OutOfMemory>
-    requires chains { (j : Instance ℕ) → In j both.old.chains.live → j.order < order }
-    requires plain { (j : Instance ℕ) → In j both.old.plain.live → j.order < order }
-    ensures chains { OnOk result ((j : Instance ℕ) → In j both.new.chains.live → j.order < order + 1) }
-    ensures plain { OnOk result ((j : Instance ℕ) → In j both.new.plain.live → j.order < order + 1) }
+    requires chains { (j : Instance ℕ) → IsMember j both.old.chains.live → j.order < order }
+    requires plain { (j : Instance ℕ) → IsMember j both.old.plain.live → j.order < order }
+    ensures chains { OnOk result ((j : Instance ℕ) → IsMember j both.new.chains.live → j.order < order + 1) }
+    ensures plain { OnOk result ((j : Instance ℕ) → IsMember j both.new.plain.live → j.order < order + 1) }
 {
     let one = made(alloc, row, order)?;
     link_new(&mut both.chains, one, steps)?;

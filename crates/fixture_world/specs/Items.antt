@@ -1,11 +1,11 @@
 -- Test items, as a session and a report see them.
 use Rattle.std.specs.Prelude.{ℕ, List, [], Option, Some, None}
 use Rattle.fixture_table.specs.Tables.{TableValue}
-use Rattle.fixture_table.specs.Tree.{chain_of}
+use Rattle.fixture_table.specs.Tree.{iter_parents}
 use Rattle.py_values.specs.declared.value.Value.{Value}
 use Rattle.runtest_rules.specs.report_rules.Collected.{ItemTexts, SelectedItem}
 use Rattle.session_rules.specs.World as session
-use Rattle.fixture_instances.specs.Items.{place_in, requests_in}
+use Rattle.fixture_instances.specs.Items.{def_scope_node, requests_in}
 use Rattle.fixture_instances.specs.declared.items.ItemRef.{ItemRef}
 use Rattle.test_suite.specs.declared.item.Item.{Item}
 use Rattle.test_suite.specs.declared.item.ItemClosure.{ItemClosure}
@@ -21,13 +21,13 @@ abbrev pub demanding : Item → ItemRef Value
 demanding i = record { node = i.node; own = None; bound = []; params = [] }
 
 -- WHAT A SESSION KNOWS of an item: the nodes above it, what each definition asks for in it, and where an instance lives for it
-abbrev pub item_of : TableValue → Item → session.Item
-item_of table i = record {
+abbrev pub item_in_session : TableValue → Item → session.Item
+item_in_session table i = record {
   node = i.node;
-  chain = chain_of table.nodes i.node;
+  chain = iter_parents table.nodes i.node;
   requests = requests_in table (demanding i);
   parameter = λ d. None;
-  place = place_in table (demanding i);
+  place = def_scope_node table (demanding i);
   closure = closure_of i.closure;
   arguments = i.asked;
 }
@@ -37,4 +37,4 @@ item_texts i = record { node_id = i.node_id; title = i.title; file = i.file }
 
 -- THE ITEM in the file with a number, selected
 abbrev pub selected_item : TableValue → ℕ → Item → SelectedItem
-selected_item table file i = record { item = item_of table i; file = file; texts = item_texts i; ids = λ d. None }
+selected_item table file i = record { item = item_in_session table i; file = file; texts = item_texts i; ids = λ d. None }

@@ -1,7 +1,7 @@
 -- ONE OF SEVERAL TOKENS: its reader is a look-up, and what it keeps is kept by each.
 use Rattle.std.proofs.Common.{◌≡◌, ℕ, ◌==◌, ◌||◌, Bool, true, false, cond, List, [], ◌∷◌, Some, None, refl}
 use Rattle.parsing.specs.Reading.{Read, Found, Bad}
-use Rattle.grammar.specs.Table.{one_of, meant, Grammar}
+use Rattle.grammar.specs.Table.{one_of, lookup_key, Grammar}
 use Rattle.grammar.specs.Levels.{FarReaders, Readers, read, chosen, one_of_at}
 use Rattle.grammar.specs.Heights.{Sizes, Sized}
 
@@ -16,8 +16,8 @@ one_of_read g n fr here below {A = A} f x [] y (t ∷ ts) = go (g.kind t == x.0)
 one_of_read g n fr here below f x (z ∷ zs) y [] = one_of_read g n fr here below f z zs y []
 one_of_read g n fr here below {A = A} f x (z ∷ zs) y (t ∷ ts) = go (g.kind t == x.0) (read g n fr here below (one_of f z zs) y (t ∷ ts)) (one_of_read g n fr here below f z zs y (t ∷ ts))
   where
-    go : (b : Bool) (r : Read g.Tok (g.El A × ℕ)) → r ≡ chosen (λ t v. (f y.0 t v, y.1)) t ts (meant (z ∷ zs) (g.kind t))
-        → cond {A = Read g.Tok (g.El A × ℕ)} (b || false) (cond {A = Read g.Tok (g.El A × ℕ)} (b || false) (Found (f y.0 t x.1, y.1) ts) (Bad (t ∷ ts))) r ≡ chosen (λ t v. (f y.0 t v, y.1)) t ts (cond b (Some x.1) (meant (z ∷ zs) (g.kind t)))
+    go : (b : Bool) (r : Read g.Tok (g.El A × ℕ)) → r ≡ chosen (λ t v. (f y.0 t v, y.1)) t ts (lookup_key (z ∷ zs) (g.kind t))
+        → cond {A = Read g.Tok (g.El A × ℕ)} (b || false) (cond {A = Read g.Tok (g.El A × ℕ)} (b || false) (Found (f y.0 t x.1, y.1) ts) (Bad (t ∷ ts))) r ≡ chosen (λ t v. (f y.0 t v, y.1)) t ts (cond b (Some x.1) (lookup_key (z ∷ zs) (g.kind t)))
     go true r e = refl
     go false r e = e
 

@@ -2,7 +2,7 @@
 use Rattle.std.specs.Prelude.{◌≡◌, ℕ, ◌+◌, ◌==◌, max, Bool, true, false, cond, not, ◌&&◌, ◌||◌, nat_le, List, [], ◌∷◌, ◌++◌, Option, Some, None}
 use Rattle.std.proofs.Common.{zero, suc}
 use Rattle.parsing.specs.Reading.{Read, Found, Bad, ◌>>=◌, head_is, one_at, many_at, when_at, guard_at, pass_at, seen_at, seen_or, is_some, deep_at, Then, Or, Nothing, One, Loop, When, Pass, Seen, has, apart, both_are}
-use Rattle.grammar.specs.Table.{token, give, node, line, inner, join, far, fork, ◌⨾◌, ◌∣◌, many, when, room, lift, seen, until, less, taken, meant, Grammar, In, Fars}
+use Rattle.grammar.specs.Table.{token, give, node, line, inner, join, far, fork, ◌⨾◌, ◌∣◌, many, when, room, lift, seen, until, less, taken, lookup_key, Grammar, In, Fars}
 
 -- the languages of all lines, and their readers
 abbrev pub Langs : Grammar → Type 1
@@ -149,7 +149,7 @@ chosen f t ts (Some v) = Found (f t v) ts
 
 abbrev pub one_of_at : {T V A : Type 0} → (T → ℕ) → (T → V → A) → List (ℕ × V) → List T → Read T A
 one_of_at kind f xs [] = Bad []
-one_of_at kind f xs (t ∷ ts) = chosen f t ts (meant xs (kind t))
+one_of_at kind f xs (t ∷ ts) = chosen f t ts (lookup_key xs (kind t))
 
 -- The lines: line k by those below it, and by all lines one level deeper
 abbrev pub rungs : (g : Grammar) (n : ℕ) (fl : Fars g) (below : Langs g) → ℕ → Langs g
@@ -184,15 +184,15 @@ enter parts = parts
 enter whole = parts
 enter low = opened
 
-abbrev pub place : Stand → ℕ
-place bare = 0
-place opened = 1
-place parts = 2
-place whole = 3
-place low = 4
+abbrev pub stand_order : Stand → ℕ
+stand_order bare = 0
+stand_order opened = 1
+stand_order parts = 2
+stand_order whole = 3
+stand_order low = 4
 
 abbrev pub alike : Stand → Stand → Bool
-alike a b = place a == place b
+alike a b = stand_order a == stand_order b
 
 -- what is low enough for parts, or nothing
 abbrev pub loose : Stand → Bool

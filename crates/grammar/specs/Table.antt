@@ -55,9 +55,9 @@ keys [] = []
 keys (x ∷ xs) = x.0 ∷ keys xs
 
 -- what a kind stands for, if it is in the table
-abbrev pub meant : {V : Type 0} → List (ℕ × V) → ℕ → Option V
-meant [] k = None
-meant (x ∷ xs) k = cond (k == x.0) (Some x.1) (meant xs k)
+abbrev pub lookup_key : {V : Type 0} → List (ℕ × V) → ℕ → Option V
+lookup_key [] k = None
+lookup_key (x ∷ xs) k = cond (k == x.0) (Some x.1) (lookup_key xs k)
 
 pub record Grammar : Type 1 where
   pub Tok : Type 0

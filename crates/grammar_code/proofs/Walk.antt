@@ -3,7 +3,7 @@ use Rattle.std.proofs.Common.{◌≡◌, ℕ, zero, suc, ◌+◌, ◌-◌, ◌<�
 use Rattle.parsing.specs.Reading.{Read, Found, Bad, Deep, ◌>>=◌, head_is, one_at, many_at, deep_at, guard_at, loop_at, pass_at, both_are, seen_at, seen_or, is_some, has}
 use Rattle.parsing.proofs.Loops.{Takes, many_step, bind_assoc}
 use Rattle.parsing.proofs.Chain.{bind_found}
-use Rattle.grammar.specs.Table.{one_of, meant, token, give, node, line, inner, join, far, fork, ◌⨾◌, ◌∣◌, many, when, room, lift, seen, until, taken, Grammar, In}
+use Rattle.grammar.specs.Table.{one_of, lookup_key, token, give, node, line, inner, join, far, fork, ◌⨾◌, ◌∣◌, many, when, room, lift, seen, until, taken, Grammar, In}
 use Rattle.grammar.specs.Levels.{Readers, FarReaders, fits, takes, shown, first, read, readers, IsGood}
 use Rattle.grammar.proofs.Along.{reader_line}
 use Rattle.grammar_code.specs.Walk.{first_if, first_of, with_meaning, first_meant, pick, wanted, Up, ground, up, tall, above, starts_with, entered, round, pursue, walk, onto, whole}
@@ -244,9 +244,9 @@ module _ (g : Grammar) (n : ℕ) (fr : FarReaders g) (here below : Readers g) (b
   walk_one_of x (w ∷ ws) y [] k z = walk_one_of w ws y [] k z
   walk_one_of x (w ∷ ws) y (t ∷ ts) k z = go (g.kind t == x.0) (walk g n fr here below b (one_of f w ws) y (t ∷ ts) k (Some z)) (walk_one_of w ws y (t ∷ ts) k z)
     where
-      go : (v : Bool) (r : Read g.Tok (g.El B × ℕ)) → r ≡ pick (with_meaning t ts (meant (w ∷ ws) (g.kind t))) (λ o. cond b (k ((f y.0 o.0.0 o.0.1, y.1), o.1)) (Deep (t ∷ ts))) z
+      go : (v : Bool) (r : Read g.Tok (g.El B × ℕ)) → r ≡ pick (with_meaning t ts (lookup_key (w ∷ ws) (g.kind t))) (λ o. cond b (k ((f y.0 o.0.0 o.0.1, y.1), o.1)) (Deep (t ∷ ts))) z
           → pick {X = g.Tok × List g.Tok} (first_if (v || false) (t, ts)) (λ o. cond b (k ((f y.0 o.0 x.1, y.1), o.1)) (Deep (t ∷ ts))) r
-          ≡ pick (with_meaning t ts (cond v (Some x.1) (meant (w ∷ ws) (g.kind t)))) (λ o. cond b (k ((f y.0 o.0.0 o.0.1, y.1), o.1)) (Deep (t ∷ ts))) z
+          ≡ pick (with_meaning t ts (cond v (Some x.1) (lookup_key (w ∷ ws) (g.kind t)))) (λ o. cond b (k ((f y.0 o.0.0 o.0.1, y.1), o.1)) (Deep (t ∷ ts))) z
       go true r e = refl
       go false r e = e
 

@@ -1,7 +1,7 @@
 -- THE READER OF A PART AS CODE GOES ALONG IT: by the next token, with what is read behind it, and what is read where the part doesn't begin.
 use Rattle.std.specs.Prelude.{◌≡◌, ℕ, ◌+◌, max, Bool, true, false, cond, nat_le, List, [], ◌∷◌, Option, Some, None}
 use Rattle.parsing.specs.Reading.{Read, Found, Bad, Deep, ◌>>=◌, head_is, many_at, deep_at, seen_or, is_some, has}
-use Rattle.grammar.specs.Table.{meant, token, give, node, line, inner, join, far, fork, ◌⨾◌, ◌∣◌, many, when, room, lift, seen, until, Grammar, In}
+use Rattle.grammar.specs.Table.{lookup_key, token, give, node, line, inner, join, far, fork, ◌⨾◌, ◌∣◌, many, when, room, lift, seen, until, Grammar, In}
 use Rattle.grammar.specs.Levels.{Readers, FarReaders, fits, first, read}
 
 abbrev pub first_if : {X : Type 0} → Bool → X → Option X
@@ -24,7 +24,7 @@ with_meaning t ts (Some v) = Some ((t, v), ts)
 
 abbrev pub first_meant : {T V : Type 0} → (T → ℕ) → List (ℕ × V) → List T → Option ((T × V) × List T)
 first_meant kind rows [] = None
-first_meant kind rows (t ∷ ts) = with_meaning t ts (meant rows (kind t))
+first_meant kind rows (t ∷ ts) = with_meaning t ts (lookup_key rows (kind t))
 
 -- a token of a set, which has to be there
 abbrev pub wanted : {T : Type 0} → (T → ℕ) → List ℕ → List T → Read T T

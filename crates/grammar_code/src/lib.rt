@@ -1,5 +1,7 @@
 //! Code along a grammar that is a table: what a row reads, in the shape in which code goes along it.
 //!
+//! # What it is for
+//!
 //! `specs/Walk.antt` has `walk`, the reader of a part of a line with what is read behind it and what is read where the part
 //! does not begin. On a row of a table it computes to what code does: look at the first token, test the level, call the
 //! function of a line. So the equation by which a function of code is proved is written in the code's own shape.

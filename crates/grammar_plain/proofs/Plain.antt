@@ -1,12 +1,12 @@
 -- WHAT A LINE'S READER GIVES, WITHOUT ITS HEIGHT, IS WHAT ITS ROW READS FLAT.
 use Rattle.std.proofs.Common.{◌≡◌, ℕ, zero, suc, max, nat_le, Bool, true, false, not, ◌&&◌, ◌||◌, ◌==◌, cond, List, [], ◌∷◌, ◌++◌, length, Option, Some, None, refl, sym, ap, ◌∙◌, subst}
 use Rattle.parsing.specs.Reading.{Read, Found, Bad, Deep, ◌>>=◌, head_is, one_at, loop_at, many_at, deep_at, both_are, seen_or, seen_at, has}
-use Rattle.grammar.specs.Table.{one_of, meant, token, give, node, line, inner, join, far, fork, ◌⨾◌, ◌∣◌, many, when, room, lift, seen, until, Grammar, In}
+use Rattle.grammar.specs.Table.{one_of, lookup_key, token, give, node, line, inner, join, far, fork, ◌⨾◌, ◌∣◌, many, when, room, lift, seen, until, Grammar, In}
 use Rattle.grammar.specs.Levels.{Readers, FarReaders, readers, read, fits, first, nul, IsGood}
 use Rattle.grammar.proofs.Along.{reader_line}
 use Rattle.grammar.proofs.Stands.{and_true}
 use Rattle.grammar_code.specs.Walk.{first_if, first_of, first_meant, with_meaning, wanted, starts_with, pick}
-use Rattle.grammar_plain.specs.Plain.{plain, Lines, found, entered, stood, both_of, flat, calm}
+use Rattle.grammar_plain.specs.Plain.{plain, Lines, found, enter_or, stood, both_of, flat, calm}
 
 not_true : (b : Bool) → not b ≡ true → b ≡ false
 not_true true e = absurd (cc)
@@ -237,6 +237,6 @@ one_of_flat g left fr here below f x (y ∷ ys) s [] k z = one_of_flat g left fr
 one_of_flat g left fr here below {V = V} {C = C} f x (y ∷ ys) s (t ∷ ts) k z = go (g.kind t == x.0) (one_of_flat g left fr here below f y ys s (t ∷ ts) k z)
   where
     go : (b : Bool) → flat g left fr here below (one_of f y ys) s (t ∷ ts) k (Some z) ≡ pick (first_meant g.kind (y ∷ ys) (t ∷ ts)) (λ o. k (f s o.0.0 o.0.1, o.1)) z
-        → pick {X = g.Tok × List g.Tok} (first_if (b || false) (t, ts)) (λ o. k (f s o.0 x.1, o.1)) (flat g left fr here below (one_of f y ys) s (t ∷ ts) k (Some z)) ≡ pick (with_meaning t ts (cond b (Some x.1) (meant (y ∷ ys) (g.kind t)))) (λ o. k (f s o.0.0 o.0.1, o.1)) z
+        → pick {X = g.Tok × List g.Tok} (first_if (b || false) (t, ts)) (λ o. k (f s o.0 x.1, o.1)) (flat g left fr here below (one_of f y ys) s (t ∷ ts) k (Some z)) ≡ pick (with_meaning t ts (cond b (Some x.1) (lookup_key (y ∷ ys) (g.kind t)))) (λ o. k (f s o.0.0 o.0.1, o.1)) z
     go true e = refl
     go false e = e

@@ -18,9 +18,9 @@ abbrev pub found : {T A : Type 0} → A × List T → Read T A
 found x = Found x.0 x.1
 
 -- x where one of a set stands, else z; where there is no z, x has to stand here
-abbrev pub entered : {T R : Type 0} → (T → ℕ) → List ℕ → List T → R → Option R → R
-entered kind F ts x None = x
-entered kind F ts x (Some z) = cond (starts_with kind F ts) x z
+abbrev pub enter_or : {T R : Type 0} → (T → ℕ) → List ℕ → List T → R → Option R → R
+enter_or kind F ts x None = x
+enter_or kind F ts x (Some z) = cond (starts_with kind F ts) x z
 
 abbrev pub stood : {T C : Type 0} → (T → ℕ) → List ℕ → List T → (T × List T → Read T C) → Option (Read T C) → Read T C
 stood kind F ts k None = wanted kind F ts >>= k
@@ -35,10 +35,10 @@ module _ (g : Grammar) (left : Bool) (fr : FarReaders g) (here below : Lines g) 
   flat (token F f) s ts k z = stood g.kind F ts (λ o. k (f s o.0, o.1)) z
   flat (give f) s ts k z = k (f s, ts)
   flat (node f) s ts k z = k (f s, ts)
-  flat (line r f) s ts k z = entered g.kind (g.begins r) ts (here r ts >>= λ y. k (f s y.0, y.1)) z
-  flat (inner r f) s ts k z = entered g.kind (g.begins r) ts (below r ts >>= λ y. k (f s y.0, y.1)) z
-  flat (far q f) s ts k z = entered g.kind (g.far_begins q) ts (fr q ts >>= λ y. k (f s y.0, y.1)) z
-  flat (fork c d f p q j) s ts k z = entered g.kind (first g (fork c d f p q j) s) ts (pick (both_of g.kind c d ts) (λ o. flat p (f s o.0 o.1) o.2 k None) (fr q ts >>= λ y. k (j s y.0, y.1))) z
+  flat (line r f) s ts k z = enter_or g.kind (g.begins r) ts (here r ts >>= λ y. k (f s y.0, y.1)) z
+  flat (inner r f) s ts k z = enter_or g.kind (g.begins r) ts (below r ts >>= λ y. k (f s y.0, y.1)) z
+  flat (far q f) s ts k z = enter_or g.kind (g.far_begins q) ts (fr q ts >>= λ y. k (f s y.0, y.1)) z
+  flat (fork c d f p q j) s ts k z = enter_or g.kind (first g (fork c d f p q j) s) ts (pick (both_of g.kind c d ts) (λ o. flat p (f s o.0 o.1) o.2 k None) (fr q ts >>= λ y. k (j s y.0, y.1))) z
   flat (p ⨾ q) s ts k z = flat p s ts (λ y. flat q y.0 y.1 k None) z
   flat (p ∣ q) s ts k z = flat p s ts k (Some (flat q s ts k z))
   flat (many p) s ts k z = many_at (λ s t. has (g.kind t) (first g p s)) (λ y. flat p y.0 y.1 found None) (s, ts) >>= k

@@ -60,11 +60,11 @@ module _ {Runner Got Exc Frozen : Type 0}
       (others (which ∷ rest) before end values after)
 
 -- an answer, its vector seen as a list
-abbrev pub listed : {Got Exc : Type 0} → ImplEnd (Vec Got Global) Exc → ImplEnd (List Got) Exc
-listed (ran.Gave None) = ran.Gave None
-listed (ran.Gave (Some values)) = ran.Gave (Some values.items)
-listed (ran.Raised exception) = ran.Raised exception
-listed ran.OutOfMemory = ran.OutOfMemory
+abbrev pub answer_as_list : {Got Exc : Type 0} → ImplEnd (Vec Got Global) Exc → ImplEnd (List Got) Exc
+answer_as_list (ran.Gave None) = ran.Gave None
+answer_as_list (ran.Gave (Some values)) = ran.Gave (Some values.items)
+answer_as_list (ran.Raised exception) = ran.Raised exception
+answer_as_list ran.OutOfMemory = ran.OutOfMemory
 
 -- what a hook call that wants all values answers: the list, or a list of the one value that a wrapper gave
 abbrev pub all_of : {Got Exc : Type 0} → Inner Got Exc → List Got → ImplEnd (List Got) Exc
@@ -88,7 +88,7 @@ module _ {Runner Got Exc Frozen : Type 0} (calls : Runner → Impl → ImplEnd G
   abbrev pub AnswersAll : List Impl → Runner → ImplEnd (Vec Got Global) Exc → Runner → Type 0
   AnswersAll impls before answer after =
       ((answer ≡ ran.OutOfMemory) × (after ≡ before))
-      ⊎ ((end : Inner Got Exc) × (values : List Got) × HookCall (CallsEach calls) begins resumes impls before end values after × (listed answer ≡ all_of end values))
+      ⊎ ((end : Inner Got Exc) × (values : List Got) × HookCall (CallsEach calls) begins resumes impls before end values after × (answer_as_list answer ≡ all_of end values))
 
   -- a hook call that stops at its first value
   abbrev pub AnswersFirst : List Impl → Runner → ImplEnd Got Exc → Runner → Type 0

@@ -1,7 +1,7 @@
 ghost use Rattle.std.specs.Prelude.{◌≡◌, ◌<◌, ◌≤◌, ◌+◌, List, [], ◌++◌, length, vec_len, vec_capacity, reverse};
 ghost use Rattle.std.specs.Option.{option_to_list};
 ghost use Rattle.hook_order.specs.HookOrder.{InHookOrder};
-ghost use Rattle.hook_order.specs.HookCall.{CallsEach, FindsFirst, AnswersAll, AnswersFirst, listed, all_of, first_of};
+ghost use Rattle.hook_order.specs.HookCall.{CallsEach, FindsFirst, AnswersAll, AnswersFirst, answer_as_list, all_of, first_of};
 ghost use Rattle.hook_order.specs.Begun.{Begun, Unwinds};
 
 use crate::answers::{ImplEnd, Inner, WrapperStart, handed};
@@ -155,7 +155,7 @@ fn resume_wrappers<R: Runner>(
 /// The answer of a hook call that wants all values.
 fn all_of<Got: Drop, Exc>(outcome: Inner<Got, Exc>, mut values: Vec<Got>) -> ImplEnd<Vec<Got>, Exc>
     requires { 1 ≤ vec_capacity values }
-    ensures { listed result ≡ all_of outcome values.items }
+    ensures { answer_as_list result ≡ all_of outcome values.items }
 {
     match outcome {
         Inner::List => ImplEnd::Gave(Some(values)),

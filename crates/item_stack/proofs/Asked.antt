@@ -1,6 +1,6 @@
 -- The demands of an item whose row binds nothing.
 use Rattle.std.proofs.Common.{◌≡◌, ℕ, List, [], ◌∷◌, refl, sym, ap, ◌∙◌, Option, None}
-use Rattle.fixture_instances.specs.Items.{item_of, place_in, requests_in}
+use Rattle.fixture_instances.specs.Items.{item_for_session, def_scope_node, requests_in}
 use Rattle.fixture_table.specs.Tables.{TableValue}
 use Rattle.item_stack.proofs.Same.{holding, state_same}
 use Rattle.item_stack.specs.Plain.{plain_item}
@@ -8,20 +8,20 @@ use Rattle.item_stack.specs.States.{item_state}
 use Rattle.item_stack.specs.declared.holding.ItemStack.{ItemStack}
 use Rattle.session_rules.specs.Demand.{Answer, Given, Refused, Reply, demand}
 use Rattle.session_rules.specs.Session.{demand_closure, demand_next, noted}
-use Rattle.session_rules.specs.Teardown.{State, Step, step}
+use Rattle.session_rules.specs.Teardown.{SessionState, Step, session_step}
 use Rattle.session_rules.specs.World.{Item, Language, Rules}
 use Rattle.setup_stack.proofs.Passing.{demand_alike, demand_over}
 use Rattle.setup_stack.specs.Asking.{IsReady}
 use Rattle.setup_stack.specs.Passing.{AreAsked, over, over_step}
-use Rattle.setup_stack.specs.Views.{state_of}
+use Rattle.setup_stack.specs.Views.{stack_state}
 
 -- the instance of its class is not looked at
-pub plain_asked : {V : Type 0} (table : TableValue) (node : ℕ) (own : Option V) → AreAsked (item_of table (plain_item {V = V} node None)) (item_of table (plain_item node own))
-unfolding place_in requests_in
+pub plain_asked : {V : Type 0} (table : TableValue) (node : ℕ) (own : Option V) → AreAsked (item_for_session table (plain_item {V = V} node None)) (item_for_session table (plain_item node own))
+unfolding def_scope_node requests_in
 plain_asked table node own = record { node = refl; requests = λ d. refl; parameter = λ d. refl; place = λ d. refl }
 
-pub plain_ready : {L : Language} (rules : Rules L) (table : TableValue) (node : ℕ) (own : Option L.Value) (many depth d : ℕ) → IsReady rules (item_of table (plain_item {V = L.Value} node None)) many depth d → IsReady rules (item_of table (plain_item node own)) many depth d
-unfolding place_in requests_in
+pub plain_ready : {L : Language} (rules : Rules L) (table : TableValue) (node : ℕ) (own : Option L.Value) (many depth d : ℕ) → IsReady rules (item_for_session table (plain_item {V = L.Value} node None)) many depth d → IsReady rules (item_for_session table (plain_item node own)) many depth d
+unfolding def_scope_node requests_in
 plain_ready rules table node own many depth d r = r
 
 pub asked_through : (one other third : Item) → AreAsked one other → AreAsked other third → AreAsked one third
@@ -35,21 +35,21 @@ asked_through one other third a b =
 
 module _ {L : Language} (rules : Rules L) where
   -- demands of a closure pass over what they don't look at
-  next_over : (h : State L) (item : Item) (ds : List ℕ) → ((t : State L) → demand_closure rules item ds (over h t) ≡ over_step h (demand_closure rules item ds t)) → (a : Answer L) (t : State L) → demand_next (demand_closure rules item ds) a (over h t) ≡ over_step h (demand_next (demand_closure rules item ds) a t)
+  next_over : (h : SessionState L) (item : Item) (ds : List ℕ) → ((t : SessionState L) → demand_closure rules item ds (over h t) ≡ over_step h (demand_closure rules item ds t)) → (a : Answer L) (t : SessionState L) → demand_next (demand_closure rules item ds) a (over h t) ≡ over_step h (demand_next (demand_closure rules item ds) a t)
   next_over h item ds law (Given i) t = law (noted i t)
   next_over h item ds law (Refused es) t = refl
 
-  closure_over : (h : State L) (item : Item) (ds : List ℕ) (t : State L) → demand_closure rules item ds (over h t) ≡ over_step h (demand_closure rules item ds t)
+  closure_over : (h : SessionState L) (item : Item) (ds : List ℕ) (t : SessionState L) → demand_closure rules item ds (over h t) ≡ over_step h (demand_closure rules item ds t)
   closure_over h item [] t = refl
   closure_over h item (d ∷ ds) t =
       ap (λ (r : Reply L). demand_next (demand_closure rules item ds) r.answer r.state) (demand_over rules h item rules.depth d t)
       ∙ next_over h item ds (closure_over h item ds) (demand rules item rules.depth d t).answer (demand rules item rules.depth d t).state
 
-  next_alike : (one other : Item) (ds : List ℕ) → ((t : State L) → demand_closure rules one ds t ≡ demand_closure rules other ds t) → (a : Answer L) (t : State L) → demand_next (demand_closure rules one ds) a t ≡ demand_next (demand_closure rules other ds) a t
+  next_alike : (one other : Item) (ds : List ℕ) → ((t : SessionState L) → demand_closure rules one ds t ≡ demand_closure rules other ds t) → (a : Answer L) (t : SessionState L) → demand_next (demand_closure rules one ds) a t ≡ demand_next (demand_closure rules other ds) a t
   next_alike one other ds law (Given i) t = law (noted i t)
   next_alike one other ds law (Refused es) t = refl
 
-  closure_alike : (one other : Item) → AreAsked one other → (ds : List ℕ) (t : State L) → demand_closure rules one ds t ≡ demand_closure rules other ds t
+  closure_alike : (one other : Item) → AreAsked one other → (ds : List ℕ) (t : SessionState L) → demand_closure rules one ds t ≡ demand_closure rules other ds t
   closure_alike one other same [] t = refl
   closure_alike one other same (d ∷ ds) t =
       ap (λ (r : Reply L). demand_next (demand_closure rules one ds) r.answer r.state) (demand_alike rules one other same rules.depth d t)
@@ -57,15 +57,15 @@ module _ {L : Language} (rules : Rules L) where
 
   -- what the demands of a closure leave, in the state with the request
   pub closure_left : (item : Item) (table : TableValue) (node : ℕ) (ds : List ℕ) (w w2 : L.World) (s s2 : ItemStack L.Value L.Thrown L.Rest) (raised : List L.Thrown)
-      → AreAsked item (item_of table (plain_item {V = L.Value} node None))
+      → AreAsked item (item_for_session table (plain_item {V = L.Value} node None))
       → s2.request ≡ s.request
-      → step raised (state_of rules w2 s2.stack) ≡ demand_closure rules (item_of table (plain_item node s.stack.own)) ds (state_of rules w s.stack)
-      → step raised (item_state rules w2 s2) ≡ demand_closure rules item ds (item_state rules w s)
+      → session_step raised (stack_state rules w2 s2.stack) ≡ demand_closure rules (item_for_session table (plain_item node s.stack.own)) ds (stack_state rules w s.stack)
+      → session_step raised (item_state rules w2 s2) ≡ demand_closure rules item ds (item_state rules w s)
   closure_left item table node ds w w2 s s2 raised a same e =
-      let other = item_of table (plain_item node s.stack.own) in
-      ap (λ (u : State L). step raised u) (state_same rules w2 s2)
-      ∙ (ap (λ (r : Option L.Value). over_step (holding w r) (step raised (state_of rules w2 s2.stack))) same
+      let other = item_for_session table (plain_item node s.stack.own) in
+      ap (λ (u : SessionState L). session_step raised u) (state_same rules w2 s2)
+      ∙ (ap (λ (r : Option L.Value). over_step (holding w r) (session_step raised (stack_state rules w2 s2.stack))) same
       ∙ (ap (λ (x : Step L). over_step (holding w s.request) x) e
-      ∙ (sym (closure_over (holding w s.request) other ds (state_of rules w s.stack))
-      ∙ (ap (λ (u : State L). demand_closure rules other ds u) (sym (state_same rules w s))
-      ∙ sym (closure_alike item other (asked_through item (item_of table (plain_item {V = L.Value} node None)) other a (plain_asked table node s.stack.own)) ds (item_state rules w s))))))
+      ∙ (sym (closure_over (holding w s.request) other ds (stack_state rules w s.stack))
+      ∙ (ap (λ (u : SessionState L). demand_closure rules other ds u) (sym (state_same rules w s))
+      ∙ sym (closure_alike item other (asked_through item (item_for_session table (plain_item {V = L.Value} node None)) other a (plain_asked table node s.stack.own)) ds (item_state rules w s))))))

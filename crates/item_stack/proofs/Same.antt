@@ -2,29 +2,29 @@
 use Rattle.std.proofs.Common.{◌≡◌, List, [], ◌∷◌, map, refl, ap, ap₂, Option}
 use Rattle.fixture_instances.specs.Joined.{with_slot}
 use Rattle.fixture_instances.specs.Views.{live_instances, set_up_end}
-use Rattle.fixture_instances.specs.declared.ends.Held.{Held}
+use Rattle.fixture_instances.specs.declared.ends.CachedResult.{CachedResult}
 use Rattle.fixture_instances.specs.declared.ends.SetUpEnd.{SetUpEnd as KeptEnd}
 use Rattle.fixture_instances.specs.declared.ends.SetUpEnd.TheVariants as kept
 use Rattle.item_stack.specs.States.{end_kept, grant_noted, instance_kept, item_state}
 use Rattle.item_stack.specs.declared.holding.ItemStack.{ItemStack}
-use Rattle.session_rules.specs.Session.{start}
-use Rattle.session_rules.specs.Teardown.{Grant, State}
+use Rattle.session_rules.specs.Session.{initial_state}
+use Rattle.session_rules.specs.Teardown.{Grant, SessionState}
 use Rattle.session_rules.specs.World.{Language, LiveInstance, Rules, SetUpEnd}
 use Rattle.session_types.specs.declared.instance.Instance.{Instance}
 use Rattle.setup_stack.specs.Passing.{over}
-use Rattle.setup_stack.specs.Views.{grant_of, grants_of, state_of}
+use Rattle.setup_stack.specs.Views.{grant_of, grants_of, stack_state}
 use Rattle.setup_stack.specs.declared.answers.Grant.{Grant as CodeGrant}
 
 -- a state that has nothing but a world and a `request`
-abbrev pub holding : {L : Language} → L.World → Option L.Value → State L
-holding w request = record (start w) { request = request }
+abbrev pub holding : {L : Language} → L.World → Option L.Value → SessionState L
+holding w request = record (initial_state w) { request = request }
 
 module _ {L : Language} (rules : Rules L) where
   end_same : (k : KeptEnd L.Value L.Thrown) → end_kept L k ≡ set_up_end rules k
   end_same (kept.Value v) = refl
   end_same (kept.Failure e) = refl
 
-  pub live_same : (is : List (Instance (Held L.Value L.Thrown L.Rest))) → map (instance_kept L) is ≡ live_instances rules is
+  pub live_same : (is : List (Instance (CachedResult L.Value L.Thrown L.Rest))) → map (instance_kept L) is ≡ live_instances rules is
   live_same [] = refl
   live_same (i ∷ is) =
       ap₂ (λ (k : SetUpEnd L) (l : List (LiveInstance L)). with_slot (record { kept = k; rest = i.slot.rest; request = i.slot.request }) i ∷ l) (end_same i.slot.kept) (live_same is)
@@ -33,6 +33,6 @@ module _ {L : Language} (rules : Rules L) where
   given_same [] = refl
   given_same (g ∷ gs) = ap (λ (l : List (Grant L)). grant_of rules g ∷ l) (given_same gs)
 
-  pub state_same : (w : L.World) (s : ItemStack L.Value L.Thrown L.Rest) → item_state rules w s ≡ over (holding w s.request) (state_of rules w s.stack)
+  pub state_same : (w : L.World) (s : ItemStack L.Value L.Thrown L.Rest) → item_state rules w s ≡ over (holding w s.request) (stack_state rules w s.stack)
   state_same w s =
       ap₂ (λ (l : List (LiveInstance L)) (g : List (Grant L)). record (item_state rules w s) { live = l; given = g }) (live_same s.stack.live.live) (given_same s.stack.given)

@@ -1,11 +1,11 @@
 -- The state of a session that a world, the fixtures that are set up in it and the `request` of the test at hand make together.
 use Rattle.std.specs.Prelude.{◌≡◌, false, [], None, map}
 use Rattle.fixture_instances.specs.Joined.{with_slot}
-use Rattle.fixture_instances.specs.declared.ends.Held.{Held}
+use Rattle.fixture_instances.specs.declared.ends.CachedResult.{CachedResult}
 use Rattle.fixture_instances.specs.declared.ends.SetUpEnd.{SetUpEnd as KeptEnd}
 use Rattle.fixture_instances.specs.declared.ends.SetUpEnd.TheVariants as kept
 use Rattle.item_stack.specs.declared.holding.ItemStack.{ItemStack}
-use Rattle.session_rules.specs.Teardown.{Grant, State}
+use Rattle.session_rules.specs.Teardown.{Grant, SessionState}
 use Rattle.session_rules.specs.World.{Failure, Language, LiveInstance, Rules, SetUpEnd, Slot, Value}
 use Rattle.session_types.specs.declared.instance.Instance.{Instance}
 use Rattle.setup_stack.specs.declared.answers.Grant.{Grant as CodeGrant}
@@ -15,11 +15,11 @@ module _ (L : Language) where
   end_kept (kept.Value v) = Value v
   end_kept (kept.Failure e) = Failure e
 
-  abbrev pub slot_kept : Held L.Value L.Thrown L.Rest → Slot L
+  abbrev pub slot_kept : CachedResult L.Value L.Thrown L.Rest → Slot L
   slot_kept h = record { kept = end_kept h.kept; rest = h.rest; request = h.request }
 
   -- a live instance
-  abbrev pub instance_kept : Instance (Held L.Value L.Thrown L.Rest) → LiveInstance L
+  abbrev pub instance_kept : Instance (CachedResult L.Value L.Thrown L.Rest) → LiveInstance L
   instance_kept i = with_slot (slot_kept i.slot) i
 
   -- what answered a demand
@@ -27,7 +27,7 @@ module _ (L : Language) where
   grant_noted g = record { def = g.def; order = g.order; value = g.value; bases = g.bases }
 
 -- THE STATE; the rules aren't looked at
-abbrev pub item_state : {L : Language} → Rules L → L.World → ItemStack L.Value L.Thrown L.Rest → State L
+abbrev pub item_state : {L : Language} → Rules L → L.World → ItemStack L.Value L.Thrown L.Rest → SessionState L
 item_state {L} rules w s =
     record {
       world = w;

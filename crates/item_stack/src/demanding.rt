@@ -1,12 +1,12 @@
 // The demands of an item's set-up.
 
 ghost use Rattle.std.specs.Prelude.{◌≡◌, ◌<◌, None, Option, IfOk, length};
-ghost use Rattle.fixture_instances.specs.Items.{item_of};
+ghost use Rattle.fixture_instances.specs.Items.{item_for_session};
 ghost use Rattle.fixture_table.specs.Tree.{IsTree};
 ghost use Rattle.item_stack.specs.Plain.{plain_item};
 ghost use Rattle.item_stack.specs.States.{item_state};
 ghost use Rattle.session_rules.specs.Session.{demand_closure};
-ghost use Rattle.session_rules.specs.Teardown.{step};
+ghost use Rattle.session_rules.specs.Teardown.{session_step};
 ghost use Rattle.session_rules.specs.World.{Item};
 ghost use Rattle.setup_stack.specs.Asking.{AreReady};
 ghost use Rattle.setup_stack.specs.Passing.{AreAsked};
@@ -45,8 +45,8 @@ pub fn demand_all<W: Executor>(
     requires scopes { HasScopes (W.rules setting.now) table.now }
     requires tree { IsTree table.now.nodes }
     requires node { node < length table.now.nodes }
-    requires ready { AreReady (W.rules setting.now) (item_of table.now (plain_item {V = W.Value} node None)) (length table.now.defs) (W.rules setting.now).depth defs.now }
-    ensures { IfOk result (λ raised. (item : Item) → AreAsked item (item_of table.now (plain_item {V = W.Value} node None)) → step raised (item_state (W.rules setting.now) world.new held.new) ≡ demand_closure (W.rules setting.now) item defs.now (item_state (W.rules setting.now) world.old held.old)) }
+    requires ready { AreReady (W.rules setting.now) (item_for_session table.now (plain_item {V = W.Value} node None)) (length table.now.defs) (W.rules setting.now).depth defs.now }
+    ensures { IfOk result (λ raised. (item : Item) → AreAsked item (item_for_session table.now (plain_item {V = W.Value} node None)) → session_step raised (item_state (W.rules setting.now) world.new held.new) ≡ demand_closure (W.rules setting.now) item defs.now (item_state (W.rules setting.now) world.old held.old)) }
 {
     let at = plain_item(alloc, node, held.stack.own);
     let raised = held

@@ -2,11 +2,11 @@
 
 ghost use Rattle.std.specs.Prelude.{◌≡◌, [], IfOk};
 ghost use Rattle.fixture_table.specs.Tree.{IsTree};
-ghost use Rattle.item_stack.specs.Leaving.{IsNext, chain_for, left_for};
+ghost use Rattle.item_stack.specs.Leaving.{IsNextItem, chain_for, left_for};
 ghost use Rattle.item_stack.specs.Plain.{plain_next};
 ghost use Rattle.item_stack.specs.States.{item_state};
 ghost use Rattle.session_rules.specs.Session.{finalize_own};
-ghost use Rattle.session_rules.specs.Teardown.{down_all, step};
+ghost use Rattle.session_rules.specs.Teardown.{down_all, session_step};
 ghost use Rattle.session_types.specs.Live.{not_on};
 
 use crate::demanding::plain_item;
@@ -24,7 +24,7 @@ fn finalize_own<W: Executor>(
     world: &mut W,
     setting: &W::Setting,
 ) -> Result<Seq<W::Thrown>, OutOfMemory>
-    ensures { IfOk result (λ raised. step raised (item_state (W.rules setting.now) world.new held.new) ≡ finalize_own (W.rules setting.now) (item_state (W.rules setting.now) world.old held.old)) }
+    ensures { IfOk result (λ raised. session_step raised (item_state (W.rules setting.now) world.new held.new) ≡ finalize_own (W.rules setting.now) (item_state (W.rules setting.now) world.old held.old)) }
 {
     let finalizers = close_request(alloc, world, setting, held.request)?;
     held.request = None;
@@ -53,8 +53,8 @@ fn down_for<W: Executor>(
     next: Option<u32>,
 ) -> Result<Seq<W::Thrown>, OutOfMemory>
     requires tree { IsTree table.now.nodes }
-    requires next { IsNext table.now next }
-    ensures { IfOk result (λ raised. step raised (item_state (W.rules setting.now) world.new held.new) ≡ down_all (W.rules setting.now) (not_on (chain_for table.now next) (item_state (W.rules setting.now) world.old held.old).live) (record (item_state (W.rules setting.now) world.old held.old) { given = [] })) }
+    requires next { IsNextItem table.now next }
+    ensures { IfOk result (λ raised. session_step raised (item_state (W.rules setting.now) world.new held.new) ≡ down_all (W.rules setting.now) (not_on (chain_for table.now next) (item_state (W.rules setting.now) world.old held.old).live) (record (item_state (W.rules setting.now) world.old held.old) { given = [] })) }
 {
     let at = plain_next(alloc, next);
     let raised = held.stack.leave(alloc, world, setting, table, at.as_ref())?;
@@ -71,8 +71,8 @@ pub fn leave<W: Executor>(
     next: Option<u32>,
 ) -> Result<Seq<W::Thrown>, OutOfMemory>
     requires tree { IsTree table.now.nodes }
-    requires next { IsNext table.now next }
-    ensures { IfOk result (λ raised. step raised (item_state (W.rules setting.now) world.new held.new) ≡ left_for (W.rules setting.now) (chain_for table.now next) (item_state (W.rules setting.now) world.old held.old)) }
+    requires next { IsNextItem table.now next }
+    ensures { IfOk result (λ raised. session_step raised (item_state (W.rules setting.now) world.new held.new) ≡ left_for (W.rules setting.now) (chain_for table.now next) (item_state (W.rules setting.now) world.old held.old)) }
 {
     let mut raised = finalize_own(alloc, held, world, setting)?;
     let more = down_for(alloc, held, world, setting, table, next)?;
@@ -90,7 +90,7 @@ pub fn all_down<W: Executor>(
 ) -> Result<Seq<W::Thrown>, OutOfMemory>
     requires tree { IsTree table.now.nodes }
     requires left { (item_state (W.rules setting.now) world.old held.old).given ≡ [] }
-    ensures { IfOk result (λ raised. step raised (item_state (W.rules setting.now) world.new held.new) ≡ down_all (W.rules setting.now) (item_state (W.rules setting.now) world.old held.old).live (item_state (W.rules setting.now) world.old held.old)) }
+    ensures { IfOk result (λ raised. session_step raised (item_state (W.rules setting.now) world.new held.new) ≡ down_all (W.rules setting.now) (item_state (W.rules setting.now) world.old held.old).live (item_state (W.rules setting.now) world.old held.old)) }
 {
     let raised = down_for(alloc, held, world, setting, table, None)?;
     Ok(raised)

@@ -3,8 +3,8 @@ use Rattle.std.proofs.Common.{◌≡◌, ℕ, ◌<◌, ◌+◌, ◌-◌, inl, in
 use Rattle.std.proofs.lemmas.Bool.{cases_eq}
 use Rattle.std.proofs.lemmas.List.{length-set}
 use Rattle.link_cells.specs.declared.id.CellId.{CellId}
-use Rattle.link_cells.specs.Rings.{CellWords, count, Fits, moved_front, moved_back}
-use Rattle.link_cells.specs.Arena.{IsArena, is_used, entries, shown, lists_of, row_of}
+use Rattle.link_cells.specs.Rings.{CellWords, count, HasRings, moved_front, moved_back}
+use Rattle.link_cells.specs.Arena.{IsArena, is_used, entries, list_if_used, lists_of, cells_of_head}
 use Rattle.link_cells.proofs.Around.{count_append, count_same, count_more}
 use Rattle.link_cells.proofs.Moves.{row_once, apart, count_alone}
 use Rattle.link_cells.proofs.Kept.{moved, moved_g, moved_h, moved_k, moved_sum, front_fits, back_fits, front_heads, front_cells, back_heads, back_cells, stood, cell_there}
@@ -15,17 +15,17 @@ module _ {T : Type 0} (w : CellWords) (values : List (Option T)) (used : List Bo
   pub not_own : (k : ℕ) → is_used used k ≡ true → k ≡ 0 → ⊥
   not_own k is z = let f : is_used used k ≡ false = subst (λ (n : ℕ). is_used used n ≡ false) (sym z) A.own in absurd cc
 
-  shown_same : (k : ℕ) (b : Bool) → is_used used k ≡ b → (more : List (Option T)) (next : ℕ → List ℕ) → (b ≡ true → entries more (next k) ≡ entries values (A.rows k)) → shown used more next k ≡ shown used values A.rows k
+  shown_same : (k : ℕ) (b : Bool) → is_used used k ≡ b → (more : List (Option T)) (next : ℕ → List ℕ) → (b ≡ true → entries more (next k) ≡ entries values (A.rows k)) → list_if_used used more next k ≡ list_if_used used values A.rows k
   shown_same k true is more next e = ap (λ (r : List (CellId × T)). cond (is_used used k) (Some r) None) (e refl)
   shown_same k false is more next e = ap (λ (c : Bool). cond c (Some (entries more (next k))) None) is ∙ sym (ap (λ (c : Bool). cond c (Some (entries values (A.rows k))) None) is)
 
   -- what is shown after a change of one list
   pub shows : (v : CellWords) (more : List (Option T)) (next : ℕ → List ℕ) → length v.heads ≡ length w.heads → (h : ℕ) (list : List (CellId × T)) → h < length w.heads → is_used used h ≡ true → entries more (next h) ≡ list
       → ((k : ℕ) → k < length w.heads → (k ≡ h → ⊥) → is_used used k ≡ true → entries more (next k) ≡ entries values (A.rows k))
-      → lists_of used more next (length v.heads) ≡ set (lists_of used values (row_of w) (length w.heads)) h (Some list)
+      → lists_of used more next (length v.heads) ≡ set (lists_of used values (cells_of_head w) (length w.heads)) h (Some list)
   shows v more next heads h list lt is here others =
       ap (lists_of used more next) heads
-      ∙ map_set (shown used values A.rows) (shown used more next) h (length w.heads) (Some list) lt
+      ∙ map_set (list_if_used used values A.rows) (list_if_used used more next) h (length w.heads) (Some list) lt
       (ap (λ (b : Bool). cond b (Some (entries more (next h))) None) is ∙ ap (λ (r : List (CellId × T)). Some r) here)
       (λ k below ne. shown_same k (is_used used k) refl more next (λ yes. others k below ne yes))
       ∙ ap (λ (l : List (Option (List (CellId × T)))). set l h (Some list)) (sym (lists_is w values used free room spare A))
@@ -76,12 +76,12 @@ module _ {T : Type 0} (w : CellWords) (values : List (Option T)) (used : List Bo
             ∙ A.full k x below on h
       ]
 
-    pub unlink_shows : lists_of used left after (length (moved_front w c 0).heads) ≡ set (lists_of used values (row_of w) (length w.heads)) g (Some (entries values xs ++ entries values ys))
+    pub unlink_shows : lists_of used left after (length (moved_front w c 0).heads) ≡ set (lists_of used values (cells_of_head w) (length w.heads)) g (Some (entries values xs ++ entries values ys))
     unlink_shows = shows (moved_front w c 0) left after (front_heads w c 0) g (entries values xs ++ entries values ys) lt yes
         (ap (entries left) (moved_g w A.rows A.fits g 0 c xs ys lt A.some_head apart0 is (c ∷ A.rows 0)) ∙ entries_set values c None (xs ++ ys) (none_left c refl) ∙ entries_append values xs ys)
         (λ k below other on. ap (entries left) (moved_k w A.rows A.fits g 0 c xs ys lt A.some_head apart0 is (c ∷ A.rows 0) k other (not_own k on)) ∙ entries_set values c None (A.rows k) (none_in g k c lt below other here))
 
-    pub unlink_view : lists_of used left (row_of (moved_front w c 0)) (length (moved_front w c 0).heads) ≡ set (lists_of used values (row_of w) (length w.heads)) g (Some (entries values xs ++ entries values ys))
+    pub unlink_view : lists_of used left (cells_of_head (moved_front w c 0)) (length (moved_front w c 0).heads) ≡ set (lists_of used values (cells_of_head w) (length w.heads)) g (Some (entries values xs ++ entries values ys))
     unfolding unlinked
     unlink_view = lists_is (moved_front w c 0) left used free room (spare + 1) unlinked ∙ unlink_shows
 
@@ -105,7 +105,7 @@ module _ {T : Type 0} (w : CellWords) (values : List (Option T)) (used : List Bo
     not_in : (k : ℕ) → k < length w.heads → is_used used k ≡ true → count c (A.rows k) ≡ 0
     not_in k below on = none_in 0 k c A.some_head below (not_own k on) spare_here
 
-    pub put_in : (v : CellWords) (row : List ℕ) → length row ≡ length (A.rows h) + 1 → ((x : ℕ) → (x ≡ c → ⊥) → count x row ≡ count x (A.rows h)) → length v.heads ≡ length w.heads → length v.cells ≡ length w.cells → Fits v (next row) → IsArena v given used free room (spare - 1)
+    pub put_in : (v : CellWords) (row : List ℕ) → length row ≡ length (A.rows h) + 1 → ((x : ℕ) → (x ≡ c → ⊥) → count x row ≡ count x (A.rows h)) → length v.heads ≡ length w.heads → length v.cells ≡ length w.cells → HasRings v (next row) → IsArena v given used free room (spare - 1)
     put_in v row long same heads cells fits = record {
       rows = next row;
       fits = fits;
@@ -131,7 +131,7 @@ module _ {T : Type 0} (w : CellWords) (values : List (Option T)) (used : List Bo
         ]
       ]
 
-    pub put_shows : (v : CellWords) (row : List ℕ) (list : List (CellId × T)) → length v.heads ≡ length w.heads → entries given row ≡ list → lists_of used given (next row) (length v.heads) ≡ set (lists_of used values (row_of w) (length w.heads)) h (Some list)
+    pub put_shows : (v : CellWords) (row : List ℕ) (list : List (CellId × T)) → length v.heads ≡ length w.heads → entries given row ≡ list → lists_of used given (next row) (length v.heads) ≡ set (lists_of used values (cells_of_head w) (length w.heads)) h (Some list)
     put_shows v row list heads e = shows v given (next row) heads h list lt yes (ap (entries given) (moved_h w A.rows A.fits 0 h c [] rest A.some_head lt aparth is row) ∙ e)
         (λ k below other on. ap (entries given) (moved_k w A.rows A.fits 0 h c [] rest A.some_head lt aparth is row k (not_own k on) other) ∙ entries_set values c (Some value) (A.rows k) (not_in k below on))
 
@@ -147,20 +147,20 @@ module _ {T : Type 0} (w : CellWords) (values : List (Option T)) (used : List Bo
     pub front_arena : IsArena (moved_front w c h) given used free room (spare - 1)
     front_arena = put_in (moved_front w c h) (c ∷ A.rows h) (omega arith) (λ x ne. omega (arith, count_alone x c ne)) (front_heads w c h) (front_cells w c h) (front_fits w A.rows A.fits 0 h c [] rest A.some_head lt aparth is)
 
-    pub front_shows : lists_of used given (next (c ∷ A.rows h)) (length (moved_front w c h).heads) ≡ set (lists_of used values (row_of w) (length w.heads)) h (Some (entry ∷ entries values (A.rows h)))
+    pub front_shows : lists_of used given (next (c ∷ A.rows h)) (length (moved_front w c h).heads) ≡ set (lists_of used values (cells_of_head w) (length w.heads)) h (Some (entry ∷ entries values (A.rows h)))
     front_shows = put_shows (moved_front w c h) (c ∷ A.rows h) (entry ∷ entries values (A.rows h)) (front_heads w c h) (entries_cons given c (A.rows h) value own_value ∙ ap (λ (r : List (CellId × T)). entry ∷ r) old_entries)
 
     pub back_arena : IsArena (moved_back w c h) given used free room (spare - 1)
     back_arena = put_in (moved_back w c h) (A.rows h ++ c ∷ []) (length-append (A.rows h) (c ∷ [])) (λ x ne. omega (arith, count_append x (A.rows h) (c ∷ []), count_alone x c ne)) (back_heads w c h) (back_cells w c h) (back_fits w A.rows A.fits 0 h c [] rest A.some_head lt aparth is)
 
-    pub back_shows : lists_of used given (next (A.rows h ++ c ∷ [])) (length (moved_back w c h).heads) ≡ set (lists_of used values (row_of w) (length w.heads)) h (Some (entries values (A.rows h) ++ entry ∷ []))
+    pub back_shows : lists_of used given (next (A.rows h ++ c ∷ [])) (length (moved_back w c h).heads) ≡ set (lists_of used values (cells_of_head w) (length w.heads)) h (Some (entries values (A.rows h) ++ entry ∷ []))
     back_shows = put_shows (moved_back w c h) (A.rows h ++ c ∷ []) (entries values (A.rows h) ++ entry ∷ []) (back_heads w c h)
         (entries_append given (A.rows h) (c ∷ []) ∙ ap (λ (r : List (CellId × T)). r ++ entries given (c ∷ [])) old_entries ∙ ap (λ (r : List (CellId × T)). entries values (A.rows h) ++ r) (entries_cons given c [] value own_value))
 
-    pub front_view : lists_of used given (row_of (moved_front w c h)) (length (moved_front w c h).heads) ≡ set (lists_of used values (row_of w) (length w.heads)) h (Some (entry ∷ entries values (A.rows h)))
+    pub front_view : lists_of used given (cells_of_head (moved_front w c h)) (length (moved_front w c h).heads) ≡ set (lists_of used values (cells_of_head w) (length w.heads)) h (Some (entry ∷ entries values (A.rows h)))
     unfolding front_arena put_in
     front_view = lists_is (moved_front w c h) given used free room (spare - 1) front_arena ∙ front_shows
 
-    pub back_view : lists_of used given (row_of (moved_back w c h)) (length (moved_back w c h).heads) ≡ set (lists_of used values (row_of w) (length w.heads)) h (Some (entries values (A.rows h) ++ entry ∷ []))
+    pub back_view : lists_of used given (cells_of_head (moved_back w c h)) (length (moved_back w c h).heads) ≡ set (lists_of used values (cells_of_head w) (length w.heads)) h (Some (entries values (A.rows h) ++ entry ∷ []))
     unfolding back_arena put_in
     back_view = lists_is (moved_back w c h) given used free room (spare - 1) back_arena ∙ back_shows

@@ -4,7 +4,7 @@ use Rattle.std.proofs.lemmas.List.{length-set}
 use Rattle.link_cells.specs.declared.link.Link.TheVariants.{Cell, Head}
 use Rattle.link_cells.specs.declared.id.CellId.{CellId}
 use Rattle.link_cells.specs.Rings.{CellWords, ahead_of, back_of, Linked, count, CanMove, moved_front, moved_back}
-use Rattle.link_cells.specs.Arena.{Arena, IsArena, is_used, entries, lists_of, row_of, list_of, with_list, Stands, InUse, first_name, last_name, named}
+use Rattle.link_cells.specs.Arena.{Arena, IsArena, is_used, entries, lists_of, cells_of_head, list_at_head, with_list, StandsBetween, InUse, first_name, last_name, named}
 use Rattle.link_cells.proofs.Around.{count_append, count_same, count_more, one_le, split}
 use Rattle.link_cells.proofs.Moves.{apart}
 use Rattle.link_cells.proofs.Kept.{can_move}
@@ -20,19 +20,19 @@ pub some_same : {A : Type 0} {x y : A} → Some x ≡ Some y → x ≡ y
 some_same e = cc
 
 abbrev pub seen : {T : Type 0} → CellWords → List (Option T) → List Bool → ℕ → ℕ → Arena T
-seen w values used spare heads = record { lists = lists_of used values (row_of w) (length w.heads); spare = spare; spare_heads = heads }
+seen w values used spare heads = record { lists = lists_of used values (cells_of_head w) (length w.heads); spare = spare; spare_heads = heads }
 
 module _ {T : Type 0} (w : CellWords) (values : List (Option T)) (used : List Bool) (free : List ℕ) (room spare : ℕ) (A : IsArena w values used free room spare) (heads : ℕ) where
   abbrev pub all : Arena T
   all = seen w values used spare heads
 
-  pub head_there : (h : ℕ) → IsSome (list_of all h) → h < length w.heads
-  head_there h some = let o = some_of (list_of all h) some in (found w values used free room spare A h o.0 o.1).1
+  pub head_there : (h : ℕ) → IsSome (list_at_head all h) → h < length w.heads
+  head_there h some = let o = some_of (list_at_head all h) some in (found w values used free room spare A h o.0 o.1).1
 
-  pub head_used : (h : ℕ) → IsSome (list_of all h) → is_used used h ≡ true
-  head_used h some = let o = some_of (list_of all h) some in (found w values used free room spare A h o.0 o.1).2
+  pub head_used : (h : ℕ) → IsSome (list_at_head all h) → is_used used h ≡ true
+  head_used h some = let o = some_of (list_at_head all h) some in (found w values used free room spare A h o.0 o.1).2
 
-  pub first_result : (h : ℕ) (list : List (CellId × T)) → list_of all h ≡ Some list → named (ahead_of w (Head h)) ≡ first_name list
+  pub first_result : (h : ℕ) (list : List (CellId × T)) → list_at_head all h ≡ Some list → named (ahead_of w (Head h)) ≡ first_name list
   first_result h list e =
       let f = found w values used free room spare A h list e in
       first_named w values (Head h) (A.rows h) h (full_of w values used free room spare A h f.1 f.2) (A.fits.ring h f.1) ∙ ap first_name f.3
@@ -42,21 +42,21 @@ module _ {T : Type 0} (w : CellWords) (values : List (Option T)) (used : List Bo
       let s = stands w values used free room spare A u.0 u.1 id u.2 u.3 u.4 in
       A.fits.within u.0 id.cell s.1 (omega (arith, ap (count id.cell) s.5, count_append id.cell s.3 (id.cell ∷ s.4), count_same id.cell s.4))
 
-  pub next_result : (id : CellId) (h : ℕ) (front : List (CellId × T)) (v : T) (back : List (CellId × T)) → Stands all id h front v back → named (ahead_of w (Cell id.cell)) ≡ first_name back
+  pub next_result : (id : CellId) (h : ℕ) (front : List (CellId × T)) (v : T) (back : List (CellId × T)) → StandsBetween all id h front v back → named (ahead_of w (Cell id.cell)) ≡ first_name back
   next_result id h front v back e =
       let s = stands w values used free room spare A h front id v back e in
       first_named w values (Cell id.cell) s.4 h (λ x there. full_of w values used free room spare A h s.1 s.2 x (omega (arith, ap (count x) s.5, count_append x s.3 (id.cell ∷ s.4), count_more x id.cell s.4)))
       (split w (Head h) s.3 id.cell s.4 (Head h) (subst (λ (r : List ℕ). Linked w (Head h) r (Head h)) s.5 (A.fits.ring h s.1))).1
       ∙ ap first_name s.7
 
-  pub prev_result : (id : CellId) (h : ℕ) (front : List (CellId × T)) (v : T) (back : List (CellId × T)) → Stands all id h front v back → named (back_of w (Cell id.cell)) ≡ last_name front
+  pub prev_result : (id : CellId) (h : ℕ) (front : List (CellId × T)) (v : T) (back : List (CellId × T)) → StandsBetween all id h front v back → named (back_of w (Cell id.cell)) ≡ last_name front
   prev_result id h front v back e =
       let s = stands w values used free room spare A h front id v back e in
       last_named w values h s.3 (Cell id.cell) (λ x there. full_of w values used free room spare A h s.1 s.2 x (omega (arith, ap (count x) s.5, count_append x s.3 (id.cell ∷ s.4))))
       (split w (Head h) s.3 id.cell s.4 (Head h) (subst (λ (r : List ℕ). Linked w (Head h) r (Head h)) s.5 (A.fits.ring h s.1))).0
       ∙ ap last_name s.6
 
-  pub value_is : (id : CellId) (h : ℕ) (front : List (CellId × T)) (v : T) (back : List (CellId × T)) → Stands all id h front v back → get_or values id.cell None ≡ Some v
+  pub value_is : (id : CellId) (h : ℕ) (front : List (CellId × T)) (v : T) (back : List (CellId × T)) → StandsBetween all id h front v back → get_or values id.cell None ≡ Some v
   value_is id h front v back e = (stands w values used free room spare A h front id v back e).8
 
   -- a cell in use may be unlinked
@@ -76,14 +76,14 @@ module _ {T : Type 0} (w : CellWords) (values : List (Option T)) (used : List Bo
       let s = stands w values used free room spare A u.0 u.1 id u.2 u.3 u.4 in
       unlinked w values used free room spare A u.0 id.cell s.3 s.4 s.1 s.2 s.5
 
-  pub unlink_result : (id : CellId) (h : ℕ) (front : List (CellId × T)) (v : T) (back : List (CellId × T)) → Stands all id h front v back
+  pub unlink_result : (id : CellId) (h : ℕ) (front : List (CellId × T)) (v : T) (back : List (CellId × T)) → StandsBetween all id h front v back
       → seen (moved_front w id.cell 0) (set values id.cell None) used (spare + 1) heads ≡ record (with_list all h (front ++ back)) { spare = spare + 1 }
   unlink_result id h front v back e =
       let s = stands w values used free room spare A h front id v back e in
       ap (λ (l : List (Option (List (CellId × T)))). record { lists = l; spare = spare + 1; spare_heads = heads })
       (unlink_view w values used free room spare A h id.cell s.3 s.4 s.1 s.2 s.5
-      ∙ ap (λ (r : List (CellId × T)). set (lists_of used values (row_of w) (length w.heads)) h (Some (r ++ entries values s.4))) s.6
-      ∙ ap (λ (r : List (CellId × T)). set (lists_of used values (row_of w) (length w.heads)) h (Some (front ++ r))) s.7)
+      ∙ ap (λ (r : List (CellId × T)). set (lists_of used values (cells_of_head w) (length w.heads)) h (Some (r ++ entries values s.4))) s.6
+      ∙ ap (λ (r : List (CellId × T)). set (lists_of used values (cells_of_head w) (length w.heads)) h (Some (front ++ r))) s.7)
 
   -- the first spare cell
   pub spare_row : 0 < spare → (c : ℕ) × (rest : List ℕ) × (A.rows 0 ≡ c ∷ rest) × (ahead_of w (Head 0) ≡ Cell c)
@@ -92,7 +92,7 @@ module _ {T : Type 0} (w : CellWords) (values : List (Option T)) (used : List Bo
     pick [] e l = absurd (omega (arith, A.spare_is, ap length e))
     pick (c ∷ rest) e l = (c, rest, e, l.0)
 
-  module _ (c h : ℕ) (leads : ahead_of w (Head 0) ≡ Cell c) (some : IsSome (list_of all h)) where
+  module _ (c h : ℕ) (leads : ahead_of w (Head 0) ≡ Cell c) (some : IsSome (list_at_head all h)) where
     spare_is : (rest : List ℕ) × (A.rows 0 ≡ c ∷ rest)
     spare_is = row_some w 0 c (A.rows 0) (A.fits.ring 0 A.some_head) leads
 
@@ -115,18 +115,18 @@ module _ {T : Type 0} (w : CellWords) (values : List (Option T)) (used : List Bo
       pub push_back_arena : IsArena (moved_back w c h) (set values c (Some value)) used free room (spare - 1)
       push_back_arena = back_arena w values used free room spare A h c spare_is.0 value (head_there h some) (head_used h some) spare_is.1
 
-      pub push_front_result : (list : List (CellId × T)) → list_of all h ≡ Some list
+      pub push_front_result : (list : List (CellId × T)) → list_at_head all h ≡ Some list
           → seen (moved_front w c h) (set values c (Some value)) used (spare - 1) heads ≡ record (with_list all h ((record { cell = c }, value) ∷ list)) { spare = spare - 1 }
       push_front_result list e =
           let f = found w values used free room spare A h list e in
           ap (λ (l : List (Option (List (CellId × T)))). record { lists = l; spare = spare - 1; spare_heads = heads })
           (front_view w values used free room spare A h c spare_is.0 value (head_there h some) (head_used h some) spare_is.1
-          ∙ ap (λ (r : List (CellId × T)). set (lists_of used values (row_of w) (length w.heads)) h (Some ((record { cell = c }, value) ∷ r))) f.3)
+          ∙ ap (λ (r : List (CellId × T)). set (lists_of used values (cells_of_head w) (length w.heads)) h (Some ((record { cell = c }, value) ∷ r))) f.3)
 
-      pub push_back_result : (list : List (CellId × T)) → list_of all h ≡ Some list
+      pub push_back_result : (list : List (CellId × T)) → list_at_head all h ≡ Some list
           → seen (moved_back w c h) (set values c (Some value)) used (spare - 1) heads ≡ record (with_list all h (list ++ (record { cell = c }, value) ∷ [])) { spare = spare - 1 }
       push_back_result list e =
           let f = found w values used free room spare A h list e in
           ap (λ (l : List (Option (List (CellId × T)))). record { lists = l; spare = spare - 1; spare_heads = heads })
           (back_view w values used free room spare A h c spare_is.0 value (head_there h some) (head_used h some) spare_is.1
-          ∙ ap (λ (r : List (CellId × T)). set (lists_of used values (row_of w) (length w.heads)) h (Some (r ++ (record { cell = c }, value) ∷ []))) f.3)
+          ∙ ap (λ (r : List (CellId × T)). set (lists_of used values (cells_of_head w) (length w.heads)) h (Some (r ++ (record { cell = c }, value) ∷ []))) f.3)

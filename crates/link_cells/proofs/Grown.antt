@@ -8,15 +8,15 @@ use Rattle.link_cells.specs.declared.link.Link.{Link}
 use Rattle.link_cells.specs.declared.link.Link.TheVariants.{Cell, Head}
 use Rattle.link_cells.specs.declared.link.Links.{Links}
 use Rattle.link_cells.specs.declared.id.CellId.{CellId}
-use Rattle.link_cells.specs.Rings.{CellWords, alone, links_of, ahead_of, IsThere, Linked, count, total, Fits, attached}
-use Rattle.link_cells.specs.Arena.{IsArena, is_used, entries, entry_onto, shown, lists_of, row_of}
+use Rattle.link_cells.specs.Rings.{CellWords, alone, links_of, ahead_of, HasWord, Linked, count, total, HasRings, attached}
+use Rattle.link_cells.specs.Arena.{IsArena, is_used, entries, entry_onto, list_if_used, lists_of, cells_of_head}
 use Rattle.link_cells.proofs.Around.{count_append, count_same, count_here, count_more, total_same, total_one}
 use Rattle.link_cells.proofs.Moves.{Absent, fits_front, count_alone, there_place, ahead_place}
 use Rattle.link_cells.proofs.Kept.{replaced, replaced_here, replaced_other, attached_heads, attached_cells}
 use Rattle.link_cells.proofs.Shown.{map_same, lists_is}
 
 -- links that agree on all words that are there
-same_ring : (w v : CellWords) → ((n : Link) → IsThere w n → links_of v n ≡ links_of w n) → (a : Link) (xs : List ℕ) (b : Link) → IsThere w a → IsThere w b → ((x : ℕ) → 0 < count x xs → x < length w.cells) → Linked w a xs b → Linked v a xs b
+same_ring : (w v : CellWords) → ((n : Link) → HasWord w n → links_of v n ≡ links_of w n) → (a : Link) (xs : List ℕ) (b : Link) → HasWord w a → HasWord w b → ((x : ℕ) → 0 < count x xs → x < length w.cells) → Linked w a xs b → Linked v a xs b
 same_ring w v same a [] b ha hb f l = (ap (λ (k : Links). k.ahead) (same a ha) ∙ l.0, ap (λ (k : Links). k.back) (same b hb) ∙ l.1)
 same_ring w v same a (c ∷ cs) b ha hb f l =
     let here = f c (count_here c cs) in (
@@ -31,11 +31,11 @@ more_cells w = record w { cells = w.cells ++ alone 0 ∷ [] }
 abbrev pub more_heads : CellWords → CellWords
 more_heads w = record w { heads = w.heads ++ alone (length w.heads) ∷ [] }
 
-same_cells : (w : CellWords) (n : Link) → IsThere w n → links_of (more_cells w) n ≡ links_of w n
+same_cells : (w : CellWords) (n : Link) → HasWord w n → links_of (more_cells w) n ≡ links_of w n
 same_cells w (Cell c) h = get_or-append w.cells (alone 0 ∷ []) (alone 0) c h
 same_cells w (Head k) h = refl
 
-same_heads : (w : CellWords) (n : Link) → IsThere w n → links_of (more_heads w) n ≡ links_of w n
+same_heads : (w : CellWords) (n : Link) → HasWord w n → links_of (more_heads w) n ≡ links_of w n
 same_heads w (Cell c) h = refl
 same_heads w (Head k) h = get_or-append w.heads (alone (length w.heads) ∷ []) (alone 0) k h
 
@@ -55,7 +55,7 @@ module _ {T : Type 0} (w : CellWords) (values : List (Option T)) (used : List Bo
   pub one_cells : length one.cells ≡ length w.cells + 1
   one_cells = length-append w.cells (alone 0 ∷ [])
 
-  one_fits : Fits one A.rows
+  one_fits : HasRings one A.rows
   one_fits = record {
     ring = λ h lt. same_ring w one (same_cells w) (Head h) (A.rows h) (Head h) lt lt (λ x there. A.fits.within h x lt there) (A.fits.ring h lt);
     within = λ h x lt there. omega (arith, one_cells, A.fits.within h x lt there);
@@ -68,7 +68,7 @@ module _ {T : Type 0} (w : CellWords) (values : List (Option T)) (used : List Bo
   there_cell : cell < length one.cells
   there_cell = omega (arith, one_cells)
 
-  pub ahead_in : IsThere one (ahead_of one (Head 0))
+  pub ahead_in : HasWord one (ahead_of one (Head 0))
   ahead_in = there_place one A.rows one_fits 0 (ahead_of one (Head 0)) A.some_head (ahead_place one A.rows one_fits 0 A.some_head)
 
   abbrev pub grown : CellWords
@@ -112,15 +112,15 @@ module _ {T : Type 0} (w : CellWords) (values : List (Option T)) (used : List Bo
         let h : 0 < count x (A.rows k) = subst (λ (r : List ℕ). 0 < count x r) (replaced_other A.rows 0 (cell ∷ A.rows 0) k (in_use k on)) there in
         ap is_some (get_or-append values (None ∷ []) None x (omega (arith, A.values_many, A.fits.within k x below h))) ∙ A.full k x below on h
 
-  pub grown_view : lists_of used (values ++ None ∷ []) (row_of grown) (length grown.heads) ≡ lists_of used values (row_of w) (length w.heads)
+  pub grown_view : lists_of used (values ++ None ∷ []) (cells_of_head grown) (length grown.heads) ≡ lists_of used values (cells_of_head w) (length w.heads)
   unfolding grown_arena
   grown_view =
       lists_is grown (values ++ None ∷ []) used free room (spare + 1) grown_arena
       ∙ ap (lists_of used (values ++ None ∷ []) with_cell) grown_heads
-      ∙ map_same (shown used values A.rows) (shown used (values ++ None ∷ []) with_cell) (length w.heads) (λ k below. same k below (is_used used k) refl)
+      ∙ map_same (list_if_used used values A.rows) (list_if_used used (values ++ None ∷ []) with_cell) (length w.heads) (λ k below. same k below (is_used used k) refl)
       ∙ sym (lists_is w values used free room spare A)
     where
-      same : (k : ℕ) → k < length w.heads → (b : Bool) → is_used used k ≡ b → shown used (values ++ None ∷ []) with_cell k ≡ shown used values A.rows k
+      same : (k : ℕ) → k < length w.heads → (b : Bool) → is_used used k ≡ b → list_if_used used (values ++ None ∷ []) with_cell k ≡ list_if_used used values A.rows k
       same k below true is = ap (λ (r : List (CellId × T)). cond (is_used used k) (Some r) None)
           (ap (entries (values ++ None ∷ [])) (replaced_other A.rows 0 (cell ∷ A.rows 0) k (in_use k is)) ∙ entries_more values (A.rows k) (λ x there. omega (arith, A.values_many, A.fits.within k x below there)))
       same k below false is = ap (λ (c : Bool). cond c (Some (entries (values ++ None ∷ []) (with_cell k))) None) is ∙ sym (ap (λ (c : Bool). cond c (Some (entries values (A.rows k))) None) is)
@@ -158,7 +158,7 @@ module _ {T : Type 0} (w : CellWords) (values : List (Option T)) (used : List Bo
   at_head : (k : ℕ) → k < length two.heads → (k < length w.heads) ⊎ (k ≡ head)
   at_head k below = elim (cases_lt k (length w.heads)) [ inl lt ↦ inl lt | inr past ↦ inr (omega (arith, two_heads)) ]
 
-  two_fits : Fits two wider
+  two_fits : HasRings two wider
   two_fits = record {
     ring = λ k below. elim (at_head k below) [
       | inl lt ↦ subst (λ (r : List ℕ). Linked two (Head k) r (Head k)) (sym (wider_k k lt)) (same_ring w two (same_heads w) (Head k) (A.rows k) (Head k) lt lt (λ x there. A.fits.within k x lt there) (A.fits.ring k lt))
@@ -207,18 +207,18 @@ module _ {T : Type 0} (w : CellWords) (values : List (Option T)) (used : List Bo
   }
 
   -- each list is as it was
-  pub wider_view : (h : ℕ) → get_or (lists_of idle values (row_of two) (length two.heads)) h None ≡ get_or (lists_of used values (row_of w) (length w.heads)) h None
+  pub wider_view : (h : ℕ) → get_or (lists_of idle values (cells_of_head two) (length two.heads)) h None ≡ get_or (lists_of used values (cells_of_head w) (length w.heads)) h None
   unfolding wider_arena
   wider_view h = elim (cases_lt h (length two.heads)) [
     | inl below ↦ ap (λ (l : List (Option (List (CellId × T)))). get_or l h None) (lists_is two values idle (free ++ head ∷ []) (suc (length w.heads)) spare (wider_arena (suc (length w.heads)) (omega arith)))
-        ∙ get_or-map-range_with_len (shown idle values wider) 0 (length two.heads) h h None below (omega arith)
+        ∙ get_or-map-range_with_len (list_if_used idle values wider) 0 (length two.heads) h h None below (omega arith)
         ∙ elim (at_head h below) [
           | inl in_w ↦ ap (λ (b : Bool). cond b (Some (entries values (wider h))) None) (idle_at h in_w) ∙ ap (λ (r : List ℕ). cond (is_used used h) (Some (entries values r)) None) (wider_k h in_w)
-              ∙ sym (get_or-map-range_with_len (shown used values A.rows) 0 (length w.heads) h h None in_w (omega arith)) ∙ ap (λ (l : List (Option (List (CellId × T)))). get_or l h None) (sym (lists_is w values used free room spare A))
-          | inr e ↦ subst (λ (n : ℕ). cond (is_used idle n) (Some (entries values (wider n))) None ≡ get_or (lists_of used values (row_of w) (length w.heads)) n None) (sym e)
+              ∙ sym (get_or-map-range_with_len (list_if_used used values A.rows) 0 (length w.heads) h h None in_w (omega arith)) ∙ ap (λ (l : List (Option (List (CellId × T)))). get_or l h None) (sym (lists_is w values used free room spare A))
+          | inr e ↦ subst (λ (n : ℕ). cond (is_used idle n) (Some (entries values (wider n))) None ≡ get_or (lists_of used values (cells_of_head w) (length w.heads)) n None) (sym e)
               (ap (λ (b : Bool). cond b (Some (entries values (wider head))) None) idle_here
-              ∙ sym (get_or-eq_default (lists_of used values (row_of w) (length w.heads)) None {n = head} (omega (arith, length-map-range_with_len (shown used values (row_of w)) 0 (length w.heads)))))
+              ∙ sym (get_or-eq_default (lists_of used values (cells_of_head w) (length w.heads)) None {n = head} (omega (arith, length-map-range_with_len (list_if_used used values (cells_of_head w)) 0 (length w.heads)))))
         ]
-    | inr past ↦ get_or-eq_default (lists_of idle values (row_of two) (length two.heads)) None {n = h} (omega (arith, length-map-range_with_len (shown idle values (row_of two)) 0 (length two.heads)))
-        ∙ sym (get_or-eq_default (lists_of used values (row_of w) (length w.heads)) None {n = h} (omega (arith, two_heads, length-map-range_with_len (shown used values (row_of w)) 0 (length w.heads))))
+    | inr past ↦ get_or-eq_default (lists_of idle values (cells_of_head two) (length two.heads)) None {n = h} (omega (arith, length-map-range_with_len (list_if_used idle values (cells_of_head two)) 0 (length two.heads)))
+        ∙ sym (get_or-eq_default (lists_of used values (cells_of_head w) (length w.heads)) None {n = h} (omega (arith, two_heads, length-map-range_with_len (list_if_used used values (cells_of_head w)) 0 (length w.heads))))
   ]

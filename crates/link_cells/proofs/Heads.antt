@@ -4,7 +4,7 @@ use Rattle.std.proofs.lemmas.Bool.{cases_eq, cases_Bool}
 use Rattle.std.proofs.lemmas.List.{length-set}
 use Rattle.std.proofs.lemmas.List.FromFn.{get_or-map-range_with_len}
 use Rattle.link_cells.specs.Rings.{CellWords, count, total}
-use Rattle.link_cells.specs.Arena.{IsArena, is_used, entries, shown, lists_of, row_of}
+use Rattle.link_cells.specs.Arena.{IsArena, is_used, entries, list_if_used, lists_of, cells_of_head}
 use Rattle.link_cells.proofs.Around.{count_append, count_same, count_here, count_more, total_one}
 use Rattle.link_cells.proofs.Moves.{count_alone}
 use Rattle.link_cells.proofs.Shown.{map_set, entries_cons, Full, found, row_is}
@@ -100,13 +100,13 @@ module _ {T : Type 0} (w : CellWords) (values : List (Option T)) (used : List Bo
       has_room = A.has_room;
     }
 
-    pub taken_view : lists_of on values (row_of w) (length w.heads) ≡ set (lists_of used values (row_of w) (length w.heads)) h (Some [])
-    taken_view = map_set (shown used values (row_of w)) (shown on values (row_of w)) h (length w.heads) (Some []) head_is
-        (ap (λ (b : Bool). cond b (Some (entries values (row_of w h))) None) used_here ∙ ap (λ (r : List ℕ). Some (entries values r)) (row_is w values used free room spare A h head_is ∙ A.empty h head_some head_is head_off))
-        (λ k below ne. ap (λ (b : Bool). cond b (Some (entries values (row_of w k))) None) (used_at k ne))
+    pub taken_view : lists_of on values (cells_of_head w) (length w.heads) ≡ set (lists_of used values (cells_of_head w) (length w.heads)) h (Some [])
+    taken_view = map_set (list_if_used used values (cells_of_head w)) (list_if_used on values (cells_of_head w)) h (length w.heads) (Some []) head_is
+        (ap (λ (b : Bool). cond b (Some (entries values (cells_of_head w h))) None) used_here ∙ ap (λ (r : List ℕ). Some (entries values r)) (row_is w values used free room spare A h head_is ∙ A.empty h head_some head_is head_off))
+        (λ k below ne. ap (λ (b : Bool). cond b (Some (entries values (cells_of_head w k))) None) (used_at k ne))
 
-    pub taken_was : get_or (lists_of used values (row_of w) (length w.heads)) h None ≡ None
-    taken_was = get_or-map-range_with_len (shown used values (row_of w)) 0 (length w.heads) h h None head_is (omega arith) ∙ ap (λ (b : Bool). cond b (Some (entries values (row_of w h))) None) head_off
+    pub taken_was : get_or (lists_of used values (cells_of_head w) (length w.heads)) h None ≡ None
+    taken_was = get_or-map-range_with_len (list_if_used used values (cells_of_head w)) 0 (length w.heads) h h None head_is (omega arith) ∙ ap (λ (b : Bool). cond b (Some (entries values (cells_of_head w h))) None) head_off
 
   value_some : (o : Option T) → is_some o ≡ true → (v : T) × (o ≡ Some v)
   value_some None h = absurd cc
@@ -117,7 +117,7 @@ module _ {T : Type 0} (w : CellWords) (values : List (Option T)) (used : List Bo
   no_entries (c ∷ cs) full e = let v = value_some (get_or values c None) (full c (count_here c cs)) in let g = sym (entries_cons values c cs v.0 v.1) ∙ e in absurd cc
 
   -- a head in use whose list is empty
-  module _ (h : ℕ) (e : get_or (lists_of used values (row_of w) (length w.heads)) h None ≡ Some []) where
+  module _ (h : ℕ) (e : get_or (lists_of used values (cells_of_head w) (length w.heads)) h None ≡ Some []) where
     pub given_is : (0 < h) × (h < length w.heads) × (is_used used h ≡ true) × (entries values (A.rows h) ≡ [])
     given_is = found w values used free room spare A h [] e
 
@@ -159,7 +159,7 @@ module _ {T : Type 0} (w : CellWords) (values : List (Option T)) (used : List Bo
       has_room = omega (arith, A.has_room);
     }
 
-    pub given_view : lists_of off values (row_of w) (length w.heads) ≡ set (lists_of used values (row_of w) (length w.heads)) h None
-    given_view = map_set (shown used values (row_of w)) (shown off values (row_of w)) h (length w.heads) None given_is.1
-        (ap (λ (b : Bool). cond b (Some (entries values (row_of w h))) None) off_here)
-        (λ k below ne. ap (λ (b : Bool). cond b (Some (entries values (row_of w k))) None) (off_at k ne))
+    pub given_view : lists_of off values (cells_of_head w) (length w.heads) ≡ set (lists_of used values (cells_of_head w) (length w.heads)) h None
+    given_view = map_set (list_if_used used values (cells_of_head w)) (list_if_used off values (cells_of_head w)) h (length w.heads) None given_is.1
+        (ap (λ (b : Bool). cond b (Some (entries values (cells_of_head w h))) None) off_here)
+        (λ k below ne. ap (λ (b : Bool). cond b (Some (entries values (cells_of_head w k))) None) (off_at k ne))

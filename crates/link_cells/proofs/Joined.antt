@@ -4,7 +4,7 @@ use Rattle.std.proofs.lemmas.Bool.{cases_eq, ne_eqb}
 use Rattle.link_cells.specs.declared.link.Link.{Link}
 use Rattle.link_cells.specs.declared.link.Link.TheVariants.{Cell, Head}
 use Rattle.link_cells.specs.declared.link.Links.{Links}
-use Rattle.link_cells.specs.Rings.{CellWords, alone, links_of, ahead_of, back_of, IsThere, Linked, count, total, Fits, put_ahead, put_back, joined}
+use Rattle.link_cells.specs.Rings.{CellWords, alone, links_of, ahead_of, back_of, HasWord, Linked, count, total, HasRings, put_ahead, put_back, spliced}
 use Rattle.link_cells.proofs.Store.{Changed, Turned, turned, there_put, put_alone}
 use Rattle.link_cells.proofs.Around.{count_append, two_le, total_one, frame, last_of, relink_end, relink_start}
 use Rattle.link_cells.proofs.Moves.{append_rest, row_once, off_head, off_cell, there_place, other_ring, back_place, ahead_place, two_heads, two_cells, heads_put, cells_put, cell_of, head_of, cell_head, head_cell}
@@ -22,13 +22,13 @@ total_moved f g from to m ne ltf ltt there none others =
     ]) in
     omega arith
 
-there_two : (w : CellWords) (n m x y at : Link) → IsThere w at → IsThere (put_back (put_ahead w n x) m y) at
+there_two : (w : CellWords) (n m x y at : Link) → HasWord w at → HasWord (put_back (put_ahead w n x) m y) at
 there_two w n m x y at h = there_put (put_ahead w n x) m (record { back = y; ahead = ahead_of (put_ahead w n x) m }) at (there_put w n (record { back = back_of w n; ahead = x }) at h)
 
 last_cell : (w : CellWords) (a : Link) (c : ℕ) (cs : List ℕ) (b : Link) → Linked w a (c ∷ cs) b → (h : ℕ) → Head h ≡ back_of w b → ⊥
 last_cell w a c cs b l h e = elim (last_of w (Cell c) cs b l.2) [ inl s ↦ head_cell h c (e ∙ s) | inr m ↦ head_cell h m.0 (e ∙ m.2) ]
 
-module _ (w : CellWords) (rows : ℕ → List ℕ) (fits : Fits w rows) (from to : ℕ) (ne : from ≡ to → ⊥) (ltf : from < length w.heads) (ltt : to < length w.heads)
+module _ (w : CellWords) (rows : ℕ → List ℕ) (fits : HasRings w rows) (from to : ℕ) (ne : from ≡ to → ⊥) (ltf : from < length w.heads) (ltt : to < length w.heads)
     (c : ℕ) (cs : List ℕ) (is : rows from ≡ c ∷ cs) where
   abbrev z : Link
   z = Cell (length w.cells)
@@ -88,48 +88,48 @@ module _ (w : CellWords) (rows : ℕ → List ℕ) (fits : Fits w rows) (from to
       (sym (turn_one.changed.ahead (Head from) (last_cell w (Head from) c cs (Head from) ringf from) (head_cell from (length w.cells))))
       (head_cell to (length w.cells)) (λ x e. head_cell to x e) (λ x here. (cell_head x to, in_both x here)) both_once chained
 
-  there_from : IsThere two (Head from)
+  there_from : HasWord two (Head from)
   there_from = there_two one (Head to) first first (Head to) (Head from) (there_two w last front front last (Head from) ltf)
 
-  ended : Changed two (joined w from to) (Head from) (Head from) z × (links_of (joined w from to) (Head from) ≡ alone from)
+  ended : Changed two (spliced w from to) (Head from) (Head from) z × (links_of (spliced w from to) (Head from) ≡ alone from)
   ended = put_alone two from z there_from
 
-  joined_ring : Linked (joined w from to) (Head to) (rows from ++ rows to) (Head to)
+  joined_ring : Linked (spliced w from to) (Head to) (rows from ++ rows to) (Head to)
   joined_ring =
       let apart : Head to ≡ Head from → ⊥ = λ e. ne (sym (head_of to from e)) in
-      frame two (joined w from to) (Head from) (Head from) z ended.0 (Head to) (rows from ++ rows to) (Head to) apart (head_cell to (length w.cells)) apart (head_cell to (length w.cells))
+      frame two (spliced w from to) (Head from) (Head from) z ended.0 (Head to) (rows from ++ rows to) (Head to) apart (head_cell to (length w.cells)) apart (head_cell to (length w.cells))
       (λ x here. (cell_head x from, cell_head x from, in_both x here)) joined_two
 
-  from_ring : Linked (joined w from to) (Head from) [] (Head from)
+  from_ring : Linked (spliced w from to) (Head from) [] (Head from)
   from_ring = (ap (λ (l : Links). l.ahead) ended.1, ap (λ (l : Links). l.back) ended.1)
 
-  rest_ring : (k : ℕ) → k < length w.heads → (k ≡ from → ⊥) → (k ≡ to → ⊥) → Linked (joined w from to) (Head k) (rows k) (Head k)
+  rest_ring : (k : ℕ) → k < length w.heads → (k ≡ from → ⊥) → (k ≡ to → ⊥) → Linked (spliced w from to) (Head k) (rows k) (Head k)
   rest_ring k lt nf nt =
       let zk = head_cell k (length w.cells) in
       let r1 = other_ring w rows fits one from to k last front z turn_one.changed nf nt ltf ltt lt (back_place w rows fits from ltf) (ahead_place w rows fits to ltt) zk (λ x here. not_z k x lt here) in
       let r2 = frame one two (Head to) first z turn_two.changed (Head k) (rows k) (Head k) (λ e. nt (head_of k to e)) zk (off_head w rows fits from k first nf (ahead_place w rows fits from ltf)) zk
       (λ x here. (cell_head x to, off_cell w rows fits from k x first nf ltf lt here (ahead_place w rows fits from ltf), not_z k x lt here)) r1 in
-      frame two (joined w from to) (Head from) (Head from) z ended.0 (Head k) (rows k) (Head k) (λ e. nf (head_of k from e)) zk (λ e. nf (head_of k from e)) zk
+      frame two (spliced w from to) (Head from) (Head from) z ended.0 (Head k) (rows k) (Head k) (λ e. nf (head_of k from e)) zk (λ e. nf (head_of k from e)) zk
       (λ x here. (cell_head x from, cell_head x from, not_z k x lt here)) r2
 
-  pub joined_heads : length (joined w from to).heads ≡ length w.heads
+  pub joined_heads : length (spliced w from to).heads ≡ length w.heads
   joined_heads = heads_put two (Head from) (alone from) ∙ two_heads one (Head to) first first (Head to) ∙ two_heads w last front front last
 
-  pub joined_cells : length (joined w from to).cells ≡ length w.cells
+  pub joined_cells : length (spliced w from to).cells ≡ length w.cells
   joined_cells = cells_put two (Head from) (alone from) ∙ two_cells one (Head to) first first (Head to) ∙ two_cells w last front front last
 
-  pub last_there : IsThere w last
+  pub last_there : HasWord w last
   last_there = there_place w rows fits from last ltf (back_place w rows fits from ltf)
 
-  pub first_there : IsThere w first
+  pub first_there : HasWord w first
   first_there = there_place w rows fits from first ltf (ahead_place w rows fits from ltf)
 
-  pub front_there : IsThere w front
+  pub front_there : HasWord w front
   front_there = there_place w rows fits to front ltt (ahead_place w rows fits to ltt)
 
-  pub fits_join : (next : ℕ → List ℕ) → next to ≡ rows from ++ rows to → next from ≡ [] → ((k : ℕ) → (k ≡ from → ⊥) → (k ≡ to → ⊥) → next k ≡ rows k) → Fits (joined w from to) next
+  pub fits_join : (next : ℕ → List ℕ) → next to ≡ rows from ++ rows to → next from ≡ [] → ((k : ℕ) → (k ≡ from → ⊥) → (k ≡ to → ⊥) → next k ≡ rows k) → HasRings (spliced w from to) next
   fits_join next now none same =
-      let v = joined w from to in
+      let v = spliced w from to in
       record {
         ring = λ k below. elim (cases_eq k from) [
           | inl e ↦ subst (λ (n : ℕ). Linked v (Head n) (next n) (Head n)) (sym e) (subst (λ (r : List ℕ). Linked v (Head from) r (Head from)) (sym none) from_ring)

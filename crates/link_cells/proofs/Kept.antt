@@ -3,7 +3,7 @@ use Rattle.std.proofs.Common.{◌≡◌, ℕ, ◌<◌, ◌+◌, inl, inr, refl, 
 use Rattle.std.proofs.lemmas.Bool.{cases_eq, ne_eqb}
 use Rattle.link_cells.specs.declared.link.Link.{Link}
 use Rattle.link_cells.specs.declared.link.Link.TheVariants.{Cell, Head}
-use Rattle.link_cells.specs.Rings.{CellWords, ahead_of, back_of, count, total, Fits, put, detached, attached, moved_front, moved_back, CanMove}
+use Rattle.link_cells.specs.Rings.{CellWords, ahead_of, back_of, count, total, HasRings, put, detached, attached, moved_front, moved_back, CanMove}
 use Rattle.link_cells.proofs.Around.{count_append, count_same, total_one}
 use Rattle.link_cells.proofs.Moves.{Absent, row_once, there_place, back_place, ahead_place, apart, fits_detach, fits_front, fits_back, back_there, ahead_there, two_heads, two_cells, heads_put, cells_put}
 
@@ -43,11 +43,11 @@ pub replaced_other : (rows : ℕ → List ℕ) (h : ℕ) (row : List ℕ) (k : �
 unfolding replaced
 replaced_other rows h row k ne = rw (ne_eqb k h ne) refl
 
-module _ (w : CellWords) (rows : ℕ → List ℕ) (fits : Fits w rows) (g h c : ℕ) (xs ys : List ℕ) (ltg : g < length w.heads) (lth : h < length w.heads) (ne : g ≡ h → ⊥) (is : rows g ≡ xs ++ c ∷ ys) where
+module _ (w : CellWords) (rows : ℕ → List ℕ) (fits : HasRings w rows) (g h c : ℕ) (xs ys : List ℕ) (ltg : g < length w.heads) (lth : h < length w.heads) (ne : g ≡ h → ⊥) (is : rows g ≡ xs ++ c ∷ ys) where
   abbrev pub taken : ℕ → List ℕ
   taken = replaced rows g (xs ++ ys)
 
-  taken_fits : Fits (detached w c) taken
+  taken_fits : HasRings (detached w c) taken
   taken_fits = fits_detach w rows fits g c xs ys ltg is taken (replaced_here rows g (xs ++ ys)) (λ k other. replaced_other rows g (xs ++ ys) k other)
 
   taken_other : taken h ≡ rows h
@@ -96,11 +96,11 @@ module _ (w : CellWords) (rows : ℕ → List ℕ) (fits : Fits w rows) (g h c :
   pub moved_k : (row : List ℕ) (k : ℕ) → (k ≡ g → ⊥) → (k ≡ h → ⊥) → moved row k ≡ rows k
   moved_k row k ng nh = replaced_other taken h row k nh ∙ replaced_other rows g (xs ++ ys) k ng
 
-  pub front_fits : Fits (moved_front w c h) (moved (c ∷ rows h))
+  pub front_fits : HasRings (moved_front w c h) (moved (c ∷ rows h))
   front_fits = fits_front (detached w c) taken taken_fits h c lthd (rw (detached_cells w c) cell_there) absent (moved (c ∷ rows h))
       (moved_h (c ∷ rows h) ∙ ap (λ (r : List ℕ). c ∷ r) (sym taken_other)) (λ k other. replaced_other taken h (c ∷ rows h) k other)
 
-  pub back_fits : Fits (moved_back w c h) (moved (rows h ++ c ∷ []))
+  pub back_fits : HasRings (moved_back w c h) (moved (rows h ++ c ∷ []))
   back_fits = fits_back (detached w c) taken taken_fits h c lthd (rw (detached_cells w c) cell_there) absent (moved (rows h ++ c ∷ []))
       (moved_h (rows h ++ c ∷ []) ∙ ap (λ (r : List ℕ). r ++ c ∷ []) (sym taken_other)) (λ k other. replaced_other taken h (rows h ++ c ∷ []) k other)
 

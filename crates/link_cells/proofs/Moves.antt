@@ -5,7 +5,7 @@ use Rattle.std.proofs.lemmas.List.{append-nil, length-set}
 use Rattle.link_cells.specs.declared.link.Link.{Link}
 use Rattle.link_cells.specs.declared.link.Link.TheVariants.{Cell, Head}
 use Rattle.link_cells.specs.declared.link.Links.{Links}
-use Rattle.link_cells.specs.Rings.{CellWords, ahead_of, back_of, IsThere, Linked, count, total, Fits, put, put_ahead, put_back, detached, attached}
+use Rattle.link_cells.specs.Rings.{CellWords, ahead_of, back_of, HasWord, Linked, count, total, HasRings, put, put_ahead, put_back, detached, attached}
 use Rattle.link_cells.proofs.Store.{Changed, Turned, turned, between}
 use Rattle.link_cells.proofs.Around.{count_append, count_same, count_here, count_more, total_le, one_le, two_le, total_one, split, join, frame, last_of, first_of, relink_end, relink_start}
 
@@ -40,16 +40,16 @@ append_rest w v p q z ch a s xs (c ∷ cs) b is front bz head f one l =
     again : (x : ℕ) → 0 < count x cs → x ≡ c → ⊥
     again x h e = let P : ℕ → Type 0 = λ y. 0 < count y cs in let g : 0 < count c cs = subst P e h in absurd (omega (arith, one c, count_same c cs))
 
-module _ (w : CellWords) (rows : ℕ → List ℕ) (fits : Fits w rows) where
+module _ (w : CellWords) (rows : ℕ → List ℕ) (fits : HasRings w rows) where
   pub row_once : (h x : ℕ) → h < length w.heads → count x (rows h) ≤ 1
   row_once h x lt = omega (arith, one_le (λ n. count x (rows n)) h (length w.heads) lt, fits.once x)
 
   pub apart : (h k x : ℕ) → (h ≡ k → ⊥) → h < length w.heads → k < length w.heads → 0 < count x (rows h) → 0 < count x (rows k) → ⊥
   apart h k x ne lt ltk a b = absurd (omega (arith, two_le (λ n. count x (rows n)) h k (length w.heads) ne lt ltk, fits.once x))
 
-  pub there_place : (h : ℕ) (n : Link) → h < length w.heads → PlaceIn h (rows h) n → IsThere w n
-  there_place h n lt (inl e) = subst (λ (m : Link). IsThere w m) (sym e) lt
-  there_place h n lt (inr m) = subst (λ (m : Link). IsThere w m) (sym m.2) (fits.within h m.0 lt m.1)
+  pub there_place : (h : ℕ) (n : Link) → h < length w.heads → PlaceIn h (rows h) n → HasWord w n
+  there_place h n lt (inl e) = subst (λ (m : Link). HasWord w m) (sym e) lt
+  there_place h n lt (inr m) = subst (λ (m : Link). HasWord w m) (sym m.2) (fits.within h m.0 lt m.1)
 
   pub off_head : (h k : ℕ) (n : Link) → (k ≡ h → ⊥) → PlaceIn h (rows h) n → Head k ≡ n → ⊥
   off_head h k n ne (inl e) g = ne (head_of k h (g ∙ e))
@@ -100,7 +100,7 @@ not_among h c xs n none (inr m) g =
     let P : ℕ → Type 0 = λ y. 0 < count y xs in
     let here : 0 < count c xs = subst P (sym same) m.1 in absurd (omega arith)
 
-module _ (w : CellWords) (rows : ℕ → List ℕ) (fits : Fits w rows) (h c : ℕ) (xs ys : List ℕ) (lt : h < length w.heads) (is : rows h ≡ xs ++ c ∷ ys) where
+module _ (w : CellWords) (rows : ℕ → List ℕ) (fits : HasRings w rows) (h c : ℕ) (xs ys : List ℕ) (lt : h < length w.heads) (is : rows h ≡ xs ++ c ∷ ys) where
   whole : (x : ℕ) → count x xs + count x (c ∷ ys) ≤ 1
   whole x = omega (arith, row_once w rows fits h x lt, ap (count x) is, count_append x xs (c ∷ ys))
 
@@ -113,10 +113,10 @@ module _ (w : CellWords) (rows : ℕ → List ℕ) (fits : Fits w rows) (h c : �
   ahead_here : PlaceIn h (rows h) (ahead_of w (Cell c))
   ahead_here = widen h ys (rows h) (ahead_of w (Cell c)) (λ x. omega (arith, ap (count x) is, behind x c xs ys)) (cell_ahead w rows fits h c xs ys lt is)
 
-  pub back_there : IsThere w (back_of w (Cell c))
+  pub back_there : HasWord w (back_of w (Cell c))
   back_there = there_place w rows fits h (back_of w (Cell c)) lt back_here
 
-  pub ahead_there : IsThere w (ahead_of w (Cell c))
+  pub ahead_there : HasWord w (ahead_of w (Cell c))
   ahead_there = there_place w rows fits h (ahead_of w (Cell c)) lt ahead_here
 
   turn : Turned w (detached w c) (back_of w (Cell c)) (ahead_of w (Cell c)) (Cell c)
@@ -162,8 +162,8 @@ abbrev pub SameBut : ℕ → (ℕ → List ℕ) → (ℕ → List ℕ) → Type 
 SameBut h rows next = (k : ℕ) → (k ≡ h → ⊥) → next k ≡ rows k
 
 -- a cell is taken out of its row
-pub fits_detach : (w : CellWords) (rows : ℕ → List ℕ) → Fits w rows → (h c : ℕ) (xs ys : List ℕ) → h < length w.heads → rows h ≡ xs ++ c ∷ ys
-    → (next : ℕ → List ℕ) → next h ≡ xs ++ ys → SameBut h rows next → Fits (detached w c) next
+pub fits_detach : (w : CellWords) (rows : ℕ → List ℕ) → HasRings w rows → (h c : ℕ) (xs ys : List ℕ) → h < length w.heads → rows h ≡ xs ++ c ∷ ys
+    → (next : ℕ → List ℕ) → next h ≡ xs ++ ys → SameBut h rows next → HasRings (detached w c) next
 fits_detach w rows fits h c xs ys lt is next now same =
     let p = back_of w (Cell c) in
     let q = ahead_of w (Cell c) in
@@ -202,7 +202,7 @@ pub count_alone : (x c : ℕ) → (x ≡ c → ⊥) → count x (c ∷ []) ≡ 0
 count_alone x c ne = elim (cases_eq c x) [ inl e ↦ absurd (ne (sym e)) | inr other ↦ rw (ne_eqb c x other) refl ]
 
 -- one cell more in one row
-once_more : (w : CellWords) (rows : ℕ → List ℕ) → Fits w rows → (h c : ℕ) → h < length w.heads → Absent w rows c
+once_more : (w : CellWords) (rows : ℕ → List ℕ) → HasRings w rows → (h c : ℕ) → h < length w.heads → Absent w rows c
     → (next : ℕ → List ℕ) → ((x : ℕ) → count x (next h) ≡ count x (rows h) + count x (c ∷ [])) → SameBut h rows next → (x : ℕ) → total (λ k. count x (next k)) (length w.heads) ≤ 1
 once_more w rows fits h c lt absent next more same x =
     let t = total_one (λ k. count x (rows k)) (λ k. count x (next k)) h (length w.heads) lt (λ k ne. ap (count x) (same k ne)) in
@@ -213,7 +213,7 @@ once_more w rows fits h c lt absent next more same x =
       | inr ne ↦ omega (arith, more x, count_alone x c ne, fits.once x)
     ]
 
-module _ (w : CellWords) (rows : ℕ → List ℕ) (fits : Fits w rows) (h c : ℕ) (lt : h < length w.heads) (there : c < length w.cells) (absent : Absent w rows c) where
+module _ (w : CellWords) (rows : ℕ → List ℕ) (fits : HasRings w rows) (h c : ℕ) (lt : h < length w.heads) (there : c < length w.cells) (absent : Absent w rows c) where
   off : (n : Link) → PlaceIn h (rows h) n → Cell c ≡ n → ⊥
   off n place = not_among h c (rows h) n (absent h lt) place
 
@@ -222,7 +222,7 @@ module _ (w : CellWords) (rows : ℕ → List ℕ) (fits : Fits w rows) (h c : �
 
   -- with the links of its own row right, all rows fit
   fits_more : (p q : Link) → PlaceIn h (rows h) p → PlaceIn h (rows h) q → (next : ℕ → List ℕ) → SameBut h rows next
-      → ((x : ℕ) → count x (next h) ≡ count x (rows h) + count x (c ∷ [])) → Linked (attached w c p q) (Head h) (next h) (Head h) → Fits (attached w c p q) next
+      → ((x : ℕ) → count x (next h) ≡ count x (rows h) + count x (c ∷ [])) → Linked (attached w c p q) (Head h) (next h) (Head h) → HasRings (attached w c p q) next
   fits_more p q hp hq next same more own =
       let v = attached w c p q in
       let u = put w (Cell c) (record { back = p; ahead = q }) in
@@ -248,7 +248,7 @@ module _ (w : CellWords) (rows : ℕ → List ℕ) (fits : Fits w rows) (h c : �
         | inr ne ↦ fits.within k x below (omega (arith, ap (count x) (same k ne)))
       ]
 
-  pub fits_front : (next : ℕ → List ℕ) → next h ≡ c ∷ rows h → SameBut h rows next → Fits (attached w c (Head h) (ahead_of w (Head h))) next
+  pub fits_front : (next : ℕ → List ℕ) → next h ≡ c ∷ rows h → SameBut h rows next → HasRings (attached w c (Head h) (ahead_of w (Head h))) next
   fits_front next now same =
       let q = ahead_of w (Head h) in
       let hq = ahead_place w rows fits h lt in
@@ -262,7 +262,7 @@ module _ (w : CellWords) (rows : ℕ → List ℕ) (fits : Fits w rows) (h c : �
             (λ x here. (cell_head x h, not_it h x lt here)) (λ x. row_once w rows fits h x lt) (fits.ring h lt),
       ))
 
-  pub fits_back : (next : ℕ → List ℕ) → next h ≡ rows h ++ c ∷ [] → SameBut h rows next → Fits (attached w c (back_of w (Head h)) (Head h)) next
+  pub fits_back : (next : ℕ → List ℕ) → next h ≡ rows h ++ c ∷ [] → SameBut h rows next → HasRings (attached w c (back_of w (Head h)) (Head h)) next
   fits_back next now same =
       let p = back_of w (Head h) in
       let hp = back_place w rows fits h lt in

@@ -9,7 +9,7 @@ use Rattle.link_cells.specs.declared.link.Link.{Link}
 use Rattle.link_cells.specs.declared.link.Link.TheVariants.{Cell, Head}
 use Rattle.link_cells.specs.declared.id.CellId.{CellId}
 use Rattle.link_cells.specs.Rings.{CellWords, ahead_of, back_of, Linked, count}
-use Rattle.link_cells.specs.Arena.{walk, row_of, entries, entry_onto, is_used, shown, lists_of, IsArena, first_name, last_name, named}
+use Rattle.link_cells.specs.Arena.{walk, cells_of_head, entries, entry_onto, is_used, list_if_used, lists_of, IsArena, first_name, last_name, named}
 use Rattle.link_cells.proofs.Around.{count_same, count_here, count_more, one_le}
 
 walk_head : (w : CellWords) (n h : ℕ) → walk w n (Head h) ≡ []
@@ -124,19 +124,19 @@ module _ {T : Type 0} where
       last_behind w values d val.0 ds b (λ x here. full x (omega (arith, count_more x d ds))) l.2 ∙ sym (ap last_name (entries_cons values d ds val.0 val.1))
 
 module _ {T : Type 0} (w : CellWords) (values : List (Option T)) (used : List Bool) (free : List ℕ) (room spare : ℕ) (A : IsArena w values used free room spare) where
-  pub row_is : (h : ℕ) → h < length w.heads → row_of w h ≡ A.rows h
+  pub row_is : (h : ℕ) → h < length w.heads → cells_of_head w h ≡ A.rows h
   row_is h lt = walk_linked w (length w.cells) (Head h) (A.rows h) h (A.fits.ring h lt) (omega (arith, one_le (λ n. length (A.rows n)) h (length w.heads) lt, A.sum))
 
-  pub lists_is : lists_of used values (row_of w) (length w.heads) ≡ lists_of used values A.rows (length w.heads)
-  lists_is = map_same (shown used values A.rows) (shown used values (row_of w)) (length w.heads) (λ k below. ap (λ (r : List ℕ). cond (is_used used k) (Some (entries values r)) None) (row_is k below))
+  pub lists_is : lists_of used values (cells_of_head w) (length w.heads) ≡ lists_of used values A.rows (length w.heads)
+  lists_is = map_same (list_if_used used values A.rows) (list_if_used used values (cells_of_head w)) (length w.heads) (λ k below. ap (λ (r : List ℕ). cond (is_used used k) (Some (entries values r)) None) (row_is k below))
 
   -- what a list that is found tells
-  pub found : (h : ℕ) (list : List (CellId × T)) → get_or (lists_of used values (row_of w) (length w.heads)) h None ≡ Some list
+  pub found : (h : ℕ) (list : List (CellId × T)) → get_or (lists_of used values (cells_of_head w) (length w.heads)) h None ≡ Some list
       → (0 < h) × (h < length w.heads) × (is_used used h ≡ true) × (entries values (A.rows h) ≡ list)
   found h list e =
       elim (cases_lt h (length w.heads)) [
-        | inl lt ↦ within lt (is_used used h) refl (sym (get_or-map-range_with_len (shown used values A.rows) 0 (length w.heads) h h None lt (omega arith)) ∙ ap (λ (l : List (Option (List (CellId × T)))). get_or l h None) (sym lists_is) ∙ e)
-        | inr past ↦ absurd (let none = sym (get_or-eq_default (lists_of used values (row_of w) (length w.heads)) None {n = h} (omega (arith, length-map-range_with_len (shown used values (row_of w)) 0 (length w.heads)))) ∙ e in cc)
+        | inl lt ↦ within lt (is_used used h) refl (sym (get_or-map-range_with_len (list_if_used used values A.rows) 0 (length w.heads) h h None lt (omega arith)) ∙ ap (λ (l : List (Option (List (CellId × T)))). get_or l h None) (sym lists_is) ∙ e)
+        | inr past ↦ absurd (let none = sym (get_or-eq_default (lists_of used values (cells_of_head w) (length w.heads)) None {n = h} (omega (arith, length-map-range_with_len (list_if_used used values (cells_of_head w)) 0 (length w.heads)))) ∙ e in cc)
       ]
     where
       within : h < length w.heads → (b : Bool) → is_used used h ≡ b → cond b (Some (entries values (A.rows h))) None ≡ Some list → (0 < h) × (h < length w.heads) × (is_used used h ≡ true) × (entries values (A.rows h) ≡ list)
@@ -152,7 +152,7 @@ module _ {T : Type 0} (w : CellWords) (values : List (Option T)) (used : List Bo
   full_of h lt is c here = A.full h c lt is here
 
   -- where a cell in use stands
-  pub stands : (h : ℕ) (front : List (CellId × T)) (id : CellId) (v : T) (back : List (CellId × T)) → get_or (lists_of used values (row_of w) (length w.heads)) h None ≡ Some (front ++ (id, v) ∷ back)
+  pub stands : (h : ℕ) (front : List (CellId × T)) (id : CellId) (v : T) (back : List (CellId × T)) → get_or (lists_of used values (cells_of_head w) (length w.heads)) h None ≡ Some (front ++ (id, v) ∷ back)
       → (0 < h) × (h < length w.heads) × (is_used used h ≡ true) × (xs : List ℕ) × (ys : List ℕ) × (A.rows h ≡ xs ++ id.cell ∷ ys) × (entries values xs ≡ front) × (entries values ys ≡ back) × (get_or values id.cell None ≡ Some v)
   stands h front id v back e =
       let f = found h (front ++ (id, v) ∷ back) e in

@@ -5,8 +5,8 @@ use Rattle.std.proofs.lemmas.List.{length-set, ext_get_or}
 use Rattle.std.proofs.lemmas.List.FromFn.{length-map-range_with_len}
 use Rattle.link_cells.specs.declared.link.Link.TheVariants.{Cell, Head}
 use Rattle.link_cells.specs.declared.id.CellId.{CellId}
-use Rattle.link_cells.specs.Rings.{CellWords, ahead_of, Linked, count, joined}
-use Rattle.link_cells.specs.Arena.{IsArena, is_used, entries, shown, lists_of, row_of}
+use Rattle.link_cells.specs.Rings.{CellWords, ahead_of, Linked, count, spliced}
+use Rattle.link_cells.specs.Arena.{IsArena, is_used, entries, list_if_used, lists_of, cells_of_head}
 use Rattle.link_cells.proofs.Around.{count_append}
 use Rattle.link_cells.proofs.Joined.{fits_join, total_moved, joined_heads, joined_cells}
 use Rattle.link_cells.proofs.Kept.{replaced, replaced_here, replaced_other}
@@ -32,7 +32,7 @@ row_none w h k (d ∷ ds) l e = absurd (let g = sym l.0 ∙ e in cc)
 
 module _ {T : Type 0} (w : CellWords) (values : List (Option T)) (used : List Bool) (free : List ℕ) (room spare : ℕ) (A : IsArena w values used free room spare)
     (from to : ℕ) (ne : from ≡ to → ⊥) (xs ys : List (CellId × T))
-    (ef : get_or (lists_of used values (row_of w) (length w.heads)) from None ≡ Some xs) (et : get_or (lists_of used values (row_of w) (length w.heads)) to None ≡ Some ys) where
+    (ef : get_or (lists_of used values (cells_of_head w) (length w.heads)) from None ≡ Some xs) (et : get_or (lists_of used values (cells_of_head w) (length w.heads)) to None ≡ Some ys) where
   pub of_from : (0 < from) × (from < length w.heads) × (is_used used from ≡ true) × (entries values (A.rows from) ≡ xs)
   of_from = found w values used free room spare A from xs ef
 
@@ -40,13 +40,13 @@ module _ {T : Type 0} (w : CellWords) (values : List (Option T)) (used : List Bo
   of_to = found w values used free room spare A to ys et
 
   abbrev lists : List (Option (List (CellId × T)))
-  lists = lists_of used values (row_of w) (length w.heads)
+  lists = lists_of used values (cells_of_head w) (length w.heads)
 
   -- nothing to move
   pub spliced_none : A.rows from ≡ [] → lists ≡ set (set lists from (Some [])) to (Some (xs ++ ys))
   spliced_none none =
       let nothing : xs ≡ [] = sym of_from.3 ∙ ap (entries values) none in
-      let long : length lists ≡ length w.heads = length-map-range_with_len (shown used values (row_of w)) 0 (length w.heads) in
+      let long : length lists ≡ length w.heads = length-map-range_with_len (list_if_used used values (cells_of_head w)) 0 (length w.heads) in
       let same : set lists from (Some []) ≡ lists = set_same lists from (Some []) None (omega (arith, of_from.1)) (ef ∙ ap (λ (r : List (CellId × T)). Some r) nothing) in
       sym (ap (λ (l : List (Option (List (CellId × T)))). set l to (Some (xs ++ ys))) same
       ∙ set_same lists to (Some (xs ++ ys)) None (omega (arith, of_to.1)) (et ∙ ap (λ (r : List (CellId × T)). Some (r ++ ys)) (sym nothing)))
@@ -67,16 +67,16 @@ module _ {T : Type 0} (w : CellWords) (values : List (Option T)) (used : List Bo
     next_k : (k : ℕ) → (k ≡ from → ⊥) → (k ≡ to → ⊥) → next k ≡ A.rows k
     next_k k nf nt = replaced_other emptied to (A.rows from ++ A.rows to) k nt ∙ replaced_other A.rows from [] k nf
 
-    heads : length (joined w from to).heads ≡ length w.heads
+    heads : length (spliced w from to).heads ≡ length w.heads
     heads = joined_heads w A.rows A.fits from to ne of_from.1 of_to.1 c cs is
 
-    cells : length (joined w from to).cells ≡ length w.cells
+    cells : length (spliced w from to).cells ≡ length w.cells
     cells = joined_cells w A.rows A.fits from to ne of_from.1 of_to.1 c cs is
 
     own_k : (k : ℕ) → is_used used k ≡ true → 0 ≡ k → ⊥
     own_k k on e = let off : is_used used k ≡ false = subst (λ (n : ℕ). is_used used n ≡ false) e A.own in cc
 
-    pub spliced_arena : IsArena (joined w from to) values used free room spare
+    pub spliced_arena : IsArena (spliced w from to) values used free room spare
     spliced_arena = record {
       rows = next;
       fits = fits_join w A.rows A.fits from to ne of_from.1 of_to.1 c cs is next next_to next_from next_k;
@@ -109,17 +109,17 @@ module _ {T : Type 0} (w : CellWords) (values : List (Option T)) (used : List Bo
         ]
       ]
 
-    pub spliced_view : lists_of used values (row_of (joined w from to)) (length (joined w from to).heads) ≡ set (set lists from (Some [])) to (Some (xs ++ ys))
+    pub spliced_view : lists_of used values (cells_of_head (spliced w from to)) (length (spliced w from to).heads) ≡ set (set lists from (Some [])) to (Some (xs ++ ys))
     unfolding spliced_arena
     spliced_view =
-        lists_is (joined w from to) values used free room spare spliced_arena
+        lists_is (spliced w from to) values used free room spare spliced_arena
         ∙ ap (lists_of used values next) heads
-        ∙ map_set (shown used values emptied) (shown used values next) to (length w.heads) (Some (xs ++ ys)) of_to.1
+        ∙ map_set (list_if_used used values emptied) (list_if_used used values next) to (length w.heads) (Some (xs ++ ys)) of_to.1
         (ap (λ (b : Bool). cond b (Some (entries values (next to))) None) of_to.2
         ∙ ap (λ (r : List (CellId × T)). Some r) (ap (entries values) next_to ∙ entries_append values (A.rows from) (A.rows to) ∙ ap (λ (r : List (CellId × T)). r ++ entries values (A.rows to)) of_from.3 ∙ ap (λ (r : List (CellId × T)). xs ++ r) of_to.3))
         (λ k below other. ap (λ (r : List ℕ). cond (is_used used k) (Some (entries values r)) None) (replaced_other emptied to (A.rows from ++ A.rows to) k other))
         ∙ ap (λ (l : List (Option (List (CellId × T)))). set l to (Some (xs ++ ys)))
-        (map_set (shown used values A.rows) (shown used values emptied) from (length w.heads) (Some []) of_from.1
+        (map_set (list_if_used used values A.rows) (list_if_used used values emptied) from (length w.heads) (Some []) of_from.1
         (ap (λ (b : Bool). cond b (Some (entries values (emptied from))) None) of_from.2 ∙ ap (λ (r : List ℕ). Some (entries values r)) (replaced_here A.rows from []))
         (λ k below other. ap (λ (r : List ℕ). cond (is_used used k) (Some (entries values r)) None) (replaced_other A.rows from [] k other))
         ∙ ap (λ (l : List (Option (List (CellId × T)))). set l from (Some [])) (sym (lists_is w values used free room spare A)))

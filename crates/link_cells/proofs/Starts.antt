@@ -6,8 +6,8 @@ use Rattle.link_cells.specs.declared.link.Link.{Link}
 use Rattle.link_cells.specs.declared.link.Link.TheVariants.{Cell, Head}
 use Rattle.link_cells.specs.declared.link.Links.{Links}
 use Rattle.link_cells.specs.declared.id.CellId.{CellId}
-use Rattle.link_cells.specs.Rings.{CellWords, alone, ahead_of, back_of, IsThere, Linked, joined, moved_front, attached}
-use Rattle.link_cells.specs.Arena.{Arena, IsArena, shown, lists_of, row_of, list_of, with_list, InUse, Stands}
+use Rattle.link_cells.specs.Rings.{CellWords, alone, ahead_of, back_of, HasWord, Linked, spliced, moved_front, attached}
+use Rattle.link_cells.specs.Arena.{Arena, IsArena, list_if_used, lists_of, cells_of_head, list_at_head, with_list, InUse, StandsBetween}
 use Rattle.link_cells.proofs.Around.{one_le}
 use Rattle.link_cells.proofs.Joined.{last_there, first_there, front_there}
 use Rattle.link_cells.proofs.Heads.{taken_view, head_is, given_view}
@@ -50,50 +50,50 @@ module _ {T : Type 0} (w : CellWords) (values : List (Option T)) (used : List Bo
       → seen w values (set used h true) spare (length rest) ≡ record (with_list (seen w values used spare (length free)) h []) { spare_heads = length free - 1 }
   taken_result h rest is =
       ap (λ (l : List (Option (List (CellId × T)))). record { lists = l; spare = spare; spare_heads = length rest }) (taken_view w values used free room spare A h rest is)
-      ∙ ap (λ (n : ℕ). record { lists = set (lists_of used values (row_of w) (length w.heads)) h (Some []); spare = spare; spare_heads = n }) (omega (arith, ap length is, length-append rest (h ∷ [])))
+      ∙ ap (λ (n : ℕ). record { lists = set (lists_of used values (cells_of_head w) (length w.heads)) h (Some []); spare = spare; spare_heads = n }) (omega (arith, ap length is, length-append rest (h ∷ [])))
 
-  pub taken_listed : (h : ℕ) (rest : List ℕ) (is : free ≡ rest ++ h ∷ []) → get_or (lists_of (set used h true) values (row_of w) (length w.heads)) h None ≡ Some []
+  pub taken_listed : (h : ℕ) (rest : List ℕ) (is : free ≡ rest ++ h ∷ []) → get_or (lists_of (set used h true) values (cells_of_head w) (length w.heads)) h None ≡ Some []
   taken_listed h rest is =
       ap (λ (l : List (Option (List (CellId × T)))). get_or l h None) (taken_view w values used free room spare A h rest is)
-      ∙ get_or-set_same (lists_of used values (row_of w) (length w.heads)) h (Some []) None (omega (arith, head_is w values used free room spare A h rest is, length-map-range_with_len (shown used values (row_of w)) 0 (length w.heads)))
+      ∙ get_or-set_same (lists_of used values (cells_of_head w) (length w.heads)) h (Some []) None (omega (arith, head_is w values used free room spare A h rest is, length-map-range_with_len (list_if_used used values (cells_of_head w)) 0 (length w.heads)))
 
-  pub given_result : (h : ℕ) → list_of (seen w values used spare (length free)) h ≡ Some []
-      → seen w values (set used h false) spare (length (free ++ h ∷ [])) ≡ record { lists = set (lists_of used values (row_of w) (length w.heads)) h None; spare = spare; spare_heads = length free + 1 }
+  pub given_result : (h : ℕ) → list_at_head (seen w values used spare (length free)) h ≡ Some []
+      → seen w values (set used h false) spare (length (free ++ h ∷ [])) ≡ record { lists = set (lists_of used values (cells_of_head w) (length w.heads)) h None; spare = spare; spare_heads = length free + 1 }
   given_result h e =
       ap (λ (l : List (Option (List (CellId × T)))). record { lists = l; spare = spare; spare_heads = length (free ++ h ∷ []) }) (given_view w values used free room spare A h e)
-      ∙ ap (λ (n : ℕ). record { lists = set (lists_of used values (row_of w) (length w.heads)) h None; spare = spare; spare_heads = n }) (length-append free (h ∷ []))
+      ∙ ap (λ (n : ℕ). record { lists = set (lists_of used values (cells_of_head w) (length w.heads)) h None; spare = spare; spare_heads = n }) (length-append free (h ∷ []))
 
-  module _ (heads from to : ℕ) (ne : from ≡ to → ⊥) (f : IsSome (list_of (seen w values used spare heads) from)) (t : IsSome (list_of (seen w values used spare heads) to)) where
+  module _ (heads from to : ℕ) (ne : from ≡ to → ⊥) (f : IsSome (list_at_head (seen w values used spare heads) from)) (t : IsSome (list_at_head (seen w values used spare heads) to)) where
     abbrev all : Arena T
     all = seen w values used spare heads
 
-    front : (x : List (CellId × T)) × (list_of all from ≡ Some x)
-    front = some_of (list_of all from) f
+    front : (x : List (CellId × T)) × (list_at_head all from ≡ Some x)
+    front = some_of (list_at_head all from) f
 
-    back : (x : List (CellId × T)) × (list_of all to ≡ Some x)
-    back = some_of (list_of all to) t
+    back : (x : List (CellId × T)) × (list_at_head all to ≡ Some x)
+    back = some_of (list_at_head all to) t
 
     module _ (c : ℕ) (leads : ahead_of w (Head from) ≡ Cell c) where
       row : (cs : List ℕ) × (A.rows from ≡ c ∷ cs)
       row = row_some w from c (A.rows from) (A.fits.ring from (head_there w values used free room spare A heads from f)) leads
 
-      pub last_in : IsThere w (back_of w (Head from))
+      pub last_in : HasWord w (back_of w (Head from))
       last_in = last_there w A.rows A.fits from to ne (head_there w values used free room spare A heads from f) (head_there w values used free room spare A heads to t) c row.0 row.1
 
-      pub first_in : IsThere w (ahead_of w (Head from))
+      pub first_in : HasWord w (ahead_of w (Head from))
       first_in = first_there w A.rows A.fits from to ne (head_there w values used free room spare A heads from f) (head_there w values used free room spare A heads to t) c row.0 row.1
 
-      pub front_in : IsThere w (ahead_of w (Head to))
+      pub front_in : HasWord w (ahead_of w (Head to))
       front_in = front_there w A.rows A.fits from to ne (head_there w values used free room spare A heads from f) (head_there w values used free room spare A heads to t) c row.0 row.1
 
-      pub splice_arena : IsArena (joined w from to) values used free room spare
+      pub splice_arena : IsArena (spliced w from to) values used free room spare
       splice_arena = spliced_arena w values used free room spare A from to ne front.0 back.0 front.1 back.1 c row.0 row.1
 
-      pub splice_result : (xs ys : List (CellId × T)) → list_of all from ≡ Some xs → list_of all to ≡ Some ys → seen (joined w from to) values used spare heads ≡ with_list (with_list all from []) to (xs ++ ys)
+      pub splice_result : (xs ys : List (CellId × T)) → list_at_head all from ≡ Some xs → list_at_head all to ≡ Some ys → seen (spliced w from to) values used spare heads ≡ with_list (with_list all from []) to (xs ++ ys)
       splice_result xs ys ef et = ap (λ (l : List (Option (List (CellId × T)))). record { lists = l; spare = spare; spare_heads = heads })
           (spliced_view w values used free room spare A from to ne xs ys ef et c row.0 row.1)
 
-    pub splice_none : (k : ℕ) → ahead_of w (Head from) ≡ Head k → (xs ys : List (CellId × T)) → list_of all from ≡ Some xs → list_of all to ≡ Some ys → all ≡ with_list (with_list all from []) to (xs ++ ys)
+    pub splice_none : (k : ℕ) → ahead_of w (Head from) ≡ Head k → (xs ys : List (CellId × T)) → list_at_head all from ≡ Some xs → list_at_head all to ≡ Some ys → all ≡ with_list (with_list all from []) to (xs ++ ys)
     splice_none k leads xs ys ef et = ap (λ (l : List (Option (List (CellId × T)))). record { lists = l; spare = spare; spare_heads = heads })
         (spliced_none w values used free room spare A from to ne xs ys ef et (row_none w from k (A.rows from) (A.fits.ring from (head_there w values used free room spare A heads from f)) leads))
 
@@ -107,7 +107,7 @@ module _ {T : Type 0} (w : CellWords) (values : List (Option T)) (used : List Bo
       (subst (λ (x : List (Option T)). IsArena (moved_front w id.cell 0) x used free room (spare + 1)) (sym (ap (λ (k : ℕ). set values k o) en ∙ ap (set values id.cell) eo))
       (unlink_arena w values used free room spare A heads id u))
 
-  pub at_unlink_result : (id : CellId) (h : ℕ) (front : List (CellId × T)) (x : T) (back : List (CellId × T)) → Stands whole id h front x back
+  pub at_unlink_result : (id : CellId) (h : ℕ) (front : List (CellId × T)) (x : T) (back : List (CellId × T)) → StandsBetween whole id h front x back
       → (v : CellWords) (n : ℕ) (o : Option T) → v ≡ moved_front w n 0 → n ≡ id.cell → o ≡ None → seen v (set values n o) used (spare + 1) heads ≡ record (with_list whole h (front ++ back)) { spare = spare + 1 }
   at_unlink_result id h front x back e v n o ev en eo =
       ap (λ (y : CellWords). seen y (set values n o) used (spare + 1) heads) (ev ∙ ap (λ (k : ℕ). moved_front w k 0) en)
@@ -115,7 +115,7 @@ module _ {T : Type 0} (w : CellWords) (values : List (Option T)) (used : List Bo
       ∙ unlink_result w values used free room spare A heads id h front x back e
 
   -- the value that is read at a cell in use
-  pub at_value : (id : CellId) (h : ℕ) (front : List (CellId × T)) (x : T) (back : List (CellId × T)) → Stands whole id h front x back → (n : ℕ) (o : Option T) → n ≡ id.cell → o ≡ get_or values n o → o ≡ Some x
+  pub at_value : (id : CellId) (h : ℕ) (front : List (CellId × T)) (x : T) (back : List (CellId × T)) → StandsBetween whole id h front x back → (n : ℕ) (o : Option T) → n ≡ id.cell → o ≡ get_or values n o → o ≡ Some x
   at_value id h front x back e n o en eo =
       eo ∙ get_or_default values n o None (let there = cell_there w values used free room spare A heads id (h, front, x, back, e) in omega (arith, A.values_many))
       ∙ ap (λ (k : ℕ). get_or values k None) en ∙ value_is w values used free room spare A heads id h front x back e

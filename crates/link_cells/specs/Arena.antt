@@ -4,7 +4,7 @@ use Rattle.std.specs.List.{range_with_len}
 use Rattle.link_cells.specs.declared.link.Link.{Link}
 use Rattle.link_cells.specs.declared.link.Link.TheVariants.{Cell, Head}
 use Rattle.link_cells.specs.declared.id.CellId.{CellId}
-use Rattle.link_cells.specs.Rings.{CellWords, ahead_of, count, total, Fits}
+use Rattle.link_cells.specs.Rings.{CellWords, ahead_of, count, total, HasRings}
 
 -- one list per head in use, each value with the name of its cell; how many cells and heads are spare
 pub record Arena (T : Type 0) : Type 0 where
@@ -13,16 +13,16 @@ pub record Arena (T : Type 0) : Type 0 where
   pub spare_heads : ℕ
 
 -- the list of a head, where it is in use
-abbrev pub list_of : {T : Type 0} → Arena T → ℕ → Option (List (CellId × T))
-list_of arena head = slice_index_or arena.lists head None
+abbrev pub list_at_head : {T : Type 0} → Arena T → ℕ → Option (List (CellId × T))
+list_at_head arena head = slice_index_or arena.lists head None
 
 -- the cell stands in a list, between these
-abbrev pub Stands : {T : Type 0} → Arena T → CellId → ℕ → List (CellId × T) → T → List (CellId × T) → Type 0
-Stands arena id head front value back = list_of arena head ≡ Some (front ++ (id, value) ∷ back)
+abbrev pub StandsBetween : {T : Type 0} → Arena T → CellId → ℕ → List (CellId × T) → T → List (CellId × T) → Type 0
+StandsBetween arena id head front value back = list_at_head arena head ≡ Some (front ++ (id, value) ∷ back)
 
 -- the cell is in use
 abbrev pub InUse : {T : Type 0} → Arena T → CellId → Type 0
-InUse {T} arena id = (head : ℕ) × (front : List (CellId × T)) × (value : T) × (back : List (CellId × T)) × Stands arena id head front value back
+InUse {T} arena id = (head : ℕ) × (front : List (CellId × T)) × (value : T) × (back : List (CellId × T)) × StandsBetween arena id head front value back
 
 -- the list of a head is put in place of the one before
 abbrev pub with_list : {T : Type 0} → Arena T → ℕ → List (CellId × T) → Arena T
@@ -44,8 +44,8 @@ walk w zero at = []
 walk w (suc most) (Head h) = []
 walk w (suc most) (Cell c) = c ∷ walk w most (ahead_of w (Cell c))
 
-abbrev pub row_of : CellWords → ℕ → List ℕ
-row_of w h = walk w (length w.cells) (ahead_of w (Head h))
+abbrev pub cells_of_head : CellWords → ℕ → List ℕ
+cells_of_head w h = walk w (length w.cells) (ahead_of w (Head h))
 
 abbrev pub entry_onto : {T : Type 0} → Option T → ℕ → List (CellId × T) → List (CellId × T)
 entry_onto None c rest = rest
@@ -59,17 +59,17 @@ entries values (c ∷ cs) = entry_onto (slice_index_or values c None) c (entries
 abbrev pub is_used : List Bool → ℕ → Bool
 is_used used h = slice_index_or used h false
 
-abbrev pub shown : {T : Type 0} → List Bool → List (Option T) → (ℕ → List ℕ) → ℕ → Option (List (CellId × T))
-shown used values rows h = if is_used used h then Some (entries values (rows h)) else None
+abbrev pub list_if_used : {T : Type 0} → List Bool → List (Option T) → (ℕ → List ℕ) → ℕ → Option (List (CellId × T))
+list_if_used used values rows h = if is_used used h then Some (entries values (rows h)) else None
 
 -- the lists, by head
 abbrev pub lists_of : {T : Type 0} → List Bool → List (Option T) → (ℕ → List ℕ) → ℕ → List (Option (List (CellId × T)))
-lists_of used values rows many = map (shown used values rows) (range_with_len 0 many)
+lists_of used values rows many = map (list_if_used used values rows) (range_with_len 0 many)
 
 -- head 0 has the spare cells, and each other head is in use or spare
 pub record IsArena {T : Type 0} (w : CellWords) (values : List (Option T)) (used : List Bool) (free : List ℕ) (room spare : ℕ) : Type 0 where
   pub rows : ℕ → List ℕ
-  pub fits : Fits w rows
+  pub fits : HasRings w rows
   pub sum : total (λ h. length (rows h)) (length w.heads) ≡ length w.cells
   pub spare_is : spare ≡ length (rows 0)
   pub values_many : length values ≡ length w.cells

@@ -24,9 +24,9 @@ abbrev pub back_of : CellWords → Link → Link
 back_of w at = (links_of w at).back
 
 -- the word is there
-abbrev pub IsThere : CellWords → Link → Type 0
-IsThere w (Cell c) = c < length w.cells
-IsThere w (Head h) = h < length w.heads
+abbrev pub HasWord : CellWords → Link → Type 0
+HasWord w (Cell c) = c < length w.cells
+HasWord w (Head h) = h < length w.heads
 
 -- one word is written
 abbrev pub put : CellWords → Link → Links → CellWords
@@ -48,8 +48,8 @@ abbrev pub attached : CellWords → ℕ → Link → Link → CellWords
 attached w c p q = put_back (put_ahead (put w (Cell c) (record { back = p; ahead = q })) p (Cell c)) q (Cell c)
 
 -- the ring of a head that has cells is put in front of that of another
-abbrev pub joined : CellWords → ℕ → ℕ → CellWords
-joined w from to =
+abbrev pub spliced : CellWords → ℕ → ℕ → CellWords
+spliced w from to =
     let last = back_of w (Head from) in
     let first = ahead_of w (Head from) in
     let front = ahead_of w (Head to) in
@@ -71,7 +71,7 @@ total f zero = 0
 total f (suc m) = f m + total f m
 
 -- the ring of each head is its row of cells, and no cell stands twice
-pub record Fits (w : CellWords) (rows : ℕ → List ℕ) : Type 0 where
+pub record HasRings (w : CellWords) (rows : ℕ → List ℕ) : Type 0 where
   pub ring : (h : ℕ) → h < length w.heads → Linked w (Head h) (rows h) (Head h)
   pub within : (h c : ℕ) → h < length w.heads → 0 < count c (rows h) → c < length w.cells
   pub once : (c : ℕ) → total (λ h. count c (rows h)) (length w.heads) ≤ 1
@@ -86,10 +86,10 @@ moved_back w c h = attached (detached w c) c (back_of (detached w c) (Head h)) (
 -- a cell may go from where it stands to the ring of a head
 pub record CanMove (w : CellWords) (c h : ℕ) : Type 0 where
   pub cell : c < length w.cells
-  pub back : IsThere w (back_of w (Cell c))
-  pub ahead : IsThere w (ahead_of w (Cell c))
+  pub back : HasWord w (back_of w (Cell c))
+  pub ahead : HasWord w (ahead_of w (Cell c))
   pub head : h < length w.heads
-  pub first : IsThere (detached w c) (ahead_of (detached w c) (Head h))
-  pub last : IsThere (detached w c) (back_of (detached w c) (Head h))
+  pub first : HasWord (detached w c) (ahead_of (detached w c) (Head h))
+  pub last : HasWord (detached w c) (back_of (detached w c) (Head h))
   pub same_cells : length (detached w c).cells ≡ length w.cells
   pub same_heads : length (detached w c).heads ≡ length w.heads

@@ -1,5 +1,5 @@
 ghost use Rattle.std.specs.Prelude.{◌≡◌, ◌≢◌, ℕ, ◌+◌, ◌-◌, ◌<◌, ◌≤◌, List, [], ◌∷◌, ◌++◌, IfOk, OnOk, OnErr, IsSome, None, Some, slice_get, slice_set, slice_index_or, max, replicate};
-ghost use Rattle.link_cells.specs.Arena.{Arena, list_of, with_list, InUse, Stands, first_name, last_name, named};
+ghost use Rattle.link_cells.specs.Arena.{Arena, list_at_head, with_list, InUse, StandsBetween, first_name, last_name, named};
 ghost use Rattle.link_cells.specs.declared.id.CellId.{CellId};
 
 use crate::id::CellId;
@@ -23,11 +23,11 @@ pub struct Cells<T> {
 
 impl<T> Model for Cells<T> {
     ghost use Rattle.std.specs.Prelude.{length, vec_capacity};
-    ghost use Rattle.link_cells.specs.Arena.{Arena, lists_of, row_of, IsArena};
+    ghost use Rattle.link_cells.specs.Arena.{Arena, lists_of, cells_of_head, IsArena};
 
     ghost Value = { Arena T };
 
-    ghost view = { λ a. record { lists = lists_of a.used.items a.values.items (row_of a.words) (length a.words.heads); spare = a.spare; spare_heads = length a.free_heads.items } };
+    ghost view = { λ a. record { lists = lists_of a.used.items a.values.items (cells_of_head a.words) (length a.words.heads); spare = a.spare; spare_heads = length a.free_heads.items } };
 
     ghost invariant = { λ a. IsArena a.words a.values.items a.used.items a.free_heads.items (vec_capacity a.free_heads) a.spare };
 }
@@ -44,7 +44,7 @@ fn alone(head: usize) -> Links
 impl<T: Drop> Cells<T> {
     /// No cells and no heads.
     pub fn new(alloc: Global) -> Result<Cells<T>, OutOfMemory>
-        ensures lists { IfOk result (λ cells. (h : ℕ) → list_of cells h ≡ None) }
+        ensures lists { IfOk result (λ cells. (h : ℕ) → list_at_head cells h ≡ None) }
         ensures spare { IfOk result (λ cells. cells.spare ≡ 0) }
         ensures spare_heads { IfOk result (λ cells. cells.spare_heads ≡ 0) }
     {
@@ -66,7 +66,7 @@ impl<T: Drop> Cells<T> {
     pub fn reserve(&mut self, cells: usize, heads: usize) -> Result<(), OutOfMemory>
         ensures spare { OnOk result (self.new.spare ≡ max self.old.spare cells) }
         ensures spare_heads { OnOk result (self.new.spare_heads ≡ max self.old.spare_heads heads) }
-        ensures lists { (h : ℕ) → list_of self.new h ≡ list_of self.old h }
+        ensures lists { (h : ℕ) → list_at_head self.new h ≡ list_at_head self.old h }
         ensures kept { self.old.spare ≤ self.new.spare }
         ensures kept_heads { self.old.spare_heads ≤ self.new.spare_heads }
     {
@@ -91,7 +91,7 @@ impl<T: Drop> Cells<T> {
 
     fn reserve_heads(&mut self, heads: usize) -> Result<(), OutOfMemory>
         ensures spare_heads { OnOk result (self.new.spare_heads ≡ max self.old.spare_heads heads) }
-        ensures lists { (h : ℕ) → list_of self.new h ≡ list_of self.old h }
+        ensures lists { (h : ℕ) → list_at_head self.new h ≡ list_at_head self.old h }
         ensures same { self.new.spare ≡ self.old.spare }
         ensures kept { self.old.spare_heads ≤ self.new.spare_heads }
     {
@@ -132,7 +132,7 @@ impl<T: Drop> Cells<T> {
     fn grow_head(&mut self) -> Result<(), OutOfMemory>
         ensures ok { OnOk result (self.new.spare_heads ≡ self.old.spare_heads + 1) }
         ensures err { OnErr result (self.new.spare_heads ≡ self.old.spare_heads) }
-        ensures lists { (h : ℕ) → list_of self.new h ≡ list_of self.old h }
+        ensures lists { (h : ℕ) → list_at_head self.new h ≡ list_at_head self.old h }
         ensures same { self.new.spare ≡ self.old.spare }
     {
         let head = self.used.len();
@@ -147,9 +147,9 @@ impl<T: Drop> Cells<T> {
     /// Takes a spare head into use, with an empty list.
     pub fn take_head(&mut self) -> usize
         requires { 0 < self.old.spare_heads }
-        ensures spare { list_of self.old result ≡ None }
+        ensures spare { list_at_head self.old result ≡ None }
         ensures taken { self.new ≡ record (with_list self.old result []) { spare_heads = self.old.spare_heads - 1 } }
-        ensures listed { list_of self.new result ≡ Some [] }
+        ensures listed { list_at_head self.new result ≡ Some [] }
     {
         let head = self.free_heads.pop().unwrap();
         self.used[head] = true;
@@ -158,7 +158,7 @@ impl<T: Drop> Cells<T> {
 
     /// Gives a head back, whose list is empty.
     pub fn give_head(&mut self, head: usize)
-        requires { list_of self.old head ≡ Some [] }
+        requires { list_at_head self.old head ≡ Some [] }
         ensures { self.new ≡ record self.old { lists = slice_set self.old.lists head None; spare_heads = self.old.spare_heads + 1 } }
     {
         self.used[head] = false;
@@ -167,9 +167,9 @@ impl<T: Drop> Cells<T> {
 
     /// Appends a value to a list.
     pub fn push_back<L: Ledger>(&mut self, head: usize, value: T, steps: &mut Steps<L>) -> CellId
-        requires head { IsSome (list_of self.old head) }
+        requires head { IsSome (list_at_head self.old head) }
         requires room { 0 < self.old.spare }
-        ensures pushed { (list : List (CellId × T)) → list_of self.old head ≡ Some list → self.new ≡ record (with_list self.old head (list ++ (result, value) ∷ [])) { spare = self.old.spare - 1 } }
+        ensures pushed { (list : List (CellId × T)) → list_at_head self.old head ≡ Some list → self.new ≡ record (with_list self.old head (list ++ (result, value) ∷ [])) { spare = self.old.spare - 1 } }
         ensures fresh { InUse self.old result → ⊥ }
         ensures cost { steps.new ≤ steps.old + 6 }
     {
@@ -182,9 +182,9 @@ impl<T: Drop> Cells<T> {
 
     /// Puts a value in front of a list.
     pub fn push_front<L: Ledger>(&mut self, head: usize, value: T, steps: &mut Steps<L>) -> CellId
-        requires head { IsSome (list_of self.old head) }
+        requires head { IsSome (list_at_head self.old head) }
         requires room { 0 < self.old.spare }
-        ensures pushed { (list : List (CellId × T)) → list_of self.old head ≡ Some list → self.new ≡ record (with_list self.old head ((result, value) ∷ list)) { spare = self.old.spare - 1 } }
+        ensures pushed { (list : List (CellId × T)) → list_at_head self.old head ≡ Some list → self.new ≡ record (with_list self.old head ((result, value) ∷ list)) { spare = self.old.spare - 1 } }
         ensures fresh { InUse self.old result → ⊥ }
         ensures cost { steps.new ≤ steps.old + 6 }
     {
@@ -198,7 +198,7 @@ impl<T: Drop> Cells<T> {
     /// Takes a cell out of its list, whichever that is, and gives back its value. The cell is spare then.
     pub fn unlink<L: Ledger>(&mut self, id: CellId, steps: &mut Steps<L>) -> T
         requires { InUse self.old id }
-        ensures taken { (head : ℕ) (front : List (CellId × T)) (value : T) (back : List (CellId × T)) → Stands self.old id head front value back → (result ≡ value) × (self.new ≡ record (with_list self.old head (front ++ back)) { spare = self.old.spare + 1 }) }
+        ensures taken { (head : ℕ) (front : List (CellId × T)) (value : T) (back : List (CellId × T)) → StandsBetween self.old id head front value back → (result ≡ value) × (self.new ≡ record (with_list self.old head (front ++ back)) { spare = self.old.spare + 1 }) }
         ensures cost { steps.new ≤ steps.old + 6 }
     {
         let cell = id.cell();
@@ -209,10 +209,10 @@ impl<T: Drop> Cells<T> {
 
     /// Moves the whole list of `from` before that of `to`.
     pub fn splice_front<L: Ledger>(&mut self, from: usize, to: usize, steps: &mut Steps<L>)
-        requires from { IsSome (list_of self.old from) }
-        requires to { IsSome (list_of self.old to) }
+        requires from { IsSome (list_at_head self.old from) }
+        requires to { IsSome (list_at_head self.old to) }
         requires apart { from ≢ to }
-        ensures moved { (front back : List (CellId × T)) → list_of self.old from ≡ Some front → list_of self.old to ≡ Some back → self.new ≡ with_list (with_list self.old from []) to (front ++ back) }
+        ensures moved { (front back : List (CellId × T)) → list_at_head self.old from ≡ Some front → list_at_head self.old to ≡ Some back → self.new ≡ with_list (with_list self.old from []) to (front ++ back) }
         ensures cost { steps.new ≤ steps.old + 6 }
     {
         if let Link::Cell(_) = links_of(&self.words, Link::Head(from)).ahead {
@@ -222,8 +222,8 @@ impl<T: Drop> Cells<T> {
 
     /// The first cell of a list.
     pub fn first(&self, head: usize) -> Option<CellId>
-        requires { IsSome (list_of self.now head) }
-        ensures { (list : List (CellId × T)) → list_of self.now head ≡ Some list → result ≡ first_name list }
+        requires { IsSome (list_at_head self.now head) }
+        ensures { (list : List (CellId × T)) → list_at_head self.now head ≡ Some list → result ≡ first_name list }
     {
         named(links_of(&self.words, Link::Head(head)).ahead)
     }
@@ -231,7 +231,7 @@ impl<T: Drop> Cells<T> {
     /// The cell behind this one in its list.
     pub fn next(&self, id: CellId) -> Option<CellId>
         requires { InUse self.now id }
-        ensures { (head : ℕ) (front : List (CellId × T)) (value : T) (back : List (CellId × T)) → Stands self.now id head front value back → result ≡ first_name back }
+        ensures { (head : ℕ) (front : List (CellId × T)) (value : T) (back : List (CellId × T)) → StandsBetween self.now id head front value back → result ≡ first_name back }
     {
         named(links_of(&self.words, Link::Cell(id.cell())).ahead)
     }
@@ -239,7 +239,7 @@ impl<T: Drop> Cells<T> {
     /// The cell before this one in its list.
     pub fn prev(&self, id: CellId) -> Option<CellId>
         requires { InUse self.now id }
-        ensures { (head : ℕ) (front : List (CellId × T)) (value : T) (back : List (CellId × T)) → Stands self.now id head front value back → result ≡ last_name front }
+        ensures { (head : ℕ) (front : List (CellId × T)) (value : T) (back : List (CellId × T)) → StandsBetween self.now id head front value back → result ≡ last_name front }
     {
         named(links_of(&self.words, Link::Cell(id.cell())).back)
     }
@@ -247,7 +247,7 @@ impl<T: Drop> Cells<T> {
     /// The value of a cell.
     pub fn get(&self, id: CellId) -> &T
         requires { InUse self.now id }
-        ensures { (head : ℕ) (front : List (CellId × T)) (value : T) (back : List (CellId × T)) → Stands self.now id head front value back → result.now ≡ value }
+        ensures { (head : ℕ) (front : List (CellId × T)) (value : T) (back : List (CellId × T)) → StandsBetween self.now id head front value back → result.now ≡ value }
     {
         self.values[id.cell()].as_ref().unwrap()
     }

@@ -1,5 +1,5 @@
 ghost use Rattle.std.specs.Prelude.{◌≡◌, ◌+◌};
-ghost use Rattle.link_cells.specs.Rings.{links_of, IsThere, put, put_ahead, put_back, detached, attached, joined, ahead_of, back_of, moved_front, moved_back, CanMove};
+ghost use Rattle.link_cells.specs.Rings.{links_of, HasWord, put, put_ahead, put_back, detached, attached, spliced, ahead_of, back_of, moved_front, moved_back, CanMove};
 ghost use Rattle.link_cells.specs.declared.link.Link.TheVariants.{Cell, Head};
 
 use crate::link::{Link, Links};
@@ -8,7 +8,7 @@ use std::sync::ledger::Ledger;
 
 /// The links of a word.
 pub fn links_of(words: &CellWords<Links, Links>, at: Link) -> Links
-    requires { IsThere words.now at }
+    requires { HasWord words.now at }
     ensures { result ≡ links_of words.now at }
 {
     match at {
@@ -19,7 +19,7 @@ pub fn links_of(words: &CellWords<Links, Links>, at: Link) -> Links
 
 /// Writes one word.
 fn put<L: Ledger>(words: &mut CellWords<Links, Links>, at: Link, links: Links, steps: &mut Steps<L>)
-    requires { IsThere words.old at }
+    requires { HasWord words.old at }
     ensures words { words.new ≡ put words.old at links }
     ensures step { steps.new ≡ steps.old + 1 }
 {
@@ -39,7 +39,7 @@ fn put_ahead<L: Ledger>(
     to: Link,
     steps: &mut Steps<L>,
 )
-    requires { IsThere words.old at }
+    requires { HasWord words.old at }
     ensures words { words.new ≡ put_ahead words.old at to }
     ensures step { steps.new ≡ steps.old + 1 }
 {
@@ -53,7 +53,7 @@ fn put_back<L: Ledger>(
     to: Link,
     steps: &mut Steps<L>,
 )
-    requires { IsThere words.old at }
+    requires { HasWord words.old at }
     ensures words { words.new ≡ put_back words.old at to }
     ensures step { steps.new ≡ steps.old + 1 }
 {
@@ -63,9 +63,9 @@ fn put_back<L: Ledger>(
 
 /// Links the neighbours of a cell past it.
 fn detach<L: Ledger>(words: &mut CellWords<Links, Links>, cell: usize, steps: &mut Steps<L>)
-    requires cell { IsThere words.old (Cell cell) }
-    requires back { IsThere words.old (back_of words.old (Cell cell)) }
-    requires ahead { IsThere words.old (ahead_of words.old (Cell cell)) }
+    requires cell { HasWord words.old (Cell cell) }
+    requires back { HasWord words.old (back_of words.old (Cell cell)) }
+    requires ahead { HasWord words.old (ahead_of words.old (Cell cell)) }
     ensures words { words.new ≡ detached words.old cell }
     ensures step { steps.new ≡ steps.old + 2 }
 {
@@ -82,9 +82,9 @@ pub fn attach<L: Ledger>(
     ahead: Link,
     steps: &mut Steps<L>,
 )
-    requires cell { IsThere words.old (Cell cell) }
-    requires back { IsThere words.old back }
-    requires ahead { IsThere words.old ahead }
+    requires cell { HasWord words.old (Cell cell) }
+    requires back { HasWord words.old back }
+    requires ahead { HasWord words.old ahead }
     ensures words { words.new ≡ attached words.old cell back ahead }
     ensures step { steps.new ≡ steps.old + 3 }
 {
@@ -132,12 +132,12 @@ pub fn join<L: Ledger>(
     to: usize,
     steps: &mut Steps<L>,
 )
-    requires from { IsThere words.old (Head from) }
-    requires to { IsThere words.old (Head to) }
-    requires last { IsThere words.old (back_of words.old (Head from)) }
-    requires first { IsThere words.old (ahead_of words.old (Head from)) }
-    requires front { IsThere words.old (ahead_of words.old (Head to)) }
-    ensures words { words.new ≡ joined words.old from to }
+    requires from { HasWord words.old (Head from) }
+    requires to { HasWord words.old (Head to) }
+    requires last { HasWord words.old (back_of words.old (Head from)) }
+    requires first { HasWord words.old (ahead_of words.old (Head from)) }
+    requires front { HasWord words.old (ahead_of words.old (Head to)) }
+    ensures words { words.new ≡ spliced words.old from to }
     ensures step { steps.new ≡ steps.old + 5 }
 {
     let Links {

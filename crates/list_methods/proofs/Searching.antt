@@ -6,12 +6,12 @@ use Rattle.list_methods.specs.declared.search.Search.{Search}
 use Rattle.list_methods.specs.declared.search.Search.TheVariants as search
 use Rattle.list_methods.specs.declared.search.Tally.{Tally}
 use Rattle.list_methods.specs.declared.search.Tally.TheVariants as tally
-use Rattle.py_compare.specs.Equal.{Found, Verdict, Holds, Fails, Deep, Unordered, told}
+use Rattle.py_compare.specs.Equal.{Found, Holding, Holds, Fails, Deep, Unordered, told}
 use Rattle.py_compare.specs.declared.tested.Tested.TheVariants.{Yes, No, TooDeep, NotOrdered, Exhausted}
 use Rattle.py_values.specs.declared.value.Value.{Value}
 use Rattle.list_methods.proofs.Telling.{told_yes, told_no, told_deep, told_unordered, told_over}
 
-search_least_by : (v : Verdict) (n i : ℕ) (f : ℕ → Search) → ((m : ℕ) → m ≤ search_cost (f m)) → n ≤ search_cost (search_by v n i f)
+search_least_by : (v : Holding) (n i : ℕ) (f : ℕ → Search) → ((m : ℕ) → m ≤ search_cost (f m)) → n ≤ search_cost (search_by v n i f)
 search_least_by Holds n i f h = omega arith
 search_least_by Fails n i f h = h n
 search_least_by Deep n i f h = omega arith
@@ -79,7 +79,7 @@ search_breaks f n m budget xs i d all h e g t =
 pub search_ends : (f : Value → Found) (n budget : ℕ) (i : ℕ) (all : Search) → n ≤ budget → all ≡ search_from f i n [] → Some (search.Nowhere n) ≡ search_within budget all
 search_ends f n budget i all h g = rw g (search_enough budget (search.Nowhere n) h)
 
-tally_least_by : (v : Verdict) (n k : ℕ) (f : ℕ → ℕ → Tally) → ((j m : ℕ) → m ≤ tally_cost (f j m)) → n ≤ tally_cost (tally_by v n k f)
+tally_least_by : (v : Holding) (n k : ℕ) (f : ℕ → ℕ → Tally) → ((j m : ℕ) → m ≤ tally_cost (f j m)) → n ≤ tally_cost (tally_by v n k f)
 tally_least_by Holds n k f h = h (suc k) n
 tally_least_by Fails n k f h = h k n
 tally_least_by Deep n k f h = omega arith

@@ -4,8 +4,8 @@ use Rattle.std.specs.List.{insert}
 use Rattle.sorting.specs.call_products.Arguments.{has_none, sole, pair}
 use Rattle.sorting.specs.call_products.Elements.{elements_of}
 use Rattle.sorting.specs.call_products.Products.{plain, failed, wrong}
-use Rattle.sorting.specs.call_products.declared.elements.Gathered.{Gathered}
-use Rattle.sorting.specs.call_products.declared.elements.Gathered.TheVariants as gathered
+use Rattle.sorting.specs.call_products.declared.elements.ElementsResult.{ElementsResult}
+use Rattle.sorting.specs.call_products.declared.elements.ElementsResult.TheVariants as gathered
 use Rattle.sorting.specs.call_products.declared.product.Product.{Product}
 use Rattle.list_methods.specs.Search.{search_from, tally_from}
 use Rattle.list_methods.specs.declared.search.Search.{Search}
@@ -13,12 +13,12 @@ use Rattle.list_methods.specs.declared.search.Search.TheVariants as search
 use Rattle.list_methods.specs.declared.search.Tally.{Tally}
 use Rattle.list_methods.specs.declared.search.Tally.TheVariants as tally
 use Rattle.py_compare.specs.Equal.{equal_of}
-use Rattle.py_items.specs.Items.{place, edge}
+use Rattle.py_items.specs.Items.{element_place, edge}
 use Rattle.py_items.specs.py_operands.Faults.{too_deep, out_of_range}
 use Rattle.py_items.specs.py_kinds.Builtins.{list_method_name, tuple_method_name}
 use Rattle.py_items.specs.py_kinds.Lengths.{length_of}
 use Rattle.py_values.specs.Limits.{most_elements}
-use Rattle.py_values.specs.Numbers.{number_of}
+use Rattle.py_values.specs.Numbers.{int_value}
 use Rattle.py_values.specs.declared.builtin.ListMethod.{ListMethod}
 use Rattle.py_values.specs.declared.builtin.ListMethod.TheVariants as method
 use Rattle.py_values.specs.declared.builtin.TupleMethod.{TupleMethod}
@@ -26,7 +26,7 @@ use Rattle.py_values.specs.declared.builtin.TupleMethod.TheVariants as tuple
 use Rattle.py_values.specs.declared.change.Change.{Change}
 use Rattle.py_values.specs.declared.change.Change.TheVariants as change
 use Rattle.py_values.specs.declared.class.ExcClass.TheVariants.{ValueError, MemoryError}
-use Rattle.py_values.specs.declared.end.Made.TheVariants.{Give, New, Put, Fail}
+use Rattle.py_values.specs.declared.end.Effect.TheVariants.{Give, New, Put, Fail}
 use Rattle.py_values.specs.declared.object.Obj.{Obj}
 use Rattle.py_values.specs.declared.object.Obj.TheVariants as obj
 use Rattle.py_values.specs.declared.value.ObjId.{ObjId}
@@ -69,7 +69,7 @@ reverse_of id vs alone = if alone then other_list id (reverse vs) (length vs) el
 abbrev pub has_room : ℕ → ℕ → Bool
 has_room n m = not (nat_lt most_elements (n + m))
 
-abbrev pub extend_by : ObjId → List Value → Gathered → Product
+abbrev pub extend_by : ObjId → List Value → ElementsResult → Product
 extend_by id vs (gathered.Elements e) =
     if has_room (length vs) (length e.values)
     then record { objects = e.objects; made = Put id (change.Whole (obj.List (vs ++ e.values))) val.None (length vs) }
@@ -87,7 +87,7 @@ insert_at id vs (Some z) v =
 insert_at id vs None v = wrong (codes "insert") (length vs)
 
 abbrev pub insert_of : ObjId → List Value → Option (Value × Value) → Product
-insert_of id vs (Some p) = insert_at id vs (number_of p.0) p.1
+insert_of id vs (Some p) = insert_at id vs (int_value p.0) p.1
 insert_of id vs None = wrong (codes "insert") (length vs)
 
 -- `pop()` and `pop(i)`: of the last element costs nothing, of another the list's length and that of what is given
@@ -113,12 +113,12 @@ pop_place heap id vs (Some i) = popped heap id vs i
 pop_place heap id vs None = outside (length vs)
 
 abbrev pub pop_at : List Obj → ObjId → List Value → Option ℤ → Product
-pop_at heap id vs (Some z) = pop_place heap id vs (place (length vs) z)
+pop_at heap id vs (Some z) = pop_place heap id vs (element_place (length vs) z)
 pop_at heap id vs None = wrong (codes "pop") (length vs)
 
 abbrev pub pop_index : List Value → List (List ℕ × Value) → Option ℤ
 pop_index [] [] = Some (negsuc 0)
-pop_index (i ∷ []) [] = number_of i
+pop_index (i ∷ []) [] = int_value i
 pop_index _ _ = None
 
 abbrev pub pop_of : List Obj → ObjId → List Value → List Value → List (List ℕ × Value) → Product

@@ -5,11 +5,11 @@ use Rattle.list_methods.specs.declared.search.Search.{Search}
 use Rattle.list_methods.specs.declared.search.Search.TheVariants as search
 use Rattle.list_methods.specs.declared.search.Tally.{Tally}
 use Rattle.list_methods.specs.declared.search.Tally.TheVariants as tally
-use Rattle.py_compare.specs.Equal.{Found, Verdict, Holds, Fails, Deep, Unordered}
+use Rattle.py_compare.specs.Equal.{Found, Holding, Holds, Fails, Deep, Unordered}
 use Rattle.py_values.specs.declared.value.Value.{Value}
 
 -- behind an element that was tested the search goes on, where it is unequal
-abbrev pub search_by : Verdict → ℕ → ℕ → (ℕ → Search) → Search
+abbrev pub search_by : Holding → ℕ → ℕ → (ℕ → Search) → Search
 search_by Holds n i f = search.At i n
 search_by Fails n i f = f n
 search_by Deep n i f = search.TooDeep n
@@ -29,7 +29,7 @@ abbrev pub search_within : ℕ → Search → Option Search
 search_within budget s = if nat_lt budget (search_cost s) then None else Some s
 
 -- behind an element that was tested the count goes on
-abbrev pub tally_by : Verdict → ℕ → ℕ → (ℕ → ℕ → Tally) → Tally
+abbrev pub tally_by : Holding → ℕ → ℕ → (ℕ → ℕ → Tally) → Tally
 tally_by Holds n k f = f (suc k) n
 tally_by Fails n k f = f k n
 tally_by Deep n k f = tally.TooDeep n

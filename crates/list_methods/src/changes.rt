@@ -9,7 +9,7 @@ use py_items::index::{place_of, value_at};
 use py_items::py_kinds::length::length_of;
 use py_values::change::Change;
 use py_values::class::ExcClass;
-use py_values::end::Made;
+use py_values::end::Effect;
 use py_values::heap::Heap;
 use py_values::limits::MOST_ELEMENTS;
 use py_values::number::number;
@@ -17,14 +17,14 @@ use py_values::object::Obj;
 use py_values::rows::Values;
 use py_values::value::{ObjId, Value};
 use py_values::{OutOfMemory, PyText};
-use sorting::call_products::elements::{Elements, Gathered, elements_of};
+use sorting::call_products::elements::{Elements, ElementsResult, elements_of};
 use sorting::call_products::product::{Product, failed, plain, wrong};
 use std::alloc::Global;
 
 fn changed_list(alloc: Global, id: ObjId, change: Change, cost: u64) -> Product
     ensures { result ≡ lists.changed_list id change cost }
 {
-    plain(alloc, Made::Put(id, change, Value::None, cost))
+    plain(alloc, Effect::Put(id, change, Value::None, cost))
 }
 
 fn other_list(alloc: Global, id: ObjId, items: Vec<Value>, cost: u64) -> Product
@@ -95,12 +95,12 @@ fn extend_by(
     alloc: Global,
     id: ObjId,
     items: &[Value],
-    gathered: Gathered,
+    gathered: ElementsResult,
 ) -> Result<Product, OutOfMemory>
     ensures { IfOk result (λ p. p ≡ lists.extend_by id items.now gathered) }
 {
     match gathered {
-        Gathered::Elements(Elements { objects, values }) => {
+        ElementsResult::Elements(Elements { objects, values }) => {
             if !has_room(items.len(), values.items().len()) {
                 return too_long(alloc, items.len());
             }
@@ -108,10 +108,10 @@ fn extend_by(
             let list = Change::Whole(Obj::List(Values::from_vec(all)));
             Ok(Product {
                 objects,
-                made: Made::Put(id, list, Value::None, items.len() as u64),
+                made: Effect::Put(id, list, Value::None, items.len() as u64),
             })
         }
-        Gathered::Refused(raise) => Ok(plain(alloc, Made::Fail(raise, items.len() as u64))),
+        ElementsResult::Refused(raise) => Ok(plain(alloc, Effect::Fail(raise, items.len() as u64))),
     }
 }
 
@@ -253,7 +253,7 @@ fn popped(
     match value_at(items, at) {
         Some(v) => {
             let steps = pop_cost(heap, items.len(), at, v)?;
-            Ok(plain(alloc, Made::Put(id, Change::WithoutItem(at), v, steps)))
+            Ok(plain(alloc, Effect::Put(id, Change::WithoutItem(at), v, steps)))
         }
         None => outside(alloc, items.len()),
     }

@@ -11,7 +11,7 @@ use py_items::py_kinds::builtins::builtin_name;
 use py_items::py_operands::faults::too_deep;
 use py_values::builtin::{Builtin, ListMethod};
 use py_values::class::ExcClass;
-use py_values::end::Made;
+use py_values::end::Effect;
 use py_values::heap::Heap;
 use py_values::object::Obj;
 use py_values::rows::Values;
@@ -41,14 +41,14 @@ fn copy(alloc: Global, items: &[Value], alone: bool) -> Result<Product, OutOfMem
     let steps = copy_steps(items.len())?;
     let mut all = Vec::new(alloc);
     all.extend_from_slice(items)?;
-    Ok(plain(alloc, Made::New(Obj::List(Values::from_vec(all)), steps)))
+    Ok(plain(alloc, Effect::New(Obj::List(Values::from_vec(all)), steps)))
 }
 
 fn too_deep_at(alloc: Global, cost: u64) -> Result<Product, OutOfMemory>
     ensures { IfOk result (λ p. p ≡ lists.too_deep_at cost) }
 {
     let raise = too_deep(alloc)?;
-    Ok(plain(alloc, Made::Fail(raise, cost)))
+    Ok(plain(alloc, Effect::Fail(raise, cost)))
 }
 
 fn counted_by(alloc: Global, tally: Tally) -> Result<Product, OutOfMemory>
@@ -56,7 +56,7 @@ fn counted_by(alloc: Global, tally: Tally) -> Result<Product, OutOfMemory>
 {
     match tally {
         Tally::Count(count, cost) => {
-            Ok(plain(alloc, Made::Give(Value::Int(count as i128), cost)))
+            Ok(plain(alloc, Effect::Give(Value::Int(count as i128), cost)))
         }
         Tally::TooDeep(cost) => too_deep_at(alloc, cost),
     }
@@ -84,7 +84,7 @@ fn index_by(alloc: Global, search: Search) -> Result<Product, OutOfMemory>
     ensures { IfOk result (λ p. p ≡ lists.index_by search) }
 {
     match search {
-        Search::At(at, cost) => Ok(plain(alloc, Made::Give(Value::Int(at as i128), cost))),
+        Search::At(at, cost) => Ok(plain(alloc, Effect::Give(Value::Int(at as i128), cost))),
         Search::Nowhere(cost) => not_found(alloc, cost),
         Search::TooDeep(cost) => too_deep_at(alloc, cost),
     }

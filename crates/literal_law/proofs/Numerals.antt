@@ -8,7 +8,7 @@ use Rattle.std.proofs.lemmas.Bool.{ne_eqb}
 use Rattle.std.proofs.lemmas.Bool.Decides.{nat_tests}
 use Rattle.std.proofs.Math.Nat.{pow-zero, pow-suc}
 use Rattle.py_literals.specs.Chars.{begins_with, is_underscore, is_letter}
-use Rattle.py_literals.specs.Numbers.{is_run, is_digit_of, counted, value_in, integer_value, decimal_value, based_value, base_of, is_zero_or_underscore}
+use Rattle.py_literals.specs.Numbers.{is_run, is_digit_of, bare_digits, value_in, integer_value, decimal_value, based_value, base_of, is_zero_or_underscore}
 use Rattle.literal_law.specs.Numerals.{Digits, none, digit, spaced, value_of, IsBaseLetter, hexadecimal, octal, binary, AreZeros, Writes, decimal, zeros, based}
 
 two_cases : (b : Bool) → (b ≡ true) ⊎ (b ≡ false)
@@ -53,7 +53,7 @@ other_than s d base out is = ne_eqb d s (λ e. let same : is_digit s base ≡ tr
 
 record Run (base : ℕ) (cs ds : List ℕ) : Type 0 where
   run : is_run base cs ≡ true
-  alone : counted cs ≡ ds
+  alone : bare_digits cs ≡ ds
 
 digits_run : (base : ℕ) (cs ds : List ℕ) → is_digit 95 base ≡ false → Digits base cs ds → Run base cs ds
 digits_run base cs ds out none = record { run = refl; alone = refl }
@@ -64,7 +64,7 @@ digits_run base cs ds out (spaced {cs = more} {ds = others} d is rest) =
     let h = digits_run base more others out rest in
     record { run = rw (out, is, h.run) refl; alone = rw (other_than 95 d base out is, h.alone) refl }
 
-run_digits : (base : ℕ) (cs : List ℕ) → is_digit 95 base ≡ false → is_run base cs ≡ true → Digits base cs (counted cs)
+run_digits : (base : ℕ) (cs : List ℕ) → is_digit 95 base ≡ false → is_run base cs ≡ true → Digits base cs (bare_digits cs)
 run_digits base [] out run = none
 run_digits base (c ∷ []) out run =
     let parts = both_true (is_digit c base || (is_underscore c && false)) true run in
@@ -79,12 +79,12 @@ run_digits base (c ∷ d ∷ cs) out run =
       | inr space ↦
           let two = both_true (is_underscore c) (is_digit d base) space in
           let behind = both_true (is_digit d base || (is_underscore d && begins_with (is_digit_of base) cs)) (is_run base cs) parts.1 in
-          let rest : Digits base (95 ∷ d ∷ cs) (d ∷ counted cs) = spaced d two.1 (run_digits base cs out behind.1) in
+          let rest : Digits base (95 ∷ d ∷ cs) (d ∷ bare_digits cs) = spaced d two.1 (run_digits base cs out behind.1) in
           rw (same_number c 95 two.0, other_than 95 d base out two.1) rest
     ]
 
 -- ZEROS
-zeros_alone : (cs : List ℕ) → list_all is_zero_or_underscore cs ≡ true → AreZeros (counted cs)
+zeros_alone : (cs : List ℕ) → list_all is_zero_or_underscore cs ≡ true → AreZeros (bare_digits cs)
 zeros_alone [] all = tt
 zeros_alone (c ∷ cs) all =
     let parts = both_true (is_zero_or_underscore c) (list_all is_zero_or_underscore cs) all in
@@ -115,25 +115,25 @@ from_decimal c cs n e =
     let first = both_true (is_digit c 10) (is_run 10 cs && (not (c == 48) || list_all is_zero_or_underscore cs)) made.0 in
     let second = both_true (is_run 10 cs) (not (c == 48) || list_all is_zero_or_underscore cs) first.1 in
     let ds = run_digits 10 cs refl second.0 in
-    let head : counted (c ∷ cs) ≡ c ∷ counted cs = rw (other_than 95 c 10 refl first.0) refl in
-    let value : digits_value_after 10 0 (c ∷ counted cs) ≡ n = ap (digits_value_after 10 0) (sym head) ∙ made.1 in
+    let head : bare_digits (c ∷ cs) ≡ c ∷ bare_digits cs = rw (other_than 95 c 10 refl first.0) refl in
+    let value : digits_value_after 10 0 (c ∷ bare_digits cs) ≡ n = ap (digits_value_after 10 0) (sym head) ∙ made.1 in
     elim (two_cases (c == 48)) [
       | inl zero ↦
           let all : list_all is_zero_or_underscore cs ≡ true = rw zero at second.1 in
-          let word : Writes (48 ∷ cs) 0 = zeros cs (counted cs) ds (zeros_alone cs all) in
-          let nothing : 0 ≡ n = sym (zeros_value (48 ∷ counted cs) (refl, zeros_alone cs all)) ∙ ap (λ x. digits_value_after 10 0 (x ∷ counted cs)) (sym (same_number c 48 zero)) ∙ value in
+          let word : Writes (48 ∷ cs) 0 = zeros cs (bare_digits cs) ds (zeros_alone cs all) in
+          let nothing : 0 ≡ n = sym (zeros_value (48 ∷ bare_digits cs) (refl, zeros_alone cs all)) ∙ ap (λ x. digits_value_after 10 0 (x ∷ bare_digits cs)) (sym (same_number c 48 zero)) ∙ value in
           rw (same_number c 48 zero, ← nothing) word
       | inr some ↦
-          let word : Writes (c ∷ cs) (value_of 10 (c ∷ counted cs)) = decimal c cs (counted cs) first.0 (λ same. cc (rw same at some)) ds in
-          subst (λ m. Writes (c ∷ cs) m) (sym (value_is 10 (c ∷ counted cs)) ∙ value) word
+          let word : Writes (c ∷ cs) (value_of 10 (c ∷ bare_digits cs)) = decimal c cs (bare_digits cs) first.0 (λ same. cc (rw same at some)) ds in
+          subst (λ m. Writes (c ∷ cs) m) (sym (value_is 10 (c ∷ bare_digits cs)) ∙ value) word
     ]
 
 from_based : (letter base : ℕ) (more : List ℕ) (n : ℕ) → IsBaseLetter letter base → is_digit 95 base ≡ false → based_value base (letter ∷ more) ≡ Some n → Writes (48 ∷ letter ∷ more) n
 from_based letter base [] n is out e = absurd (cc e)
 from_based letter base (c ∷ cs) n is out e =
     let made = some_if (is_run base (c ∷ cs)) (value_in base (c ∷ cs)) n e in
-    let word : Writes (48 ∷ letter ∷ c ∷ cs) (value_of base (counted (c ∷ cs))) = based letter base (c ∷ cs) (counted (c ∷ cs)) is (omega arith) (run_digits base (c ∷ cs) out made.0) in
-    subst (λ m. Writes (48 ∷ letter ∷ c ∷ cs) m) (sym (value_is base (counted (c ∷ cs))) ∙ made.1) word
+    let word : Writes (48 ∷ letter ∷ c ∷ cs) (value_of base (bare_digits (c ∷ cs))) = based letter base (c ∷ cs) (bare_digits (c ∷ cs)) is (omega arith) (run_digits base (c ∷ cs) out made.0) in
+    subst (λ m. Writes (48 ∷ letter ∷ c ∷ cs) m) (sym (value_is base (bare_digits (c ∷ cs))) ∙ made.1) word
 
 letters_are : (small large c : ℕ) → is_letter small large c ≡ true → (c ≡ small) ⊎ (c ≡ large)
 letters_are small large c is = elim (one_true (c == small) (c == large) is) [

@@ -1,7 +1,7 @@
 ghost use Rattle.std.specs.Prelude.{◌≡◌, ℕ, ◌+◌, ◌-◌, ◌<◌, ◌≤◌, List, [], ◌∷◌, ◌++◌, map, max, None, Some, IfOk, OnOk, IfSome};
 ghost use Rattle.std.specs.Option.{option_map};
-ghost use Rattle.session_types.specs.Members.{In};
-ghost use Rattle.session_types.specs.Live.{find, numbered, without, number_of, numbers_in, down_order};
+ghost use Rattle.session_types.specs.Members.{IsMember};
+ghost use Rattle.session_types.specs.Live.{find, instance_by_number, without, instance_number, instance_numbers, down_order};
 ghost use Rattle.session_types.specs.declared.instance.Instance.{Instance};
 ghost use Rattle.live_chains.specs.declared.id.LiveId.{LiveId};
 ghost use Rattle.live_chains.specs.Down.{dying};
@@ -25,11 +25,11 @@ pub struct Chains {
 }
 
 impl Model for Chains {
-    ghost use Rattle.live_chains.specs.Chained.{LiveList, shown, IsChains};
+    ghost use Rattle.live_chains.specs.Chained.{LiveList, chains_as_list, IsChains};
 
     ghost Value = { LiveList };
 
-    ghost view = { λ c. shown c.cells c.heads.items };
+    ghost view = { λ c. chains_as_list c.cells c.heads.items };
 
     ghost invariant = { λ c. IsChains c.cells c.heads.items };
 }
@@ -57,7 +57,7 @@ impl Chains {
     /// Appends an instance.
     pub fn link<L: Ledger>(&mut self, instance: Instance, steps: &mut Steps<L>) -> LiveId
         requires room { 0 < self.old.spare }
-        requires latest { (j : Instance ℕ) → In j self.old.live → j.order < instance.order }
+        requires latest { (j : Instance ℕ) → IsMember j self.old.live → j.order < instance.order }
         requires free { find instance.def instance.node self.old.live ≡ None }
         ensures linked { self.new ≡ record { live = self.old.live ++ instance ∷ []; ids = self.old.ids ++ result ∷ []; spare = self.old.spare - 1 } }
         ensures number { result.order ≡ instance.order }
@@ -71,8 +71,8 @@ impl Chains {
 
     /// Takes an instance out.
     pub fn unlink<L: Ledger>(&mut self, id: LiveId, steps: &mut Steps<L>) -> Instance
-        requires { In id self.old.ids }
-        ensures value { numbered id.order self.old.live ≡ Some result }
+        requires { IsMember id self.old.ids }
+        ensures value { instance_by_number id.order self.old.live ≡ Some result }
         ensures taken { self.new ≡ record { live = without id.order self.old.live; ids = ids_without id.order self.old.ids; spare = self.old.spare + 1 } }
         ensures cost { steps.new ≤ steps.old + 6 }
     {
@@ -81,24 +81,24 @@ impl Chains {
 
     /// The instance of a name.
     pub fn get(&self, id: LiveId) -> &Instance
-        requires { In id self.now.ids }
-        ensures { numbered id.order self.now.live ≡ Some result.now }
+        requires { IsMember id self.now.ids }
+        ensures { instance_by_number id.order self.now.live ≡ Some result.now }
     {
         self.cells.get(id.cell())
     }
 
     /// The instance of this definition on this node. There is at most one.
     pub fn find(&self, def: DefId, node: u32) -> Option<LiveId>
-        ensures same { option_map id_order result ≡ option_map number_of (find def node self.now.live) }
-        ensures live { IfSome result (λ id. In id self.now.ids) }
+        ensures same { option_map id_order result ≡ option_map instance_number (find def node self.now.live) }
+        ensures live { IfSome result (λ id. IsMember id self.now.ids) }
     {
         find_in(&self.cells, &self.heads, def, node)
     }
 
     /// What goes down, in order: narrow scopes first, and within a scope the latest first.
     pub fn down_of(&self, alloc: Global, which: &Dying<'_>) -> Result<Vec<LiveId>, OutOfMemory>
-        ensures same { IfOk result (λ ids. map id_order ids.items ≡ numbers_in (down_order (dying which.now self.now.live))) }
-        ensures live { IfOk result (λ ids. (id : LiveId) → In id ids.items → In id self.now.ids) }
+        ensures same { IfOk result (λ ids. map id_order ids.items ≡ instance_numbers (down_order (dying which.now self.now.live))) }
+        ensures live { IfOk result (λ ids. (id : LiveId) → IsMember id ids.items → IsMember id self.now.ids) }
         ensures once { IfOk result (λ ids. Apart id_order ids.items) }
     {
         let roots = roots_in(alloc, &self.cells, &self.heads, which)?;
@@ -109,8 +109,8 @@ impl Chains {
     /// What holds of every `Chains`: the instances are in order of set-up, each has its name, and no two are of one definition on
     /// one node.
     pub fn is_in_order(&self)
-        ensures rising { RisingBy number_of self.now.live }
-        ensures named { map id_order self.now.ids ≡ numbers_in self.now.live }
+        ensures rising { RisingBy instance_number self.now.live }
+        ensures named { map id_order self.now.ids ≡ instance_numbers self.now.live }
         ensures single { Apart place_of self.now.live }
     {
         let _heads = self.heads.len();

@@ -1,6 +1,6 @@
 ghost use Rattle.std.specs.Prelude.{◌≡◌, ◌≢◌, ℕ, ◌<◌, ◌≤◌, ◌++◌, [], ◌∷◌, length, reverse, None, Some, IfOk, OnOk};
 ghost use Rattle.std.specs.Option.{option_map};
-ghost use Rattle.link_cells.specs.Arena.{list_of};
+ghost use Rattle.link_cells.specs.Arena.{list_at_head};
 ghost use Rattle.live_chains.specs.Chained.{list_at, chain_at, chains_below, head_at, id_of, IsChain, IsChains, AreTaken};
 ghost use Rattle.session_types.specs.Scopes.{scope_count};
 ghost use Rattle.live_chains.specs.Walked.{first_at, resting_ids, off_orders, roots_of, going_below};

@@ -1,8 +1,8 @@
 ghost use Rattle.std.specs.Prelude.{◌≡◌, ℕ, ◌+◌, ◌-◌, ◌<◌, List, [], ◌∷◌, ◌++◌, length, max, None, Some, IfOk, OnOk, OnErr, IsSome, IfSome};
 ghost use Rattle.std.specs.List.{filter, HoldsAt};
 ghost use Rattle.std.specs.Option.{option_map};
-ghost use Rattle.session_types.specs.Members.{In};
-ghost use Rattle.session_types.specs.Live.{find, has_off, numbered, without, number_of, numbers_in, down_order, scope_numbers};
+ghost use Rattle.session_types.specs.Members.{IsMember};
+ghost use Rattle.session_types.specs.Live.{find, has_off, instance_by_number, without, instance_number, instance_numbers, down_order, scope_numbers};
 ghost use Rattle.session_types.specs.declared.instance.Instance.{Instance};
 ghost use Rattle.live_chains.specs.Down.{dies, dying};
 
@@ -24,14 +24,14 @@ pub struct PlainChains {
 impl Model for PlainChains {
     ghost use Rattle.std.specs.Prelude.{vec_len, vec_capacity, ◌≤◌, ◌+◌};
     ghost use Rattle.live_chains.specs.Plain.{PlainList};
-    ghost use Rattle.session_types.specs.Live.{number_of};
+    ghost use Rattle.session_types.specs.Live.{instance_number};
     ghost use Rattle.live_chains.specs.Chained.{RisingBy};
 
     ghost Value = { PlainList };
 
     ghost view = { λ c. record { live = c.live.items; spare = c.spare } };
 
-    ghost invariant = { λ c. RisingBy number_of c.live.items × (vec_len c.live + c.spare ≤ vec_capacity c.live) };
+    ghost invariant = { λ c. RisingBy instance_number c.live.items × (vec_len c.live + c.spare ≤ vec_capacity c.live) };
 }
 
 impl PlainChains {
@@ -60,7 +60,7 @@ impl PlainChains {
     /// Appends an instance, and gives its number.
     pub fn link(&mut self, instance: Instance) -> u64
         requires room { 0 < self.old.spare }
-        requires latest { (j : Instance ℕ) → In j self.old.live → j.order < instance.order }
+        requires latest { (j : Instance ℕ) → IsMember j self.old.live → j.order < instance.order }
         ensures linked { self.new ≡ record { live = self.old.live ++ instance ∷ []; spare = self.old.spare - 1 } }
         ensures named { result ≡ instance.order }
     {
@@ -72,8 +72,8 @@ impl PlainChains {
 
     /// Takes out the one of this number.
     pub fn unlink(&mut self, number: u64) -> Instance
-        requires { IsSome (numbered number self.old.live) }
-        ensures value { numbered number self.old.live ≡ Some result }
+        requires { IsSome (instance_by_number number self.old.live) }
+        ensures value { instance_by_number number self.old.live ≡ Some result }
         ensures taken { self.new ≡ record { live = without number self.old.live; spare = self.old.spare + 1 } }
     {
         let place = place_of(&self.live, number);
@@ -83,8 +83,8 @@ impl PlainChains {
 
     /// The one of this number.
     pub fn get(&self, number: u64) -> &Instance
-        requires { IsSome (numbered number self.now.live) }
-        ensures { numbered number self.now.live ≡ Some result.now }
+        requires { IsSome (instance_by_number number self.now.live) }
+        ensures { instance_by_number number self.now.live ≡ Some result.now }
     {
         let place = place_of(&self.live, number);
         &self.live[place]
@@ -92,22 +92,22 @@ impl PlainChains {
 
     /// The number of the instance of this definition on this node.
     pub fn find(&self, def: DefId, node: u32) -> Option<u64>
-        ensures same { result ≡ option_map number_of (find def node self.now.live) }
-        ensures live { IfSome result (λ n. IsSome (numbered n self.now.live)) }
+        ensures same { result ≡ option_map instance_number (find def node self.now.live) }
+        ensures live { IfSome result (λ n. IsSome (instance_by_number n self.now.live)) }
     {
         find_in(&self.live, def, node)
     }
 
     /// The numbers of what goes down, in order.
     pub fn down_of(&self, alloc: Global, which: &Dying<'_>) -> Result<Vec<u64>, OutOfMemory>
-        ensures { IfOk result (λ v. v.items ≡ numbers_in (down_order (dying which.now self.now.live))) }
+        ensures { IfOk result (λ v. v.items ≡ instance_numbers (down_order (dying which.now self.now.live))) }
     {
         down_in(alloc, &self.live, which)
     }
 }
 
 fn find_in(live: &[Instance], def: DefId, node: u32) -> Option<u64>
-    ensures { result ≡ option_map number_of (find def node live.now) }
+    ensures { result ≡ option_map instance_number (find def node live.now) }
 {
     for one in live {
         if is_at(one, def, node) {
@@ -119,7 +119,7 @@ fn find_in(live: &[Instance], def: DefId, node: u32) -> Option<u64>
 
 /// Where the one of this number stands.
 fn place_of(live: &[Instance], number: u64) -> usize
-    requires { IsSome (numbered number live.now) }
+    requires { IsSome (instance_by_number number live.now) }
     ensures within { result < length live.now }
     ensures at { HoldsAt (λ one. one.order ≡ number) live.now result }
 {
@@ -168,7 +168,7 @@ fn push_scope(
 }
 
 fn down_in(alloc: Global, live: &[Instance], which: &Dying<'_>) -> Result<Vec<u64>, OutOfMemory>
-    ensures { IfOk result (λ v. v.items ≡ numbers_in (down_order (dying which.now live.now))) }
+    ensures { IfOk result (λ v. v.items ≡ instance_numbers (down_order (dying which.now live.now))) }
 {
     let mut out = Vec::new(alloc);
     let mut rank = SCOPE_COUNT;

@@ -14,7 +14,7 @@ use Rattle.py_tree.specs.Trees as tr
 use Rattle.py_tree.specs.Trees.{Tree, Trees, Maybe}
 use Rattle.py_tree.specs.Statements as st
 use Rattle.py_tree.specs.Statements.{Statement, Block, Branches, Handlers, Place, Taker, Parameter}
-use Rattle.source_meaning.specs.Requests.{Use, Layer, Script, Function}
+use Rattle.source_meaning.specs.Requests.{Use, SourceLayer, Script, Function}
 use Rattle.source_meaning.specs.py_world.World.{Frozen}
 use Rattle.source_meaning.specs.Meaning.{SourceWorld}
 
@@ -310,10 +310,10 @@ statement_code = record { code = to_Statement; inj = inj_Statement }
 use_code : Coded Use
 use_code = hlevel (codes, takers_code)
 
-layer_code : Coded Layer
+layer_code : Coded SourceLayer
 layer_code = hlevel (codes, statement_code, handlers_code, use_code)
 
-frozen_code : Coded (Frozen (List Layer))
+frozen_code : Coded (Frozen (List SourceLayer))
 frozen_code = hlevel (codes, layer_code)
 
 pub world_code : Coded SourceWorld

@@ -7,8 +7,8 @@ use Rattle.py_values.specs.Ends.{id_at}
 use Rattle.source_meaning.specs.py_kinds.Kinds.{kind_name}
 use Rattle.source_meaning.specs.py_kinds.Lengths.{length_of}
 use Rattle.py_values.specs.Names.{unbind_name}
-use Rattle.py_values.specs.declared.end.Made.{Made}
-use Rattle.py_values.specs.declared.end.Made.TheVariants.{Give, New, Put, Fail}
+use Rattle.py_values.specs.declared.end.Effect.{Effect}
+use Rattle.py_values.specs.declared.end.Effect.TheVariants.{Give, New, Put, Fail}
 use Rattle.py_values.specs.declared.end.Raise.{Raise}
 use Rattle.py_values.specs.declared.index.Index.TheVariants.{At, Slice}
 use Rattle.py_values.specs.declared.object.Obj.{Obj}
@@ -20,17 +20,17 @@ use Rattle.py_values.specs.declared.value.Value.TheVariants as val
 use Rattle.source_meaning.specs.py_operands.Faults.{not_iterable}
 use Rattle.source_meaning.specs.py_ops.Binary.{augmented_of}
 use Rattle.source_meaning.specs.py_items.Items.{subscript_of, store_of, delete_of, object_at}
-use Rattle.source_meaning.specs.py_items.Turns.{turn_of as element_of, next_by, iterate}
+use Rattle.source_meaning.specs.py_items.Turns.{turn_of as element_of, iterator_after, iterate}
 use Rattle.source_meaning.specs.py_items.declared.iter.IterAt.{IterAt}
 use Rattle.source_meaning.specs.py_attributes.Attributes.{attribute_of, own_value, no_attribute}
 use Rattle.source_meaning.specs.pytest_calls.Swallowing.{did_not_raise, pattern_end}
 use Rattle.source_meaning.specs.py_kinds.Classes.{is_a}
 use Rattle.source_meaning.specs.py_world.declared.ended.Thrown.{Thrown}
 use Rattle.source_meaning.specs.py_world.declared.trace.TraceFrame.{TraceFrame}
-use Rattle.source_meaning.specs.py_world.World.{Kinds, State, heap_of, with_trace}
+use Rattle.source_meaning.specs.py_world.World.{Kinds, CallState, heap_of, with_trace}
 use Rattle.source_meaning.specs.py_world.Site.{Scene, Site, Own, InModule, InFunction, InClass, trace_of, site_handling, scene_handling}
 use Rattle.source_meaning.specs.py_world.Names.{bound_value, not_bound, unbound, unbound_by, unbound_global, unbound_here, unbound_class, deleted, delete_name}
-use Rattle.source_meaning.specs.py_world.Outcome.{Outcome, Gave, Next, Returned, Broke, Continued, Raised, Rest, Then, Part, After, Body, route, onward, changing, costing, operated, on_value, on_next, raised_at}
+use Rattle.source_meaning.specs.py_world.Outcome.{Outcome, Gave, Next, Returned, Broke, Continued, Raised, Rest, Continuation, Denotation, After, Body, route, onward, changing, costing, operated, on_value, on_next, raised_at}
 use Rattle.source_meaning.specs.py_world.Statements.{received, no_use, return_sent}
 use Rattle.source_meaning.specs.py_world.Expressions.{arguments}
 use Rattle.source_meaning.specs.py_world.Displays.{displayed, dict_displayed, in_pairs, bound_given, collected, list_part, tuple_part, dict_part, subscript_part, slice_bound, sliced_at, slice_by, slice_to, slice_on, slice_part}
@@ -45,7 +45,7 @@ use Rattle.lower_law.proofs.Parts as part
 use Rattle.lower_law.proofs.Blocks as block
 
 module _ {K J : Kinds} (R : Likeness K J) where
-  abbrev States : State K → State J → Type 0
+  abbrev States : CallState K → CallState J → Type 0
   States = StatesAlike R
 
   abbrev Ends : Outcome K → Outcome J → Type 0
@@ -54,16 +54,16 @@ module _ {K J : Kinds} (R : Likeness K J) where
   abbrev Follow : Rest K → Rest J → Type 0
   Follow = part.Follow R
 
-  abbrev Behind : Then K → Then J → Type 0
+  abbrev Behind : Continuation K → Continuation J → Type 0
   Behind = part.Behind R
 
-  abbrev PartSame : Part K → Part J → Type 0
+  abbrev PartSame : Denotation K → Denotation J → Type 0
   PartSame = part.PartSame R
 
-  abbrev PartsSame : List (Part K) → List (Part J) → Type 0
+  abbrev PartsSame : List (Denotation K) → List (Denotation J) → Type 0
   PartsSame = part.PartsSame R
 
-  abbrev SomeSame : Option (Part K) → Option (Part J) → Type 0
+  abbrev SomeSame : Option (Denotation K) → Option (Denotation J) → Type 0
   SomeSame = block.SomeSame R
 
   abbrev BodySame : Body K → Body J → Type 0
@@ -72,95 +72,95 @@ module _ {K J : Kinds} (R : Likeness K J) where
   abbrev AfterSame : After K → After J → Type 0
   AfterSame = block.AfterSame R
 
-  value_same : {o : Outcome K} {q : Outcome J} → Ends o q → (k : Then K) (l : Then J) → Behind k l → (go : Value → State K → Rest K) (go' : Value → State J → Rest J) → ((v : Value) (s : State K) (r : State J) → States s r → Follow (go v s) (go' v r)) → Follow (on_value o k go) (on_value q l go')
+  value_same : {o : Outcome K} {q : Outcome J} → Ends o q → (k : Continuation K) (l : Continuation J) → Behind k l → (go : Value → CallState K → Rest K) (go' : Value → CallState J → Rest J) → ((v : Value) (s : CallState K) (r : CallState J) → States s r → Follow (go v s) (go' v r)) → Follow (on_value o k go) (on_value q l go')
   value_same n k l h go go' g = part.value_same R n k l h go go' g
 
-  next_same : {o : Outcome K} {q : Outcome J} → Ends o q → (k : Then K) (l : Then J) → Behind k l → (go : State K → Rest K) (go' : State J → Rest J) → ((s : State K) (r : State J) → States s r → Follow (go s) (go' r)) → Follow (on_next o k go) (on_next q l go')
+  next_same : {o : Outcome K} {q : Outcome J} → Ends o q → (k : Continuation K) (l : Continuation J) → Behind k l → (go : CallState K → Rest K) (go' : CallState J → Rest J) → ((s : CallState K) (r : CallState J) → States s r → Follow (go s) (go' r)) → Follow (on_next o k go) (on_next q l go')
   next_same n k l h go go' g = block.next_same R n k l h go go' g
 
-  operated_same : (m : List Obj → Made) (p : Site) {s : State K} {r : State J} → States s r → (k : Then K) (l : Then J) → Behind k l → Follow (operated (m (heap_of s)) p s k) (operated (m (heap_of r)) p r l)
+  operated_same : (m : List Obj → Effect) (p : Site) {s : CallState K} {r : CallState J} → States s r → (k : Continuation K) (l : Continuation J) → Behind k l → Follow (operated (m (heap_of s)) p s k) (operated (m (heap_of r)) p r l)
   operated_same m p ss k l h = part.operated_same R m p ss k l h
 
-  raised_same : (e : Raise) (p : Site) {s : State K} {r : State J} → States s r → Ends (raised_at e p s) (raised_at e p r)
+  raised_same : (e : Raise) (p : Site) {s : CallState K} {r : CallState J} → States s r → Ends (raised_at e p s) (raised_at e p r)
   raised_same e p ss = part.raised_same R e (trace_of p) ss
 
   -- an error whose text names a kind
-  raised_here : (e : List Obj → Raise) (p : Site) {s : State K} {r : State J} → States s r → Ends (raised_at (e (heap_of s)) p s) (raised_at (e (heap_of r)) p r)
+  raised_here : (e : List Obj → Raise) (p : Site) {s : CallState K} {r : CallState J} → States s r → Ends (raised_at (e (heap_of s)) p s) (raised_at (e (heap_of r)) p r)
   raised_here e p (states a t (worlds ss cs fs modules heap printed traces)) = raised_same (e heap) p (states a t (worlds ss cs fs modules heap printed traces))
 
-  costing_same : (m : List Obj → Made) (trace : List TraceFrame) {s : State K} {r : State J} → States s r → (k : Then K) (l : Then J) → Behind k l → Follow (costing (m (heap_of s)) trace s k) (costing (m (heap_of r)) trace r l)
+  costing_same : (m : List Obj → Effect) (trace : List TraceFrame) {s : CallState K} {r : CallState J} → States s r → (k : Continuation K) (l : Continuation J) → Behind k l → Follow (costing (m (heap_of s)) trace s k) (costing (m (heap_of r)) trace r l)
   costing_same m trace (states a t (worlds ss cs fs modules heap printed traces)) k l h = part.costing_same R (m heap) trace (states a t (worlds ss cs fs modules heap printed traces)) k l h
 
-  pub arguments_same : {es : List (Part K)} {fs : List (Part J)} → PartsSame es fs → (vs : List Value) (p : Site) {s : State K} {r : State J} → States s r → (k : Then K) (l : Then J) → Behind k l → (go : List Value → State K → Rest K) (go' : List Value → State J → Rest J) → ((vs : List Value) (s : State K) (r : State J) → States s r → Follow (go vs s) (go' vs r)) → Follow (arguments es vs p s k go) (arguments fs vs p r l go')
+  pub arguments_same : {es : List (Denotation K)} {fs : List (Denotation J)} → PartsSame es fs → (vs : List Value) (p : Site) {s : CallState K} {r : CallState J} → States s r → (k : Continuation K) (l : Continuation J) → Behind k l → (go : List Value → CallState K → Rest K) (go' : List Value → CallState J → Rest J) → ((vs : List Value) (s : CallState K) (r : CallState J) → States s r → Follow (go vs s) (go' vs r)) → Follow (arguments es vs p s k go) (arguments fs vs p r l go')
   arguments_same part.none vs p ss k l h go go' g = g vs _ _ ss
   arguments_same (part.more {es = es} {fs = fs} x xs) vs p ss k l h go go' g =
       x.does p ss _ _ (λ o q n. value_same n k l h (λ v s. arguments es (vs ++ v ∷ []) p s k go) (λ v s. arguments fs (vs ++ v ∷ []) p s l go') (λ v s r ss. arguments_same xs (vs ++ v ∷ []) p ss k l h go go' g))
 
-  pub collected_same : (make : List Obj → List Value → Made) {es : List (Part K)} {fs : List (Part J)} → PartsSame es fs → PartSame (collected make es) (collected make fs)
+  pub collected_same : (make : List Obj → List Value → Effect) {es : List (Denotation K)} {fs : List (Denotation J)} → PartsSame es fs → PartSame (collected make es) (collected make fs)
   collected_same make xs =
       record { does = λ p ss k l h. arguments_same xs [] p ss k l h (λ vs s. costing (make (heap_of s) vs) (trace_of p) s k) (λ vs s. costing (make (heap_of s) vs) (trace_of p) s l) (λ vs s r ss. costing_same (λ heap. make heap vs) (trace_of p) ss k l h) }
 
-  pub list_same : {es : List (Part K)} {fs : List (Part J)} → PartsSame es fs → PartSame (list_part es) (list_part fs)
+  pub list_same : {es : List (Denotation K)} {fs : List (Denotation J)} → PartsSame es fs → PartSame (list_part es) (list_part fs)
   list_same xs = collected_same (λ heap vs. displayed obj.List vs) xs
 
-  pub tuple_same : {es : List (Part K)} {fs : List (Part J)} → PartsSame es fs → PartSame (tuple_part es) (tuple_part fs)
+  pub tuple_same : {es : List (Denotation K)} {fs : List (Denotation J)} → PartsSame es fs → PartSame (tuple_part es) (tuple_part fs)
   tuple_same xs = collected_same (λ heap vs. displayed obj.Tuple vs) xs
 
-  pairs_same : {ks es : List (Part K)} {js fs : List (Part J)} → PartsSame ks js → PartsSame es fs → PartsSame (in_pairs ks es) (in_pairs js fs)
+  pairs_same : {ks es : List (Denotation K)} {js fs : List (Denotation J)} → PartsSame ks js → PartsSame es fs → PartsSame (in_pairs ks es) (in_pairs js fs)
   pairs_same part.none xs = part.none
   pairs_same (part.more k ks) part.none = part.none
   pairs_same (part.more k ks) (part.more x xs) = part.more k (part.more x (pairs_same ks xs))
 
-  pub dict_same : {ks es : List (Part K)} {js fs : List (Part J)} → PartsSame ks js → PartsSame es fs → PartSame (dict_part ks es) (dict_part js fs)
+  pub dict_same : {ks es : List (Denotation K)} {js fs : List (Denotation J)} → PartsSame ks js → PartsSame es fs → PartSame (dict_part ks es) (dict_part js fs)
   dict_same ks xs = collected_same dict_displayed (pairs_same ks xs)
 
-  pub subscript_same : {a i : Part K} {b j : Part J} → PartSame a b → PartSame i j → PartSame (subscript_part a i) (subscript_part b j)
+  pub subscript_same : {a i : Denotation K} {b j : Denotation J} → PartSame a b → PartSame i j → PartSame (subscript_part a i) (subscript_part b j)
   subscript_same a i = record { does = λ p ss k l h. a.does p ss _ _ (λ o q n. value_same n k l h _ _ (λ x s r ss. i.does p ss _ _ (λ o q n. value_same n k l h _ _ (λ y s r ss. operated_same (λ heap. subscript_of heap x (At y)) p ss k l h)))) }
 
-  bound_same : {e : Option (Part K)} {f : Option (Part J)} → SomeSame e f → (p : Site) {s : State K} {r : State J} → States s r → (k : Then K) (l : Then J) → Behind k l → (go : Option Value → State K → Rest K) (go' : Option Value → State J → Rest J) → ((b : Option Value) (s : State K) (r : State J) → States s r → Follow (go b s) (go' b r)) → Follow (slice_bound e p s k go) (slice_bound f p r l go')
+  bound_same : {e : Option (Denotation K)} {f : Option (Denotation J)} → SomeSame e f → (p : Site) {s : CallState K} {r : CallState J} → States s r → (k : Continuation K) (l : Continuation J) → Behind k l → (go : Option Value → CallState K → Rest K) (go' : Option Value → CallState J → Rest J) → ((b : Option Value) (s : CallState K) (r : CallState J) → States s r → Follow (go b s) (go' b r)) → Follow (slice_bound e p s k go) (slice_bound f p r l go')
   bound_same block.none p ss k l h go go' g = g None _ _ ss
   bound_same (block.some x) p ss k l h go go' g = x.does p ss _ _ (λ o q n. value_same n k l h (λ v s. go (bound_given v) s) (λ v s. go' (bound_given v) s) (λ v s r ss. g (bound_given v) s r ss))
 
   sliced_same : (x : Value) (a b c : Option Value) → PartSame (sliced_at x a b c) (sliced_at x a b c)
   sliced_same x a b c = record { does = λ p ss k l h. operated_same (λ heap. subscript_of heap x (Slice a b c)) p ss k l h }
 
-  by_same : (x : Value) (a b : Option Value) {e : Option (Part K)} {f : Option (Part J)} → SomeSame e f → PartSame (slice_by x a b e) (slice_by x a b f)
+  by_same : (x : Value) (a b : Option Value) {e : Option (Denotation K)} {f : Option (Denotation J)} → SomeSame e f → PartSame (slice_by x a b e) (slice_by x a b f)
   by_same x a b by = record { does = λ p ss k l h. bound_same by p ss k l h (λ c s. sliced_at x a b c p s k) (λ c s. sliced_at x a b c p s l) (λ c s r ss. (sliced_same x a b c).does p ss k l h) }
 
-  to_same : (x : Value) (a : Option Value) {d e : Option (Part K)} {d' e' : Option (Part J)} → SomeSame d d' → SomeSame e e' → PartSame (slice_to x a d e) (slice_to x a d' e')
+  to_same : (x : Value) (a : Option Value) {d e : Option (Denotation K)} {d' e' : Option (Denotation J)} → SomeSame d d' → SomeSame e e' → PartSame (slice_to x a d e) (slice_to x a d' e')
   to_same x a {e = e} {e' = e'} to by = record { does = λ p ss k l h. bound_same to p ss k l h (λ b s. slice_by x a b e p s k) (λ b s. slice_by x a b e' p s l) (λ b s r ss. (by_same x a b by).does p ss k l h) }
 
-  from_same : (x : Value) {c d e : Option (Part K)} {c' d' e' : Option (Part J)} → SomeSame c c' → SomeSame d d' → SomeSame e e' → PartSame (slice_on x c d e) (slice_on x c' d' e')
+  from_same : (x : Value) {c d e : Option (Denotation K)} {c' d' e' : Option (Denotation J)} → SomeSame c c' → SomeSame d d' → SomeSame e e' → PartSame (slice_on x c d e) (slice_on x c' d' e')
   from_same x {d = d} {e = e} {d' = d'} {e' = e'} from to by = record { does = λ p ss k l h. bound_same from p ss k l h (λ a s. slice_to x a d e p s k) (λ a s. slice_to x a d' e' p s l) (λ a s r ss. (to_same x a to by).does p ss k l h) }
 
-  pub slice_same : {a : Part K} {a' : Part J} {c d e : Option (Part K)} {c' d' e' : Option (Part J)} → PartSame a a' → SomeSame c c' → SomeSame d d' → SomeSame e e' → PartSame (slice_part a c d e) (slice_part a' c' d' e')
+  pub slice_same : {a : Denotation K} {a' : Denotation J} {c d e : Option (Denotation K)} {c' d' e' : Option (Denotation J)} → PartSame a a' → SomeSame c c' → SomeSame d d' → SomeSame e e' → PartSame (slice_part a c d e) (slice_part a' c' d' e')
   slice_same a from to by = record { does = λ p ss k l h. a.does p ss _ _ (λ o q n. value_same n k l h _ _ (λ x s r ss. (from_same x from to by).does p ss k l h)) }
 
   -- attributes
-  attribute_end_same : (x : Value) (name : List ℕ) (p : Site) {s : State K} {r : State J} → States s r → Ends (attribute_end x name p s) (attribute_end x name p r)
+  attribute_end_same : (x : Value) (name : List ℕ) (p : Site) {s : CallState K} {r : CallState J} → States s r → Ends (attribute_end x name p s) (attribute_end x name p r)
   attribute_end_same x name p (states a t (worlds ss cs fs modules heap printed traces)) = part.made_same R (attribute_of heap x name) (trace_of p) (states a t (worlds ss cs fs modules heap printed traces))
 
-  pub attribute_same : {e : Part K} {f : Part J} (name : List ℕ) → PartSame e f → PartSame (attribute_part e name) (attribute_part f name)
+  pub attribute_same : {e : Denotation K} {f : Denotation J} (name : List ℕ) → PartSame e f → PartSame (attribute_part e name) (attribute_part f name)
   attribute_same name x = record { does = λ p ss k l h. x.does p ss _ _ (λ o q n. value_same n k l h _ _ (λ v s r ss. h _ _ (attribute_end_same v name p ss))) }
 
-  changed_or_same : (may : Bool) (f : Obj → Obj) (x : Value) (none : Raise) (p : Site) {s : State K} {r : State J} → States s r → Ends (changed_or may f x none p s) (changed_or may f x none p r)
+  changed_or_same : (may : Bool) (f : Obj → Obj) (x : Value) (none : Raise) (p : Site) {s : CallState K} {r : CallState J} → States s r → Ends (changed_or may f x none p s) (changed_or may f x none p r)
   changed_or_same true f (val.Ref id) none p (states a t (worlds ss cs fs modules heap printed traces)) = next (states a t (worlds ss cs fs modules _ printed traces))
   changed_or_same true f val.None none p ss = raised_same none p ss
   changed_or_same true f (val.Bool b) none p ss = raised_same none p ss
   changed_or_same true f (val.Int n) none p ss = raised_same none p ss
   changed_or_same false f x none p ss = raised_same none p ss
 
-  abbrev set_end : {L : Kinds} → Value → List ℕ → Value → Site → State L → Outcome L
+  abbrev set_end : {L : Kinds} → Value → List ℕ → Value → Site → CallState L → Outcome L
   set_end x name v p s = changed_or (takes_names (object_at (heap_of s) x)) (with_attribute name v) x (no_attribute (kind_name (heap_of s) x) name) p s
 
-  set_end_same : (x : Value) (name : List ℕ) (v : Value) (p : Site) {s : State K} {r : State J} → States s r → Ends (set_end x name v p s) (set_end x name v p r)
+  set_end_same : (x : Value) (name : List ℕ) (v : Value) (p : Site) {s : CallState K} {r : CallState J} → States s r → Ends (set_end x name v p s) (set_end x name v p r)
   set_end_same x name v p (states a t (worlds ss cs fs modules heap printed traces)) =
       changed_or_same (takes_names (object_at heap x)) (with_attribute name v) x (no_attribute (kind_name heap x) name) p (states a t (worlds ss cs fs modules heap printed traces))
 
-  abbrev unset_end : {L : Kinds} → Value → List ℕ → Site → State L → Outcome L
+  abbrev unset_end : {L : Kinds} → Value → List ℕ → Site → CallState L → Outcome L
   unset_end x name p s = changed_or (is_some (own_value name (object_at (heap_of s) x))) (without_attribute name) x (no_attribute (kind_name (heap_of s) x) name) p s
 
-  unset_end_same : (x : Value) (name : List ℕ) (p : Site) {s : State K} {r : State J} → States s r → Ends (unset_end x name p s) (unset_end x name p r)
+  unset_end_same : (x : Value) (name : List ℕ) (p : Site) {s : CallState K} {r : CallState J} → States s r → Ends (unset_end x name p s) (unset_end x name p r)
   unset_end_same x name p (states a t (worlds ss cs fs modules heap printed traces)) =
       changed_or_same (is_some (own_value name (object_at heap x))) (without_attribute name) x (no_attribute (kind_name heap x) name) p (states a t (worlds ss cs fs modules heap printed traces))
 
@@ -188,7 +188,7 @@ module _ {K J : Kinds} (R : Likeness K J) where
   attribute_store : (x : Value) (name : List ℕ) → StoreSame (set_attribute x name) (set_attribute x name)
   attribute_store x name = record { stores = λ v. set_attribute_same x name v }
 
-  pub store_attribute_same : {e : Part K} {f : Part J} (name : List ℕ) → PartSame e f → StoreSame (store_attribute e name) (store_attribute f name)
+  pub store_attribute_same : {e : Denotation K} {f : Denotation J} (name : List ℕ) → PartSame e f → StoreSame (store_attribute e name) (store_attribute f name)
   store_attribute_same name x = record { stores = λ v. record { does = λ p ss k l h. x.does p ss _ _ (λ o q n. value_same n k l h _ _ (λ y s r ss. (set_attribute_same y name v).does p ss k l h)) } }
 
   set_item_same : (x i v : Value) → PartSame (set_item x i v) (set_item x i v)
@@ -197,7 +197,7 @@ module _ {K J : Kinds} (R : Likeness K J) where
   item_store : (x i : Value) → StoreSame (set_item x i) (set_item x i)
   item_store x i = record { stores = λ v. set_item_same x i v }
 
-  pub store_item_same : {a i : Part K} {b j : Part J} → PartSame a b → PartSame i j → StoreSame (store_item a i) (store_item b j)
+  pub store_item_same : {a i : Denotation K} {b j : Denotation J} → PartSame a b → PartSame i j → StoreSame (store_item a i) (store_item b j)
   store_item_same a i = record { stores = λ v. record { does = λ p ss k l h. a.does p ss _ _ (λ o q n. value_same n k l h _ _ (λ x s r ss. i.does p ss _ _ (λ o q n. value_same n k l h _ _ (λ y s r ss. (set_item_same x y v).does p ss k l h)))) } }
 
   pub store_all_same : {es : List (Store K)} {fs : List (Store J)} → StoresSame es fs → (v : Value) → PartSame (store_all es v) (store_all fs v)
@@ -210,30 +210,30 @@ module _ {K J : Kinds} (R : Likeness K J) where
   store_each_same (more x xs) (v ∷ vs) = record { does = λ p ss k l h. (x.stores v).does p ss _ _ (λ o q n. next_same n k l h _ _ (λ s r ss. (store_each_same xs vs).does p ss k l h)) }
 
   -- the elements, and the heap that has them
-  elements_same : {es : List (Store K)} {fs : List (Store J)} → StoresSame es fs → (n : ℕ) (v : Value) (p : Site) {s : State K} {r : State J} → States s r → (k : Then K) (l : Then J) → Behind k l → Follow (store_elements es (elements_from n v 0 n (heap_of s)) p s k) (store_elements fs (elements_from n v 0 n (heap_of r)) p r l)
+  elements_same : {es : List (Store K)} {fs : List (Store J)} → StoresSame es fs → (n : ℕ) (v : Value) (p : Site) {s : CallState K} {r : CallState J} → States s r → (k : Continuation K) (l : Continuation J) → Behind k l → Follow (store_elements es (elements_from n v 0 n (heap_of s)) p s k) (store_elements fs (elements_from n v 0 n (heap_of r)) p r l)
   elements_same xs n v p (states a t (worlds ss cs fs modules heap printed traces)) k l h =
       (store_each_same xs (elements_from n v 0 n heap).0).does p (states a t (worlds ss cs fs modules _ printed traces)) k l h
 
-  abbrev counted : {L : Kinds} → ℕ → ℕ → List (Store L) → Value → Part L
+  abbrev counted : {L : Kinds} → ℕ → ℕ → List (Store L) → Value → Denotation L
   counted n m ts v p s k = if eqb n m then store_elements ts (elements_from n v 0 n (heap_of s)) p s k else k (raised_at (wrong_count m n) p s)
 
-  counted_same : {es : List (Store K)} {fs : List (Store J)} → StoresSame es fs → (n m : ℕ) (v : Value) (p : Site) {s : State K} {r : State J} → States s r → (k : Then K) (l : Then J) → Behind k l → Follow (counted n m es v p s k) (counted n m fs v p r l)
+  counted_same : {es : List (Store K)} {fs : List (Store J)} → StoresSame es fs → (n m : ℕ) (v : Value) (p : Site) {s : CallState K} {r : CallState J} → States s r → (k : Continuation K) (l : Continuation J) → Behind k l → Follow (counted n m es v p s k) (counted n m fs v p r l)
   counted_same xs n m v p ss k l h = part.follow_cond R (eqb n m) _ _ _ _ (elements_same xs n v p ss k l h) (h _ _ (raised_same (wrong_count m n) p ss))
 
-  unpack_some : {es : List (Store K)} {fs : List (Store J)} → StoresSame es fs → (n : ℕ) (v : Value) (p : Site) {s : State K} {r : State J} → States s r → (k : Then K) (l : Then J) → Behind k l → Follow (counted n (length es) es v p s k) (counted n (length fs) fs v p r l)
+  unpack_some : {es : List (Store K)} {fs : List (Store J)} → StoresSame es fs → (n : ℕ) (v : Value) (p : Site) {s : CallState K} {r : CallState J} → States s r → (k : Continuation K) (l : Continuation J) → Behind k l → Follow (counted n (length es) es v p s k) (counted n (length fs) fs v p r l)
   unpack_some {es = es} {fs = fs} xs n v p {s = s} {r = r} ss k l h = subst (λ m. Follow (counted n (length es) es v p s k) (counted n m fs v p r l)) (stores_length xs) (counted_same xs n (length es) v p ss k l h)
 
   unpack_by_same : (n : Option ℕ) {es : List (Store K)} {fs : List (Store J)} → StoresSame es fs → (v : Value) → PartSame (unpack_by n es v) (unpack_by n fs v)
   unpack_by_same None xs v = record { does = λ p ss k l h. h _ _ (raised_here (λ heap. not_iterable (kind_name heap v)) p ss) }
   unpack_by_same (Some n) xs v = record { does = λ p ss k l h. unpack_some xs n v p ss k l h }
 
-  unpack_here : {es : List (Store K)} {fs : List (Store J)} → StoresSame es fs → (v : Value) (p : Site) {s : State K} {r : State J} → States s r → (k : Then K) (l : Then J) → Behind k l → Follow (unpack es v p s k) (unpack fs v p r l)
+  unpack_here : {es : List (Store K)} {fs : List (Store J)} → StoresSame es fs → (v : Value) (p : Site) {s : CallState K} {r : CallState J} → States s r → (k : Continuation K) (l : Continuation J) → Behind k l → Follow (unpack es v p s k) (unpack fs v p r l)
   unpack_here xs v p (states a t (worlds ss cs fs modules heap printed traces)) k l h = (unpack_by_same (length_of heap v) xs v).does p (states a t (worlds ss cs fs modules heap printed traces)) k l h
 
   pub unpack_same : {es : List (Store K)} {fs : List (Store J)} → StoresSame es fs → StoreSame (unpack es) (unpack fs)
   unpack_same xs = record { stores = λ v. record { does = λ p ss k l h. unpack_here xs v p ss k l h } }
 
-  pub assign_same : {es : List (Store K)} {fs : List (Store J)} {e : Part K} {f : Part J} → StoresSame es fs → PartSame e f → PartSame (assign es e) (assign fs f)
+  pub assign_same : {es : List (Store K)} {fs : List (Store J)} {e : Denotation K} {f : Denotation J} → StoresSame es fs → PartSame e f → PartSame (assign es e) (assign fs f)
   assign_same xs x = record { does = λ p ss k l h. x.does p ss _ _ (λ o q n. value_same n k l h _ _ (λ v s r ss. (store_all_same xs v).does p ss k l h)) }
 
   -- what is done with the value that a `yield` is given
@@ -253,85 +253,85 @@ module _ {K J : Kinds} (R : Likeness K J) where
   augmented_same : (x : Value) (op : BinOp) (y : Value) {t : Store K} {u : Store J} → StoreSame t u → PartSame (augmented x op y t) (augmented x op y u)
   augmented_same x op y {t = t} {u = u} target = record { does = λ p ss k l h. operated_same (λ heap. augmented_of op heap x y) p ss (λ o. on_value o k (λ v s. t v p s k)) (λ o. on_value o l (λ v s. u v p s l)) (λ o q n. value_same n k l h (λ v s. t v p s k) (λ v s. u v p s l) (λ v s r ss. (target.stores v).does p ss k l h)) }
 
-  augment_on_same : (x : Value) (op : BinOp) {e : Part K} {f : Part J} {t : Store K} {u : Store J} → PartSame e f → StoreSame t u → PartSame (augment_on x op e t) (augment_on x op f u)
+  augment_on_same : (x : Value) (op : BinOp) {e : Denotation K} {f : Denotation J} {t : Store K} {u : Store J} → PartSame e f → StoreSame t u → PartSame (augment_on x op e t) (augment_on x op f u)
   augment_on_same x op e t = record { does = λ p ss k l h. e.does p ss _ _ (λ o q n. value_same n k l h _ _ (λ y s r ss. (augmented_same x op y t).does p ss k l h)) }
 
-  pub augment_same : (name : List ℕ) (op : BinOp) {e : Part K} {f : Part J} → PartSame e f → PartSame (augment_name name op e) (augment_name name op f)
+  pub augment_same : (name : List ℕ) (op : BinOp) {e : Denotation K} {f : Denotation J} → PartSame e f → PartSame (augment_name name op e) (augment_name name op f)
   augment_same name op e = record { does = λ p ss k l h. value_same (part.name_end_same R name p ss) k l h _ _ (λ x s r ss. (augment_on_same x op e (store_name_same name)).does p ss k l h) }
 
-  augment_attribute_of_same : (x : Value) (name : List ℕ) (op : BinOp) {e : Part K} {f : Part J} → PartSame e f → PartSame (augment_attribute_of x name op e) (augment_attribute_of x name op f)
+  augment_attribute_of_same : (x : Value) (name : List ℕ) (op : BinOp) {e : Denotation K} {f : Denotation J} → PartSame e f → PartSame (augment_attribute_of x name op e) (augment_attribute_of x name op f)
   augment_attribute_of_same x name op e = record { does = λ p ss k l h. value_same (attribute_end_same x name p ss) k l h _ _ (λ old s r ss. (augment_on_same old op e (attribute_store x name)).does p ss k l h) }
 
-  pub augment_attribute_same : {a : Part K} {b : Part J} (name : List ℕ) (op : BinOp) {e : Part K} {f : Part J} → PartSame a b → PartSame e f → PartSame (augment_attribute a name op e) (augment_attribute b name op f)
+  pub augment_attribute_same : {a : Denotation K} {b : Denotation J} (name : List ℕ) (op : BinOp) {e : Denotation K} {f : Denotation J} → PartSame a b → PartSame e f → PartSame (augment_attribute a name op e) (augment_attribute b name op f)
   augment_attribute_same name op a e = record { does = λ p ss k l h. a.does p ss _ _ (λ o q n. value_same n k l h _ _ (λ x s r ss. (augment_attribute_of_same x name op e).does p ss k l h)) }
 
-  augment_item_of_same : (x i : Value) (op : BinOp) {e : Part K} {f : Part J} → PartSame e f → PartSame (augment_item_of x i op e) (augment_item_of x i op f)
+  augment_item_of_same : (x i : Value) (op : BinOp) {e : Denotation K} {f : Denotation J} → PartSame e f → PartSame (augment_item_of x i op e) (augment_item_of x i op f)
   augment_item_of_same x i op {e = e} {f = f} y = record { does = λ p ss k l h. operated_same (λ heap. subscript_of heap x (At i)) p ss (λ o. on_value o k (λ old s. augment_on old op e (set_item x i) p s k)) (λ o. on_value o l (λ old s. augment_on old op f (set_item x i) p s l)) (λ o q n. value_same n k l h (λ old s. augment_on old op e (set_item x i) p s k) (λ old s. augment_on old op f (set_item x i) p s l) (λ old s r ss. (augment_on_same old op y (item_store x i)).does p ss k l h)) }
 
-  pub augment_item_same : {a i : Part K} {b j : Part J} (op : BinOp) {e : Part K} {f : Part J} → PartSame a b → PartSame i j → PartSame e f → PartSame (augment_item a i op e) (augment_item b j op f)
+  pub augment_item_same : {a i : Denotation K} {b j : Denotation J} (op : BinOp) {e : Denotation K} {f : Denotation J} → PartSame a b → PartSame i j → PartSame e f → PartSame (augment_item a i op e) (augment_item b j op f)
   augment_item_same op a i e = record { does = λ p ss k l h. a.does p ss _ _ (λ o q n. value_same n k l h _ _ (λ x s r ss. i.does p ss _ _ (λ o q n. value_same n k l h _ _ (λ y s r ss. (augment_item_of_same x y op e).does p ss k l h)))) }
 
   -- names that are unbound
-  unbound_global_same : (name : List ℕ) (scene : Scene) {s : State K} {r : State J} → States s r → States (unbound_global name scene s) (unbound_global name scene r)
+  unbound_global_same : (name : List ℕ) (scene : Scene) {s : CallState K} {r : CallState J} → States s r → States (unbound_global name scene s) (unbound_global name scene r)
   unbound_global_same name scene (states a t (worlds ss cs fs modules heap printed traces)) = states a t (worlds ss cs fs modules _ printed traces)
 
-  unbound_here_same : (name : List ℕ) {s : State K} {r : State J} → States s r → States (unbound_here name s) (unbound_here name r)
+  unbound_here_same : (name : List ℕ) {s : CallState K} {r : CallState J} → States s r → States (unbound_here name s) (unbound_here name r)
   unbound_here_same name (states a t ws) = states (unbind_name name a) t ws
 
-  unbound_class_same : (name : List ℕ) (at : ℕ) {s : State K} {r : State J} → States s r → States (unbound_class name at s) (unbound_class name at r)
+  unbound_class_same : (name : List ℕ) (at : ℕ) {s : CallState K} {r : CallState J} → States s r → States (unbound_class name at s) (unbound_class name at r)
   unbound_class_same name at (states a t (worlds ss cs fs modules heap printed traces)) = states a t (worlds ss cs fs modules _ printed traces)
 
-  unbound_by_same : (own : Own) (name : List ℕ) (scene : Scene) {s : State K} {r : State J} → States s r → States (unbound_by own name scene s) (unbound_by own name scene r)
+  unbound_by_same : (own : Own) (name : List ℕ) (scene : Scene) {s : CallState K} {r : CallState J} → States s r → States (unbound_by own name scene s) (unbound_by own name scene r)
   unbound_by_same InModule name scene ss = unbound_global_same name scene ss
   unbound_by_same (InFunction own) name scene ss = block.state_cond R (is_among own name) _ _ _ _ (unbound_here_same name ss) (unbound_global_same name scene ss)
   unbound_by_same (InClass at) name scene ss = unbound_class_same name at ss
 
-  unbound_same : (name : List ℕ) (scene : Scene) {s : State K} {r : State J} → States s r → States (unbound name scene s) (unbound name scene r)
+  unbound_same : (name : List ℕ) (scene : Scene) {s : CallState K} {r : CallState J} → States s r → States (unbound name scene s) (unbound name scene r)
   unbound_same name scene ss = unbound_by_same scene.own name scene ss
 
-  deleted_by_same : (v : Option Value) (name : List ℕ) (p : Site) {s : State K} {r : State J} → States s r → Ends (deleted v name p s) (deleted v name p r)
+  deleted_by_same : (v : Option Value) (name : List ℕ) (p : Site) {s : CallState K} {r : CallState J} → States s r → Ends (deleted v name p s) (deleted v name p r)
   deleted_by_same (Some v) name p ss = next (unbound_same name p.scene ss)
   deleted_by_same None name p ss = raised_same (not_bound p.scene.own name) p ss
 
-  abbrev deleted_here : {L : Kinds} → List ℕ → Site → State L → Outcome L
+  abbrev deleted_here : {L : Kinds} → List ℕ → Site → CallState L → Outcome L
   deleted_here name p s = deleted (bound_value p.scene.own name p.scene.home s.locals (heap_of s)) name p s
 
-  deleted_same : (name : List ℕ) (p : Site) {s : State K} {r : State J} → States s r → Ends (deleted_here name p s) (deleted_here name p r)
+  deleted_same : (name : List ℕ) (p : Site) {s : CallState K} {r : CallState J} → States s r → Ends (deleted_here name p s) (deleted_here name p r)
   deleted_same name p (states a t (worlds ss cs fs modules heap printed traces)) =
       deleted_by_same (bound_value p.scene.own name p.scene.home a heap) name p (states a t (worlds ss cs fs modules heap printed traces))
 
   pub delete_name_same : (name : List ℕ) → PartSame (delete_name name) (delete_name name)
   delete_name_same name = record { does = λ p ss k l h. h _ _ (deleted_same name p ss) }
 
-  pub delete_attribute_same : {e : Part K} {f : Part J} (name : List ℕ) → PartSame e f → PartSame (delete_attribute e name) (delete_attribute f name)
+  pub delete_attribute_same : {e : Denotation K} {f : Denotation J} (name : List ℕ) → PartSame e f → PartSame (delete_attribute e name) (delete_attribute f name)
   delete_attribute_same name x = record { does = λ p ss k l h. x.does p ss _ _ (λ o q n. value_same n k l h _ _ (λ y s r ss. (unset_attribute_same y name).does p ss k l h)) }
 
   unset_item_same : (x i : Value) → PartSame (unset_item x i) (unset_item x i)
   unset_item_same x i = record { does = λ p ss k l h. operated_same (λ heap. delete_of heap x i) p ss (λ o. on_value o k (λ w s. k (Next s))) (λ o. on_value o l (λ w s. l (Next s))) (λ o q n. value_same n k l h (λ w s. k (Next s)) (λ w s. l (Next s)) (λ w s r ss. h _ _ (next ss))) }
 
-  pub delete_item_same : {a i : Part K} {b j : Part J} → PartSame a b → PartSame i j → PartSame (delete_item a i) (delete_item b j)
+  pub delete_item_same : {a i : Denotation K} {b j : Denotation J} → PartSame a b → PartSame i j → PartSame (delete_item a i) (delete_item b j)
   delete_item_same a i = record { does = λ p ss k l h. a.does p ss _ _ (λ o q n. value_same n k l h _ _ (λ x s r ss. i.does p ss _ _ (λ o q n. value_same n k l h _ _ (λ y s r ss. (unset_item_same x y).does p ss k l h)))) }
 
   -- exceptions
-  trace_same : (e : Value) (trace : List TraceFrame) {s : State K} {r : State J} → States s r → States (with_trace e trace s) (with_trace e trace r)
+  trace_same : (e : Value) (trace : List TraceFrame) {s : CallState K} {r : CallState J} → States s r → States (with_trace e trace s) (with_trace e trace r)
   trace_same (val.Ref id) trace (states a t (worlds ss cs fs modules heap printed traces)) = states a t (worlds ss cs fs modules heap printed _)
   trace_same val.None trace ss = ss
   trace_same (val.Bool b) trace ss = ss
   trace_same (val.Int n) trace ss = ss
 
-  raised_by_same : (x : Raisable) (p : Site) {s : State K} {r : State J} → States s r → Ends (raised_by x p s) (raised_by x p r)
+  raised_by_same : (x : Raisable) (p : Site) {s : CallState K} {r : CallState J} → States s r → Ends (raised_by x p s) (raised_by x p r)
   raised_by_same (Exception_of id) p (states a t (worlds ss cs fs modules heap printed traces)) = alike.raised (val.Ref id) _ (states a t (worlds ss cs fs modules heap printed _))
   raised_by_same (Class_of class) p (states a t (worlds ss cs fs modules heap printed traces)) = alike.raised _ (trace_of p) (states a t (worlds ss cs fs modules _ printed traces))
   raised_by_same Neither p ss = raised_same no_exception p ss
 
-  pub raised_value_same : (v : Value) (p : Site) {s : State K} {r : State J} → States s r → Ends (raised_by (raisable (heap_of s) v) p s) (raised_by (raisable (heap_of r) v) p r)
+  pub raised_value_same : (v : Value) (p : Site) {s : CallState K} {r : CallState J} → States s r → Ends (raised_by (raisable (heap_of s) v) p s) (raised_by (raisable (heap_of r) v) p r)
   raised_value_same v p (states a t (worlds ss cs fs modules heap printed traces)) = raised_by_same (raisable heap v) p (states a t (worlds ss cs fs modules heap printed traces))
 
-  pub raised_again_same : (e : Option Thrown) (p : Site) {s : State K} {r : State J} → States s r → Ends (raised_again e p s) (raised_again e p r)
+  pub raised_again_same : (e : Option Thrown) (p : Site) {s : CallState K} {r : CallState J} → States s r → Ends (raised_again e p s) (raised_again e p r)
   raised_again_same (Some e) p ss = alike.raised e.exc e.trace ss
   raised_again_same None p ss = raised_same nothing_raised p ss
 
-  unbound_behind : (name : List ℕ) (scene : Scene) (k : Then K) (l : Then J) → Behind k l → {o : Outcome K} {q : Outcome J} → Ends o q → Follow (route (changing (unbound name scene) k) o) (route (changing (unbound name scene) l) q)
+  unbound_behind : (name : List ℕ) (scene : Scene) (k : Continuation K) (l : Continuation J) → Behind k l → {o : Outcome K} {q : Outcome J} → Ends o q → Follow (route (changing (unbound name scene) k) o) (route (changing (unbound name scene) l) q)
   unbound_behind name scene k l h n =
       part.route_same R (record { gave = λ v s r ss. h _ _ (gave v (unbound_same name scene ss)); next = λ s r ss. h _ _ (next (unbound_same name scene ss)); returned = λ v s r ss. h _ _ (returned v (unbound_same name scene ss)); broke = λ s r ss. h _ _ (broke (unbound_same name scene ss)); continued = λ s r ss. h _ _ (continued (unbound_same name scene ss)); raised = λ e trace s r ss. h _ _ (alike.raised e trace (unbound_same name scene ss)) }) n
 
@@ -342,14 +342,14 @@ module _ {K J : Kinds} (R : Likeness K J) where
 
   pub data HandlersSame : List (Handling K) → List (Handling J) → Type 0 where
     none : HandlersSame [] []
-    more : {c : Option (Part K)} {d : Option (Part J)} (name : Option (List ℕ)) {b : Body K} {b' : Body J} {hs : List (Handling K)} {gs : List (Handling J)} → SomeSame c d → BodySame b b' → HandlersSame hs gs → HandlersSame ((c, (name, b)) ∷ hs) ((d, (name, b')) ∷ gs)
+    more : {c : Option (Denotation K)} {d : Option (Denotation J)} (name : Option (List ℕ)) {b : Body K} {b' : Body J} {hs : List (Handling K)} {gs : List (Handling J)} → SomeSame c d → BodySame b b' → HandlersSame hs gs → HandlersSame ((c, (name, b)) ∷ hs) ((d, (name, b')) ∷ gs)
 
   taken_same : (taken : Option Bool) (x y z : Rest K) (x' y' z' : Rest J) → Follow x x' → Follow y y' → Follow z z' → Follow (if_taken taken x y z) (if_taken taken x' y' z')
   taken_same (Some true) x y z x' y' z' h g f = h
   taken_same (Some false) x y z x' y' z' h g f = g
   taken_same None x y z x' y' z' h g f = f
 
-  taken_here : (e v : Value) {s : State K} {r : State J} → States s r → (x y z : Rest K) (x' y' z' : Rest J) → Follow x x' → Follow y y' → Follow z z' → Follow (if_taken (takes_exception (heap_of s) e v) x y z) (if_taken (takes_exception (heap_of r) e v) x' y' z')
+  taken_here : (e v : Value) {s : CallState K} {r : CallState J} → States s r → (x y z : Rest K) (x' y' z' : Rest J) → Follow x x' → Follow y y' → Follow z z' → Follow (if_taken (takes_exception (heap_of s) e v) x y z) (if_taken (takes_exception (heap_of r) e v) x' y' z')
   taken_here e v (states a t (worlds ss cs fs modules heap printed traces)) x y z x' y' z' h g f = taken_same (takes_exception heap e v) x y z x' y' z' h g f
 
   handlers_same : {hs : List (Handling K)} {gs : List (Handling J)} → HandlersSame hs gs → (e : Value) (trace : List TraceFrame) → PartSame (handlers_on hs e trace) (handlers_on gs e trace)
@@ -365,7 +365,7 @@ module _ {K J : Kinds} (R : Likeness K J) where
             part.route_same R (record { gave = w.gave; next = λ s r ss. other.does p.scene ss k l h; returned = w.returned; broke = w.broke; continued = w.continued; raised = λ e trace s r ss. (handlers_same hs e trace).does (site_handling e trace p) ss k l h }) n;
       }
 
-  again_same : {last : Body K} {last' : Body J} → BodySame last last' → (scene : Scene) {s : State K} {r : State J} → States s r → (k : Then K) (l : Then J) → Behind k l → (again : State K → Outcome K) (again' : State J → Outcome J) → ((s : State K) (r : State J) → States s r → Ends (again s) (again' r)) → Follow (then_again last scene s k again) (then_again last' scene r l again')
+  again_same : {last : Body K} {last' : Body J} → BodySame last last' → (scene : Scene) {s : CallState K} {r : CallState J} → States s r → (k : Continuation K) (l : Continuation J) → Behind k l → (again : CallState K → Outcome K) (again' : CallState J → Outcome J) → ((s : CallState K) (r : CallState J) → States s r → Ends (again s) (again' r)) → Follow (then_again last scene s k again) (then_again last' scene r l again')
   again_same last scene ss k l h again again' a = last.does scene ss _ _ (λ o q n. next_same n k l h (λ s. k (again s)) (λ s. l (again' s)) (λ s r ss. h _ _ (a s r ss)))
 
   finally_same : {last : Body K} {last' : Body J} → BodySame last last' → AfterSame (finally_on last) (finally_on last')
@@ -383,17 +383,17 @@ module _ {K J : Kinds} (R : Likeness K J) where
   try_same {hs = hs'} {gs = gs'} {other = next'} {last = final} {other' = next''} {last' = final'} body hs other last = record { does = λ p ss k l h. body.does p.scene ss (λ o. guarded hs' next' final p o k) (λ o. guarded gs' next'' final' p o l) (λ o q n. (guarded_same hs other last).does p n k l h) }
 
   -- `with`
-  info_named_same : (name : Option (List ℕ)) (v : Value) (scene : Scene) {s : State K} {r : State J} → States s r → States (info_named name v scene s) (info_named name v scene r)
+  info_named_same : (name : Option (List ℕ)) (v : Value) (scene : Scene) {s : CallState K} {r : CallState J} → States s r → States (info_named name v scene s) (info_named name v scene r)
   info_named_same (Some name) v scene ss = block.bound_same R name v scene ss
   info_named_same None v scene ss = ss
 
-  with_info_same : (name : Option (List ℕ)) (scene : Scene) {s : State K} {r : State J} → States s r → States (with_info name scene s) (with_info name scene r)
+  with_info_same : (name : Option (List ℕ)) (scene : Scene) {s : CallState K} {r : CallState J} → States s r → States (with_info name scene s) (with_info name scene r)
   with_info_same name scene (states a t (worlds ss cs fs modules heap printed traces)) = info_named_same name (val.Ref (id_at (length heap))) scene (states a t (worlds ss cs fs modules _ printed traces))
 
-  info_taken_same : (info : ObjId) (e : Value) {s : State K} {r : State J} → States s r → States (info_taken info e s) (info_taken info e r)
+  info_taken_same : (info : ObjId) (e : Value) {s : CallState K} {r : CallState J} → States s r → States (info_taken info e s) (info_taken info e r)
   info_taken_same info e (states a t (worlds ss cs fs modules heap printed traces)) = states a t (worlds ss cs fs modules _ printed traces)
 
-  searched_here : (pattern : Option (List ℕ)) (e : Value) (p : Site) {s : State K} {r : State J} → States s r → (k : Then K) (l : Then J) → Behind k l → Follow (searched pattern e p s k) (searched pattern e p r l)
+  searched_here : (pattern : Option (List ℕ)) (e : Value) (p : Site) {s : CallState K} {r : CallState J} → States s r → (k : Continuation K) (l : Continuation J) → Behind k l → Follow (searched pattern e p s k) (searched pattern e p r l)
   searched_here pattern e p (states a t (worlds ss cs fs modules heap printed traces)) k l h =
       part.costing_same R (pattern_end heap pattern e) (trace_of p) (states a t (worlds ss cs fs modules heap printed traces)) (λ o. on_value o k (λ v s. k (Next s))) (λ o. on_value o l (λ v s. l (Next s))) (λ o q n. value_same n k l h (λ v s. k (Next s)) (λ v s. l (Next s)) (λ v s r ss. h _ _ (next ss)))
 
@@ -401,10 +401,10 @@ module _ {K J : Kinds} (R : Likeness K J) where
   taken_or_same true x info e trace = record { does = λ p ss k l h. searched_here x.pattern e p (info_taken_same info e (trace_same e trace ss)) k l h }
   taken_or_same false x info e trace = record { does = λ p ss k l h. h _ _ (alike.raised e trace ss) }
 
-  taken_or_here : (x : RaisesObj) (info : ObjId) (e : Value) (trace : List TraceFrame) (p : Site) {s : State K} {r : State J} → States s r → (k : Then K) (l : Then J) → Behind k l → Follow (taken_or (is_a (heap_of s) e x.classes) x info e trace p s k) (taken_or (is_a (heap_of r) e x.classes) x info e trace p r l)
+  taken_or_here : (x : RaisesObj) (info : ObjId) (e : Value) (trace : List TraceFrame) (p : Site) {s : CallState K} {r : CallState J} → States s r → (k : Continuation K) (l : Continuation J) → Behind k l → Follow (taken_or (is_a (heap_of s) e x.classes) x info e trace p s k) (taken_or (is_a (heap_of r) e x.classes) x info e trace p r l)
   taken_or_here x info e trace p (states a t (worlds ss cs fs modules heap printed traces)) k l h = (taken_or_same (is_a heap e x.classes) x info e trace).does p (states a t (worlds ss cs fs modules heap printed traces)) k l h
 
-  not_raised_here : (x : RaisesObj) (p : Site) {s : State K} {r : State J} → States s r → (k : Then K) (l : Then J) → Behind k l → Follow (not_raised x p s k) (not_raised x p r l)
+  not_raised_here : (x : RaisesObj) (p : Site) {s : CallState K} {r : CallState J} → States s r → (k : Continuation K) (l : Continuation J) → Behind k l → Follow (not_raised x p s k) (not_raised x p r l)
   not_raised_here x p (states a t (worlds ss cs fs modules heap printed traces)) k l h = h _ _ (raised_same (did_not_raise heap x.classes) p (states a t (worlds ss cs fs modules heap printed traces)))
 
   left_same : (x : RaisesObj) (info : ObjId) → AfterSame (context_left x info) (context_left x info)
@@ -415,29 +415,29 @@ module _ {K J : Kinds} (R : Likeness K J) where
             n;
       }
 
-  context_same : (context : Option RaisesObj) (name : Option (List ℕ)) {b : Body K} {c : Body J} → BodySame b c → (p : Site) {s : State K} {r : State J} → States s r → (k : Then K) (l : Then J) → Behind k l → Follow (context_entered context name b p s k) (context_entered context name c p r l)
+  context_same : (context : Option RaisesObj) (name : Option (List ℕ)) {b : Body K} {c : Body J} → BodySame b c → (p : Site) {s : CallState K} {r : CallState J} → States s r → (k : Continuation K) (l : Continuation J) → Behind k l → Follow (context_entered context name b p s k) (context_entered context name c p r l)
   context_same (Some x) name b p (states a t (worlds ss cs fs modules heap printed traces)) k l h =
       b.does p.scene (with_info_same name p.scene (states a t (worlds ss cs fs modules heap printed traces))) (λ o. context_left x (id_at (length heap)) p o k) (λ o. context_left x (id_at (length heap)) p o l) (λ o q n. (left_same x (id_at (length heap))).does p n k l h)
   context_same None name b p ss k l h = h _ _ (raised_same bad_context p ss)
 
-  context_here : (v : Value) (name : Option (List ℕ)) {b : Body K} {c : Body J} → BodySame b c → (p : Site) {s : State K} {r : State J} → States s r → (k : Then K) (l : Then J) → Behind k l → Follow (context_entered (context_of (object_at (heap_of s) v)) name b p s k) (context_entered (context_of (object_at (heap_of r) v)) name c p r l)
+  context_here : (v : Value) (name : Option (List ℕ)) {b : Body K} {c : Body J} → BodySame b c → (p : Site) {s : CallState K} {r : CallState J} → States s r → (k : Continuation K) (l : Continuation J) → Behind k l → Follow (context_entered (context_of (object_at (heap_of s) v)) name b p s k) (context_entered (context_of (object_at (heap_of r) v)) name c p r l)
   context_here v name b p (states a t (worlds ss cs fs modules heap printed traces)) k l h = context_same (context_of (object_at heap v)) name b p (states a t (worlds ss cs fs modules heap printed traces)) k l h
 
-  pub with_same : {e : Part K} {f : Part J} (name : Option (List ℕ)) {b : Body K} {c : Body J} → PartSame e f → BodySame b c → PartSame (with_statement e name b) (with_statement f name c)
+  pub with_same : {e : Denotation K} {f : Denotation J} (name : Option (List ℕ)) {b : Body K} {c : Body J} → PartSame e f → BodySame b c → PartSame (with_statement e name b) (with_statement f name c)
   with_same name x b = record { does = λ p ss k l h. x.does p ss _ _ (λ o q n. value_same n k l h _ _ (λ v s r ss. context_here v name b p ss k l h)) }
 
   -- `for`; the turns of both are named alike
   abbrev Turns : (IterAt → K.turn) → (IterAt → J.turn) → Type 0
   Turns what other = (n : ℕ) (at : IterAt) → R.turns n (what at) (other at)
 
-  begun_same : (m : Option Made) {what : K.turn} {other : J.turn} → ((n : ℕ) → R.turns n what other) → PartSame (turn_begun {K = K} m what) (turn_begun {K = J} m other)
+  begun_same : (m : Option Effect) {what : K.turn} {other : J.turn} → ((n : ℕ) → R.turns n what other) → PartSame (turn_begun {K = K} m what) (turn_begun {K = J} m other)
   begun_same None turn = record { does = λ p ss k l h. h _ _ (next ss) }
   begun_same (Some (Give v n)) turn = record { does = λ p ss k l h. block.asked_same R p (turn p.line) ss k l h }
   begun_same (Some (New o n)) turn = record { does = λ p ss k l h. block.asked_same R p (turn p.line) ss k l h }
   begun_same (Some (Put id c v n)) turn = record { does = λ p ss k l h. block.asked_same R p (turn p.line) ss k l h }
   begun_same (Some (Fail e n)) turn = record { does = λ p ss k l h. h _ _ (raised_same e p ss) }
 
-  from_here : {what : IterAt → K.turn} {other : IterAt → J.turn} → Turns what other → (at : IterAt) (p : Site) {s : State K} {r : State J} → States s r → (k : Then K) (l : Then J) → Behind k l → Follow (for_from {K = K} what at p s k) (for_from {K = J} other at p r l)
+  from_here : {what : IterAt → K.turn} {other : IterAt → J.turn} → Turns what other → (at : IterAt) (p : Site) {s : CallState K} {r : CallState J} → States s r → (k : Continuation K) (l : Continuation J) → Behind k l → Follow (for_from {K = K} what at p s k) (for_from {K = J} other at p r l)
   from_here turn at p (states a t (worlds ss cs fs modules heap printed traces)) k l h = (begun_same (element_of heap at) (λ n. turn n at)).does p (states a t (worlds ss cs fs modules heap printed traces)) k l h
 
   for_from_same : {what : IterAt → K.turn} {other : IterAt → J.turn} → Turns what other → (at : IterAt) → PartSame (for_from {K = K} what at) (for_from {K = J} other at)
@@ -447,20 +447,20 @@ module _ {K J : Kinds} (R : Likeness K J) where
   iterated_same turn v (Some at) = record { does = λ p ss k l h. (for_from_same turn at).does p ss k l h }
   iterated_same turn v None = record { does = λ p ss k l h. h _ _ (raised_here (λ heap. not_iterable (kind_name heap v)) p ss) }
 
-  iterated_here : {what : IterAt → K.turn} {other : IterAt → J.turn} → Turns what other → (v : Value) (p : Site) {s : State K} {r : State J} → States s r → (k : Then K) (l : Then J) → Behind k l → Follow (iterated what v (iterate (heap_of s) v) p s k) (iterated other v (iterate (heap_of r) v) p r l)
+  iterated_here : {what : IterAt → K.turn} {other : IterAt → J.turn} → Turns what other → (v : Value) (p : Site) {s : CallState K} {r : CallState J} → States s r → (k : Continuation K) (l : Continuation J) → Behind k l → Follow (iterated what v (iterate (heap_of s) v) p s k) (iterated other v (iterate (heap_of r) v) p r l)
   iterated_here turn v p (states a t (worlds ss cs fs modules heap printed traces)) k l h = (iterated_same turn v (iterate heap v)).does p (states a t (worlds ss cs fs modules heap printed traces)) k l h
 
-  pub for_same : {what : IterAt → K.turn} {other : IterAt → J.turn} → Turns what other → {e : Part K} {f : Part J} → PartSame e f → PartSame (for_statement what e) (for_statement other f)
+  pub for_same : {what : IterAt → K.turn} {other : IterAt → J.turn} → Turns what other → {e : Denotation K} {f : Denotation J} → PartSame e f → PartSame (for_statement what e) (for_statement other f)
   for_same turn x = record { does = λ p ss k l h. x.does p ss _ _ (λ o q n. value_same n k l h _ _ (λ v s r ss. iterated_here turn v p ss k l h)) }
 
   behind_same : {what : IterAt → K.turn} {other : IterAt → J.turn} → Turns what other → {b : Body K} {c : Body J} → BodySame b c → (at : IterAt) → PartSame (behind_target what b at) (behind_target other c at)
   behind_same turn b at = record { does = λ p ss k l h. b.does p.scene ss _ _ (λ o q n. block.turn_same R n k l h _ _ (λ s r ss. (for_from_same turn at).does p ss k l h)) }
 
-  turn_with_same : {what : IterAt → K.turn} {other : IterAt → J.turn} → Turns what other → {t : Store K} {u : Store J} {b : Body K} {c : Body J} → StoreSame t u → BodySame b c → (at : IterAt) (m : Option Made) → PartSame (turn_with what t b at m) (turn_with other u c at m)
+  turn_with_same : {what : IterAt → K.turn} {other : IterAt → J.turn} → Turns what other → {t : Store K} {u : Store J} {b : Body K} {c : Body J} → StoreSame t u → BodySame b c → (at : IterAt) (m : Option Effect) → PartSame (turn_with what t b at m) (turn_with other u c at m)
   turn_with_same turn t b at None = record { does = λ p ss k l h. h _ _ (next ss) }
-  turn_with_same turn t b at (Some m) = record { does = λ p ss k l h. value_same (part.made_same R m (trace_of p) ss) k l h _ _ (λ v s r ss. (t.stores v).does p ss _ _ (λ o q n. next_same n k l h _ _ (λ s r ss. (behind_same turn b (next_by at m)).does p ss k l h))) }
+  turn_with_same turn t b at (Some m) = record { does = λ p ss k l h. value_same (part.made_same R m (trace_of p) ss) k l h _ _ (λ v s r ss. (t.stores v).does p ss _ _ (λ o q n. next_same n k l h _ _ (λ s r ss. (behind_same turn b (iterator_after at m)).does p ss k l h))) }
 
-  turn_here : {what : IterAt → K.turn} {other : IterAt → J.turn} → Turns what other → {t : Store K} {u : Store J} {b : Body K} {c : Body J} → StoreSame t u → BodySame b c → (at : IterAt) (p : Site) {s : State K} {r : State J} → States s r → (k : Then K) (l : Then J) → Behind k l → Follow (for_turn what t b at p s k) (for_turn other u c at p r l)
+  turn_here : {what : IterAt → K.turn} {other : IterAt → J.turn} → Turns what other → {t : Store K} {u : Store J} {b : Body K} {c : Body J} → StoreSame t u → BodySame b c → (at : IterAt) (p : Site) {s : CallState K} {r : CallState J} → States s r → (k : Continuation K) (l : Continuation J) → Behind k l → Follow (for_turn what t b at p s k) (for_turn other u c at p r l)
   turn_here turn x y at p (states a t (worlds ss cs fs modules heap printed traces)) k l h = (turn_with_same turn x y at (element_of heap at)).does p (states a t (worlds ss cs fs modules heap printed traces)) k l h
 
   pub for_turn_same : {what : IterAt → K.turn} {other : IterAt → J.turn} → Turns what other → {t : Store K} {u : Store J} {b : Body K} {c : Body J} → StoreSame t u → BodySame b c → (at : IterAt) → PartSame (for_turn what t b at) (for_turn other u c at)

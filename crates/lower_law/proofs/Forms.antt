@@ -38,11 +38,11 @@ use Rattle.core_meaning.specs.Requests.{core_kinds}
 use Rattle.core_meaning.specs.Expressions as core
 use Rattle.core_meaning.specs.Statements as cor
 use Rattle.source_meaning.specs.py_world.Site.{Scene, Site, site}
-use Rattle.source_meaning.specs.py_world.World.{State}
+use Rattle.source_meaning.specs.py_world.World.{CallState}
 use Rattle.source_meaning.specs.py_world.Arguments.{arguments_of}
 use Rattle.py_tree.specs.Names.{yields_in}
 use Rattle.py_tree.specs.declared.stmt.Alias.{Alias}
-use Rattle.source_meaning.specs.py_world.Outcome.{Outcome, Next, Rest, Then, After, on_next}
+use Rattle.source_meaning.specs.py_world.Outcome.{Outcome, Next, Rest, Continuation, After, on_next}
 use Rattle.source_meaning.specs.py_world.Statements.{asked, choose, fail_explained}
 use Rattle.source_meaning.specs.py_world.Definitions.{define}
 use Rattle.source_meaning.specs.py_world.Imports.{import_statement, import_from}
@@ -50,8 +50,8 @@ use Rattle.source_meaning.specs.py_world.Expressions.{call_part, compare_part, k
 use Rattle.py_tree.specs.declared.op.CmpOp.{CmpOp}
 use Rattle.py_tree.specs.declared.op.BinOp.{BinOp}
 use Rattle.py_tree.specs.declared.expr.ArgName.{ArgName}
-use Rattle.source_meaning.specs.Statements.{listed}
-use Rattle.source_meaning.specs.Meaning.{source as source_meaning}
+use Rattle.source_meaning.specs.Statements.{statements_listed}
+use Rattle.source_meaning.specs.Meaning.{source_semantics as source_meaning}
 use Rattle.core_meaning.specs.Statements.{core_body}
 use Rattle.core_meaning.specs.Meaning.{core as core_meaning}
 use Rattle.core_meaning.specs.py_core.declared.stmt.Core.{Core}
@@ -77,10 +77,10 @@ PartsSame = part.PartsSame Lowering
 abbrev BodySame : src.SourceBody → cor.CoreBody → Type 0
 BodySame = block.BodySame Lowering
 
-abbrev States : State source_kinds → State core_kinds → Type 0
+abbrev States : CallState source_kinds → CallState core_kinds → Type 0
 States = StatesAlike Lowering
 
-abbrev Behind : Then source_kinds → Then core_kinds → Type 0
+abbrev Behind : Continuation source_kinds → Continuation core_kinds → Type 0
 Behind = part.Behind Lowering
 
 abbrev pub Follow : Rest source_kinds → Rest core_kinds → Type 0
@@ -212,16 +212,16 @@ places_same : {ps : List Place} {xs : List CoreSingle} → LoweredPlaces ps xs �
 places_same low.LoweredPlaces.none = flow.none
 places_same (low.LoweredPlaces.more x xs) = flow.more (place_same x) (places_same xs)
 
-target_same : {t : Taker} {x : CoreTarget} → LoweredTarget t x → flow.StoreSame Lowering (src.store t) (cor.store x)
+target_same : {t : Taker} {x : CoreTarget} → LoweredTarget t x → flow.StoreSame Lowering (src.source_store t) (cor.store x)
 target_same (low.one x) = place_same x
 target_same (low.unpack xs) = flow.unpack_same _ (places_same xs)
 
-targets_same : {ts : List Taker} {xs : List CoreTarget} → LoweredTargets ts xs → flow.StoresSame Lowering (src.stores ts) (cor.stores xs)
+targets_same : {ts : List Taker} {xs : List CoreTarget} → LoweredTargets ts xs → flow.StoresSame Lowering (src.source_stores ts) (cor.stores xs)
 targets_same low.LoweredTargets.none = flow.none
 targets_same (low.LoweredTargets.more x xs) = flow.more (target_same x) (targets_same xs)
 
 -- what is done with the value that a `yield` is given
-use_same : {u : s.Use} {x : CoreUse} → LoweredUse u x → flow.StoreSame Lowering (src.use_of u) (cor.use_of x)
+use_same : {u : s.Use} {x : CoreUse} → LoweredUse u x → flow.StoreSame Lowering (src.source_use u) (cor.use_of x)
 use_same low.LoweredUse.no_use = flow.no_use_same _
 use_same (low.LoweredUse.targets from xs) = flow.all_stored_same _ (targets_same xs)
 use_same low.LoweredUse.return_it = flow.return_sent_same _
@@ -290,9 +290,9 @@ begun_of (low.class_it at word name hs x b) ls st = refl
 begun_of (low.import_it at alias is) ls st = refl
 begun_of (low.import_from at is all) ls st = refl
 
-begun_same : {z : Bool} {ls : List s.Layer} {ks : List c.Layer} → LoweredLayers z ls ks → {sm : Statement} {at : Pos} {x : CoreStmtKind} → LoweredStatement z sm at x → (scene : Scene) {u : State source_kinds} {r : State core_kinds} → States u r → (k : Then source_kinds) (l : Then core_kinds) → Behind k l → Follow (src.begun z ls sm (site scene (src.position sm).line) u k) (cor.begun ks (core_at at x) (site scene at.line) r l)
+begun_same : {z : Bool} {ls : List s.SourceLayer} {ks : List c.Layer} → LoweredLayers z ls ks → {sm : Statement} {at : Pos} {x : CoreStmtKind} → LoweredStatement z sm at x → (scene : Scene) {u : CallState source_kinds} {r : CallState core_kinds} → States u r → (k : Continuation source_kinds) (l : Continuation core_kinds) → Behind k l → Follow (src.source_begun z ls sm (site scene (src.position sm).line) u k) (cor.begun ks (core_at at x) (site scene at.line) r l)
 begun_same {z = z} {ls = ls} {ks = ks} hl {sm = sm} {at = at} {x = x} h scene {u = u} {r = r} ss k l g =
-    subst (λ (b : core.CorePart). Follow (src.begun z ls sm (site scene (src.position sm).line) u k) (b (site scene at.line) r l)) (sym (begun_of h ks (core_at at x)))
+    subst (λ (b : core.CorePart). Follow (src.source_begun z ls sm (site scene (src.position sm).line) u k) (b (site scene at.line) r l)) (sym (begun_of h ks (core_at at x)))
     (subst (λ (q : Pos). Follow (asked (s.StatementOf z ls sm) (site scene q.line) u k) (asked (c.StatementOf ks (core_at at x)) (site scene at.line) r l)) (sym (position_of h))
     (block.asked_same _ (site scene at.line) (statement refl hl h) ss k l g))
 
@@ -300,7 +300,7 @@ begun_same {z = z} {ls = ls} {ks = ks} hl {sm = sm} {at = at} {x = x} h scene {u
 drop_next : {A : Type 0} (n : ℕ) (xs : List A) {y : A} {ys : List A} → drop n xs ≡ y ∷ ys → drop (n + 1) xs ≡ ys
 drop_next n xs h = sym (drop-drop 1 n xs) ∙ ap (drop 1) h
 
-pub from_same : {z : Bool} {ls : List s.Layer} {ks : List c.Layer} → LoweredLayers z ls ks → (b : CoreBlock) (n : ℕ) → explains_in b ≡ z → {ss : List Statement} {xs : List CoreStmt} → drop n (sources_in b) ≡ ss → drop n (stmts_in b) ≡ xs → LoweredBlock z ss xs → BodySame (src.sequence z ls ss) (cor.block_from ks b n xs)
+pub from_same : {z : Bool} {ls : List s.SourceLayer} {ks : List c.Layer} → LoweredLayers z ls ks → (b : CoreBlock) (n : ℕ) → explains_in b ≡ z → {ss : List Statement} {xs : List CoreStmt} → drop n (sources_in b) ≡ ss → drop n (stmts_in b) ≡ xs → LoweredBlock z ss xs → BodySame (src.source_sequence z ls ss) (cor.block_from ks b n xs)
 from_same hl b n flag from is low.ends = record { does = λ scene ss k l h. h _ _ (next ss) }
 from_same {z = z} hl b n flag from is (low.goes_on {ss = ss} h hs) =
     record {
@@ -308,62 +308,62 @@ from_same {z = z} hl b n flag from is (low.goes_on {ss = ss} h hs) =
           (λ o q m. block.next_same _ m k l g _ _ (λ s r us. (from_same hl b (n + 1) flag (drop_next n (sources_in b) from) (drop_next n (stmts_in b) is) hs).does scene us k l g));
     }
 
-pub sequence_same : {z : Bool} {ls : List s.Layer} {ks : List c.Layer} → LoweredLayers z ls ks → {ss : List Statement} {b : CoreBlock} → LoweredBody z ss b → BodySame (src.sequence z ls ss) (cor.block ks b)
+pub sequence_same : {z : Bool} {ls : List s.SourceLayer} {ks : List c.Layer} → LoweredLayers z ls ks → {ss : List Statement} {b : CoreBlock} → LoweredBody z ss b → BodySame (src.source_sequence z ls ss) (cor.core_block_body ks b)
 sequence_same hl {b = b} (low.body flag from h) = from_same hl b 0 flag from refl h
 
 -- handlers
-abbrev handling_of : Bool → List s.Layer → low.Catch → src.SourceHandling
-handling_of z ls (catch_at class name b) = (source.some_part class, (name, src.block z ls b))
+abbrev handling_of : Bool → List s.SourceLayer → low.ListedHandler → src.SourceHandling
+handling_of z ls (catch_at class name b) = (source.some_part class, (name, src.source_block_body z ls b))
 
-handlings_listed : (z : Bool) (ls : List s.Layer) (hs : Handlers) → src.handlings z ls hs ≡ map (handling_of z ls) (handlers_listed hs)
+handlings_listed : (z : Bool) (ls : List s.SourceLayer) (hs : Handlers) → src.source_handlings z ls hs ≡ map (handling_of z ls) (handlers_listed hs)
 handlings_listed z ls st.NoHandler = refl
-handlings_listed z ls (st.Handler before at class name b) = ap (λ xs. xs ++ (source.some_part class, (name, src.block z ls b)) ∷ []) (handlings_listed z ls before) ∙ sym (map_more (handling_of z ls) (handlers_listed before) (catch_at class name b))
+handlings_listed z ls (st.Handler before at class name b) = ap (λ xs. xs ++ (source.some_part class, (name, src.source_block_body z ls b)) ∷ []) (handlings_listed z ls before) ∙ sym (map_more (handling_of z ls) (handlers_listed before) (catch_at class name b))
 
-catches_same : {z : Bool} {ls : List s.Layer} {ks : List c.Layer} → LoweredLayers z ls ks → {hs : List low.Catch} {xs : List handler.CoreHandler} → LoweredHandlers z hs xs → flow.HandlersSame Lowering (map (handling_of z ls) hs) (cor.handlings ks xs)
+catches_same : {z : Bool} {ls : List s.SourceLayer} {ks : List c.Layer} → LoweredLayers z ls ks → {hs : List low.ListedHandler} {xs : List handler.CoreHandler} → LoweredHandlers z hs xs → flow.HandlersSame Lowering (map (handling_of z ls) hs) (cor.handlings ks xs)
 catches_same hl low.unhandled = flow.none
 catches_same hl (low.handles name x b hs) = flow.more name (some_same x) (sequence_same hl b) (catches_same hl hs)
 
-handlings_same : {z : Bool} {ls : List s.Layer} {ks : List c.Layer} → LoweredLayers z ls ks → (hs : Handlers) {xs : List handler.CoreHandler} → LoweredHandlers z (handlers_listed hs) xs → flow.HandlersSame Lowering (src.handlings z ls hs) (cor.handlings ks xs)
+handlings_same : {z : Bool} {ls : List s.SourceLayer} {ks : List c.Layer} → LoweredLayers z ls ks → (hs : Handlers) {xs : List handler.CoreHandler} → LoweredHandlers z (handlers_listed hs) xs → flow.HandlersSame Lowering (src.source_handlings z ls hs) (cor.handlings ks xs)
 handlings_same {z = z} {ls = ls} {ks = ks} hl hs {xs = xs} h = subst (λ gs. flow.HandlersSame Lowering gs (cor.handlings ks xs)) (sym (handlings_listed z ls hs)) (catches_same hl h)
 
 abbrev AfterSame : After source_kinds → After core_kinds → Type 0
 AfterSame = block.AfterSame Lowering
 
-guard_same : {z : Bool} {ls : List s.Layer} {ks : List c.Layer} → LoweredLayers z ls ks → {hs : Handlers} {other last : List Statement} {g : CoreGuard} → LoweredGuard z hs other last g → AfterSame (src.guard z ls hs other last) (cor.guard ks g)
+guard_same : {z : Bool} {ls : List s.SourceLayer} {ks : List c.Layer} → LoweredLayers z ls ks → {hs : Handlers} {other last : List Statement} {g : CoreGuard} → LoweredGuard z hs other last g → AfterSame (src.source_guard z ls hs other last) (cor.guard ks g)
 guard_same hl {hs = hs} (low.guard from h other last) = flow.guarded_same _ (handlings_same hl hs h) (sequence_same hl other) (sequence_same hl last)
 
 -- what follows the end of a statement, where each other end is handed on to what is the same
-next_then : {o : Outcome source_kinds} {q : Outcome core_kinds} → EndsAlike Lowering o q → (k : Then source_kinds) (l : Then core_kinds) → Behind k l → (go : State source_kinds → Rest source_kinds) (go' : State core_kinds → Rest core_kinds) → ((u : State source_kinds) (r : State core_kinds) → States u r → Follow (go u) (go' r)) → Follow (on_next o k go) (on_next q l go')
+next_then : {o : Outcome source_kinds} {q : Outcome core_kinds} → EndsAlike Lowering o q → (k : Continuation source_kinds) (l : Continuation core_kinds) → Behind k l → (go : CallState source_kinds → Rest source_kinds) (go' : CallState core_kinds → Rest core_kinds) → ((u : CallState source_kinds) (r : CallState core_kinds) → States u r → Follow (go u) (go' r)) → Follow (on_next o k go) (on_next q l go')
 next_then n k l h go go' g = block.next_same _ n k l h go go' g
 
-layers_same : {z : Bool} {ls : List s.Layer} {ks : List c.Layer} → LoweredLayers z ls ks → AfterSame (src.remains ls) (cor.remains ks)
+layers_same : {z : Bool} {ls : List s.SourceLayer} {ks : List c.Layer} → LoweredLayers z ls ks → AfterSame (src.source_remains ls) (cor.remains ks)
 layers_same low.LoweredLayers.none = record { does = λ p n k l h. h _ _ n }
 layers_same (low.LoweredLayers.more {ss = ss} {ls = ls} {ks = ks} b at flag from h hl) =
-    record { does = λ p n k l g. next_then n (λ o. src.remains ls p o k) (λ o. cor.remains ks p o l) (λ o q m. (layers_same hl).does p m k l g) _ _ (λ u r us. (from_same hl b at flag from refl h).does p.scene us (λ o. src.remains ls p o k) (λ o. cor.remains ks p o l) (λ o q m. (layers_same hl).does p m k l g)) }
-layers_same (low.LoweredLayers.guarded {ls = ls} {ks = ks} g line h hl) = record { does = λ p n k l b. (guard_same hl h).does (site p.scene line) n (λ o. src.remains ls p o k) (λ o. cor.remains ks p o l) (λ o q m. (layers_same hl).does p m k l b) }
-layers_same (low.LoweredLayers.receives {ls = ls} {ks = ks} h hl) = record { does = λ p n k l b. (flow.received_same _ (use_same h)).does p n (λ o. src.remains ls p o k) (λ o. cor.remains ks p o l) (λ o q m. (layers_same hl).does p m k l b) }
+    record { does = λ p n k l g. next_then n (λ o. src.source_remains ls p o k) (λ o. cor.remains ks p o l) (λ o q m. (layers_same hl).does p m k l g) _ _ (λ u r us. (from_same hl b at flag from refl h).does p.scene us (λ o. src.source_remains ls p o k) (λ o. cor.remains ks p o l) (λ o q m. (layers_same hl).does p m k l g)) }
+layers_same (low.LoweredLayers.guarded {ls = ls} {ks = ks} g line h hl) = record { does = λ p n k l b. (guard_same hl h).does (site p.scene line) n (λ o. src.source_remains ls p o k) (λ o. cor.remains ks p o l) (λ o q m. (layers_same hl).does p m k l b) }
+layers_same (low.LoweredLayers.receives {ls = ls} {ks = ks} h hl) = record { does = λ p n k l b. (flow.received_same _ (use_same h)).does p n (λ o. src.source_remains ls p o k) (λ o. cor.remains ks p o l) (λ o q m. (layers_same hl).does p m k l b) }
 
-remains_same : (ls : List s.Layer) (ks : List c.Layer) → LoweredRest ls ks → AfterSame (src.remains ls) (cor.remains ks)
+remains_same : (ls : List s.SourceLayer) (ks : List c.Layer) → LoweredRest ls ks → AfterSame (src.source_remains ls) (cor.remains ks)
 remains_same ls ks h = layers_same h.1
 
 -- a `try`, which guards its block on its line
-try_here : {z : Bool} {ls : List s.Layer} {ks : List c.Layer} → LoweredLayers z ls ks → (b : Block) {hs : Handlers} {other last : List Statement} {body : CoreBlock} {g : CoreGuard} → LoweredBody z (listed b) body → LoweredGuard z hs other last g → (p : Site) {u : State source_kinds} {r : State core_kinds} → States u r → (k : Then source_kinds) (l : Then core_kinds) → Behind k l → Follow (src.try_at z ls b hs other last p u k) (cor.try_at ks body g p r l)
+try_here : {z : Bool} {ls : List s.SourceLayer} {ks : List c.Layer} → LoweredLayers z ls ks → (b : Block) {hs : Handlers} {other last : List Statement} {body : CoreBlock} {g : CoreGuard} → LoweredBody z (statements_listed b) body → LoweredGuard z hs other last g → (p : Site) {u : CallState source_kinds} {r : CallState core_kinds} → States u r → (k : Continuation source_kinds) (l : Continuation core_kinds) → Behind k l → Follow (src.source_try z ls b hs other last p u k) (cor.try_at ks body g p r l)
 try_here hl source_block {hs = hs} {g = g} b (low.guard from h other last) p ss k l f =
     (flow.try_same _ (sequence_same (low.LoweredLayers.guarded g p.line (low.guard from h other last) hl) b) (handlings_same hl hs h) (sequence_same hl other) (sequence_same hl last)).does p ss k l f
 
-abbrev choice_of : Bool → List s.Layer → low.Choice → src.SourceChoice
-choice_of z ls (choice_at at e b) = (at.line, (source.eval e, src.block z ls b))
+abbrev choice_of : Bool → List s.SourceLayer → low.ListedBranch → src.SourceChoice
+choice_of z ls (choice_at at e b) = (at.line, (source.eval e, src.source_block_body z ls b))
 
-choices_listed : (z : Bool) (ls : List s.Layer) (bs : Branches) → src.choices z ls bs ≡ map (choice_of z ls) (branches_listed bs)
+choices_listed : (z : Bool) (ls : List s.SourceLayer) (bs : Branches) → src.source_choices z ls bs ≡ map (choice_of z ls) (branches_listed bs)
 choices_listed z ls st.NoBranch = refl
-choices_listed z ls (st.Branch before at e b) = ap (λ xs. xs ++ (at.line, (source.eval e, src.block z ls b)) ∷ []) (choices_listed z ls before) ∙ sym (map_more (choice_of z ls) (branches_listed before) (choice_at at e b))
+choices_listed z ls (st.Branch before at e b) = ap (λ xs. xs ++ (at.line, (source.eval e, src.source_block_body z ls b)) ∷ []) (choices_listed z ls before) ∙ sym (map_more (choice_of z ls) (branches_listed before) (choice_at at e b))
 
-choices_same : {z : Bool} {ls : List s.Layer} {ks : List c.Layer} → LoweredLayers z ls ks → {bs : List low.Choice} {xs : List branch.CoreBranch} → LoweredBranches z bs xs → block.ChoicesSame Lowering (map (choice_of z ls) bs) (cor.choices ks xs)
+choices_same : {z : Bool} {ls : List s.SourceLayer} {ks : List c.Layer} → LoweredLayers z ls ks → {bs : List low.ListedBranch} {xs : List branch.CoreBranch} → LoweredBranches z bs xs → block.ChoicesSame Lowering (map (choice_of z ls) bs) (cor.choices ks xs)
 choices_same hl low.LoweredBranches.none = block.none
 choices_same hl (low.LoweredBranches.more at x b h) = block.more at.line (eval_same x) (sequence_same hl b) (choices_same hl h)
 
 -- behind the one statement of a block
-through : {o : Outcome source_kinds} {q : Outcome core_kinds} → EndsAlike Lowering o q → (k : Then source_kinds) (l : Then core_kinds) → Behind k l → Follow (k o) (on_next q l (λ s. l (Next s)))
+through : {o : Outcome source_kinds} {q : Outcome core_kinds} → EndsAlike Lowering o q → (k : Continuation source_kinds) (l : Continuation core_kinds) → Behind k l → Follow (k o) (on_next q l (λ s. l (Next s)))
 through (gave v ss) k l h = h _ _ (gave v ss)
 through (next ss) k l h = h _ _ (next ss)
 through (returned v ss) k l h = h _ _ (returned v ss)
@@ -372,24 +372,24 @@ through (continued ss) k l h = h _ _ (continued ss)
 through (alike.raised e trace ss) k l h = h _ _ (alike.raised e trace ss)
 
 -- an assert and the `if` that stands for it
-asserted : (at : Pos) (ks : List c.Layer) {e : source.SourcePart} {f : source.SourcePart} (x : CoreExpr) (template : Template) (y : Option (Rc CoreExpr Global)) (body other : CoreBlock) → PartSame e (core.eval x) → PartSame f (cor.failure template y) → (scene : Scene) {u : State source_kinds} {r : State core_kinds} → States u r → (k : Then source_kinds) (l : Then core_kinds) → Behind k l
-    → Follow (src.assert e f (site scene at.line) u k) (choose ((at.line, (core.eval x, cor.block_from ks body 0 [])) ∷ []) (cor.block_from ks other 0 (core_at at (kind.FailWith template y) ∷ [])) (site scene at.line) r l)
+asserted : (at : Pos) (ks : List c.Layer) {e : source.SourcePart} {f : source.SourcePart} (x : CoreExpr) (template : Template) (y : Option (Rc CoreExpr Global)) (body other : CoreBlock) → PartSame e (core.eval x) → PartSame f (cor.failure template y) → (scene : Scene) {u : CallState source_kinds} {r : CallState core_kinds} → States u r → (k : Continuation source_kinds) (l : Continuation core_kinds) → Behind k l
+    → Follow (src.source_assert e f (site scene at.line) u k) (choose ((at.line, (core.eval x, cor.block_from ks body 0 [])) ∷ []) (cor.block_from ks other 0 (core_at at (kind.FailWith template y) ∷ [])) (site scene at.line) r l)
 asserted at ks _ _ _ _ _ x y scene ss k l h =
     x.does (site scene at.line) (block.unset_same Lowering ss) _ _ (λ o q n. part.value_same _ n k l h _ _ (λ v s r ss. part.truth_same _ v ss _ _ _ _ (h _ _ (next ss)) (y.does (site scene at.line) ss _ _ (λ o q n. through n k l h))))
 
 assert_at : (at : Pos) (ks : List c.Layer) {e : source.SourcePart} {f : source.SourcePart} (x : Rc CoreExpr Global) (template : Template) (y : Option (Rc CoreExpr Global)) (p n q r : _) (branches : Row_of-CoreBranch _) (other body : CoreBlock) → PartSame e (core.eval x.value) → PartSame f (cor.failure template y) → items-the_row-CoreBranch _ branches ≡ branch.CoreBranch' at x r body ∷ [] → stmts_in body ≡ [] → stmts_in other ≡ core_at at (kind.FailWith template y) ∷ []
-    → (scene : Scene) {u : State source_kinds} {z : State core_kinds} → States u z → (k : Then source_kinds) (l : Then core_kinds) → Behind k l → Follow (src.assert e f (site scene at.line) u k) (cor.statement_at ks (kinds.If' p n branches q other) (site scene at.line) z l)
+    → (scene : Scene) {u : CallState source_kinds} {z : CallState core_kinds} → States u z → (k : Continuation source_kinds) (l : Continuation core_kinds) → Behind k l → Follow (src.source_assert e f (site scene at.line) u k) (cor.statement_at ks (kinds.If' p n branches q other) (site scene at.line) z l)
 assert_at at ks c template m p n q r branches other body x y bs bb ob scene ss k l g = rw (bs, bb, ob) (asserted at ks c.value template m body other x y scene ss k l g)
 
 explained_as : (c : Rc Expr Global) (e : Tree) (y : Option (Rc CoreExpr Global)) → tree.tree c.value ≡ e → {m : Option source.SourcePart} → block.SomeSame Lowering m (cor.some_part y) → PartSame (fail_explained e m) (cor.failure (Explain c) y)
 explained_as c e y is {m = m} h = subst (λ t. PartSame (fail_explained t m) (cor.failure (Explain c) y)) is (block.explained_same _ (tree.tree c.value) h)
 
-pub entries_same : (f : Function) (x : CoreFn) → LoweredCode f x → block.EntrySame Lowering (src.entry f) (cor.entry x)
+pub entries_same : (f : Function) (x : CoreFn) → LoweredCode f x → block.EntrySame Lowering (src.source_entry f) (cor.entry x)
 entries_same _ _ (word, low.made _ name from is own yielding h) = record { name = refl; own = own; body = sequence_same low.LoweredLayers.none h }
 
 -- a module's code
-module_same : (m : Script) (code : Core) → module_of code ≡ m → LoweredBlock m.explains (listed m.body) (stmts_in code.body.value) → LoweredBody m.explains (listed m.body) code.body.value
-module_same m code is h = low.body (ap (λ (m : Script). m.explains) is) (ap (λ (m : Script). listed m.body) is) h
+module_same : (m : Script) (code : Core) → module_of code ≡ m → LoweredBlock m.explains (statements_listed m.body) (stmts_in code.body.value) → LoweredBody m.explains (statements_listed m.body) code.body.value
+module_same m code is h = low.body (ap (λ (m : Script). m.explains) is) (ap (λ (m : Script). statements_listed m.body) is) h
 
 bodies_same : (m : Script) (code : Core) → LoweredModule m code → BodySame (src.script_body m) (core_body code)
 bodies_same m code h = sequence_same low.LoweredLayers.none (module_same m code h.0 h.1)
@@ -414,7 +414,7 @@ defaults_as (st.Parameter_at at name annotation default ∷ ps) = with_listed de
 defaults_same : (ps : List Parameter) {xs : List (Rc CoreExpr Global)} → LoweredEach (defaults_listed ps) xs → PartsSame (src.default_parts ps) (core.parts_of xs)
 defaults_same ps h = rw (defaults_as ps) (each_of h)
 
-define_same : (word : Pos) {f : Function} {x : CoreFn} → LoweredFunction word f x → (ds : Trees) {xs ys : List (Rc CoreExpr Global)} → LoweredEach (trees_listed ds) xs → LoweredEach (defaults_listed f.params) ys → PartSame (define (source.parts ds) (src.default_parts f.params) (src.written f.params) f.name word.line (yields_in f.body) f) (cor.define_fn (core.parts_of xs) (core.parts_of ys) x)
+define_same : (word : Pos) {f : Function} {x : CoreFn} → LoweredFunction word f x → (ds : Trees) {xs ys : List (Rc CoreExpr Global)} → LoweredEach (trees_listed ds) xs → LoweredEach (defaults_listed f.params) ys → PartSame (define (source.parts ds) (src.default_parts f.params) (src.source_written f.params) f.name word.line (yields_in f.body) f) (cor.define_fn (core.parts_of xs) (core.parts_of ys) x)
 define_same word (low.made {z = z} _ name {params = params} {body = body} {ps = ps} {ls = ls} {ys = ys} {source = source} {p = p} {block = b} from is own yielding h) ds hs es =
     rw (sym is, sym yielding) (classes.define_same _ (decorators_same ds hs) (defaults_same params es) (cor.written ps.value.items) name word.line ys (word, low.made word name from is own yielding h))
 
@@ -426,7 +426,7 @@ import_from_as names xs is all ys are =
     subst (λ ns. PartSame (import_from src.script_body ns all) (import_from core_body xs ys)) is (subst (λ zs. PartSame (import_from src.script_body xs zs) (import_from core_body xs ys)) are (loads.from_same _ src.script_body core_body bodies_same xs ys))
 
 -- WHAT A STATEMENT DOES
-statement_same : {z : Bool} {ls : List s.Layer} {ks : List c.Layer} → LoweredLayers z ls ks → {sm : Statement} {at : Pos} {x : CoreStmtKind} → LoweredStatement z sm at x → (scene : Scene) {u : State source_kinds} {r : State core_kinds} → States u r → (k : Then source_kinds) (l : Then core_kinds) → Behind k l → Follow (src.statement z ls sm (site scene at.line) u k) (cor.statement_at ks x (site scene at.line) r l)
+statement_same : {z : Bool} {ls : List s.SourceLayer} {ks : List c.Layer} → LoweredLayers z ls ks → {sm : Statement} {at : Pos} {x : CoreStmtKind} → LoweredStatement z sm at x → (scene : Scene) {u : CallState source_kinds} {r : CallState core_kinds} → States u r → (k : Continuation source_kinds) (l : Continuation core_kinds) → Behind k l → Follow (src.source_statement z ls sm (site scene at.line) u k) (cor.statement_at ks x (site scene at.line) r l)
 statement_same hl (low.do_it at x) scene = (block.expression_same _ (eval_same x)).does (site scene at.line)
 statement_same hl (low.assign at ts x) scene = (flow.assign_same _ (targets_same ts) (eval_same x)).does (site scene at.line)
 statement_same hl (low.augment at op p x) scene = (augment_same p op (eval_same x)).does (site scene at.line)
@@ -443,7 +443,7 @@ statement_same hl (low.again at) scene = (block.again_same _).does (site scene a
 statement_same {z = z} {ls = ls} hl (low.choose at {bs = bs} hs h) scene = λ ss k l g. rw (choices_listed z ls bs) ((block.choose_same _ (choices_same hl hs) (sequence_same hl h)).does (site scene at.line) ss k l g)
 statement_same hl (low.loop at x b) scene = (block.loop_same _ (λ n. turn x b) (eval_same x)).does (site scene at.line)
 statement_same hl (low.define at word {ds = ds} name returns hs es h) scene = (define_same word h ds hs es).does (site scene at.line)
-statement_same hl (low.raise_it at x) scene = (classes.raise_same _ src.entry cor.entry entries_same (some_same x)).does (site scene at.line)
+statement_same hl (low.raise_it at x) scene = (classes.raise_same _ src.source_entry cor.entry entries_same (some_same x)).does (site scene at.line)
 statement_same hl (low.delete at p) scene = (delete_same p).does (site scene at.line)
 statement_same hl (low.for_each at t x b) scene = (flow.for_same _ (λ n i. for_turn t b i) (eval_same x)).does (site scene at.line)
 statement_same hl (low.try_it at {body = source_block} b g) scene = try_here hl source_block b g (site scene at.line)
@@ -452,9 +452,9 @@ statement_same hl (low.class_it at word {ds = ds} name hs x (low.classed _ _ b))
 statement_same hl (low.import_it at alias is) scene = (import_as _ _ is alias).does (site scene at.line)
 statement_same hl (low.import_from at is all) scene = (import_from_as _ _ is _ _ all).does (site scene at.line)
 
-pub acts_same : (what : s.Turn) (other : c.Turn) (p : Site) → LoweredTurn p.line what other → (u : State source_kinds) (r : State core_kinds) → States u r → (k : Then source_kinds) (l : Then core_kinds) → Behind k l → Follow (src.act what p u k) (cor.act other p r l)
+pub acts_same : (what : s.SourceTurn) (other : c.CoreTurn) (p : Site) → LoweredTurn p.line what other → (u : CallState source_kinds) (r : CallState core_kinds) → States u r → (k : Continuation source_kinds) (l : Continuation core_kinds) → Behind k l → Follow (src.source_act what p u k) (cor.act other p r l)
 acts_same _ _ p (statement {z = z} {ls = ls} {ks = ks} {st = sm} {at = at} {x = x} is hl h) u r ss k l g =
-    subst (λ n. Follow (src.statement z ls sm (site p.scene n) u k) (cor.statement_at ks x (site p.scene n) r l)) (sym is) (statement_same hl h p.scene ss k l g)
+    subst (λ n. Follow (src.source_statement z ls sm (site p.scene n) u k) (cor.statement_at ks x (site p.scene n) r l)) (sym is) (statement_same hl h p.scene ss k l g)
 acts_same _ _ p (for_turn {b = loop_block} t b at) u r ss k l g = (flow.for_turn_same _ (λ n i. for_turn {b = loop_block} t b i) (target_same t) (sequence_same low.LoweredLayers.none b) at).does p ss k l g
 acts_same _ _ p (turn x b) u r ss k l g = (block.turn_of_same _ (λ n. turn x b) (eval_same x) (sequence_same low.LoweredLayers.none b)).does p ss k l g
 

@@ -17,12 +17,12 @@ use Rattle.source_meaning.specs.py_world.Runs.{Told, start, function_and}
 use Rattle.source_meaning.specs.py_world.Resuming.{Sent, SentValue, SentThrow, Yielded, Over, ToldBegun, begun_with, frame_at, bare, abandon_of, begun_over, begun_yielded, begun_by, sent_end, begin_arguments, begun_of, body_begun, function_opened, object_opened, opened_by_runner, resumed, resumed_by}
 use Rattle.source_meaning.specs.Requests as s
 use Rattle.source_meaning.specs.Requests.{source_kinds, Function}
-use Rattle.source_meaning.specs.Meaning.{SourceWorld, source, source_begin, source_resume}
+use Rattle.source_meaning.specs.Meaning.{SourceWorld, source_semantics, source_begin, source_resume}
 use Rattle.core_meaning.specs.Requests as c
 use Rattle.core_meaning.specs.Requests.{core_kinds}
 use Rattle.core_meaning.specs.Meaning.{CoreWorld, core, core_begin, core_resume}
 use Rattle.lower_law.specs.Alike as alike
-use Rattle.lower_law.specs.Alike.{states, gave, PausedAlike, stops, FrozenAlike, frozen_with, stored_with, worlds}
+use Rattle.lower_law.specs.Alike.{states, gave, PausedAlike, stops, FrozenAlike, frozen_from, stored_from, worlds}
 use Rattle.lower_law.specs.Law.{LoweredCode, Lowering, LoweredWorld, SameTold}
 use Rattle.lower_law.specs.Lowered.{LoweredRest}
 use Rattle.lower_law.proofs.Parts as part
@@ -35,7 +35,7 @@ abbrev pub SameBegun : ToldBegun source_kinds → ToldBegun core_kinds → Type 
 SameBegun a b = (a.0 ≡ b.0) × LoweredWorld a.1 b.1
 
 abbrev SourceFrames : Type 0
-SourceFrames = List (Option (Frozen (List s.Layer)))
+SourceFrames = List (Option (Frozen (List s.SourceLayer)))
 
 abbrev CoreFrames : Type 0
 CoreFrames = List (Option (Frozen (List c.Layer)))
@@ -46,7 +46,7 @@ frozen_length alike.none = refl
 frozen_length (alike.taken hs) = ap suc (frozen_length hs)
 frozen_length (alike.more p a h hs) = ap suc (frozen_length hs)
 
-frozen_more : {fs : SourceFrames} {gs : CoreFrames} → FrozenAlike Lowering fs gs → (p : Site) (a : Locals) {l : List s.Layer} {m : List c.Layer} → LoweredRest l m → FrozenAlike Lowering (fs ++ Some (frozen_with l p a) ∷ []) (gs ++ Some (frozen_with m p a) ∷ [])
+frozen_more : {fs : SourceFrames} {gs : CoreFrames} → FrozenAlike Lowering fs gs → (p : Site) (a : Locals) {l : List s.SourceLayer} {m : List c.Layer} → LoweredRest l m → FrozenAlike Lowering (fs ++ Some (frozen_from l p a) ∷ []) (gs ++ Some (frozen_from m p a) ∷ [])
 frozen_more alike.none p a h = alike.more p a h alike.none
 frozen_more (alike.taken hs) p a h = alike.taken (frozen_more hs p a h)
 frozen_more (alike.more q b g hs) p a h = alike.more q b g (frozen_more hs p a h)
@@ -58,9 +58,9 @@ frozen_taken (alike.taken hs) (suc n) = alike.taken (frozen_taken hs n)
 frozen_taken (alike.more p a h hs) zero = alike.taken hs
 frozen_taken (alike.more p a h hs) (suc n) = alike.more p a h (frozen_taken hs n)
 
-pub data FrameAlike : Option (Frozen (List s.Layer)) → Option (Frozen (List c.Layer)) → Type 0 where
+pub data FrameAlike : Option (Frozen (List s.SourceLayer)) → Option (Frozen (List c.Layer)) → Type 0 where
   absent : FrameAlike None None
-  present : (p : Site) (a : Locals) {l : List s.Layer} {m : List c.Layer} → LoweredRest l m → FrameAlike (Some (frozen_with l p a)) (Some (frozen_with m p a))
+  present : (p : Site) (a : Locals) {l : List s.SourceLayer} {m : List c.Layer} → LoweredRest l m → FrameAlike (Some (frozen_from l p a)) (Some (frozen_from m p a))
 
 frame_found : {fs : SourceFrames} {gs : CoreFrames} → FrozenAlike Lowering fs gs → (n : ℕ) → FrameAlike (frame_at (slice_get fs n)) (frame_at (slice_get gs n))
 frame_found alike.none n = absent
@@ -93,23 +93,23 @@ begun_same budget (tree.Spent x) (tree.Frozen q n) h = elim h [ ]
 begun_same budget (tree.Frozen o m) (tree.Ended q n) h = elim h [ ]
 begun_same budget (tree.Frozen o m) (tree.Spent y) h = elim h [ ]
 
-run_begun : (budget : ℕ) (x : Rest source_kinds) (y : Rest core_kinds) → Follow x y → SameBegun (begun_of source budget x) (begun_of core budget y)
+run_begun : (budget : ℕ) (x : Rest source_kinds) (y : Rest core_kinds) → Follow x y → SameBegun (begun_of source_semantics budget x) (begun_of core budget y)
 run_begun budget x y h = begun_same budget _ _ (runs_same budget x y h).1
 
 -- BEGINS
-body_begun_same : (path : List ℕ) (home : ℕ) {f : Function} {x : CoreFn} → LoweredCode f x → (r : Result Locals Raise) (at : List TraceFrame) {w : SourceWorld} {z : CoreWorld} → LoweredWorld w z → Follow (body_begun source (stored_with path home f) r at (start w)) (body_begun core (stored_with path home x) r at (start z))
-body_begun_same path home h (Ok names) at ws = (block.entered_by _ source.entry core.entry meanings_same.entries h path home (Ok names) no_call).does (states [] [] ws) _ _ (λ o q n. part.call_end_same Lowering (states [] [] ws) n)
+body_begun_same : (path : List ℕ) (home : ℕ) {f : Function} {x : CoreFn} → LoweredCode f x → (r : Result Locals Raise) (at : List TraceFrame) {w : SourceWorld} {z : CoreWorld} → LoweredWorld w z → Follow (body_begun source_semantics (stored_from path home f) r at (start w)) (body_begun core (stored_from path home x) r at (start z))
+body_begun_same path home h (Ok names) at ws = (block.entered_by _ source_semantics.entry core.entry meanings_same.entries h path home (Ok names) no_call).does (states [] [] ws) _ _ (λ o q n. part.call_end_same Lowering (states [] [] ws) n)
 body_begun_same path home h (Err r) at ws = part.raised_same Lowering r at (states [] [] ws)
 
-function_opened_same : {x : Option (Stored Function)} {y : Option (Stored CoreFn)} → block.FoundAlike Lowering x y → (g : FunctionObj) (all : List Value) (f : Value) (args : List Value) {w : SourceWorld} {z : CoreWorld} → LoweredWorld w z → Follow (function_opened source x g all f args (start w)) (function_opened core y g all f args (start z))
+function_opened_same : {x : Option (Stored Function)} {y : Option (Stored CoreFn)} → block.FoundAlike Lowering x y → (g : FunctionObj) (all : List Value) (f : Value) (args : List Value) {w : SourceWorld} {z : CoreWorld} → LoweredWorld w z → Follow (function_opened source_semantics x g all f args (start w)) (function_opened core y g all f args (start z))
 function_opened_same block.absent g all f args ws = begun_by_runner_same f args ws
 function_opened_same (block.present path home h) g all f args ws = follow_cond g.yields _ _ _ _ (body_begun_same path home h (begin_arguments g all) (frame g.path g.line g.name ∷ []) ws) (begun_by_runner_same f args ws)
 
-object_opened_same : (o : Option (FunctionObj × List Value)) (f : Value) (args : List Value) {w : SourceWorld} {z : CoreWorld} → LoweredWorld w z → Follow (object_opened source o f args (start w)) (object_opened core o f args (start z))
+object_opened_same : (o : Option (FunctionObj × List Value)) (f : Value) (args : List Value) {w : SourceWorld} {z : CoreWorld} → LoweredWorld w z → Follow (object_opened source_semantics o f args (start w)) (object_opened core o f args (start z))
 object_opened_same (Some x) f args (worlds xs ys zs modules heap printed traces) = function_opened_same (block.found _ ys x.0.code) x.0 x.1 f args (worlds xs ys zs modules heap printed traces)
 object_opened_same None f args ws = begun_by_runner_same f args ws
 
-opened_same : (f : Value) (args : List Value) {w : SourceWorld} {z : CoreWorld} → LoweredWorld w z → Follow (opened_by_runner source f args (start w)) (opened_by_runner core f args (start z))
+opened_same : (f : Value) (args : List Value) {w : SourceWorld} {z : CoreWorld} → LoweredWorld w z → Follow (opened_by_runner source_semantics f args (start w)) (opened_by_runner core f args (start z))
 opened_same (val.Ref id) args (worlds xs ys zs modules heap printed traces) = object_opened_same (function_and heap args (slice_get heap id.at)) (val.Ref id) args (worlds xs ys zs modules heap printed traces)
 opened_same val.None args ws = begun_by_runner_same val.None args ws
 opened_same (val.Bool b) args ws = begun_by_runner_same (val.Bool b) args ws
@@ -123,10 +123,10 @@ sent_same : (sent : Sent) (a : Locals) {w : SourceWorld} {z : CoreWorld} → Low
 sent_same (SentValue v) a ws = gave v (states a [] ws)
 sent_same (SentThrow t) a ws = alike.raised t.exc t.trace (states a [] ws)
 
-resumed_same : (p : Site) (a : Locals) {l : List s.Layer} {m : List c.Layer} → LoweredRest l m → (sent : Sent) {w : SourceWorld} {z : CoreWorld} → LoweredWorld w z → Follow (resumed source (frozen_with l p a) sent w) (resumed core (frozen_with m p a) sent z)
+resumed_same : (p : Site) (a : Locals) {l : List s.SourceLayer} {m : List c.Layer} → LoweredRest l m → (sent : Sent) {w : SourceWorld} {z : CoreWorld} → LoweredWorld w z → Follow (resumed source_semantics (frozen_from l p a) sent w) (resumed core (frozen_from m p a) sent z)
 resumed_same p a h sent ws = (meanings_same.remains _ _ h).does p (sent_same sent a ws) _ _ (λ o q n. part.call_end_same Lowering (states [] [] ws) n)
 
-resumed_by_same : {x : Option (Frozen (List s.Layer))} {y : Option (Frozen (List c.Layer))} → FrameAlike x y → (n : ℕ) (sent : Sent) (budget : ℕ) {w : SourceWorld} {z : CoreWorld} → LoweredWorld w z → SameBegun (resumed_by source x n sent budget w) (resumed_by core y n sent budget z)
+resumed_by_same : {x : Option (Frozen (List s.SourceLayer))} {y : Option (Frozen (List c.Layer))} → FrameAlike x y → (n : ℕ) (sent : Sent) (budget : ℕ) {w : SourceWorld} {z : CoreWorld} → LoweredWorld w z → SameBegun (resumed_by source_semantics x n sent budget w) (resumed_by core y n sent budget z)
 resumed_by_same absent n sent budget ws = over_same _ _ (refl, ws)
 resumed_by_same (present p a h) n sent budget ws = run_begun budget _ _ (resumed_same p a h sent (abandoned n ws))
 

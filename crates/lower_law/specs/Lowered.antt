@@ -48,7 +48,7 @@ use Rattle.lower_law.specs.Sourced.{function_in, module_of, sources_in}
 use Rattle.source_meaning.specs.Requests as s
 use Rattle.source_meaning.specs.Requests.{Script, Function}
 use Rattle.core_meaning.specs.Requests as r
-use Rattle.source_meaning.specs.Statements.{listed, function, written}
+use Rattle.source_meaning.specs.Statements.{statements_listed, function, source_written}
 use Rattle.core_meaning.specs.Statements.{written as core_written}
 
 -- expressions, the first one first
@@ -109,7 +109,18 @@ IsLeaf (t.Not at e) = ⊥
 IsLeaf (t.And at e es) = ⊥
 IsLeaf (t.Or at e es) = ⊥
 IsLeaf (t.Attribute at e member) = ⊥
-IsLeaf _ = Unit {0}
+IsLeaf (t.Name at n) = Unit {0}
+IsLeaf (t.Number at n) = Unit {0}
+IsLeaf (t.Text at x) = Unit {0}
+IsLeaf (t.True at) = Unit {0}
+IsLeaf (t.False at) = Unit {0}
+IsLeaf (t.NoneTree at) = Unit {0}
+IsLeaf (t.Tuple at es) = Unit {0}
+IsLeaf (t.Listed at es) = Unit {0}
+IsLeaf (t.Dict at ks es) = Unit {0}
+IsLeaf (t.Subscript at e i) = Unit {0}
+IsLeaf (t.Slice at e from to by) = Unit {0}
+IsLeaf (t.IfElse at e b o) = Unit {0}
 
 mutual
   pub data Watched : ℕ → Tree → Pos → CoreExprKind → Type 0 where
@@ -164,18 +175,18 @@ abbrev pub core_at : Pos → CoreStmtKind → CoreStmt
 core_at at kind = record { at = at; kind = kind }
 
 -- handlers, the first one first
-pub data Catch : Type 0 where
-  catch_at : Maybe → Option (List ℕ) → Block → Catch
+pub data ListedHandler : Type 0 where
+  catch_at : Maybe → Option (List ℕ) → Block → ListedHandler
 
-abbrev pub handlers_listed : Handlers → List Catch
+abbrev pub handlers_listed : Handlers → List ListedHandler
 handlers_listed NoHandler = []
 handlers_listed (st.Handler before at class alias block) = handlers_listed before ++ catch_at class alias block ∷ []
 
 -- branches, the first one first
-pub data Choice : Type 0 where
-  choice_at : Pos → Tree → Block → Choice
+pub data ListedBranch : Type 0 where
+  choice_at : Pos → Tree → Block → ListedBranch
 
-abbrev pub branches_listed : Branches → List Choice
+abbrev pub branches_listed : Branches → List ListedBranch
 branches_listed NoBranch = []
 branches_listed (Branch before at condition body) = branches_listed before ++ choice_at at condition body ∷ []
 
@@ -194,14 +205,14 @@ mutual
     pass : {z : Bool} (at : Pos) → LoweredStatement z (st.Pass at) at k.Pass
     leave : {z : Bool} (at : Pos) → LoweredStatement z (st.Break at) at k.Break
     again : {z : Bool} (at : Pos) → LoweredStatement z (st.Continue at) at k.Continue
-    choose : {z : Bool} (at : Pos) {bs : Branches} {other : Block} {p n q : _} {branches : Row_of-CoreBranch _} {block : CoreBlock} → LoweredBranches z (branches_listed bs) (items-the_row-CoreBranch _ branches) → LoweredBody z (listed other) block → LoweredStatement z (st.If at bs other) at (c.If' p n branches q block)
-    loop : {z : Bool} (at : Pos) {e : Tree} {body : Block} {x : Rc CoreExpr Global} {p : _} {block : CoreBlock} → LoweredExpr e x.value → LoweredBody z (listed body) block → LoweredStatement z (st.While at e body) at (c.While' x p block)
+    choose : {z : Bool} (at : Pos) {bs : Branches} {other : Block} {p n q : _} {branches : Row_of-CoreBranch _} {block : CoreBlock} → LoweredBranches z (branches_listed bs) (items-the_row-CoreBranch _ branches) → LoweredBody z (statements_listed other) block → LoweredStatement z (st.If at bs other) at (c.If' p n branches q block)
+    loop : {z : Bool} (at : Pos) {e : Tree} {body : Block} {x : Rc CoreExpr Global} {p : _} {block : CoreBlock} → LoweredExpr e x.value → LoweredBody z (statements_listed body) block → LoweredStatement z (st.While at e body) at (c.While' x p block)
     define : {z : Bool} (at word : Pos) {ds : Trees} (name : List ℕ) {params : List Parameter} (returns : Maybe) {body : Block} {xs ys : Rc (Vec (Rc CoreExpr Global) Global) Global} {p : _} {x : CoreFn} → LoweredEach (trees_listed ds) xs.value.items → LoweredEach (defaults_listed params) ys.value.items → LoweredFunction word (function z name params body) x → LoweredStatement z (st.Def at ds word name params returns body) at (c.Def' xs ys p x)
     raise_it : {z : Bool} (at : Pos) {e : Maybe} {x : Option (Rc CoreExpr Global)} → LoweredSome e x → LoweredStatement z (st.Raise at e) at (k.Raise x)
     delete : {z : Bool} (at : Pos) {p : Place} {x : CoreSingle} → LoweredPlace p x → LoweredStatement z (st.Del at p) at (k.Del x)
-    for_each : {z : Bool} (at : Pos) {t : Taker} {e : Tree} {body : Block} {x : Rc CoreTarget Global} {y : Rc CoreExpr Global} {p : _} {block : CoreBlock} → LoweredTarget t x.value → LoweredExpr e y.value → LoweredBody z (listed body) block → LoweredStatement z (st.For at t e body) at (c.For' x y p block)
-    try_it : {z : Bool} (at : Pos) {body : Block} {hs : Handlers} {other last : Block} {p q : _} {block : CoreBlock} {g : CoreGuard} → LoweredBody z (listed body) block → LoweredGuard z hs (listed other) (listed last) g → LoweredStatement z (st.Try at body hs other last) at (c.Try' p block q g)
-    with_it : {z : Bool} (at : Pos) {e : Tree} {name : Option (List ℕ)} {body : Block} {x : Rc CoreExpr Global} {p : _} {block : CoreBlock} → LoweredExpr e x.value → LoweredBody z (listed body) block → LoweredStatement z (st.With at e name body) at (c.With' x name p block)
+    for_each : {z : Bool} (at : Pos) {t : Taker} {e : Tree} {body : Block} {x : Rc CoreTarget Global} {y : Rc CoreExpr Global} {p : _} {block : CoreBlock} → LoweredTarget t x.value → LoweredExpr e y.value → LoweredBody z (statements_listed body) block → LoweredStatement z (st.For at t e body) at (c.For' x y p block)
+    try_it : {z : Bool} (at : Pos) {body : Block} {hs : Handlers} {other last : Block} {p q : _} {block : CoreBlock} {g : CoreGuard} → LoweredBody z (statements_listed body) block → LoweredGuard z hs (statements_listed other) (statements_listed last) g → LoweredStatement z (st.Try at body hs other last) at (c.Try' p block q g)
+    with_it : {z : Bool} (at : Pos) {e : Tree} {name : Option (List ℕ)} {body : Block} {x : Rc CoreExpr Global} {p : _} {block : CoreBlock} → LoweredExpr e x.value → LoweredBody z (statements_listed body) block → LoweredStatement z (st.With at e name body) at (c.With' x name p block)
     class_it : {z : Bool} (at word : Pos) {ds : Trees} (name : List ℕ) {base : Maybe} {body : Block} {xs : Rc (Vec (Rc CoreExpr Global) Global) Global} {y : Option (Rc CoreExpr Global)} {p : _} {x : class.CoreClass} → LoweredEach (trees_listed ds) xs.value.items → LoweredSome base y → LoweredClass z word name body x → LoweredStatement z (st.Class at ds word name base body) at (c.Class' xs y p x)
     import_it : {z : Bool} (at : Pos) {names : List (List ℕ)} (alias : Option (List ℕ)) {xs : Rc (Vec (List ℕ) Global) Global} → xs.value.items ≡ names → LoweredStatement z (st.Import at names alias) at (k.Import xs alias)
     import_from : {z : Bool} (at : Pos) {names : List (List ℕ)} {all : List Alias} {xs : Rc (Vec (List ℕ) Global) Global} {ys : Rc (Vec Alias Global) Global} → xs.value.items ≡ names → ys.value.items ≡ all → LoweredStatement z (st.ImportFrom at names all) at (k.ImportFrom xs ys)
@@ -214,13 +225,13 @@ mutual
   pub data LoweredBody : Bool → List Statement → CoreBlock → Type 0 where
     body : {z : Bool} {ss : List Statement} {b : CoreBlock} → explains_in b ≡ z → sources_in b ≡ ss → LoweredBlock z ss (stmts_in b) → LoweredBody z ss b
 
-  pub data LoweredBranches : Bool → List Choice → List branch.CoreBranch → Type 0 where
+  pub data LoweredBranches : Bool → List ListedBranch → List branch.CoreBranch → Type 0 where
     none : {z : Bool} → LoweredBranches z [] []
-    more : {z : Bool} (at : Pos) {e : Tree} {body : Block} {bs : List Choice} {x : Rc CoreExpr Global} {p : _} {block : CoreBlock} {xs : List branch.CoreBranch} → LoweredExpr e x.value → LoweredBody z (listed body) block → LoweredBranches z bs xs → LoweredBranches z (choice_at at e body ∷ bs) (branch.CoreBranch' at x p block ∷ xs)
+    more : {z : Bool} (at : Pos) {e : Tree} {body : Block} {bs : List ListedBranch} {x : Rc CoreExpr Global} {p : _} {block : CoreBlock} {xs : List branch.CoreBranch} → LoweredExpr e x.value → LoweredBody z (statements_listed body) block → LoweredBranches z bs xs → LoweredBranches z (choice_at at e body ∷ bs) (branch.CoreBranch' at x p block ∷ xs)
 
-  pub data LoweredHandlers : Bool → List Catch → List handler.CoreHandler → Type 0 where
+  pub data LoweredHandlers : Bool → List ListedHandler → List handler.CoreHandler → Type 0 where
     unhandled : {z : Bool} → LoweredHandlers z [] []
-    handles : {z : Bool} {class : Maybe} (name : Option (List ℕ)) {body : Block} {hs : List Catch} {x : Option (Rc CoreExpr Global)} {p : _} {block : CoreBlock} {xs : List handler.CoreHandler} → LoweredSome class x → LoweredBody z (listed body) block → LoweredHandlers z hs xs → LoweredHandlers z (catch_at class name body ∷ hs) (handler.CoreHandler' x name p block ∷ xs)
+    handles : {z : Bool} {class : Maybe} (name : Option (List ℕ)) {body : Block} {hs : List ListedHandler} {x : Option (Rc CoreExpr Global)} {p : _} {block : CoreBlock} {xs : List handler.CoreHandler} → LoweredSome class x → LoweredBody z (statements_listed body) block → LoweredHandlers z hs xs → LoweredHandlers z (catch_at class name body ∷ hs) (handler.CoreHandler' x name p block ∷ xs)
 
   -- what guards the block of a `try` carries the handlers of its source
   pub data LoweredGuard : Bool → Handlers → List Statement → List Statement → CoreGuard → Type 0 where
@@ -228,23 +239,23 @@ mutual
 
   -- a class
   pub data LoweredClass : Bool → Pos → List ℕ → Block → class.CoreClass → Type 0 where
-    classed : {z : Bool} (word : Pos) (name : List ℕ) {body : Block} {p : _} {block : CoreBlock} → LoweredBody z (listed body) block → LoweredClass z word name body (class.CoreClass' word name p block)
+    classed : {z : Bool} (word : Pos) (name : List ℕ) {body : Block} {p : _} {block : CoreBlock} → LoweredBody z (statements_listed body) block → LoweredClass z word name body (class.CoreClass' word name p block)
 
   -- a function has the parameters and the local names of its source
   pub data LoweredFunction : Pos → Function → CoreFn → Type 0 where
-    made : {z : Bool} (word : Pos) (name : List ℕ) {params : List Parameter} {body : Block} {ps : Rc (Vec CoreParam Global) Global} {ls : List (List ℕ)} {ys : Bool} {source : Rc f_tree.Function Global} {p : _} {block : CoreBlock} → function_in z source.value ≡ function z name params body → core_written ps.value.items ≡ written params → ls ≡ locals_of params body → ys ≡ yields_in body → LoweredBody z (listed body) block → LoweredFunction word (function z name params body) (fn.CoreFn' source word name ps ls ys p block)
+    made : {z : Bool} (word : Pos) (name : List ℕ) {params : List Parameter} {body : Block} {ps : Rc (Vec CoreParam Global) Global} {ls : List (List ℕ)} {ys : Bool} {source : Rc f_tree.Function Global} {p : _} {block : CoreBlock} → function_in z source.value ≡ function z name params body → core_written ps.value.items ≡ source_written params → ls ≡ locals_of params body → ys ≡ yields_in body → LoweredBody z (statements_listed body) block → LoweredFunction word (function z name params body) (fn.CoreFn' source word name ps ls ys p block)
 
 -- what stands behind a statement, the innermost block first
-pub data LoweredLayers (z : Bool) : List s.Layer → List r.Layer → Type 0 where
+pub data LoweredLayers (z : Bool) : List s.SourceLayer → List r.Layer → Type 0 where
   none : LoweredLayers z [] []
-  more : {ss : List Statement} {ls : List s.Layer} {ks : List r.Layer} (b : CoreBlock) (at : ℕ) → explains_in b ≡ z → drop at (sources_in b) ≡ ss → LoweredBlock z ss (drop at (stmts_in b)) → LoweredLayers z ls ks → LoweredLayers z (s.Statements z ss ∷ ls) (r.Statements b at ∷ ks)
-  guarded : {hs : Handlers} {other last : List Statement} {ls : List s.Layer} {ks : List r.Layer} (g : CoreGuard) (line : ℕ) → LoweredGuard z hs other last g → LoweredLayers z ls ks → LoweredLayers z (s.Guard z line hs other last ∷ ls) (r.Guard g line ∷ ks)
-  receives : {u : s.Use} {t : CoreUse} {ls : List s.Layer} {ks : List r.Layer} → LoweredUse u t → LoweredLayers z ls ks → LoweredLayers z (s.Receives u ∷ ls) (r.Receives t ∷ ks)
+  more : {ss : List Statement} {ls : List s.SourceLayer} {ks : List r.Layer} (b : CoreBlock) (at : ℕ) → explains_in b ≡ z → drop at (sources_in b) ≡ ss → LoweredBlock z ss (drop at (stmts_in b)) → LoweredLayers z ls ks → LoweredLayers z (s.Statements z ss ∷ ls) (r.Statements b at ∷ ks)
+  guarded : {hs : Handlers} {other last : List Statement} {ls : List s.SourceLayer} {ks : List r.Layer} (g : CoreGuard) (line : ℕ) → LoweredGuard z hs other last g → LoweredLayers z ls ks → LoweredLayers z (s.Guard z line hs other last ∷ ls) (r.Guard g line ∷ ks)
+  receives : {u : s.Use} {t : CoreUse} {ls : List s.SourceLayer} {ks : List r.Layer} → LoweredUse u t → LoweredLayers z ls ks → LoweredLayers z (s.Receives u ∷ ls) (r.Receives t ∷ ks)
 
 -- what remains of a body
-abbrev pub LoweredRest : List s.Layer → List r.Layer → Type 0
+abbrev pub LoweredRest : List s.SourceLayer → List r.Layer → Type 0
 LoweredRest ls ks = (z : Bool) × LoweredLayers z ls ks
 
 -- a source
 abbrev pub LoweredModule : Script → Core → Type 0
-LoweredModule m code = (module_of code ≡ m) × LoweredBlock m.explains (listed m.body) (stmts_in code.body.value)
+LoweredModule m code = (module_of code ≡ m) × LoweredBlock m.explains (statements_listed m.body) (stmts_in code.body.value)

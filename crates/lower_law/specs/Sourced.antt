@@ -8,11 +8,11 @@ use Rattle.core_meaning.specs.py_core.declared.stmt.CoreBlock.{CoreBlock}
 use Rattle.core_meaning.specs.py_core.declared.stmt.CoreFn as fn
 use Rattle.core_meaning.specs.py_core.declared.stmt.CoreFn.{CoreFn}
 use Rattle.source_meaning.specs.Requests.{Script, Function}
-use Rattle.source_meaning.specs.Statements.{function, script, listed}
+use Rattle.source_meaning.specs.Statements.{function, script, statements_listed}
 
 -- the statements of the source that a block stands for
 abbrev pub sources_in : CoreBlock → List Statement
-sources_in b = listed (block (source_in b))
+sources_in b = statements_listed (block (source_in b))
 
 -- a function of a source as it lies in memory
 abbrev pub function_in : Bool → f.Function → Function

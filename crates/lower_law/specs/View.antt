@@ -12,7 +12,7 @@ use Rattle.source_meaning.specs.Meaning.{SourceWorld}
 use Rattle.core_meaning.specs.Requests as c
 use Rattle.core_meaning.specs.Requests.{core_kinds}
 use Rattle.core_meaning.specs.Meaning.{CoreWorld}
-use Rattle.source_meaning.specs.py_world.World.{Source, Coded, Code, Fault, Stored, Frozen}
+use Rattle.source_meaning.specs.py_world.World.{CodedSource, Coded, Code, Fault, Stored, Frozen}
 use Rattle.source_meaning.specs.py_world.Runs.{Told}
 use Rattle.source_meaning.specs.py_world.Resuming.{ToldBegun}
 use Rattle.lower_law.specs.Law.{LoweredWorld}
@@ -25,7 +25,7 @@ abbrev pub coded_view : Coded Core → Coded Script
 coded_view (Code m) = Code (module_of m)
 coded_view (Fault f) = Fault f
 
-abbrev pub file_view : Source Core → Source Script
+abbrev pub file_view : CodedSource Core → CodedSource Script
 file_view x = record { path = x.path; bytes = x.bytes; code = coded_view x.code }
 
 -- the use of what a `yield` is given
@@ -35,12 +35,12 @@ use_view (taken.Targets source xs) = s.Targets (takers source.value.items)
 use_view taken.Return = s.ReturnIt
 
 -- what remains of a block, what guards one, and what a `yield` is given
-abbrev pub layer_view : c.Layer → s.Layer
+abbrev pub layer_view : c.Layer → s.SourceLayer
 layer_view (c.Statements b at) = s.Statements (explains_in b) (drop at (sources_in b))
 layer_view (c.Guard g line) = s.Guard (explains_in (other_in g)) line (handlers (handlers_source g)) (sources_in (other_in g)) (sources_in (last_in g))
 layer_view (c.Receives u) = s.Receives (use_view u)
 
-abbrev pub frozen_view : Option (Frozen (List c.Layer)) → Option (Frozen (List s.Layer))
+abbrev pub frozen_view : Option (Frozen (List c.Layer)) → Option (Frozen (List s.SourceLayer))
 frozen_view (Some f) = Some (record { rest = map layer_view f.rest; site = f.site; locals = f.locals })
 frozen_view None = None
 

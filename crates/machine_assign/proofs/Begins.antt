@@ -11,13 +11,13 @@ use Rattle.machine_turns.specs.machine_state.declared.frame.Frame.{Frame}
 use Rattle.machine_turns.specs.machine_state.declared.frame.Frame.TheVariants.{Target}
 use Rattle.machine_turns.specs.machine_state.declared.frame.TargetFrame.TheVariants.{Attribute, Item}
 use Rattle.machine_turns.specs.machine_state.Places.{CoreState, site_of}
-use Rattle.machine_turns.specs.machine_state.Frames.{after, handling_of, outer_of}
+use Rattle.machine_turns.specs.machine_state.Frames.{after_stack, handled_exception, outer_of}
 
 module _ (h : Here) (fs : List Frame) (s : CoreState) (first : CorePart) where
   pub attribute_begins : (name name' : List ℕ) (v : Value) → name' ≡ name
-      → first (site_of h (outer_of fs) (handling_of fs)) s (after (Target (Attribute name' v) ∷ fs) h) ≡ store_attribute first name v (site_of h (outer_of fs) (handling_of fs)) s (after fs h)
+      → first (site_of h (outer_of fs) (handled_exception fs)) s (after_stack (Target (Attribute name' v) ∷ fs) h) ≡ store_attribute first name v (site_of h (outer_of fs) (handled_exception fs)) s (after_stack fs h)
   attribute_begins name name' v is = rw is refl
 
   pub item_begins : (i i' : Rc CoreExpr Global) (v : Value) → i'.value ≡ i.value
-      → first (site_of h (outer_of fs) (handling_of fs)) s (after (Target (Item i' v) ∷ fs) h) ≡ store_item first (eval i.value) v (site_of h (outer_of fs) (handling_of fs)) s (after fs h)
+      → first (site_of h (outer_of fs) (handled_exception fs)) s (after_stack (Target (Item i' v) ∷ fs) h) ≡ store_item first (eval i.value) v (site_of h (outer_of fs) (handled_exception fs)) s (after_stack fs h)
   item_begins i i' v is = rw is refl

@@ -18,7 +18,7 @@ use Rattle.machine_turns.specs.machine_state.declared.frame.Frame.{Frame}
 use Rattle.machine_turns.specs.machine_state.declared.frame.Frame.TheVariants.{Target}
 use Rattle.machine_turns.specs.machine_state.declared.frame.TargetFrame.TheVariants.{Each}
 use Rattle.machine_turns.specs.machine_state.Places.{CoreState, CoreThen, site_of}
-use Rattle.machine_turns.specs.machine_state.Frames.{after, handling_of, outer_of}
+use Rattle.machine_turns.specs.machine_state.Frames.{after_stack, handled_exception, outer_of}
 use Rattle.machine_turns.specs.machine_state.Work.{single_work, singles_work}
 use Rattle.machine_turns.proofs.Lists.{drop_some}
 
@@ -42,9 +42,9 @@ each_from ss vs i s v w h w' h' p t k =
 -- a target of an unpacking begins
 pub each_turns : (h : Here) (fs fs' : List Frame) (ss again : Rc (Vec CoreSingle Global) Global) (vs : Vec Value Global) (i : ℕ) (s : CoreSingle) (v : Value) (t : CoreState)
     → i < length ss.value.items → s ≡ get_or ss.value.items i s → i < length vs.items → v ≡ get_or vs.items i v → fs' ≡ Target (Each again vs (i + 1)) ∷ fs → again.value ≡ ss.value
-    → store_at s.kind v (site_of h (outer_of fs') (handling_of fs')) t (after fs' h) ≡ store_each (drop i (store_singles ss.value.items)) (drop i vs.items) (site_of h (outer_of fs) (handling_of fs)) t (after fs h)
+    → store_at s.kind v (site_of h (outer_of fs') (handled_exception fs')) t (after_stack fs' h) ≡ store_each (drop i (store_singles ss.value.items)) (drop i vs.items) (site_of h (outer_of fs) (handled_exception fs)) t (after_stack fs h)
 each_turns h fs fs' ss again vs i s v t w is w' is' pushed same =
-    rw (each_from ss.value.items vs.items i s v w is w' is' (site_of h (outer_of fs) (handling_of fs)) t (after fs h), pushed, same) refl
+    rw (each_from ss.value.items vs.items i s v w is w' is' (site_of h (outer_of fs) (handled_exception fs)) t (after_stack fs h), pushed, same) refl
 
 pub each_none : (ss : List CoreSingle) (vs : List Value) (i : ℕ) (p : Site) (t : CoreState) (k : CoreThen) → length ss ≤ i → k (Next t) ≡ store_each (drop i (store_singles ss)) vs p t k
 each_none ss vs i p t k h = sym (ap (λ (ts : List CoreStore). store_each ts vs p t k) (singles_from ss i ∙ ap store_singles (drop_of_length-le ss h)))

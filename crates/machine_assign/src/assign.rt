@@ -3,13 +3,13 @@
 ghost use Rattle.std.specs.Prelude.{◌≡◌, ◌+◌, ◌<◌, IfOk, drop};
 ghost use Rattle.machine_turns.specs.py_world.Targets as world;
 ghost use Rattle.machine_turns.specs.core_meaning.Statements as meaning;
-ghost use Rattle.machine_turns.specs.machine_state.Frames.{rest_of, site_now, state_of, todo};
+ghost use Rattle.machine_turns.specs.machine_state.Frames.{machine_rest, site_now, state_of, todo};
 ghost use Rattle.machine_turns.specs.machine_state.Work.{doing_work, single_work, singles_work, stack_work, taker_work};
 
 use crate::elements::{elements, wrong_count};
 use machine_turns::begin::descend;
 use machine_turns::names::store;
-use machine_turns::{Doing, End, Frame, Machine, Origin, TargetFrame};
+use machine_turns::{End, Frame, Machine, NextAction, Origin, TargetFrame};
 use py_core::{CoreExpr, CoreSingle, CoreSingleKind, CoreTarget, SrcText};
 use py_kinds::length::length_of;
 use py_operands::faults::not_iterable;
@@ -23,8 +23,8 @@ fn store_attribute(
     e: &Rc<CoreExpr>,
     name: &SrcText,
     v: Value,
-) -> Result<Doing, OutOfMemory>
-    ensures next { IfOk result (λ d. todo d m.new ≡ world.store_attribute (eval e.now.value) name.now v (site_now m.old) (state_of m.old) (rest_of m.old)) }
+) -> Result<NextAction, OutOfMemory>
+    ensures next { IfOk result (λ d. todo d m.new ≡ world.store_attribute (eval e.now.value) name.now v (site_now m.old) (state_of m.old) (machine_rest m.old)) }
     ensures left { m.new.left ≡ m.old.left }
     ensures work { IfOk result (λ d. doing_work d + stack_work m.new ≡ weight e.now.value + (1 + stack_work m.old)) }
 {
@@ -38,8 +38,8 @@ fn store_item(
     e: &Rc<CoreExpr>,
     i: &Rc<CoreExpr>,
     v: Value,
-) -> Result<Doing, OutOfMemory>
-    ensures next { IfOk result (λ d. todo d m.new ≡ world.store_item (eval e.now.value) (eval i.now.value) v (site_now m.old) (state_of m.old) (rest_of m.old)) }
+) -> Result<NextAction, OutOfMemory>
+    ensures next { IfOk result (λ d. todo d m.new ≡ world.store_item (eval e.now.value) (eval i.now.value) v (site_now m.old) (state_of m.old) (machine_rest m.old)) }
     ensures left { m.new.left ≡ m.old.left }
     ensures work { IfOk result (λ d. doing_work d + stack_work m.new ≡ weight e.now.value + (weight i.now.value + 2 + stack_work m.old)) }
 {
@@ -51,8 +51,12 @@ ghost use Rattle.machine_turns.specs.core_meaning.Expressions.{eval};
 ghost use Rattle.machine_turns.specs.machine_state.Work.{weight};
 
 /// Stores a value in what takes one.
-pub fn store_single(m: &mut Machine, single: &CoreSingle, v: Value) -> Result<Doing, OutOfMemory>
-    ensures next { IfOk result (λ d. todo d m.new ≡ meaning.store_at single.now.kind v (site_now m.old) (state_of m.old) (rest_of m.old)) }
+pub fn store_single(
+    m: &mut Machine,
+    single: &CoreSingle,
+    v: Value,
+) -> Result<NextAction, OutOfMemory>
+    ensures next { IfOk result (λ d. todo d m.new ≡ meaning.store_at single.now.kind v (site_now m.old) (state_of m.old) (machine_rest m.old)) }
     ensures left { m.new.left ≡ m.old.left }
     ensures work { IfOk result (λ d. doing_work d + stack_work m.new < single_work single.now.kind + stack_work m.old) }
 {
@@ -70,16 +74,16 @@ pub fn store_each(
     ss: Rc<Vec<CoreSingle>>,
     vs: Vec<Value>,
     at: usize,
-) -> Result<Doing, OutOfMemory>
-    ensures next { IfOk result (λ d. todo d m.new ≡ world.store_each (drop at (meaning.store_singles ss.value.items)) (drop at vs.items) (site_now m.old) (state_of m.old) (rest_of m.old)) }
+) -> Result<NextAction, OutOfMemory>
+    ensures next { IfOk result (λ d. todo d m.new ≡ world.store_each (drop at (meaning.store_singles ss.value.items)) (drop at vs.items) (site_now m.old) (state_of m.old) (machine_rest m.old)) }
     ensures left { m.new.left ≡ m.old.left }
     ensures work { IfOk result (λ d. doing_work d + stack_work m.new < singles_work (drop at ss.value.items) + 1 + stack_work m.old) }
 {
     if at >= ss.len() {
-        return Ok(Doing::Back(End::Next));
+        return Ok(NextAction::Back(End::Next));
     }
     if at >= vs.len() {
-        return Ok(Doing::Back(End::Next));
+        return Ok(NextAction::Back(End::Next));
     }
     let v = vs[at];
     let again = ss.clone()?;
@@ -94,8 +98,8 @@ fn unpack_all(
     ss: &Rc<Vec<CoreSingle>>,
     v: Value,
     n: usize,
-) -> Result<Doing, OutOfMemory>
-    ensures next { IfOk result (λ d. todo d m.new ≡ world.store_elements (meaning.store_singles ss.now.value.items) (world.elements_from n v 0 n m.old.heap) (site_now m.old) (state_of m.old) (rest_of m.old)) }
+) -> Result<NextAction, OutOfMemory>
+    ensures next { IfOk result (λ d. todo d m.new ≡ world.store_elements (meaning.store_singles ss.now.value.items) (world.elements_from n v 0 n m.old.heap) (site_now m.old) (state_of m.old) (machine_rest m.old)) }
     ensures left { m.new.left ≡ m.old.left }
     ensures work { IfOk result (λ d. doing_work d + stack_work m.new < singles_work ss.now.value.items + 1 + stack_work m.old) }
 {
@@ -111,8 +115,8 @@ fn unpack_counted(
     ss: &Rc<Vec<CoreSingle>>,
     v: Value,
     n: usize,
-) -> Result<Doing, OutOfMemory>
-    ensures next { IfOk result (λ d. todo d m.new ≡ world.unpack_by (Some n) (meaning.store_singles ss.now.value.items) v (site_now m.old) (state_of m.old) (rest_of m.old)) }
+) -> Result<NextAction, OutOfMemory>
+    ensures next { IfOk result (λ d. todo d m.new ≡ world.unpack_by (Some n) (meaning.store_singles ss.now.value.items) v (site_now m.old) (state_of m.old) (machine_rest m.old)) }
     ensures left { m.new.left ≡ m.old.left }
     ensures work { IfOk result (λ d. doing_work d + stack_work m.new < singles_work ss.now.value.items + 1 + stack_work m.old) }
 {
@@ -124,8 +128,12 @@ fn unpack_counted(
 }
 
 /// Unpacks a value (Language Reference, assignment statements), which costs nothing.
-pub fn unpack(m: &mut Machine, ss: &Rc<Vec<CoreSingle>>, v: Value) -> Result<Doing, OutOfMemory>
-    ensures next { IfOk result (λ d. todo d m.new ≡ world.unpack (meaning.store_singles ss.now.value.items) v (site_now m.old) (state_of m.old) (rest_of m.old)) }
+pub fn unpack(
+    m: &mut Machine,
+    ss: &Rc<Vec<CoreSingle>>,
+    v: Value,
+) -> Result<NextAction, OutOfMemory>
+    ensures next { IfOk result (λ d. todo d m.new ≡ world.unpack (meaning.store_singles ss.now.value.items) v (site_now m.old) (state_of m.old) (machine_rest m.old)) }
     ensures left { m.new.left ≡ m.old.left }
     ensures work { IfOk result (λ d. doing_work d + stack_work m.new < singles_work ss.now.value.items + 1 + stack_work m.old) }
 {
@@ -139,8 +147,12 @@ pub fn unpack(m: &mut Machine, ss: &Rc<Vec<CoreSingle>>, v: Value) -> Result<Doi
 }
 
 /// Stores a value in a target.
-pub fn store_target(m: &mut Machine, target: &CoreTarget, v: Value) -> Result<Doing, OutOfMemory>
-    ensures next { IfOk result (λ d. todo d m.new ≡ meaning.store target.now v (site_now m.old) (state_of m.old) (rest_of m.old)) }
+pub fn store_target(
+    m: &mut Machine,
+    target: &CoreTarget,
+    v: Value,
+) -> Result<NextAction, OutOfMemory>
+    ensures next { IfOk result (λ d. todo d m.new ≡ meaning.store target.now v (site_now m.old) (state_of m.old) (machine_rest m.old)) }
     ensures left { m.new.left ≡ m.old.left }
     ensures work { IfOk result (λ d. doing_work d + stack_work m.new < taker_work target.now + stack_work m.old) }
 {

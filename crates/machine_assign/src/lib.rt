@@ -24,7 +24,7 @@ pub use machine_turns::begin::{begin_block, descend};
 pub use machine_turns::names::{bind, delete_name, store};
 pub use machine_turns::subscript::subscript;
 pub use machine_turns::{
-    Doing, End, Frame, Machine, Origin, SimpleFrame, Spot, TargetFrame, TurnEnd, bound_value,
+    End, Frame, Machine, NextAction, Origin, SimpleFrame, Spot, TargetFrame, TurnEnd, bound_value,
     changes, look_up,
 };
 

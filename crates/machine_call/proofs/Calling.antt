@@ -2,8 +2,8 @@
 use Rattle.std.proofs.Common.{◌≡◌, ◌-◌, ◌∙◌, ℕ, List, [], ◌++◌, Bool, true, false, Option, Some, None, refl, sym, ap, nat_lt, if◌then◌else◌}
 use Rattle.std.proofs.lemmas.List.{append-nil}
 use Rattle.run_tree.specs.Todo as tree
-use Rattle.py_values.specs.declared.end.Made.{Made}
-use Rattle.py_values.specs.declared.end.Made.TheVariants.{Give, New, Put, Fail}
+use Rattle.py_values.specs.declared.end.Effect.{Effect}
+use Rattle.py_values.specs.declared.end.Effect.TheVariants.{Give, New, Put, Fail}
 use Rattle.py_values.specs.Ends.{cost_of}
 use Rattle.call_products.specs.Products.{product_within}
 use Rattle.call_products.specs.declared.product.Product.{Product}
@@ -31,14 +31,14 @@ use Rattle.machine_state.specs.declared.machine.Machine.{Machine}
 use Rattle.machine_state.specs.declared.machine.Origin.{Origin}
 use Rattle.machine_state.specs.declared.machine.Origin.TheVariants as origin
 use Rattle.machine_state.specs.Places.{CoreEnding, CoreState, CoreOutcome, CoreRest, CoreThen, ends}
-use Rattle.machine_state.specs.Frames.{around_by, opened, rest_of, state_of}
+use Rattle.machine_state.specs.Frames.{around_by, opened, machine_rest, state_of}
 use Rattle.machine_state.proofs.Costs.{paid, unpaid}
 
 abbrev pub printing : List ℕ → CoreState → CoreState
 printing p s = with_world (world_with_printed p s.world) s
 
 -- an end that keeps the caller's names
-call_made : (m : Made) (outer : List TraceFrame) (w : CoreWorld) (s : CoreState) → call_end s (made m outer (with_world w s)) ≡ made m outer (with_world w s)
+call_made : (m : Effect) (outer : List TraceFrame) (w : CoreWorld) (s : CoreState) → call_end s (made m outer (with_world w s)) ≡ made m outer (with_world w s)
 call_made (Give v n) outer w s = refl
 call_made (New o n) outer w s = refl
 call_made (Put id c v n) outer w s = refl
@@ -119,49 +119,49 @@ opened_same origin.Code m m' h s = rw (h, s) refl
 opened_same origin.Runner m m' h s = rw s refl
 
 -- the end of a product, in a machine with the same open calls and the same rest
-arrives : (o : Origin) (m m2 : Machine) (x : Product) (n l : ℕ) (t : CoreRest) (s : CoreState) → m2.here ≡ m.here → m2.stack ≡ m.stack → rest_of m2 ≡ rest_of m
-    → l ≡ n → t ≡ rest_of m2 (product_end x (opened o m2) s) → ends n (rest_of m (product_end x (around_by o m).trace s)) ≡ ends l t
+arrives : (o : Origin) (m m2 : Machine) (x : Product) (n l : ℕ) (t : CoreRest) (s : CoreState) → m2.here ≡ m.here → m2.stack ≡ m.stack → machine_rest m2 ≡ machine_rest m
+    → l ≡ n → t ≡ machine_rest m2 (product_end x (opened o m2) s) → ends n (machine_rest m (product_end x (around_by o m).trace s)) ≡ ends l t
 arrives o m m2 x n l t s here stack rest less is =
-    ap (λ (tr : List TraceFrame). ends n (rest_of m (product_end x tr s))) (around_trace o m ∙ sym (opened_same o m m2 here stack))
+    ap (λ (tr : List TraceFrame). ends n (machine_rest m (product_end x tr s))) (around_trace o m ∙ sym (opened_same o m m2 here stack))
     ∙ ap (λ (k : CoreThen). ends n (k (product_end x (opened o m2) s))) (sym rest) ∙ ap (ends n) (sym is) ∙ ap (λ (i : ℕ). ends i t) (sym less)
 
 module _ (o : Origin) (m m2 : Machine) (c : Called) where
   -- a built-in call goes on with what it makes
   pub builtin_goes : (x : Product) (l : ℕ) (t : CoreRest) → Some x ≡ product_within m.left c.product → m2.printed.items ≡ m.printed.items ++ printed_within m.left c
-      → m2.here ≡ m.here → m2.stack ≡ m.stack → state_of m2 ≡ printing m2.printed.items (state_of m) → rest_of m2 ≡ rest_of m
-      → l ≡ m.left - cost_of x.made → t ≡ rest_of m2 (product_end x (opened o m2) (state_of m2))
-      → ends m.left (builtin_called entry c (around_by o m) (state_of m) (λ (o : CoreOutcome). rest_of m (call_end (state_of m) o))) ≡ ends l t
+      → m2.here ≡ m.here → m2.stack ≡ m.stack → state_of m2 ≡ printing m2.printed.items (state_of m) → machine_rest m2 ≡ machine_rest m
+      → l ≡ m.left - cost_of x.made → t ≡ machine_rest m2 (product_end x (opened o m2) (state_of m2))
+      → ends m.left (builtin_called entry c (around_by o m) (state_of m) (λ (o : CoreOutcome). machine_rest m (call_end (state_of m) o))) ≡ ends l t
   builtin_goes x l t e q here stack same rest less is =
       let n = m.left - cost_of x.made in
-      builtin_paid m.left c (around_by o m) (state_of m) (rest_of m) x m2.printed.items e q
-      ∙ ap (λ (s : CoreState). ends n (rest_of m (product_end x (around_by o m).trace s))) (sym same)
+      builtin_paid m.left c (around_by o m) (state_of m) (machine_rest m) x m2.printed.items e q
+      ∙ ap (λ (s : CoreState). ends n (machine_rest m (product_end x (around_by o m).trace s))) (sym same)
       ∙ arrives o m m2 x n l t (state_of m2) here stack rest less is
 
   -- a built-in call for which the steps are too few
   pub builtin_stops : (trace : List TraceFrame) → None ≡ product_within m.left c.product → m2.printed.items ≡ m.printed.items ++ printed_within m.left c
       → m2.here ≡ m.here → m2.stack ≡ m.stack → state_of m2 ≡ printing m2.printed.items (state_of m) → trace ≡ opened o m2
-      → ends m.left (builtin_called entry c (around_by o m) (state_of m) (λ (o : CoreOutcome). rest_of m (call_end (state_of m) o))) ≡ tree.Spent (spent trace (state_of m2))
+      → ends m.left (builtin_called entry c (around_by o m) (state_of m) (λ (o : CoreOutcome). machine_rest m (call_end (state_of m) o))) ≡ tree.Spent (spent trace (state_of m2))
   builtin_stops trace e q here stack same is =
-      builtin_unpaid m.left c (around_by o m) (state_of m) (rest_of m) m2.printed.items e q
+      builtin_unpaid m.left c (around_by o m) (state_of m) (machine_rest m) m2.printed.items e q
       ∙ sym (rw (is, same, opened_same o m m2 here stack, around_trace o m) refl)
 
 module _ (o : Origin) (m m2 : Machine) (x : Product) where
   -- a call goes on with its product
   pub product_goes : (x' : Product) (l : ℕ) (t : CoreRest) → Some x' ≡ product_within m.left x
-      → m2.here ≡ m.here → m2.stack ≡ m.stack → state_of m2 ≡ state_of m → rest_of m2 ≡ rest_of m
-      → l ≡ m.left - cost_of x'.made → t ≡ rest_of m2 (product_end x' (opened o m2) (state_of m2))
-      → ends m.left (product_called x (around_by o m) (state_of m) (λ (o : CoreOutcome). rest_of m (call_end (state_of m) o))) ≡ ends l t
+      → m2.here ≡ m.here → m2.stack ≡ m.stack → state_of m2 ≡ state_of m → machine_rest m2 ≡ machine_rest m
+      → l ≡ m.left - cost_of x'.made → t ≡ machine_rest m2 (product_end x' (opened o m2) (state_of m2))
+      → ends m.left (product_called x (around_by o m) (state_of m) (λ (o : CoreOutcome). machine_rest m (call_end (state_of m) o))) ≡ ends l t
   product_goes x' l t e here stack same rest less is =
       let n = m.left - cost_of x'.made in
-      product_paid m.left x x' (around_by o m) (state_of m) (rest_of m) e
-      ∙ ap (λ (s : CoreState). ends n (rest_of m (product_end x' (around_by o m).trace s))) (sym same)
+      product_paid m.left x x' (around_by o m) (state_of m) (machine_rest m) e
+      ∙ ap (λ (s : CoreState). ends n (machine_rest m (product_end x' (around_by o m).trace s))) (sym same)
       ∙ arrives o m m2 x' n l t (state_of m2) here stack rest less is
 
   -- a call for which the steps are too few
   pub product_stops : (trace : List TraceFrame) → None ≡ product_within m.left x → trace ≡ opened o m
-      → ends m.left (product_called x (around_by o m) (state_of m) (λ (o : CoreOutcome). rest_of m (call_end (state_of m) o))) ≡ tree.Spent (spent trace (state_of m))
+      → ends m.left (product_called x (around_by o m) (state_of m) (λ (o : CoreOutcome). machine_rest m (call_end (state_of m) o))) ≡ tree.Spent (spent trace (state_of m))
   product_stops trace e is =
-      product_unpaid m.left x (around_by o m) (state_of m) (rest_of m) e ∙ sym (rw (is, around_trace o m) refl)
+      product_unpaid m.left x (around_by o m) (state_of m) (machine_rest m) e ∙ sym (rw (is, around_trace o m) refl)
 
 -- a function's call is by its code, with its local names
 called_by_code : (st : Option (Stored CoreFn)) (f : FunctionObj) (none : Raise) (args : Arguments) (a : Around) (s : CoreState) (k : CoreThen)

@@ -18,14 +18,14 @@ use Rattle.machine_state.specs.py_world.Arguments.{Arguments}
 use Rattle.machine_state.specs.py_world.Site.{Around}
 use Rattle.machine_state.specs.py_world.Outcome.{CallOf, Gave, Next, Returned, Broke, Continued, Raised, call_end, gave_in, raised, spent}
 use Rattle.py_kinds.specs.Classes.{is_exc_class}
-use Rattle.machine_state.specs.py_world.Calls.{called_or, class_called, class_or, class_takes, function_with, init_called, init_end, init_object, init_of, instance_made, invoke, new_instance, not_callable, wrong_arguments}
+use Rattle.machine_state.specs.py_world.Calls.{called_or, class_called, class_or, class_takes, function_with, init_called, init_end, init_object, init_of, instance_made, invoke, new_instance, not_callable, argument_error}
 use Rattle.machine_state.specs.core_meaning.Statements.{entry}
 use Rattle.machine_state.specs.declared.frame.Frame.TheVariants.{New}
 use Rattle.machine_state.specs.declared.machine.Machine.{Machine}
 use Rattle.machine_state.specs.declared.machine.Origin.{Origin}
 use Rattle.machine_state.specs.declared.machine.Origin.TheVariants as origin
 use Rattle.machine_state.specs.Places.{CoreOutcome, CoreRest, CoreState, CoreThen, ends}
-use Rattle.machine_state.specs.Frames.{around_by, rest_of, state_of}
+use Rattle.machine_state.specs.Frames.{around_by, machine_rest, state_of}
 use Rattle.machine_call.specs.Depth.{Ready}
 use Rattle.machine_call.specs.Called.{bare_called, bare_misfit, call_rest, called_class, class_by_form, object_called, with_init}
 
@@ -103,7 +103,7 @@ module _ (id : ObjId) (v : Value) (none : Raise) (args : Arguments) (a : Around)
 
 -- a class without `__init__`
 bare_goes : (b : Bool) (name : List ℕ) (x : Value × List Obj) (a : Around) (s : CoreState) (k : CoreThen)
-    → (if b then k (gave_in x s) else k (raised (wrong_arguments name) a.trace s)) ≡ bare_called (bare_misfit b name) x a s k
+    → (if b then k (gave_in x s) else k (raised (argument_error name) a.trace s)) ≡ bare_called (bare_misfit b name) x a s k
 bare_goes true name x a s k = refl
 bare_goes false name x a s k = refl
 
@@ -160,7 +160,7 @@ init_same init v w heap heap1 args a a1 s s1 k k1 same grown around state rest =
 module _ (o : Origin) (m m1 : Machine) (v : Value) (x : Value × List Obj) where
   rest_new : v ≡ x.0 → m1.here ≡ m.here → m1.stack ≡ New v ∷ m.stack → state_of m1 ≡ with_heap x.1 (state_of m) → (o : CoreOutcome)
       → call_rest m (init_end x.0 o) ≡ call_rest m1 o
-  rest_new e here stack is o = sym (ap (λ (s : CoreState). rest_of m1 (call_end s o)) is ∙ rw (here, stack, e) (ap (rest_of m) (new_end x.0 (state_of m) x.1 o)))
+  rest_new e here stack is o = sym (ap (λ (s : CoreState). machine_rest m1 (call_end s o)) is ∙ rw (here, stack, e) (ap (machine_rest m) (new_end x.0 (state_of m) x.1 o)))
 
   -- an `__init__` is called over the new instance
   pub init_begins : (init : Value) (args : Arguments) → v ≡ x.0 → m1.heap ≡ x.1 → m1.here ≡ m.here → m1.stack ≡ New v ∷ m.stack → state_of m1 ≡ with_heap x.1 (state_of m)

@@ -12,17 +12,17 @@ use Rattle.py_values.specs.declared.value.Value.{Value}
 use Rattle.machine_state.specs.py_world.Arguments.{Arguments}
 use Rattle.machine_state.specs.py_world.Site.{Around}
 use Rattle.machine_state.specs.py_world.Outcome.{CallOf, call_end, gave_in, raised, spent}
-use Rattle.machine_state.specs.py_world.Calls.{arguments_for, called_or, function_called, init_called, init_end, not_callable, wrong_arguments}
+use Rattle.machine_state.specs.py_world.Calls.{arguments_for, called_or, function_called, init_called, init_end, not_callable, argument_error}
 use Rattle.machine_state.specs.py_world.World.{with_heap}
 use Rattle.py_kinds.specs.Kinds.{kind_name}
 use Rattle.machine_state.specs.core_meaning.Statements.{entry}
 use Rattle.machine_state.specs.declared.machine.Machine.{Machine}
 use Rattle.machine_state.specs.declared.machine.Origin.{Origin}
 use Rattle.machine_state.specs.Places.{CoreRest, CoreState, CoreThen, ends}
-use Rattle.machine_state.specs.Frames.{around_by, rest_of, state_of, Follows}
+use Rattle.machine_state.specs.Frames.{around_by, machine_rest, state_of, Follows}
 use Rattle.machine_call.specs.declared.objects.CodeCall.{CodeCall}
-use Rattle.machine_call.specs.declared.class.Called.{Called}
-use Rattle.machine_call.specs.declared.class.Called.TheVariants.{Over, Again}
+use Rattle.machine_call.specs.declared.class.CallProgress.{CallProgress}
+use Rattle.machine_call.specs.declared.class.CallProgress.TheVariants.{Over, Again}
 use Rattle.machine_call.specs.Depth.{Ready}
 
 -- a function with arguments, where it is one
@@ -74,7 +74,7 @@ object_called o none args a s k = called_or entry o none args a s k (λ c. k (ra
 -- what is raised where a class without `__init__` doesn't take its arguments
 abbrev pub bare_misfit : Bool → List ℕ → Option Raise
 bare_misfit true name = None
-bare_misfit false name = Some (wrong_arguments name)
+bare_misfit false name = Some (argument_error name)
 
 -- a call of such a class, with a new instance
 abbrev pub bare_called : Option Raise → Value × List Obj → Around → CoreState → CoreThen → CoreRest
@@ -87,10 +87,10 @@ with_init init x args a s k = init_called entry init x.0 (not_callable (kind_nam
 
 -- what follows a call that is made here
 abbrev pub call_rest : Machine → CoreThen
-call_rest m o = rest_of m (call_end (state_of m) o)
+call_rest m o = machine_rest m (call_end (state_of m) o)
 
 -- a call is over in a turn that goes on, or a class is its `__init__`, which is called with a step
-abbrev pub Calls : Called → Origin → Arguments → Machine → ℕ → CoreRest → Type 0
+abbrev pub Calls : CallProgress → Origin → Arguments → Machine → ℕ → CoreRest → Type 0
 Calls (Over t) origin args m n u = Follows t m n u
 Calls (Again f) origin args m n u =
     (ends n u ≡ ends m.left (Ask (spent (around_by origin m).trace (state_of m)) (CallOf f args (around_by origin m) (state_of m)) (call_rest m)))

@@ -12,7 +12,7 @@ use Rattle.machine_state.specs.declared.machine.Origin.{Origin}
 use Rattle.machine_state.specs.declared.machine.Origin.TheVariants as origin
 use Rattle.machine_state.specs.declared.place.Here.{Here}
 use Rattle.machine_state.specs.Places.{CoreRest, CoreState, CoreThen, depth_of}
-use Rattle.machine_state.specs.Frames.{after, handling_of, rest_of}
+use Rattle.machine_state.specs.Frames.{after_stack, handled_exception, machine_rest}
 
 abbrev pub depth_by : Origin → Machine → ℕ
 depth_by origin.Code m = depth_of m.here
@@ -21,7 +21,7 @@ depth_by origin.Runner m = 0
 -- the runner calls where nothing is handled, and where what follows is the same wherever the machine is
 abbrev pub Ready : Origin → Machine → Type 0
 Ready origin.Code m = Unit {0}
-Ready origin.Runner m = (handling_of m.stack ≡ None) × ((h : Here) → after m.stack h ≡ rest_of m)
+Ready origin.Runner m = (handled_exception m.stack ≡ None) × ((h : Here) → after_stack m.stack h ≡ machine_rest m)
 
 -- a call of a function of the sources by its code, where that is there, with its local names or what is raised in their place
 abbrev pub code_called : Option (Stored CoreFn) → Result Locals Raise → Raise → Around → CoreState → CoreThen → CoreRest

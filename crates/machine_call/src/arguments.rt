@@ -73,7 +73,7 @@ fn fit(
 
 /// A raise for arguments that don't fit a function or a class.
 pub(crate) fn raise_misfit(alloc: Global, name: &PyText) -> Result<Raise, OutOfMemory>
-    ensures { IfOk result (λ r. r ≡ world.wrong_arguments name.now) }
+    ensures { IfOk result (λ r. r ≡ world.argument_error name.now) }
 {
     let mut text = Vec::new(alloc);
     push_ascii(&mut text, "wrong arguments for ")?;

@@ -7,7 +7,7 @@ ghost use Rattle.py_kinds.specs.Kinds.{kind_name};
 ghost use Rattle.machine_state.specs.py_world.Calls as world;
 ghost use Rattle.machine_state.specs.py_world.Outcome.{call_end, product_end};
 ghost use Rattle.machine_state.specs.core_meaning.Statements.{entry};
-ghost use Rattle.machine_state.specs.Frames.{around_by, opened, rest_of, state_of, todo, Follows};
+ghost use Rattle.machine_state.specs.Frames.{around_by, opened, machine_rest, state_of, todo, Follows};
 ghost use Rattle.machine_call.specs.Products as products;
 ghost use Rattle.pytest_calls.specs.Marks as marks;
 
@@ -16,7 +16,7 @@ use crate::enter::not_callable;
 use call_products::product::{Product, add_all, product_within};
 use machine_state::arguments::CallArguments;
 use machine_state::locals::Locals;
-use machine_state::machine::{Doing, Machine, Origin, TurnEnd};
+use machine_state::machine::{Machine, NextAction, Origin, TurnEnd};
 use py_calls::call::called;
 use py_text::OutOfMemory;
 use py_values::builtin::Builtin;
@@ -27,8 +27,8 @@ use pytest_calls::marks::mark_called;
 use std::alloc::Global;
 
 /// Goes on with what a call makes, whose cost is paid.
-fn finish(m: &mut Machine, product: Product, origin: Origin) -> Result<Doing, OutOfMemory>
-    ensures next { IfOk result (λ d. todo d m.new ≡ rest_of m.old (product_end product (opened origin m.old) (state_of m.old))) }
+fn finish(m: &mut Machine, product: Product, origin: Origin) -> Result<NextAction, OutOfMemory>
+    ensures next { IfOk result (λ d. todo d m.new ≡ machine_rest m.old (product_end product (opened origin m.old) (state_of m.old))) }
     ensures left { m.new.left ≡ m.old.left }
 {
     let Product { objects, made } = product;
@@ -49,7 +49,7 @@ pub(crate) fn call_builtin(
     named: &Locals,
     origin: Origin,
 ) -> Result<TurnEnd, OutOfMemory>
-    ensures next { IfOk result (λ t. Follows t m.new m.old.left (world.builtin_called entry (called_of which m.old.heap args.now named.now) (around_by origin m.old) (state_of m.old) (λ o. rest_of m.old (call_end (state_of m.old) o)))) }
+    ensures next { IfOk result (λ t. Follows t m.new m.old.left (world.builtin_called entry (called_of which m.old.heap args.now named.now) (around_by origin m.old) (state_of m.old) (λ o. machine_rest m.old (call_end (state_of m.old) o)))) }
     ensures left { m.new.left ≤ m.old.left }
 {
     match called(
@@ -76,7 +76,7 @@ pub(crate) fn call_received(
     args: &CallArguments,
     origin: Origin,
 ) -> Result<TurnEnd, OutOfMemory>
-    ensures next { IfOk result (λ t. Follows t m.new m.old.left (world.builtin_called entry (called_of builtin.which m.old.heap (received builtin.receiver args.now.plain.items) args.now.named) (around_by origin m.old) (state_of m.old) (λ o. rest_of m.old (call_end (state_of m.old) o)))) }
+    ensures next { IfOk result (λ t. Follows t m.new m.old.left (world.builtin_called entry (called_of builtin.which m.old.heap (received builtin.receiver args.now.plain.items) args.now.named) (around_by origin m.old) (state_of m.old) (λ o. machine_rest m.old (call_end (state_of m.old) o)))) }
     ensures left { m.new.left ≤ m.old.left }
 {
     match builtin.receiver {
@@ -106,7 +106,7 @@ pub(crate) fn uncalled_mark(
 
 /// Pays for what a call makes, and goes on with it.
 fn call_product(m: &mut Machine, product: Product, origin: Origin) -> Result<TurnEnd, OutOfMemory>
-    ensures next { IfOk result (λ t. Follows t m.new m.old.left (products.product_called product (around_by origin m.old) (state_of m.old) (λ o. rest_of m.old (call_end (state_of m.old) o)))) }
+    ensures next { IfOk result (λ t. Follows t m.new m.old.left (products.product_called product (around_by origin m.old) (state_of m.old) (λ o. machine_rest m.old (call_end (state_of m.old) o)))) }
     ensures left { m.new.left ≤ m.old.left }
 {
     match product_within(product, m.left) {
@@ -125,7 +125,7 @@ pub(crate) fn call_mark(
     product: Option<Product>,
     origin: Origin,
 ) -> Result<TurnEnd, OutOfMemory>
-    ensures next { IfOk result (λ t. Follows t m.new m.old.left (products.uncalled_or product (world.not_callable (kind_name m.old.heap callee)) (around_by origin m.old) (state_of m.old) (λ o. rest_of m.old (call_end (state_of m.old) o)))) }
+    ensures next { IfOk result (λ t. Follows t m.new m.old.left (products.uncalled_or product (world.not_callable (kind_name m.old.heap callee)) (around_by origin m.old) (state_of m.old) (λ o. machine_rest m.old (call_end (state_of m.old) o)))) }
     ensures left { m.new.left ≤ m.old.left }
 {
     match product {

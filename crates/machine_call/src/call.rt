@@ -8,16 +8,16 @@ ghost use Rattle.machine_state.specs.py_world.Outcome.{call_end};
 ghost use Rattle.machine_state.specs.core_meaning.Statements.{entry};
 ghost use Rattle.machine_state.specs.declared.machine.Machine.{Machine};
 ghost use Rattle.machine_state.specs.Places.{arguments_in, outcome};
-ghost use Rattle.machine_state.specs.Frames.{after, around_by, on_caller, here_from, rest_of, site_now, state_of, todo, todo_entry, Follows};
+ghost use Rattle.machine_state.specs.Frames.{after_stack, around_by, on_caller, here_from, machine_rest, site_now, state_of, todo, todo_entry, Follows};
 ghost use Rattle.machine_state.specs.Work.{doing_work, Falls};
 ghost use Rattle.machine_call.specs.Depth.{Ready};
 ghost use Rattle.machine_call.specs.Called.{call_rest, Calls};
 
-use crate::class::{Called, call_at};
+use crate::class::{CallProgress, call_at};
 use crate::enter::not_callable;
 use machine_state::arguments::CallArguments;
 use machine_state::frame::{CallerFrame, End};
-use machine_state::machine::{Doing, Machine, Origin, TurnEnd};
+use machine_state::machine::{Machine, NextAction, Origin, TurnEnd};
 use machine_state::place::Here;
 use py_text::OutOfMemory;
 use py_values::value::Value;
@@ -28,7 +28,7 @@ fn call_once(
     callee: Value,
     args: &CallArguments,
     origin: Origin,
-) -> Result<Called, OutOfMemory>
+) -> Result<CallProgress, OutOfMemory>
     requires { Ready origin m.old }
     ensures next { IfOk result (λ c. Calls c origin (arguments_in args.now) m.new m.old.left (world.invoke entry callee (arguments_in args.now) (around_by origin m.old) (state_of m.old) (call_rest m.old))) }
     ensures left { m.new.left ≤ m.old.left }
@@ -37,7 +37,7 @@ fn call_once(
         Value::Ref(id) => call_at(m, id, args, origin),
         Value::None | Value::Bool(_) | Value::Int(_) => {
             let doing = not_callable(m, callee, origin)?;
-            Ok(Called::Over(TurnEnd::Go(doing)))
+            Ok(CallProgress::Over(TurnEnd::Go(doing)))
         }
     }
 }
@@ -50,14 +50,14 @@ pub fn invoke(
     origin: Origin,
 ) -> Result<TurnEnd, OutOfMemory>
     requires { Ready origin m.old }
-    ensures next { IfOk result (λ t. Follows t m.new m.old.left (world.invoke entry callee (arguments_in args.now) (around_by origin m.old) (state_of m.old) (λ o. rest_of m.old (call_end (state_of m.old) o)))) }
+    ensures next { IfOk result (λ t. Follows t m.new m.old.left (world.invoke entry callee (arguments_in args.now) (around_by origin m.old) (state_of m.old) (λ o. machine_rest m.old (call_end (state_of m.old) o)))) }
     ensures left { m.new.left ≤ m.old.left }
 {
     let mut callee = callee;
     'inits: loop {
         match call_once(m, callee, args, origin)? {
-            Called::Over(turn) => return Ok(turn),
-            Called::Again(init) => {
+            CallProgress::Over(turn) => return Ok(turn),
+            CallProgress::Again(init) => {
                 if !m.spend() {
                     return Ok(TurnEnd::Exhausted(m.trace(origin)?));
                 }
@@ -83,7 +83,7 @@ ghost use Rattle.machine_state.specs.declared.machine.Entry.TheVariants as Entry
 
 /// A call: its step, and then the call.
 pub fn apply(m: &mut Machine, callee: Value, args: CallArguments) -> Result<TurnEnd, OutOfMemory>
-    ensures next { IfOk result (λ t. Follows t m.new m.old.left (expression.called callee (arguments_in args) (site_now m.old) (state_of m.old) (rest_of m.old))) }
+    ensures next { IfOk result (λ t. Follows t m.new m.old.left (expression.called callee (arguments_in args) (site_now m.old) (state_of m.old) (machine_rest m.old))) }
     ensures work { IfOk result (λ t. (work : ℕ) → Falls t m.new m.old.left work) }
 {
     if !m.spend() {
@@ -93,8 +93,8 @@ pub fn apply(m: &mut Machine, callee: Value, args: CallArguments) -> Result<Turn
 }
 
 /// Goes on in the caller.
-pub fn take_caller(m: &mut Machine, caller: CallerFrame, end: End) -> Doing
-    ensures next { todo result m.new ≡ on_caller caller (outcome end (state_of m.old)) (after m.old.stack (here_from caller.from m.old.here)) }
+pub fn take_caller(m: &mut Machine, caller: CallerFrame, end: End) -> NextAction
+    ensures next { todo result m.new ≡ on_caller caller (outcome end (state_of m.old)) (after_stack m.old.stack (here_from caller.from m.old.here)) }
     ensures left { m.new.left ≡ m.old.left }
     ensures work { doing_work result ≡ 0 }
     ensures stack { m.new.stack ≡ m.old.stack }
@@ -108,12 +108,12 @@ pub fn take_caller(m: &mut Machine, caller: CallerFrame, end: End) -> Doing
     m.temps = temps;
     go_back(m, from);
     match end {
-        End::Value(v) => Doing::Back(End::Value(v)),
-        End::Returned(v) => Doing::Back(End::Value(v)),
-        End::Next => Doing::Back(End::Value(Value::None)),
-        End::Broke => Doing::Back(End::Value(Value::None)),
-        End::Continued => Doing::Back(End::Value(Value::None)),
-        End::Raised(e, trace) => Doing::Back(End::Raised(e, trace)),
+        End::Value(v) => NextAction::Back(End::Value(v)),
+        End::Returned(v) => NextAction::Back(End::Value(v)),
+        End::Next => NextAction::Back(End::Value(Value::None)),
+        End::Broke => NextAction::Back(End::Value(Value::None)),
+        End::Continued => NextAction::Back(End::Value(Value::None)),
+        End::Raised(e, trace) => NextAction::Back(End::Raised(e, trace)),
     }
 }
 
@@ -126,16 +126,16 @@ fn go_back(m: &mut Machine, from: Option<Here>)
 }
 
 /// Goes on behind the `__init__` of a new instance, which is given whatever that gives.
-pub fn take_new(v: Value, end: End) -> Doing
-    ensures next { (m : Machine) → todo result m ≡ rest_of m (init_end v (outcome end (state_of m))) }
+pub fn take_new(v: Value, end: End) -> NextAction
+    ensures next { (m : Machine) → todo result m ≡ machine_rest m (init_end v (outcome end (state_of m))) }
     ensures work { doing_work result ≡ 0 }
 {
     match end {
-        End::Value(_) => Doing::Back(End::Value(v)),
-        End::Returned(_) => Doing::Back(End::Value(v)),
-        End::Next => Doing::Back(End::Value(v)),
-        End::Broke => Doing::Back(End::Value(v)),
-        End::Continued => Doing::Back(End::Value(v)),
-        End::Raised(e, trace) => Doing::Back(End::Raised(e, trace)),
+        End::Value(_) => NextAction::Back(End::Value(v)),
+        End::Returned(_) => NextAction::Back(End::Value(v)),
+        End::Next => NextAction::Back(End::Value(v)),
+        End::Broke => NextAction::Back(End::Value(v)),
+        End::Continued => NextAction::Back(End::Value(v)),
+        End::Raised(e, trace) => NextAction::Back(End::Raised(e, trace)),
     }
 }

@@ -7,7 +7,7 @@ ghost use Rattle.machine_state.specs.py_world.Calls as world;
 ghost use Rattle.machine_state.specs.py_world.World.{with_heap};
 ghost use Rattle.machine_state.specs.core_meaning.Statements.{entry};
 ghost use Rattle.machine_state.specs.Places.{arguments_in};
-ghost use Rattle.machine_state.specs.Frames.{around_by, rest_of, state_of, todo};
+ghost use Rattle.machine_state.specs.Frames.{around_by, machine_rest, state_of, todo};
 ghost use Rattle.machine_call.specs.Depth.{Ready};
 ghost use Rattle.machine_call.specs.Called.{bare_called, bare_misfit, call_rest, called_class, Calls};
 
@@ -17,7 +17,7 @@ use crate::objects::{call_object, call_with};
 use machine_items::exceptions::class_by;
 use machine_state::arguments::CallArguments;
 use machine_state::frame::{End, Frame};
-use machine_state::machine::{Doing, Machine, Origin, TurnEnd};
+use machine_state::machine::{Machine, NextAction, Origin, TurnEnd};
 use py_attributes::classes::init_of;
 use py_kinds::classes::is_exc_class;
 use py_text::OutOfMemory;
@@ -33,7 +33,7 @@ use std::alloc::Global;
 
 /// How far a call is.
 #[derive(Drop)]
-pub enum Called {
+pub enum CallProgress {
     /// A turn goes on with it.
     Over(TurnEnd),
     /// This class is its `__init__`, which is called with a step.
@@ -177,7 +177,7 @@ fn call_bare(
     misfit: Option<Raise>,
     args: &[Value],
     origin: Origin,
-) -> Result<Doing, OutOfMemory>
+) -> Result<NextAction, OutOfMemory>
     ensures next { IfOk result (λ d. todo d m.new ≡ bare_called misfit (world.new_instance is_exc id form args.now m.old.heap) (around_by origin m.old) (state_of m.old) (call_rest m.old)) }
     ensures left { m.new.left ≡ m.old.left }
 {
@@ -185,7 +185,7 @@ fn call_bare(
         Some(raise) => refuse(m, raise, origin),
         None => {
             let v = new_instance(m.alloc, &mut m.heap, is_exc, id, form, args)?;
-            Ok(Doing::Back(End::Value(v)))
+            Ok(NextAction::Back(End::Value(v)))
         }
     }
 }
@@ -198,20 +198,20 @@ fn init_object(
     v: Value,
     args: &CallArguments,
     origin: Origin,
-) -> Result<Called, OutOfMemory>
+) -> Result<CallProgress, OutOfMemory>
     requires { Ready origin m.old }
     ensures next { IfOk result (λ c. Calls c origin (arguments_in args.now) m.new m.old.left (world.init_object entry (world.function_of_object (slice_get m.old.heap id.at)) id v (world.not_callable (kind_name m.old.heap (val.Ref id))) (arguments_in args.now) (around_by origin m.old) (state_of m.old) (call_rest m.old))) }
     ensures left { m.new.left ≤ m.old.left }
 {
     if is_function(&m.heap, id) {
         let turn = call_with(m, Value::Ref(id), id, v, args, origin)?;
-        return Ok(Called::Over(turn));
+        return Ok(CallProgress::Over(turn));
     }
     match class_in(&m.heap, id) {
-        Some(_) => Ok(Called::Again(Value::Ref(id))),
+        Some(_) => Ok(CallProgress::Again(Value::Ref(id))),
         None => {
             let turn = call_object(m, id, args, origin)?;
-            Ok(Called::Over(turn))
+            Ok(CallProgress::Over(turn))
         }
     }
 }
@@ -223,7 +223,7 @@ fn call_init(
     v: Value,
     args: &CallArguments,
     origin: Origin,
-) -> Result<Called, OutOfMemory>
+) -> Result<CallProgress, OutOfMemory>
     requires { Ready origin m.old }
     ensures next { IfOk result (λ c. Calls c origin (arguments_in args.now) m.new m.old.left (world.init_called entry init v (world.not_callable (kind_name m.old.heap init)) (arguments_in args.now) (around_by origin m.old) (state_of m.old) (call_rest m.old))) }
     ensures left { m.new.left ≤ m.old.left }
@@ -232,7 +232,7 @@ fn call_init(
         Value::Ref(id) => init_object(m, id, v, args, origin),
         Value::None | Value::Bool(_) | Value::Int(_) => {
             let doing = not_callable(m, init, origin)?;
-            Ok(Called::Over(TurnEnd::Go(doing)))
+            Ok(CallProgress::Over(TurnEnd::Go(doing)))
         }
     }
 }
@@ -246,7 +246,7 @@ fn call_with_init(
     init: Value,
     args: &CallArguments,
     origin: Origin,
-) -> Result<Called, OutOfMemory>
+) -> Result<CallProgress, OutOfMemory>
     requires { Ready origin m.old }
     ensures next { IfOk result (λ c. Calls c origin (arguments_in args.now) m.new m.old.left (with_init init (world.new_instance is_exc id form args.now.plain.items m.old.heap) (arguments_in args.now) (around_by origin m.old) (state_of m.old) (call_rest m.old))) }
     ensures left { m.new.left ≤ m.old.left }
@@ -264,7 +264,7 @@ pub(crate) fn call_at(
     id: ObjId,
     args: &CallArguments,
     origin: Origin,
-) -> Result<Called, OutOfMemory>
+) -> Result<CallProgress, OutOfMemory>
     requires { Ready origin m.old }
     ensures next { IfOk result (λ c. Calls c origin (arguments_in args.now) m.new m.old.left (world.invoke entry (val.Ref id) (arguments_in args.now) (around_by origin m.old) (state_of m.old) (call_rest m.old))) }
     ensures left { m.new.left ≤ m.old.left }
@@ -278,13 +278,13 @@ pub(crate) fn call_at(
                 None => {
                     let misfit = misfit(m.alloc, class, is_exc, args)?;
                     let doing = call_bare(m, id, form, is_exc, misfit, &args.plain, origin)?;
-                    Ok(Called::Over(TurnEnd::Go(doing)))
+                    Ok(CallProgress::Over(TurnEnd::Go(doing)))
                 }
             }
         }
         None => {
             let turn = call_object(m, id, args, origin)?;
-            Ok(Called::Over(turn))
+            Ok(CallProgress::Over(turn))
         }
     }
 }

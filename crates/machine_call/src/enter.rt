@@ -7,13 +7,13 @@ ghost use Rattle.machine_state.specs.py_world.Outcome.{call_end, raised};
 ghost use Rattle.machine_state.specs.py_world.Site.{trace_of};
 ghost use Rattle.machine_state.specs.py_world.World.{state};
 ghost use Rattle.machine_state.specs.core_meaning.Statements.{entry};
-ghost use Rattle.machine_state.specs.Frames.{around_by, handling_of, rest_of, site_now, state_of, todo, world_of, Follows};
+ghost use Rattle.machine_state.specs.Frames.{around_by, handled_exception, machine_rest, site_now, state_of, todo, world_of, Follows};
 ghost use Rattle.machine_call.specs.Depth.{code_called, depth_by, Ready};
 
 use machine_state::code::Code;
 use machine_state::frame::{CallerFrame, End, FlowFrame, Frame};
 use machine_state::locals::Locals;
-use machine_state::machine::{Doing, Machine, Origin, TurnEnd};
+use machine_state::machine::{Machine, NextAction, Origin, TurnEnd};
 use machine_state::place::{Here, Place};
 use py_kinds::kinds::push_kind;
 use py_text::OutOfMemory;
@@ -67,21 +67,21 @@ fn enter_by_code(
     code: Code,
     names: Locals,
     around: usize,
-) -> Result<Doing, OutOfMemory>
-    ensures next { IfOk result (λ d. todo d m.new ≡ (entry code.code).body (world.scene_of entry code (record { trace = trace_of (site_now m.old); depth = around; handling = handling_of m.old.stack })) (state names [] (world_of m.old)) (λ o. rest_of m.old (call_end (state_of m.old) o))) }
+) -> Result<NextAction, OutOfMemory>
+    ensures next { IfOk result (λ d. todo d m.new ≡ (entry code.code).body (world.scene_of entry code (record { trace = trace_of (site_now m.old); depth = around; handling = handled_exception m.old.stack })) (state names [] (world_of m.old)) (λ o. machine_rest m.old (call_end (state_of m.old) o))) }
     ensures left { m.new.left ≡ m.old.left }
 {
     let body = code.body()?;
     let caller = open(m, code, names, around)?;
     m.stack.push(Frame::Caller(caller))?;
     m.stack.push(Frame::Flow(FlowFrame::Block(body, 0, 0)))?;
-    Ok(Doing::Back(End::Next))
+    Ok(NextAction::Back(End::Next))
 }
 
 /// Enters a function that the runner calls.
-fn enter_by_runner(m: &mut Machine, code: Code, names: Locals) -> Result<Doing, OutOfMemory>
+fn enter_by_runner(m: &mut Machine, code: Code, names: Locals) -> Result<NextAction, OutOfMemory>
     requires { Ready Origin.Runner m.old }
-    ensures next { IfOk result (λ d. todo d m.new ≡ (entry code.code).body (world.scene_of entry code (around_by Origin.Runner m.old)) (state names [] (world_of m.old)) (λ o. rest_of m.old (call_end (state_of m.old) o))) }
+    ensures next { IfOk result (λ d. todo d m.new ≡ (entry code.code).body (world.scene_of entry code (around_by Origin.Runner m.old)) (state names [] (world_of m.old)) (λ o. machine_rest m.old (call_end (state_of m.old) o))) }
     ensures left { m.new.left ≡ m.old.left }
 {
     let body = code.body()?;
@@ -93,7 +93,7 @@ fn enter_by_runner(m: &mut Machine, code: Code, names: Locals) -> Result<Doing, 
     };
     m.stack.push(Frame::Caller(caller))?;
     m.stack.push(Frame::Flow(FlowFrame::Block(body, 0, 0)))?;
-    Ok(Doing::Back(End::Next))
+    Ok(NextAction::Back(End::Next))
 }
 
 /// Enters a function with its names, where one more may be open.
@@ -103,10 +103,10 @@ fn enter(
     names: Locals,
     around: usize,
     origin: Origin,
-) -> Result<Doing, OutOfMemory>
+) -> Result<NextAction, OutOfMemory>
     requires ready { Ready origin m.old }
     requires depth { around ≡ depth_by origin m.old }
-    ensures next { IfOk result (λ d. todo d m.new ≡ (entry code.code).body (world.scene_of entry code (around_by origin m.old)) (state names [] (world_of m.old)) (λ o. rest_of m.old (call_end (state_of m.old) o))) }
+    ensures next { IfOk result (λ d. todo d m.new ≡ (entry code.code).body (world.scene_of entry code (around_by origin m.old)) (state names [] (world_of m.old)) (λ o. machine_rest m.old (call_end (state_of m.old) o))) }
     ensures left { m.new.left ≡ m.old.left }
 {
     match origin {
@@ -117,8 +117,12 @@ fn enter(
 
 /// Raises an error of a call.
 #[tactic(auto, using(crate::proofs::Calling::around_trace))]
-pub(crate) fn refuse(m: &mut Machine, raise: Raise, origin: Origin) -> Result<Doing, OutOfMemory>
-    ensures next { IfOk result (λ d. todo d m.new ≡ rest_of m.old (call_end (state_of m.old) (raised raise (around_by origin m.old).trace (state_of m.old)))) }
+pub(crate) fn refuse(
+    m: &mut Machine,
+    raise: Raise,
+    origin: Origin,
+) -> Result<NextAction, OutOfMemory>
+    ensures next { IfOk result (λ d. todo d m.new ≡ machine_rest m.old (call_end (state_of m.old) (raised raise (around_by origin m.old).trace (state_of m.old)))) }
     ensures left { m.new.left ≡ m.old.left }
 {
     m.raise(raise, origin)
@@ -138,9 +142,9 @@ pub fn call_fitting(
     code: Code,
     names: Locals,
     origin: Origin,
-) -> Result<Doing, OutOfMemory>
+) -> Result<NextAction, OutOfMemory>
     requires { Ready origin m.old }
-    ensures next { IfOk result (λ d. todo d m.new ≡ world.entered entry code (Ok names) (around_by origin m.old) (state_of m.old) (λ o. rest_of m.old (call_end (state_of m.old) o))) }
+    ensures next { IfOk result (λ d. todo d m.new ≡ world.entered entry code (Ok names) (around_by origin m.old) (state_of m.old) (λ o. machine_rest m.old (call_end (state_of m.old) o))) }
     ensures left { m.new.left ≡ m.old.left }
 {
     match room(m, origin) {
@@ -158,9 +162,9 @@ fn call_code(
     code: Code,
     names: Result<Locals, Raise>,
     origin: Origin,
-) -> Result<Doing, OutOfMemory>
+) -> Result<NextAction, OutOfMemory>
     requires { Ready origin m.old }
-    ensures next { IfOk result (λ d. todo d m.new ≡ world.entered entry code names (around_by origin m.old) (state_of m.old) (λ o. rest_of m.old (call_end (state_of m.old) o))) }
+    ensures next { IfOk result (λ d. todo d m.new ≡ world.entered entry code names (around_by origin m.old) (state_of m.old) (λ o. machine_rest m.old (call_end (state_of m.old) o))) }
     ensures left { m.new.left ≡ m.old.left }
 {
     match names {
@@ -186,8 +190,8 @@ pub(crate) fn not_callable(
     m: &mut Machine,
     callee: Value,
     origin: Origin,
-) -> Result<Doing, OutOfMemory>
-    ensures next { IfOk result (λ d. todo d m.new ≡ rest_of m.old (call_end (state_of m.old) (raised (world.not_callable (kind_name m.old.heap callee)) (around_by origin m.old).trace (state_of m.old)))) }
+) -> Result<NextAction, OutOfMemory>
+    ensures next { IfOk result (λ d. todo d m.new ≡ machine_rest m.old (call_end (state_of m.old) (raised (world.not_callable (kind_name m.old.heap callee)) (around_by origin m.old).trace (state_of m.old)))) }
     ensures left { m.new.left ≡ m.old.left }
 {
     let raise = no_callable(m.alloc, &m.heap, callee)?;
@@ -216,7 +220,7 @@ pub(crate) fn invoke_code(
     origin: Origin,
 ) -> Result<TurnEnd, OutOfMemory>
     requires { Ready origin m.old }
-    ensures next { IfOk result (λ t. Follows t m.new m.old.left (code_called (slice_get m.old.codes.items at) names (world.not_callable (kind_name m.old.heap callee)) (around_by origin m.old) (state_of m.old) (λ o. rest_of m.old (call_end (state_of m.old) o)))) }
+    ensures next { IfOk result (λ t. Follows t m.new m.old.left (code_called (slice_get m.old.codes.items at) names (world.not_callable (kind_name m.old.heap callee)) (around_by origin m.old) (state_of m.old) (λ o. machine_rest m.old (call_end (state_of m.old) o)))) }
     ensures left { m.new.left ≤ m.old.left }
 {
     let found = code_at(&m.codes, at)?;

@@ -7,7 +7,7 @@ ghost use Rattle.machine_state.specs.py_world.Calls as world;
 ghost use Rattle.machine_state.specs.py_world.Outcome.{call_end, raised};
 ghost use Rattle.machine_state.specs.core_meaning.Statements.{entry};
 ghost use Rattle.machine_state.specs.Places.{arguments_in};
-ghost use Rattle.machine_state.specs.Frames.{around_by, rest_of, state_of, Follows};
+ghost use Rattle.machine_state.specs.Frames.{around_by, machine_rest, state_of, Follows};
 ghost use Rattle.machine_call.specs.Depth.{Ready};
 ghost use Rattle.machine_call.specs.Called.{call_by, function_or, object_called};
 ghost use Rattle.machine_call.specs.Called as calls;
@@ -93,7 +93,7 @@ fn call_function(
     origin: Origin,
 ) -> Result<TurnEnd, OutOfMemory>
     requires { Ready origin m.old }
-    ensures next { IfOk result (λ t. Follows t m.new m.old.left (function_or (world.function_of_object (slice_get m.old.heap function.at)) (world.not_callable (kind_name m.old.heap callee)) (arguments_in args.now) (around_by origin m.old) (state_of m.old) (λ o. rest_of m.old (call_end (state_of m.old) o)))) }
+    ensures next { IfOk result (λ t. Follows t m.new m.old.left (function_or (world.function_of_object (slice_get m.old.heap function.at)) (world.not_callable (kind_name m.old.heap callee)) (arguments_in args.now) (around_by origin m.old) (state_of m.old) (λ o. machine_rest m.old (call_end (state_of m.old) o)))) }
     ensures left { m.new.left ≤ m.old.left }
 {
     match function_call(m.alloc, &m.heap, function, args)? {
@@ -113,7 +113,7 @@ pub(crate) fn call_with(
     origin: Origin,
 ) -> Result<TurnEnd, OutOfMemory>
     requires { Ready origin m.old }
-    ensures next { IfOk result (λ t. Follows t m.new m.old.left (world.function_with entry (world.function_of_object (slice_get m.old.heap function.at)) first (world.not_callable (kind_name m.old.heap callee)) (arguments_in args.now) (around_by origin m.old) (state_of m.old) (λ o. rest_of m.old (call_end (state_of m.old) o)))) }
+    ensures next { IfOk result (λ t. Follows t m.new m.old.left (world.function_with entry (world.function_of_object (slice_get m.old.heap function.at)) first (world.not_callable (kind_name m.old.heap callee)) (arguments_in args.now) (around_by origin m.old) (state_of m.old) (λ o. machine_rest m.old (call_end (state_of m.old) o)))) }
     ensures left { m.new.left ≤ m.old.left }
 {
     let all = with_receiver(m.alloc, first, args)?;
@@ -128,8 +128,8 @@ fn call_kind(
     args: &CallArguments,
     origin: Origin,
 ) -> Result<TurnEnd, OutOfMemory>
-    ensures next { IfOk result (λ t. Follows t m.new m.old.left (world.class_or entry form (arguments_in args.now) (around_by origin m.old) (state_of m.old) (λ o. rest_of m.old (call_end (state_of m.old) o))
-        (rest_of m.old (call_end (state_of m.old) (raised (world.not_callable (kind_name m.old.heap callee)) (around_by origin m.old).trace (state_of m.old)))))) }
+    ensures next { IfOk result (λ t. Follows t m.new m.old.left (world.class_or entry form (arguments_in args.now) (around_by origin m.old) (state_of m.old) (λ o. machine_rest m.old (call_end (state_of m.old) o))
+        (machine_rest m.old (call_end (state_of m.old) (raised (world.not_callable (kind_name m.old.heap callee)) (around_by origin m.old).trace (state_of m.old)))))) }
     ensures left { m.new.left ≤ m.old.left }
 {
     match form {
@@ -148,7 +148,7 @@ pub(crate) fn call_object(
     origin: Origin,
 ) -> Result<TurnEnd, OutOfMemory>
     requires { Ready origin m.old }
-    ensures next { IfOk result (λ t. Follows t m.new m.old.left (object_called (slice_get m.old.heap id.at) (world.not_callable (kind_name m.old.heap (val.Ref id))) (arguments_in args.now) (around_by origin m.old) (state_of m.old) (λ o. rest_of m.old (call_end (state_of m.old) o)))) }
+    ensures next { IfOk result (λ t. Follows t m.new m.old.left (object_called (slice_get m.old.heap id.at) (world.not_callable (kind_name m.old.heap (val.Ref id))) (arguments_in args.now) (around_by origin m.old) (state_of m.old) (λ o. machine_rest m.old (call_end (state_of m.old) o)))) }
     ensures left { m.new.left ≤ m.old.left }
 {
     let callee = Value::Ref(id);

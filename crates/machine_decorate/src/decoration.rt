@@ -301,7 +301,7 @@ pub fn decoration_for(
 
 /// Puts a mark behind those of a function or a class.
 fn mark_of(obj: &mut Obj, d: Value) -> Result<(), OutOfMemory>
-    ensures { OnOk result (obj.new ≡ world.with_mark d obj.old) }
+    ensures { OnOk result (obj.new ≡ world.with_added_mark d obj.old) }
 {
     match obj {
         Obj::Function(x) => x.marks.push(d),

@@ -20,7 +20,7 @@ use Rattle.machine_state.specs.py_world.Outcome.{call_end, on_value, raised_at}
 use Rattle.machine_state.specs.py_world.Site.{Site, trace_of}
 use Rattle.machine_state.specs.py_world.World.{state, world_with_heap}
 use Rattle.machine_state.specs.core_meaning.Expressions.{CorePart, parts_of}
-use Rattle.machine_state.specs.core_meaning.Statements.{block, define_class}
+use Rattle.machine_state.specs.core_meaning.Statements.{core_block_body, define_class}
 use Rattle.machine_state.specs.declared.machine.Machine.{Machine}
 use Rattle.machine_state.specs.declared.place.Place.{Place}
 use Rattle.machine_state.specs.declared.place.Place.TheVariants.{Class}
@@ -29,7 +29,7 @@ use Rattle.machine_state.specs.declared.frame.Frame.TheVariants.{Define}
 use Rattle.machine_state.specs.declared.frame.DefineFrame.TheVariants.{Body}
 use Rattle.machine_state.specs.Definings.{core_class_behind, core_class_made}
 use Rattle.machine_state.specs.Places.{CoreRest, CoreState, CoreThen, depth_of, home_in, parts_from, path_in, scene_in, site_of}
-use Rattle.machine_state.specs.Frames.{after, handling_of, outer_of, rest_of, site_now, state_of, world_of}
+use Rattle.machine_state.specs.Frames.{after_stack, handled_exception, outer_of, machine_rest, site_now, state_of, world_of}
 use Rattle.machine_state.specs.Work.{block_work, class_work}
 use Rattle.machine_unwind.proofs.machine_turns_lemmas.Bodies.{rest_same}
 use Rattle.machine_define.specs.Bases.{base_found}
@@ -52,22 +52,22 @@ class_begins c c' ds ds' base base' none p s k same same_ds same_base empty =
 pub class_weighs : (c : CoreClass) → class_work c ≡ block_work (stmts_in (out-CoreClass c).body.value) + 3
 class_weighs (class.CoreClass' at name q body) = rw (class.outs-CoreClass') refl
 
-made_is : (c : CoreClass) (ds : List Value) (base : Option ObjId) → core_class_made c ds base ≡ class_made (out-CoreClass c).name (out-CoreClass c).at.line (block [] (out-CoreClass c).body.value) ds base
+made_is : (c : CoreClass) (ds : List Value) (base : Option ObjId) → core_class_made c ds base ≡ class_made (out-CoreClass c).name (out-CoreClass c).at.line (core_block_body [] (out-CoreClass c).body.value) ds base
 made_is (class.CoreClass' at name q body) ds base = rw (class.outs-CoreClass') refl
 
 -- a class's body runs, behind which it goes to its decorators
 pub class_runs : (m : Machine) (c : CoreClass) (ds : Vec Value Global) (base : Option ObjId) (heap : List Obj) (o : Obj) (at : ℕ) (place : Place) (name : List ℕ) (b : CoreBlock) (fs : List Frame)
     → o ≡ source_class (out-CoreClass c).name (out-CoreClass c).at.line base (site_now m).scene → heap ≡ m.heap ++ o ∷ [] → at ≡ length m.heap
     → place ≡ Class (path_in m.here.place) (out-CoreClass c).name (home_in m.here.place) at → b ≡ (out-CoreClass c).body.value → name ≡ (out-CoreClass c).name → fs ≡ Define (Body ds name at) ∷ m.stack
-    → block [] b (scene_in place (depth_of m.here) (trace_of (site_of m.here (outer_of fs) (handling_of fs))) (handling_of fs)) (state [] [] (world_with_heap heap (world_of m)))
-    (λ o. after fs m.here (call_end (state m.locals m.temps.items (world_with_heap heap (world_of m))) o))
-    ≡ core_class_made c ds.items base (site_now m) (state_of m) (rest_of m)
+    → core_block_body [] b (scene_in place (depth_of m.here) (trace_of (site_of m.here (outer_of fs) (handled_exception fs))) (handled_exception fs)) (state [] [] (world_with_heap heap (world_of m)))
+    (λ o. after_stack fs m.here (call_end (state m.locals m.temps.items (world_with_heap heap (world_of m))) o))
+    ≡ core_class_made c ds.items base (site_now m) (state_of m) (machine_rest m)
 class_runs m c ds base heap o at place name b fs object grown last there same named pushed =
     let p = site_now m in
     let heap' : List Obj = m.heap ++ source_class (out-CoreClass c).name (out-CoreClass c).at.line base p.scene ∷ [] in
-    let go : CoreThen = λ o. on_value o (rest_of m) (λ w r. define_as ds.items (out-CoreClass c).name (val.Ref (id_at (length m.heap))) p r (rest_of m)) in
+    let go : CoreThen = λ o. on_value o (machine_rest m) (λ w r. define_as ds.items (out-CoreClass c).name (val.Ref (id_at (length m.heap))) p r (machine_rest m)) in
     rw (pushed, named, there, same, grown, object, last, made_is c ds.items base)
-    (ap (λ (k : CoreThen). block [] (out-CoreClass c).body.value (scene_in (Class (path_in m.here.place) (out-CoreClass c).name (home_in m.here.place) (length m.heap)) (depth_of m.here) (trace_of p) (handling_of m.stack)) (state [] [] (world_with_heap heap' (world_of m))) k)
+    (ap (λ (k : CoreThen). core_block_body [] (out-CoreClass c).body.value (scene_in (Class (path_in m.here.place) (out-CoreClass c).name (home_in m.here.place) (length m.heap)) (depth_of m.here) (trace_of p) (handled_exception m.stack)) (state [] [] (world_with_heap heap' (world_of m))) k)
     (rest_same (state_of m) (world_with_heap heap' (world_of m)) go))
 
 -- by the value of its base

@@ -12,7 +12,7 @@ use Rattle.py_values.specs.declared.object.Obj.{Obj}
 use Rattle.py_values.specs.declared.rows.Param.{Param}
 use Rattle.py_values.specs.declared.value.Value.{Value}
 use Rattle.py_values.specs.declared.value.Value.TheVariants as val
-use Rattle.machine_state.specs.py_world.Definitions.{define_as, function_made, function_object, stored, with_defaults}
+use Rattle.machine_state.specs.py_world.Definitions.{define_as, function_made, function_object, stored_code, with_defaults}
 use Rattle.machine_state.specs.py_world.Expressions.{arguments}
 use Rattle.machine_state.specs.py_world.Site.{Site}
 use Rattle.machine_state.specs.py_world.World.{Stored, state}
@@ -21,7 +21,7 @@ use Rattle.machine_state.specs.core_meaning.Statements.{define_fn, written}
 use Rattle.machine_state.specs.declared.machine.Machine.{Machine}
 use Rattle.machine_state.specs.Definings.{fn_behind, fn_made}
 use Rattle.machine_state.specs.Places.{CoreRest, CoreState, CoreThen, parts_from}
-use Rattle.machine_state.specs.Frames.{frozen_of, rest_of, site_now, state_of}
+use Rattle.machine_state.specs.Frames.{frozen_of, machine_rest, site_now, state_of}
 
 -- the parts of all expressions of a list
 parts_same : (es : List (Rc CoreExpr Global)) → map (λ (e : Rc CoreExpr Global). eval e.value) es ≡ parts_of es
@@ -68,10 +68,10 @@ made_is (fn.CoreFn' source at name params locals yields q body) ds vs = rw (fn.o
 
 -- a function is made, and what is defined goes to its decorators
 pub makes : (f g : CoreFn) (m : Machine) (codes : List (Stored CoreFn)) (heap : List Obj) (code : Stored CoreFn) (params : List Param) (o : Obj) (at id : ℕ) (ds vs : List Value)
-    → g ≡ f → code ≡ stored f (site_now m).scene → params ≡ with_defaults (written (out-CoreFn f).params.value.items) vs
+    → g ≡ f → code ≡ stored_code f (site_now m).scene → params ≡ with_defaults (written (out-CoreFn f).params.value.items) vs
     → o ≡ function_object (out-CoreFn f).name (out-CoreFn f).at.line params (out-CoreFn f).yields at (site_now m).scene → at ≡ length m.codes.items
     → codes ≡ m.codes.items ++ code ∷ [] → heap ≡ m.heap ++ o ∷ [] → id ≡ length m.heap
     → define_as ds (out-CoreFn g).name (val.Ref (id_at id)) (site_now m)
-    (state m.locals m.temps.items (record { sources = m.sources.items; modules = m.modules.items; heap = heap; codes = codes; printed = m.printed.items; frozen = map frozen_of m.frozen.items; traces = m.traces })) (rest_of m)
-    ≡ fn_made f ds vs (site_now m) (state_of m) (rest_of m)
+    (state m.locals m.temps.items (record { sources = m.sources.items; modules = m.modules.items; heap = heap; codes = codes; printed = m.printed.items; frozen = map frozen_of m.frozen.items; traces = m.traces })) (machine_rest m)
+    ≡ fn_made f ds vs (site_now m) (state_of m) (machine_rest m)
 makes f g m codes heap code params o at id ds vs e e1 e2 e3 e4 e5 e6 e7 = rw (e, e7, e6, e5, e3, e2, e1, e4, made_is f ds vs) refl

@@ -9,13 +9,13 @@ ghost use Rattle.machine_state.specs.core_meaning.Expressions.{parts_of};
 ghost use Rattle.machine_state.specs.core_meaning.Statements as meaning;
 ghost use Rattle.machine_define.specs.Bases.{base_found};
 ghost use Rattle.machine_state.specs.Definings.{core_class_behind, core_class_made};
-ghost use Rattle.machine_state.specs.Frames.{rest_of, site_now, state_of, todo};
+ghost use Rattle.machine_state.specs.Frames.{machine_rest, site_now, state_of, todo};
 ghost use Rattle.machine_state.specs.Places.{home_in, parts_from, path_in};
 ghost use Rattle.machine_state.specs.Work.{class_work, doing_work, some_weight, stack_work, weight_from};
 
 use machine_immediate::part::next_argument;
 use machine_state::frame::{DefineFrame, Frame};
-use machine_state::machine::{Doing, Machine};
+use machine_state::machine::{Machine, NextAction};
 use machine_state::place::Place;
 use machine_unwind::{begin_body, raise};
 use py_core::{CoreClass, CoreExpr};
@@ -61,8 +61,8 @@ fn make_class(
     class: &CoreClass,
     ds: Vec<Value>,
     base: Option<ObjId>,
-) -> Result<Doing, OutOfMemory>
-    ensures next { IfOk result (λ d. todo d m.new ≡ core_class_made class.now ds.items base (site_now m.old) (state_of m.old) (rest_of m.old)) }
+) -> Result<NextAction, OutOfMemory>
+    ensures next { IfOk result (λ d. todo d m.new ≡ core_class_made class.now ds.items base (site_now m.old) (state_of m.old) (machine_rest m.old)) }
     ensures left { m.new.left ≡ m.old.left }
     ensures work { IfOk result (λ d. doing_work d + stack_work m.new < class_work class.now + stack_work m.old) }
 {
@@ -98,9 +98,9 @@ pub fn take_base(
     class: &CoreClass,
     ds: Vec<Value>,
     base: Value,
-) -> Result<Doing, OutOfMemory>
-    ensures next { IfOk result (λ d. todo d m.new ≡ world.based_on (is_exc_class m.old.heap base) base (site_now m.old) (state_of m.old) (rest_of m.old)
-        (λ b s. core_class_made class.now ds.items b (site_now m.old) s (rest_of m.old))) }
+) -> Result<NextAction, OutOfMemory>
+    ensures next { IfOk result (λ d. todo d m.new ≡ world.based_on (is_exc_class m.old.heap base) base (site_now m.old) (state_of m.old) (machine_rest m.old)
+        (λ b s. core_class_made class.now ds.items b (site_now m.old) s (machine_rest m.old))) }
     ensures left { m.new.left ≡ m.old.left }
     ensures work { IfOk result (λ d. doing_work d + stack_work m.new < class_work class.now + stack_work m.old) }
 {
@@ -116,8 +116,8 @@ fn begin_base(
     base: Option<Rc<CoreExpr>>,
     class: Rc<CoreClass>,
     ds: Vec<Value>,
-) -> Result<Doing, OutOfMemory>
-    ensures next { IfOk result (λ d. todo d m.new ≡ core_class_behind (meaning.some_part base) class.value ds.items (site_now m.old) (state_of m.old) (rest_of m.old)) }
+) -> Result<NextAction, OutOfMemory>
+    ensures next { IfOk result (λ d. todo d m.new ≡ core_class_behind (meaning.some_part base) class.value ds.items (site_now m.old) (state_of m.old) (machine_rest m.old)) }
     ensures left { m.new.left ≡ m.old.left }
     ensures work { IfOk result (λ d. doing_work d + stack_work m.new ≤ some_weight base + class_work class.value + stack_work m.old) }
 {
@@ -125,7 +125,7 @@ fn begin_base(
         Some(e) => {
             let frame = DefineFrame::Base(ds, class);
             m.stack.push(Frame::Define(frame))?;
-            Ok(Doing::Evaluate(e))
+            Ok(NextAction::Evaluate(e))
         }
         None => make_class(m, &class, ds, None),
     }
@@ -138,9 +138,9 @@ pub fn next_decorator(
     base: Option<Rc<CoreExpr>>,
     class: Rc<CoreClass>,
     so_far: Vec<Value>,
-) -> Result<Doing, OutOfMemory>
-    ensures next { IfOk result (λ d. todo d m.new ≡ expressions.arguments (parts_from (length so_far.items) ds) so_far.items (site_now m.old) (state_of m.old) (rest_of m.old)
-        (λ vs s. core_class_behind (meaning.some_part base) class.value vs (site_now m.old) s (rest_of m.old))) }
+) -> Result<NextAction, OutOfMemory>
+    ensures next { IfOk result (λ d. todo d m.new ≡ expressions.arguments (parts_from (length so_far.items) ds) so_far.items (site_now m.old) (state_of m.old) (machine_rest m.old)
+        (λ vs s. core_class_behind (meaning.some_part base) class.value vs (site_now m.old) s (machine_rest m.old))) }
     ensures left { m.new.left ≡ m.old.left }
     ensures work { IfOk result (λ d. doing_work d + stack_work m.new ≤ weight_from (length so_far.items) ds + some_weight base + class_work class.value + stack_work m.old) }
 {
@@ -148,7 +148,7 @@ pub fn next_decorator(
         Some(e) => {
             let frame = DefineFrame::ClassDecorator(ds, base, class, so_far);
             m.stack.push(Frame::Define(frame))?;
-            Ok(Doing::Evaluate(e))
+            Ok(NextAction::Evaluate(e))
         }
         None => begin_base(m, base, class, so_far),
     }
@@ -170,8 +170,8 @@ pub fn begin_class(
     ds: &Rc<Vec<Rc<CoreExpr>>>,
     base: &Option<Rc<CoreExpr>>,
     class: &Rc<CoreClass>,
-) -> Result<Doing, OutOfMemory>
-    ensures next { IfOk result (λ d. todo d m.new ≡ meaning.define_class (parts_of ds.now.value.items) (meaning.some_part base.now) class.now.value (site_now m.old) (state_of m.old) (rest_of m.old)) }
+) -> Result<NextAction, OutOfMemory>
+    ensures next { IfOk result (λ d. todo d m.new ≡ meaning.define_class (parts_of ds.now.value.items) (meaning.some_part base.now) class.now.value (site_now m.old) (state_of m.old) (machine_rest m.old)) }
     ensures left { m.new.left ≡ m.old.left }
 {
     let decorators = ds.clone()?;

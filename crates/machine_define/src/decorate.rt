@@ -3,11 +3,11 @@
 ghost use Rattle.std.specs.Prelude.{◌≡◌, IfOk};
 ghost use Rattle.machine_state.specs.py_world.Definitions as world;
 ghost use Rattle.machine_state.specs.py_world.Outcome.{raised_at};
-ghost use Rattle.machine_state.specs.Frames.{rest_of, site_now, state_of, todo};
+ghost use Rattle.machine_state.specs.Frames.{machine_rest, site_now, state_of, todo};
 ghost use Rattle.machine_state.specs.Work.{doing_work};
 
 use machine_decorate::decorate::decorate_all;
-use machine_state::machine::{Doing, Machine, Origin};
+use machine_state::machine::{Machine, NextAction, Origin};
 use machine_unwind::store;
 use py_core::SrcText;
 use py_text::OutOfMemory;
@@ -16,8 +16,8 @@ use py_values::end::Raise;
 use py_values::value::Value;
 
 /// Says that a value is no decorator of what it decorates.
-fn refuse(m: &mut Machine) -> Result<Doing, OutOfMemory>
-    ensures next { IfOk result (λ d. todo d m.new ≡ rest_of m.old (raised_at world.bad_decorator (site_now m.old) (state_of m.old))) }
+fn refuse(m: &mut Machine) -> Result<NextAction, OutOfMemory>
+    ensures next { IfOk result (λ d. todo d m.new ≡ machine_rest m.old (raised_at world.bad_decorator (site_now m.old) (state_of m.old))) }
     ensures left { m.new.left ≡ m.old.left }
     ensures work { IfOk result (λ d. doing_work d ≡ 0) }
     ensures stack { m.new.stack ≡ m.old.stack }
@@ -32,8 +32,8 @@ pub fn define_as(
     ds: &[Value],
     name: &SrcText,
     v: Value,
-) -> Result<Doing, OutOfMemory>
-    ensures next { IfOk result (λ d. todo d m.new ≡ world.define_as ds.now name.now v (site_now m.old) (state_of m.old) (rest_of m.old)) }
+) -> Result<NextAction, OutOfMemory>
+    ensures next { IfOk result (λ d. todo d m.new ≡ world.define_as ds.now name.now v (site_now m.old) (state_of m.old) (machine_rest m.old)) }
     ensures left { m.new.left ≡ m.old.left }
     ensures work { IfOk result (λ d. doing_work d ≡ 0) }
     ensures stack { m.new.stack ≡ m.old.stack }

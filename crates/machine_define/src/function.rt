@@ -7,7 +7,7 @@ ghost use Rattle.py_core.specs.declared.stmt.CoreFn.{out-CoreFn};
 ghost use Rattle.machine_state.specs.core_meaning.Expressions.{parts_of};
 ghost use Rattle.machine_state.specs.core_meaning.Statements as meaning;
 ghost use Rattle.machine_state.specs.Definings.{fn_behind, fn_made};
-ghost use Rattle.machine_state.specs.Frames.{rest_of, site_now, state_of, todo};
+ghost use Rattle.machine_state.specs.Frames.{machine_rest, site_now, state_of, todo};
 ghost use Rattle.machine_state.specs.Places.{own_in, parts_from};
 ghost use Rattle.machine_state.specs.Work.{doing_work, stack_work, weight_from};
 
@@ -16,7 +16,7 @@ use crate::parameters::params_of;
 use machine_immediate::part::next_argument;
 use machine_state::code::Code;
 use machine_state::frame::{DefineFrame, Frame};
-use machine_state::machine::{Doing, Machine};
+use machine_state::machine::{Machine, NextAction};
 use py_core::{CoreExpr, CoreFn};
 use py_text::{OutOfMemory, PyText};
 use py_values::object::{FunctionObj, Obj};
@@ -36,7 +36,7 @@ fn class_of(m: &Machine) -> Option<ObjId>
 
 /// The code of a function that is defined here.
 fn code_of(m: &Machine, function: &Rc<CoreFn>) -> Result<Code, OutOfMemory>
-    ensures { IfOk result (λ code. code ≡ world.stored function.now.value (site_now m.now).scene) }
+    ensures { IfOk result (λ code. code ≡ world.stored_code function.now.value (site_now m.now).scene) }
 {
     let path = PyText::from_chars(m.alloc, m.here.path().chars())?;
     Code::new(m.alloc, path, m.here.home(), function.clone()?)
@@ -71,8 +71,8 @@ fn make_function(
     function: &Rc<CoreFn>,
     ds: &[Value],
     defaults: &[Value],
-) -> Result<Doing, OutOfMemory>
-    ensures next { IfOk result (λ d. todo d m.new ≡ fn_made function.now.value ds.now defaults.now (site_now m.old) (state_of m.old) (rest_of m.old)) }
+) -> Result<NextAction, OutOfMemory>
+    ensures next { IfOk result (λ d. todo d m.new ≡ fn_made function.now.value ds.now defaults.now (site_now m.old) (state_of m.old) (machine_rest m.old)) }
     ensures left { m.new.left ≡ m.old.left }
     ensures work { IfOk result (λ d. doing_work d ≡ 0) }
     ensures stack { m.new.stack ≡ m.old.stack }
@@ -93,9 +93,9 @@ pub fn next_default(
     es: Rc<Vec<Rc<CoreExpr>>>,
     function: Rc<CoreFn>,
     so_far: Vec<Value>,
-) -> Result<Doing, OutOfMemory>
-    ensures next { IfOk result (λ d. todo d m.new ≡ expressions.arguments (parts_from (length so_far.items) es) so_far.items (site_now m.old) (state_of m.old) (rest_of m.old)
-        (λ vs s. fn_made function.value ds.items vs (site_now m.old) s (rest_of m.old))) }
+) -> Result<NextAction, OutOfMemory>
+    ensures next { IfOk result (λ d. todo d m.new ≡ expressions.arguments (parts_from (length so_far.items) es) so_far.items (site_now m.old) (state_of m.old) (machine_rest m.old)
+        (λ vs s. fn_made function.value ds.items vs (site_now m.old) s (machine_rest m.old))) }
     ensures left { m.new.left ≡ m.old.left }
     ensures work { IfOk result (λ d. doing_work d + stack_work m.new ≤ weight_from (length so_far.items) es + stack_work m.old) }
 {
@@ -103,7 +103,7 @@ pub fn next_default(
         Some(e) => {
             let frame = DefineFrame::Default(ds, es, function, so_far);
             m.stack.push(Frame::Define(frame))?;
-            Ok(Doing::Evaluate(e))
+            Ok(NextAction::Evaluate(e))
         }
         None => make_function(m, &function, &ds, &so_far),
     }
@@ -116,9 +116,9 @@ pub fn next_decorator(
     es: Rc<Vec<Rc<CoreExpr>>>,
     function: Rc<CoreFn>,
     so_far: Vec<Value>,
-) -> Result<Doing, OutOfMemory>
-    ensures next { IfOk result (λ d. todo d m.new ≡ expressions.arguments (parts_from (length so_far.items) ds) so_far.items (site_now m.old) (state_of m.old) (rest_of m.old)
-        (λ vs s. fn_behind (parts_from 0 es) function.value vs (site_now m.old) s (rest_of m.old))) }
+) -> Result<NextAction, OutOfMemory>
+    ensures next { IfOk result (λ d. todo d m.new ≡ expressions.arguments (parts_from (length so_far.items) ds) so_far.items (site_now m.old) (state_of m.old) (machine_rest m.old)
+        (λ vs s. fn_behind (parts_from 0 es) function.value vs (site_now m.old) s (machine_rest m.old))) }
     ensures left { m.new.left ≡ m.old.left }
     ensures work { IfOk result (λ d. doing_work d + stack_work m.new ≤ weight_from (length so_far.items) ds + weight_from 0 es + stack_work m.old) }
 {
@@ -126,7 +126,7 @@ pub fn next_decorator(
         Some(e) => {
             let frame = DefineFrame::Decorator(ds, es, function, so_far);
             m.stack.push(Frame::Define(frame))?;
-            Ok(Doing::Evaluate(e))
+            Ok(NextAction::Evaluate(e))
         }
         None => {
             let none = Vec::new(m.alloc);
@@ -141,8 +141,8 @@ pub fn begin_def(
     ds: &Rc<Vec<Rc<CoreExpr>>>,
     es: &Rc<Vec<Rc<CoreExpr>>>,
     function: &Rc<CoreFn>,
-) -> Result<Doing, OutOfMemory>
-    ensures next { IfOk result (λ d. todo d m.new ≡ meaning.define_fn (parts_of ds.now.value.items) (parts_of es.now.value.items) function.now.value (site_now m.old) (state_of m.old) (rest_of m.old)) }
+) -> Result<NextAction, OutOfMemory>
+    ensures next { IfOk result (λ d. todo d m.new ≡ meaning.define_fn (parts_of ds.now.value.items) (parts_of es.now.value.items) function.now.value (site_now m.old) (state_of m.old) (machine_rest m.old)) }
     ensures left { m.new.left ≡ m.old.left }
 {
     let decorators = ds.clone()?;

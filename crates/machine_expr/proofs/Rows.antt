@@ -154,3 +154,6 @@ module _ (kind : CoreExprKind) (a : Rc CoreExpr Global) (es : Rc (Vec (Rc CoreEx
 
   pub compare_weight : (ops : Rc (Vec CmpOp Global) Global) → kind ≡ v.Compare a ops es → weight a.value + (weight_from 0 es + 3) ≡ weight_at kind
   compare_weight ops is = let e : weights (hidden es.value) ≡ weight_from 0 es = weights_items es.value in rw is (omega (arith, e))
+
+pub binary_weight : (kind : CoreExprKind) (a b : Rc CoreExpr Global) (op : BinOp) → kind ≡ v.Binary a op b → weight a.value + (weight b.value + 3) ≡ weight_at kind
+binary_weight kind a b op is = rw is (omega arith)

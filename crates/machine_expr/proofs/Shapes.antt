@@ -5,7 +5,7 @@ use Rattle.std.specs.List.{list_any}
 use Rattle.std.proofs.Math.ListN.{drop_of_length-le}
 use Rattle.py_tree.specs.declared.expr.ArgName.{ArgName}
 use Rattle.py_values.specs.declared.value.Value.{Value}
-use Rattle.machine_state.specs.py_world.Arguments.{Arguments, arguments_of, plain, with_plain, with_named}
+use Rattle.machine_state.specs.py_world.Arguments.{Arguments, arguments_of, positional_arguments, with_plain, with_named}
 use Rattle.machine_expr.specs.Shapes.{joined_arguments, name_given, with_given}
 
 -- one argument before others
@@ -33,7 +33,7 @@ behind_one : (o : Option (List ℕ)) (front : Arguments) (v : Value) (back : Arg
 behind_one None front v back = ap (λ (xs : List Value). record { plain = xs; named = front.named ++ back.named }) (sym (append_assoc front.plain (v ∷ []) back.plain))
 behind_one (Some name) front v back = ap (λ (xs : List (List ℕ × Value)). record { plain = front.plain ++ back.plain; named = xs }) (sym (append_assoc front.named ((name, v) ∷ []) back.named))
 
-none_left : (ms : List (Option ArgName)) → arguments_of ms [] ≡ plain []
+none_left : (ms : List (Option ArgName)) → arguments_of ms [] ≡ positional_arguments []
 none_left [] = refl
 none_left (m ∷ ms) = refl
 
@@ -51,13 +51,13 @@ module _ (names : List (Option ArgName)) (vs : List Value) (i : ℕ) (front : Ar
   -- none is left
   pub shaped_all : length vs ≤ i → front ≡ arguments_of names vs
   shaped_all w =
-      let last : arguments_of (drop i names) (drop i vs) ≡ plain [] = ap (arguments_of (drop i names)) (drop_of_length-le vs w) ∙ none_left (drop i names) in
+      let last : arguments_of (drop i names) (drop i vs) ≡ positional_arguments [] = ap (arguments_of (drop i names)) (drop_of_length-le vs w) ∙ none_left (drop i names) in
       sym
       (before ∙ ap (joined_arguments front) last
       ∙ (ap (λ (xs : List Value). record { plain = xs; named = front.named ++ [] }) (append-nil front.plain) ∙ ap (λ (xs : List (List ℕ × Value)). record { plain = front.plain; named = xs }) (append-nil front.named)))
 
 -- no argument has a name
-pub without_names : (names : List (Option ArgName)) (vs : List Value) → list_any (λ n. is_some n) names ≡ false → plain vs ≡ arguments_of names vs
+pub without_names : (names : List (Option ArgName)) (vs : List Value) → list_any (λ n. is_some n) names ≡ false → positional_arguments vs ≡ arguments_of names vs
 without_names names [] h = sym (none_left names)
 without_names [] (v ∷ vs) h = ap (with_plain v) (without_names [] vs h)
 without_names (None ∷ names) (v ∷ vs) h = ap (with_plain v) (without_names names vs h)

@@ -6,26 +6,26 @@ ghost use Rattle.machine_state.specs.py_world.Displays as world;
 ghost use Rattle.machine_state.specs.core_meaning.Expressions.{eval};
 ghost use Rattle.machine_state.specs.core_meaning.Statements.{some_part};
 ghost use Rattle.machine_state.specs.Places.{parts_from};
-ghost use Rattle.machine_state.specs.Frames.{display_of, rest_of, site_now, state_of, todo};
+ghost use Rattle.machine_state.specs.Frames.{display_of, machine_rest, site_now, state_of, todo};
 ghost use Rattle.machine_state.specs.Work.{doing_work, some_weight, stack_work, weight, weight_from};
 ghost use Rattle.machine_expr.specs.Pairs.{IsNextPair, pairs_weight};
 
 use machine_immediate::part::part_at;
 use machine_items::displays::{list_displayed, tuple_displayed};
 use machine_state::frame::{Display, Frame, ItemFrame};
-use machine_state::machine::{Doing, Machine, Origin};
+use machine_state::machine::{Machine, NextAction, Origin};
 use machine_turns::begin::descend;
 use py_core::{CoreExpr, SrcText};
 use py_text::OutOfMemory;
 use py_values::dict::Dict;
-use py_values::end::Made;
+use py_values::end::Effect;
 use py_values::object::Obj;
 use py_values::value::Value;
 use std::alloc::Global;
 use std::rc::Rc;
 
 /// What a display of values in a row makes.
-pub fn displayed(alloc: Global, display: Display, values: Vec<Value>) -> Result<Made, OutOfMemory>
+pub fn displayed(alloc: Global, display: Display, values: Vec<Value>) -> Result<Effect, OutOfMemory>
     ensures { IfOk result (λ made. made ≡ world.displayed (display_of display) values.items) }
 {
     match display {
@@ -39,8 +39,8 @@ pub fn begin_display(
     m: &mut Machine,
     display: Display,
     es: &Rc<Vec<Rc<CoreExpr>>>,
-) -> Result<Doing, OutOfMemory>
-    ensures next { IfOk result (λ d. todo d m.new ≡ world.collected (λ heap vs. world.displayed (display_of display) vs) (parts_from 0 es.now) (site_now m.old) (state_of m.old) (rest_of m.old)) }
+) -> Result<NextAction, OutOfMemory>
+    ensures next { IfOk result (λ d. todo d m.new ≡ world.collected (λ heap vs. world.displayed (display_of display) vs) (parts_from 0 es.now) (site_now m.old) (state_of m.old) (machine_rest m.old)) }
     ensures left { m.new.left ≡ m.old.left }
     ensures work { IfOk result (λ d. doing_work d + stack_work m.new ≤ weight_from 0 es.now + stack_work m.old) }
 {
@@ -49,7 +49,7 @@ pub fn begin_display(
         Some(e) => {
             let frame = ItemFrame::Collect(display, es.clone()?, none);
             m.stack.push(Frame::Item(frame))?;
-            Ok(Doing::Evaluate(e))
+            Ok(NextAction::Evaluate(e))
         }
         None => {
             let made = displayed(m.alloc, display, none)?;
@@ -82,8 +82,8 @@ pub fn begin_dict(
     m: &mut Machine,
     ks: &Rc<Vec<Rc<CoreExpr>>>,
     es: &Rc<Vec<Rc<CoreExpr>>>,
-) -> Result<Doing, OutOfMemory>
-    ensures next { IfOk result (λ d. todo d m.new ≡ world.dict_part (parts_from 0 ks.now) (parts_from 0 es.now) (site_now m.old) (state_of m.old) (rest_of m.old)) }
+) -> Result<NextAction, OutOfMemory>
+    ensures next { IfOk result (λ d. todo d m.new ≡ world.dict_part (parts_from 0 ks.now) (parts_from 0 es.now) (site_now m.old) (state_of m.old) (machine_rest m.old)) }
     ensures left { m.new.left ≡ m.old.left }
     ensures work { IfOk result (λ d. doing_work d + stack_work m.new ≤ pairs_weight 0 ks.now es.now + stack_work m.old) }
 {
@@ -92,10 +92,10 @@ pub fn begin_dict(
             let none = Vec::new(m.alloc);
             let frame = ItemFrame::Pairs(ks.clone()?, es.clone()?, none);
             m.stack.push(Frame::Item(frame))?;
-            Ok(Doing::Evaluate(e))
+            Ok(NextAction::Evaluate(e))
         }
         None => {
-            let made = Made::New(Obj::Dict(Dict::new(m.alloc)), 0);
+            let made = Effect::New(Obj::Dict(Dict::new(m.alloc)), 0);
             m.make(made, Origin::Code)
         }
     }
@@ -106,8 +106,8 @@ pub fn begin_attribute(
     m: &mut Machine,
     a: &Rc<CoreExpr>,
     name: &SrcText,
-) -> Result<Doing, OutOfMemory>
-    ensures next { IfOk result (λ d. todo d m.new ≡ attribute_part (eval a.now.value) name.now (site_now m.old) (state_of m.old) (rest_of m.old)) }
+) -> Result<NextAction, OutOfMemory>
+    ensures next { IfOk result (λ d. todo d m.new ≡ attribute_part (eval a.now.value) name.now (site_now m.old) (state_of m.old) (machine_rest m.old)) }
     ensures left { m.new.left ≡ m.old.left }
     ensures work { IfOk result (λ d. doing_work d + stack_work m.new ≡ weight a.now.value + (1 + stack_work m.old)) }
 {
@@ -120,8 +120,8 @@ pub fn begin_subscript(
     m: &mut Machine,
     a: &Rc<CoreExpr>,
     i: &Rc<CoreExpr>,
-) -> Result<Doing, OutOfMemory>
-    ensures next { IfOk result (λ d. todo d m.new ≡ world.subscript_part (eval a.now.value) (eval i.now.value) (site_now m.old) (state_of m.old) (rest_of m.old)) }
+) -> Result<NextAction, OutOfMemory>
+    ensures next { IfOk result (λ d. todo d m.new ≡ world.subscript_part (eval a.now.value) (eval i.now.value) (site_now m.old) (state_of m.old) (machine_rest m.old)) }
     ensures left { m.new.left ≡ m.old.left }
     ensures work { IfOk result (λ d. doing_work d + stack_work m.new ≡ weight a.now.value + (weight i.now.value + 2 + stack_work m.old)) }
 {
@@ -147,8 +147,8 @@ pub fn begin_slice(
     from: &Option<Rc<CoreExpr>>,
     to: &Option<Rc<CoreExpr>>,
     by: &Option<Rc<CoreExpr>>,
-) -> Result<Doing, OutOfMemory>
-    ensures next { IfOk result (λ d. todo d m.new ≡ world.slice_part (eval a.now.value) (some_part from.now) (some_part to.now) (some_part by.now) (site_now m.old) (state_of m.old) (rest_of m.old)) }
+) -> Result<NextAction, OutOfMemory>
+    ensures next { IfOk result (λ d. todo d m.new ≡ world.slice_part (eval a.now.value) (some_part from.now) (some_part to.now) (some_part by.now) (site_now m.old) (state_of m.old) (machine_rest m.old)) }
     ensures left { m.new.left ≡ m.old.left }
     ensures work { IfOk result (λ d. doing_work d + stack_work m.new ≡ weight a.now.value + (some_weight from.now + some_weight to.now + some_weight by.now + 4 + stack_work m.old)) }
 {

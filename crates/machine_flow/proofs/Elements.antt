@@ -5,10 +5,10 @@ use Rattle.std.specs.declared.rc.Rc.{Rc}
 use Rattle.py_core.specs.declared.expr.CoreExpr.{CoreExpr}
 use Rattle.py_core.specs.declared.stmt.CoreBlock.{CoreBlock}
 use Rattle.py_core.specs.declared.stmt.CoreTarget.{CoreTarget}
-use Rattle.py_items.specs.Turns.{next_by}
+use Rattle.py_items.specs.Turns.{iterator_after}
 use Rattle.py_items.specs.declared.iter.IterAt.{IterAt}
-use Rattle.py_values.specs.declared.end.Made.{Made}
-use Rattle.py_values.specs.declared.end.Made.TheVariants.{Give, New, Put, Fail}
+use Rattle.py_values.specs.declared.end.Effect.{Effect}
+use Rattle.py_values.specs.declared.end.Effect.TheVariants.{Give, New, Put, Fail}
 use Rattle.py_values.specs.declared.end.Raise.{Raise}
 use Rattle.py_values.specs.declared.change.Change.{Change}
 use Rattle.py_values.specs.declared.object.Obj.{Obj}
@@ -22,45 +22,45 @@ use Rattle.py_world.specs.World.{heap_of, with_heap}
 use Rattle.py_world.specs.Outcome.{Next, on_next, raised_at}
 use Rattle.py_world.specs.Loops.{behind_target, for_statement, for_turn, turn_begun, turn_with}
 use Rattle.py_world.specs.Statements.{asked}
-use Rattle.machine_state.specs.core_meaning.Requests.{ForOf, Turn}
+use Rattle.machine_state.specs.core_meaning.Requests.{ForOf, CoreTurn}
 use Rattle.machine_state.specs.core_meaning.Expressions.{eval}
-use Rattle.machine_state.specs.core_meaning.Statements.{block, store}
+use Rattle.machine_state.specs.core_meaning.Statements.{core_block_body, store}
 use Rattle.machine_state.specs.declared.place.Here.{Here}
 use Rattle.machine_state.specs.declared.frame.Frame.{Frame}
 use Rattle.machine_state.specs.declared.frame.Frame.TheVariants.{Flow}
 use Rattle.machine_state.specs.declared.frame.FlowFrame.TheVariants.{Iterable, Taken, ForTurn}
 use Rattle.machine_state.specs.Places.{CoreRest, CoreState, CoreThen, ends, site_of}
-use Rattle.machine_state.specs.Frames.{after, handling_of, layers_of, outer_of}
+use Rattle.machine_state.specs.Frames.{after_stack, handled_exception, layers_of, outer_of}
 use Rattle.machine_flow.specs.declared.turns.Look.TheVariants as look
-use Rattle.machine_flow.specs.Looks.{told}
+use Rattle.machine_flow.specs.Looks.{look_of}
 use Rattle.machine_flow.proofs.Flows.{asked_runs}
 
 module _ (h : Here) (fs : List Frame) (s : CoreState) where
   -- a `for` begins with what it goes over
   pub for_begins : (t t' : Rc CoreTarget Global) (e : Rc CoreExpr Global) (b b' : Rc CoreBlock Global) → t'.value ≡ t.value → b'.value ≡ b.value
-      → eval e.value (site_of h (outer_of fs) (handling_of fs)) s (after (Flow (Iterable t' b') ∷ fs) h)
-      ≡ for_statement (ForOf t.value b.value) (eval e.value) (site_of h (outer_of fs) (handling_of fs)) s (after fs h)
+      → eval e.value (site_of h (outer_of fs) (handled_exception fs)) s (after_stack (Flow (Iterable t' b') ∷ fs) h)
+      ≡ for_statement (ForOf t.value b.value) (eval e.value) (site_of h (outer_of fs) (handled_exception fs)) s (after_stack fs h)
   for_begins t t' e b b' same_target same_body = rw (same_target, same_body) refl
 
   -- an element is stored
   pub element_stored : (t t' : Rc CoreTarget Global) (b : Rc CoreBlock Global) (next : IterAt) (v : Value) (fs' : List Frame) → t'.value ≡ t.value → fs' ≡ Flow (Taken t' b next) ∷ fs
-      → store t.value v (site_of h (outer_of fs') (handling_of fs')) s (after fs' h)
-      ≡ store t.value v (site_of h (outer_of fs) (handling_of fs)) s (λ o. on_next o (after fs h) (λ s. behind_target (ForOf t.value b.value) (block [] b.value) next (site_of h (outer_of fs) (handling_of fs)) s (after fs h)))
+      → store t.value v (site_of h (outer_of fs') (handled_exception fs')) s (after_stack fs' h)
+      ≡ store t.value v (site_of h (outer_of fs) (handled_exception fs)) s (λ o. on_next o (after_stack fs h) (λ s. behind_target (ForOf t.value b.value) (core_block_body [] b.value) next (site_of h (outer_of fs) (handled_exception fs)) s (after_stack fs h)))
   element_stored t t' b next v fs' same pushed = rw (pushed, same) refl
 
   -- the block of a turn begins
   pub body_begins : (t : Rc CoreTarget Global) (b b' : Rc CoreBlock Global) (next : IterAt) (fs' : List Frame) → b'.value ≡ b.value → fs' ≡ Flow (ForTurn t b' next h.line) ∷ fs
-      → block (layers_of fs') b.value (site_of h (outer_of fs') (handling_of fs')).scene s (after fs' h)
-      ≡ behind_target (ForOf t.value b.value) (block [] b.value) next (site_of h (outer_of fs) (handling_of fs)) s (after fs h)
+      → core_block_body (layers_of fs') b.value (site_of h (outer_of fs') (handled_exception fs')).scene s (after_stack fs' h)
+      ≡ behind_target (ForOf t.value b.value) (core_block_body [] b.value) next (site_of h (outer_of fs) (handled_exception fs)) s (after_stack fs h)
   body_begins t b b' next fs' same pushed = rw (pushed, same) refl
 
 -- by what is made: the element is stored in the state behind it
-module _ (t : CoreTarget) (b : CoreBlock) (at next : IterAt) (made : Made) (p : Site) (s : CoreState) (k : CoreThen) (behind : next ≡ next_by at made) where
+module _ (t : CoreTarget) (b : CoreBlock) (at next : IterAt) (made : Effect) (p : Site) (s : CoreState) (k : CoreThen) (behind : next ≡ iterator_after at made) where
   abbrev Stored : Value → CoreState → CoreRest
-  Stored v s = store t v p s (λ o. on_next o k (λ s. behind_target (ForOf t b) (block [] b) next p s k))
+  Stored v s = store t v p s (λ o. on_next o k (λ s. behind_target (ForOf t b) (core_block_body [] b) next p s k))
 
   abbrev Whole : CoreRest
-  Whole = turn_with (ForOf t b) (store t) (block [] b) at (Some made) p s k
+  Whole = turn_with (ForOf t b) (store t) (core_block_body [] b) at (Some made) p s k
 
   pub element_given : (v : Value) (n : ℕ) → made ≡ Give v n → Stored v s ≡ Whole
   element_given v n is = rw (behind, is) refl
@@ -72,21 +72,21 @@ module _ (t : CoreTarget) (b : CoreBlock) (at next : IterAt) (made : Made) (p : 
   element_put id change v n heap is is_heap = rw (behind, is, is_heap) refl
 
 -- by what the look tells
-pub over_ends : (x : Option Made) (turn : Turn) (p : Site) (s : CoreState) (k : CoreThen) → told x ≡ look.Over → turn_begun x turn p s k ≡ k (Next s)
+pub over_ends : (x : Option Effect) (turn : CoreTurn) (p : Site) (s : CoreState) (k : CoreThen) → look_of x ≡ look.Over → turn_begun x turn p s k ≡ k (Next s)
 over_ends None turn p s k is = refl
 over_ends (Some (Give v n)) turn p s k is = absurd cc
 over_ends (Some (New o n)) turn p s k is = absurd cc
 over_ends (Some (Put id change v n)) turn p s k is = absurd cc
 over_ends (Some (Fail r n)) turn p s k is = absurd cc
 
-pub there_asks : (x : Option Made) (turn : Turn) (p : Site) (s : CoreState) (k : CoreThen) → told x ≡ look.There → turn_begun x turn p s k ≡ asked turn p s k
+pub there_asks : (x : Option Effect) (turn : CoreTurn) (p : Site) (s : CoreState) (k : CoreThen) → look_of x ≡ look.There → turn_begun x turn p s k ≡ asked turn p s k
 there_asks None turn p s k is = absurd cc
 there_asks (Some (Give v n)) turn p s k is = refl
 there_asks (Some (New o n)) turn p s k is = refl
 there_asks (Some (Put id change v n)) turn p s k is = refl
 there_asks (Some (Fail r n)) turn p s k is = absurd cc
 
-pub failed_raises : (x : Option Made) (turn : Turn) (p : Site) (s : CoreState) (k : CoreThen) (r : Raise) → told x ≡ look.Failed r → turn_begun x turn p s k ≡ k (raised_at r p s)
+pub failed_raises : (x : Option Effect) (turn : CoreTurn) (p : Site) (s : CoreState) (k : CoreThen) (r : Raise) → look_of x ≡ look.Failed r → turn_begun x turn p s k ≡ k (raised_at r p s)
 failed_raises None turn p s k r is = absurd cc
 failed_raises (Some (Give v n)) turn p s k r is = absurd cc
 failed_raises (Some (New o n)) turn p s k r is = absurd cc
@@ -96,8 +96,8 @@ failed_raises (Some (Fail q n)) turn p s k r is = let same : q ≡ r = cc in rw 
 -- a turn takes its step, and then its element is made
 pub for_runs : (n l l' : ℕ) (h h1 : Here) (fs fs1 : List Frame) (s s1 : CoreState) (t : CoreTarget) (b : CoreBlock) (at : IterAt) (u : CoreRest)
     → n ≡ suc l → l' ≡ l → h1 ≡ h → fs1 ≡ fs → s1 ≡ s
-    → u ≡ for_turn (ForOf t b) (store t) (block [] b) at (site_of h1 (outer_of fs1) (handling_of fs1)) s1 (after fs1 h1)
-    → ends n (asked (ForOf t b at) (site_of h (outer_of fs) (handling_of fs)) s (after fs h)) ≡ ends l' u
+    → u ≡ for_turn (ForOf t b) (store t) (core_block_body [] b) at (site_of h1 (outer_of fs1) (handled_exception fs1)) s1 (after_stack fs1 h1)
+    → ends n (asked (ForOf t b at) (site_of h (outer_of fs) (handled_exception fs)) s (after_stack fs h)) ≡ ends l' u
 for_runs n l l' h h1 fs fs1 s s1 t b at u e less here stack state is =
-    asked_runs n l (ForOf t b at) (site_of h (outer_of fs) (handling_of fs)) s (after fs h) e
+    asked_runs n l (ForOf t b at) (site_of h (outer_of fs) (handled_exception fs)) s (after_stack fs h) e
     ∙ ap (ends l) (sym (is ∙ rw (here, stack, state) refl)) ∙ ap (λ (x : ℕ). ends x u) (sym less)

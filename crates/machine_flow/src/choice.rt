@@ -7,15 +7,15 @@ ghost use Rattle.py_kinds.specs.Truth.{truth};
 ghost use Rattle.py_world.specs.Outcome.{if_true};
 ghost use Rattle.py_world.specs.Statements as world;
 ghost use Rattle.machine_state.specs.core_meaning.Statements as meaning;
-ghost use Rattle.machine_state.specs.core_meaning.Statements.{block, choice, choices};
+ghost use Rattle.machine_state.specs.core_meaning.Statements.{core_block_body, choice, choices};
 ghost use Rattle.machine_state.specs.Places.{ends, outcome};
-ghost use Rattle.machine_state.specs.Frames.{layers_of, on_flow, rest_of, site_now, state_of, todo, Follows};
+ghost use Rattle.machine_state.specs.Frames.{layers_of, on_flow, machine_rest, site_now, state_of, todo, Follows};
 ghost use Rattle.machine_state.specs.Work.{block_work, branch_work, doing_work, flow_work, stack_work, Falls};
 
 use machine_assign::begin_block;
 use machine_immediate::immediate::at_once;
 use machine_state::frame::{End, FlowFrame, Frame};
-use machine_state::machine::{Doing, Machine, TurnEnd};
+use machine_state::machine::{Machine, NextAction, TurnEnd};
 use py_core::{CoreBlock, CoreBranch};
 use py_kinds::truth::truth;
 use py_text::OutOfMemory;
@@ -27,8 +27,8 @@ pub fn begin_choice(
     m: &mut Machine,
     branches: &Rc<Vec<CoreBranch>>,
     other: &Rc<CoreBlock>,
-) -> Result<Doing, OutOfMemory>
-    ensures next { IfOk result (λ d. ends m.new.left (todo d m.new) ≡ ends m.old.left (world.choose (meaning.choices (layers_of m.old.stack) branches.now.value.items) (meaning.block (layers_of m.old.stack) other.now.value) (site_now m.old) (state_of m.old) (rest_of m.old))) }
+) -> Result<NextAction, OutOfMemory>
+    ensures next { IfOk result (λ d. ends m.new.left (todo d m.new) ≡ ends m.old.left (world.choose (meaning.choices (layers_of m.old.stack) branches.now.value.items) (meaning.core_block_body (layers_of m.old.stack) other.now.value) (site_now m.old) (state_of m.old) (machine_rest m.old))) }
     ensures left { m.new.left ≤ m.old.left }
 {
     m.temps.clear();
@@ -42,8 +42,8 @@ fn next_branch(
     branches: Rc<Vec<CoreBranch>>,
     at: usize,
     other: Rc<CoreBlock>,
-) -> Result<Doing, OutOfMemory>
-    ensures next { IfOk result (λ d. ends m.new.left (todo d m.new) ≡ ends m.old.left (world.branches_on (choices (layers_of m.old.stack) (drop at branches.value.items)) (block (layers_of m.old.stack) other.value) (site_now m.old).scene (state_of m.old) (rest_of m.old))) }
+) -> Result<NextAction, OutOfMemory>
+    ensures next { IfOk result (λ d. ends m.new.left (todo d m.new) ≡ ends m.old.left (world.branches_on (choices (layers_of m.old.stack) (drop at branches.value.items)) (core_block_body (layers_of m.old.stack) other.value) (site_now m.old).scene (state_of m.old) (machine_rest m.old))) }
     ensures left { m.new.left ≤ m.old.left }
     ensures work { IfOk result (λ d. doing_work d + stack_work m.new ≤ sum_by branch_work (drop at branches.value.items) + block_work (stmts_in other.value) + stack_work m.old) }
 {
@@ -62,8 +62,8 @@ fn begin_branch(
     branches: Rc<Vec<CoreBranch>>,
     next: usize,
     other: Rc<CoreBlock>,
-) -> Result<Doing, OutOfMemory>
-    ensures next { IfOk result (λ d. ends m.new.left (todo d m.new) ≡ ends m.old.left (world.branches_on (choice (layers_of m.old.stack) branch.now ∷ choices (layers_of m.old.stack) (drop next branches.value.items)) (block (layers_of m.old.stack) other.value) (site_now m.old).scene (state_of m.old) (rest_of m.old))) }
+) -> Result<NextAction, OutOfMemory>
+    ensures next { IfOk result (λ d. ends m.new.left (todo d m.new) ≡ ends m.old.left (world.branches_on (choice (layers_of m.old.stack) branch.now ∷ choices (layers_of m.old.stack) (drop next branches.value.items)) (core_block_body (layers_of m.old.stack) other.value) (site_now m.old).scene (state_of m.old) (machine_rest m.old))) }
     ensures left { m.new.left ≤ m.old.left }
     ensures work { IfOk result (λ d. doing_work d + stack_work m.new ≤ branch_work branch.now + sum_by branch_work (drop next branches.value.items) + block_work (stmts_in other.value) + stack_work m.old) }
 {
@@ -79,12 +79,13 @@ fn begin_branch(
         None => {
             let frame = FlowFrame::Branch(body, branches, next, other, line);
             m.stack.push(Frame::Flow(frame))?;
-            Ok(Doing::Evaluate(branch.condition.clone()?))
+            Ok(NextAction::Evaluate(branch.condition.clone()?))
         }
     }
 }
 
-/// Goes on behind the condition of a branch whose value is there.
+/// Goes on behind the condition of a branch whose value is there; a last block that is empty is over at once.
+#[tactic(auto, using(crate::proofs::Branches::choices_none, crate::proofs::Branches::block_empty))]
 fn choose(
     m: &mut Machine,
     v: Value,
@@ -92,8 +93,8 @@ fn choose(
     branches: Rc<Vec<CoreBranch>>,
     next: usize,
     other: Rc<CoreBlock>,
-) -> Result<Doing, OutOfMemory>
-    ensures next { IfOk result (λ d. todo d m.new ≡ if_true (truth m.old.heap v) (block (layers_of m.old.stack) body.value (site_now m.old).scene (state_of m.old) (rest_of m.old)) (world.branches_on (choices (layers_of m.old.stack) (drop next branches.value.items)) (block (layers_of m.old.stack) other.value) (site_now m.old).scene (state_of m.old) (rest_of m.old))) }
+) -> Result<NextAction, OutOfMemory>
+    ensures next { IfOk result (λ d. todo d m.new ≡ if_true (truth m.old.heap v) (core_block_body (layers_of m.old.stack) body.value (site_now m.old).scene (state_of m.old) (machine_rest m.old)) (world.branches_on (choices (layers_of m.old.stack) (drop next branches.value.items)) (core_block_body (layers_of m.old.stack) other.value) (site_now m.old).scene (state_of m.old) (machine_rest m.old))) }
     ensures left { m.new.left ≡ m.old.left }
     ensures work { IfOk result (λ d. doing_work d + stack_work m.new ≤ block_work (stmts_in body.value) + sum_by branch_work (drop next branches.value.items) + block_work (stmts_in other.value) + 1 + stack_work m.old) }
 {
@@ -101,11 +102,14 @@ fn choose(
         return begin_block(m, body);
     }
     if next >= branches.len() {
+        if other.len() == 0 {
+            return Ok(NextAction::Back(End::Next));
+        }
         return begin_block(m, other);
     }
     let frame = FlowFrame::Branch(body, branches, next, other, m.here.line);
     m.stack.push(Frame::Flow(frame))?;
-    Ok(Doing::Back(End::Value(v)))
+    Ok(NextAction::Back(End::Value(v)))
 }
 
 /// Goes on behind the value of a branch's condition.
@@ -116,8 +120,8 @@ fn take_condition(
     at: usize,
     other: Rc<CoreBlock>,
     v: Value,
-) -> Result<Doing, OutOfMemory>
-    ensures next { IfOk result (λ d. ends m.new.left (todo d m.new) ≡ ends m.old.left (if_true (truth m.old.heap v) (block (layers_of m.old.stack) body.value (site_now m.old).scene (state_of m.old) (rest_of m.old)) (world.branches_on (choices (layers_of m.old.stack) (drop at branches.value.items)) (block (layers_of m.old.stack) other.value) (site_now m.old).scene (state_of m.old) (rest_of m.old)))) }
+) -> Result<NextAction, OutOfMemory>
+    ensures next { IfOk result (λ d. ends m.new.left (todo d m.new) ≡ ends m.old.left (if_true (truth m.old.heap v) (core_block_body (layers_of m.old.stack) body.value (site_now m.old).scene (state_of m.old) (machine_rest m.old)) (world.branches_on (choices (layers_of m.old.stack) (drop at branches.value.items)) (core_block_body (layers_of m.old.stack) other.value) (site_now m.old).scene (state_of m.old) (machine_rest m.old)))) }
     ensures left { m.new.left ≤ m.old.left }
     ensures work { IfOk result (λ d. doing_work d + stack_work m.new ≤ block_work (stmts_in body.value) + sum_by branch_work (drop at branches.value.items) + block_work (stmts_in other.value) + stack_work m.old) }
 {
@@ -136,15 +140,15 @@ pub fn take_branch(
     other: Rc<CoreBlock>,
     end: End,
 ) -> Result<TurnEnd, OutOfMemory>
-    ensures next { IfOk result (λ t. Follows t m.new m.old.left (on_flow (FlowFrame.Branch body branches at other 0) (layers_of m.old.stack) (site_now m.old) (outcome end (state_of m.old)) (rest_of m.old))) }
+    ensures next { IfOk result (λ t. Follows t m.new m.old.left (on_flow (FlowFrame.Branch body branches at other 0) (layers_of m.old.stack) (site_now m.old) (outcome end (state_of m.old)) (machine_rest m.old))) }
     ensures work { IfOk result (λ t. Falls t m.new m.old.left (flow_work (FlowFrame.Branch body branches at other 0) + stack_work m.old)) }
 {
     match end {
         End::Value(v) => Ok(TurnEnd::Go(take_condition(m, body, branches, at, other, v)?)),
-        End::Next => Ok(TurnEnd::Go(Doing::Back(End::Next))),
-        End::Returned(v) => Ok(TurnEnd::Go(Doing::Back(End::Returned(v)))),
-        End::Broke => Ok(TurnEnd::Go(Doing::Back(End::Broke))),
-        End::Continued => Ok(TurnEnd::Go(Doing::Back(End::Continued))),
-        End::Raised(e, trace) => Ok(TurnEnd::Go(Doing::Back(End::Raised(e, trace)))),
+        End::Next => Ok(TurnEnd::Go(NextAction::Back(End::Next))),
+        End::Returned(v) => Ok(TurnEnd::Go(NextAction::Back(End::Returned(v)))),
+        End::Broke => Ok(TurnEnd::Go(NextAction::Back(End::Broke))),
+        End::Continued => Ok(TurnEnd::Go(NextAction::Back(End::Continued))),
+        End::Raised(e, trace) => Ok(TurnEnd::Go(NextAction::Back(End::Raised(e, trace)))),
     }
 }

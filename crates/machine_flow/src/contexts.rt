@@ -7,21 +7,21 @@ ghost use Rattle.py_world.specs.Contexts as world;
 ghost use Rattle.py_world.specs.Outcome.{raised_at};
 ghost use Rattle.pytest_calls.specs.Swallowing as swallowing;
 ghost use Rattle.machine_state.specs.core_meaning.Expressions.{eval};
-ghost use Rattle.machine_state.specs.core_meaning.Statements.{block};
+ghost use Rattle.machine_state.specs.core_meaning.Statements.{core_block_body};
 ghost use Rattle.machine_state.specs.Places.{outcome};
-ghost use Rattle.machine_state.specs.Frames.{layers_of, on_flow, rest_of, site_now, state_of, todo, Follows};
+ghost use Rattle.machine_state.specs.Frames.{layers_of, on_flow, machine_rest, site_now, state_of, todo, Follows};
 ghost use Rattle.machine_state.specs.Work.{block_work, doing_work, flow_work, stack_work, Falls};
 
 use machine_assign::{begin_block, bind, descend};
 use machine_state::frame::{End, FlowFrame, Frame, SimpleFrame};
-use machine_state::machine::{Doing, Machine, Origin, TurnEnd};
+use machine_state::machine::{Machine, NextAction, Origin, TurnEnd};
 use py_core::{CoreBlock, CoreExpr, SrcText};
 use py_items::subscript::object_at;
 use py_kinds::classes::is_a;
 use py_text::{OutOfMemory, PyText};
 use py_values::change::Change;
 use py_values::class::ExcClass;
-use py_values::end::{Made, Raise};
+use py_values::end::{Effect, Raise};
 use py_values::heap::Heap;
 use py_values::object::{InfoObj, Obj, RaisesObj};
 use py_values::value::{ObjId, Value};
@@ -46,8 +46,8 @@ pub fn begin_with(
     e: &Rc<CoreExpr>,
     name: &Option<SrcText>,
     body: &Rc<CoreBlock>,
-) -> Result<Doing, OutOfMemory>
-    ensures next { IfOk result (λ d. todo d m.new ≡ world.with_statement (eval e.now.value) name.now (block [] body.now.value) (site_now m.old) (state_of m.old) (rest_of m.old)) }
+) -> Result<NextAction, OutOfMemory>
+    ensures next { IfOk result (λ d. todo d m.new ≡ world.with_statement (eval e.now.value) name.now (core_block_body [] body.now.value) (site_now m.old) (state_of m.old) (machine_rest m.old)) }
     ensures left { m.new.left ≡ m.old.left }
 {
     let kept = copy_name(name)?;
@@ -142,8 +142,8 @@ fn enter_raises(
     name: &Option<SrcText>,
     body: Rc<CoreBlock>,
     raises: RaisesObj,
-) -> Result<Doing, OutOfMemory>
-    ensures next { IfOk result (λ d. todo d m.new ≡ world.context_entered (Some raises) name.now (block [] body.value) (site_now m.old) (state_of m.old) (rest_of m.old)) }
+) -> Result<NextAction, OutOfMemory>
+    ensures next { IfOk result (λ d. todo d m.new ≡ world.context_entered (Some raises) name.now (core_block_body [] body.value) (site_now m.old) (state_of m.old) (machine_rest m.old)) }
     ensures left { m.new.left ≡ m.old.left }
     ensures work { IfOk result (λ d. doing_work d + stack_work m.new ≡ block_work (stmts_in body.value) + 2 + stack_work m.old) }
 {
@@ -159,8 +159,8 @@ fn enter(
     name: &Option<SrcText>,
     body: Rc<CoreBlock>,
     v: Value,
-) -> Result<Doing, OutOfMemory>
-    ensures next { IfOk result (λ d. todo d m.new ≡ world.context_entered (world.context_of (object_at m.old.heap v)) name.now (block [] body.value) (site_now m.old) (state_of m.old) (rest_of m.old)) }
+) -> Result<NextAction, OutOfMemory>
+    ensures next { IfOk result (λ d. todo d m.new ≡ world.context_entered (world.context_of (object_at m.old.heap v)) name.now (core_block_body [] body.value) (site_now m.old) (state_of m.old) (machine_rest m.old)) }
     ensures left { m.new.left ≡ m.old.left }
     ensures work { IfOk result (λ d. doing_work d + stack_work m.new < block_work (stmts_in body.value) + 3 + stack_work m.old) }
 {
@@ -180,22 +180,22 @@ pub fn take_context(
     body: Rc<CoreBlock>,
     end: End,
 ) -> Result<TurnEnd, OutOfMemory>
-    ensures next { IfOk result (λ t. Follows t m.new m.old.left (on_flow (FlowFrame.Context name body) (layers_of m.old.stack) (site_now m.old) (outcome end (state_of m.old)) (rest_of m.old))) }
+    ensures next { IfOk result (λ t. Follows t m.new m.old.left (on_flow (FlowFrame.Context name body) (layers_of m.old.stack) (site_now m.old) (outcome end (state_of m.old)) (machine_rest m.old))) }
     ensures work { IfOk result (λ t. Falls t m.new m.old.left (flow_work (FlowFrame.Context name body) + stack_work m.old)) }
 {
     match end {
         End::Value(v) => Ok(TurnEnd::Go(enter(m, &name, body, v)?)),
-        End::Next => Ok(TurnEnd::Go(Doing::Back(End::Next))),
-        End::Returned(v) => Ok(TurnEnd::Go(Doing::Back(End::Returned(v)))),
-        End::Broke => Ok(TurnEnd::Go(Doing::Back(End::Broke))),
-        End::Continued => Ok(TurnEnd::Go(Doing::Back(End::Continued))),
-        End::Raised(e, trace) => Ok(TurnEnd::Go(Doing::Back(End::Raised(e, trace)))),
+        End::Next => Ok(TurnEnd::Go(NextAction::Back(End::Next))),
+        End::Returned(v) => Ok(TurnEnd::Go(NextAction::Back(End::Returned(v)))),
+        End::Broke => Ok(TurnEnd::Go(NextAction::Back(End::Broke))),
+        End::Continued => Ok(TurnEnd::Go(NextAction::Back(End::Continued))),
+        End::Raised(e, trace) => Ok(TurnEnd::Go(NextAction::Back(End::Raised(e, trace)))),
     }
 }
 
 /// Fails a block that has raised nothing.
-fn fail_quiet(m: &mut Machine, raises: &RaisesObj) -> Result<Doing, OutOfMemory>
-    ensures next { IfOk result (λ d. todo d m.new ≡ rest_of m.old (raised_at (swallowing.did_not_raise m.old.heap raises.now.classes) (site_now m.old) (state_of m.old))) }
+fn fail_quiet(m: &mut Machine, raises: &RaisesObj) -> Result<NextAction, OutOfMemory>
+    ensures next { IfOk result (λ d. todo d m.new ≡ machine_rest m.old (raised_at (swallowing.did_not_raise m.old.heap raises.now.classes) (site_now m.old) (state_of m.old))) }
     ensures left { m.new.left ≡ m.old.left }
     ensures work { IfOk result (λ d. doing_work d ≡ 0) }
     ensures stack { m.new.stack ≡ m.old.stack }
@@ -209,8 +209,8 @@ fn pattern_made(
     m: &Machine,
     pattern: &Option<PyText>,
     e: Value,
-) -> Result<Option<Made>, OutOfMemory>
-    ensures { IfOk result (λ made. made ≡ within m.now.left (swallowing.pattern_end m.now.heap pattern.now e)) }
+) -> Result<Option<Effect>, OutOfMemory>
+    ensures { IfOk result (λ made. made ≡ payable m.now.left (swallowing.pattern_end m.now.heap pattern.now e)) }
 {
     match pattern {
         Some(text) => pattern_end(m.alloc, &m.heap, Some(text), e, m.left),
@@ -218,12 +218,12 @@ fn pattern_made(
     }
 }
 
-ghost use Rattle.py_values.specs.Ends.{within};
+ghost use Rattle.py_values.specs.Ends.{payable};
 
 /// Searches the pattern in the message of an exception that is taken.
 #[tactic(auto, using(crate::proofs::Entering::searches))]
 fn search(m: &mut Machine, pattern: &Option<PyText>, e: Value) -> Result<TurnEnd, OutOfMemory>
-    ensures next { IfOk result (λ t. Follows t m.new m.old.left (world.searched pattern.now e (site_now m.old) (state_of m.old) (rest_of m.old))) }
+    ensures next { IfOk result (λ t. Follows t m.new m.old.left (world.searched pattern.now e (site_now m.old) (state_of m.old) (machine_rest m.old))) }
     ensures work { IfOk result (λ t. Falls t m.new m.old.left (2 + stack_work m.old)) }
 {
     m.stack.push(Frame::Simple(SimpleFrame::Forget))?;
@@ -254,14 +254,14 @@ fn take_raised(
     e: Value,
     trace: Trace,
 ) -> Result<TurnEnd, OutOfMemory>
-    ensures next { IfOk result (λ t. Follows t m.new m.old.left (world.taken_or (is_of m.old.heap e raises.now.classes) raises.now info e trace (site_now m.old) (state_of m.old) (rest_of m.old))) }
+    ensures next { IfOk result (λ t. Follows t m.new m.old.left (world.taken_or (is_of m.old.heap e raises.now.classes) raises.now info e trace (site_now m.old) (state_of m.old) (machine_rest m.old))) }
     ensures work { IfOk result (λ t. Falls t m.new m.old.left (2 + stack_work m.old)) }
 {
     if is_a(&m.heap, e, raises.classes) {
         keep_taken(m, info, e, trace)?;
         return search(m, &raises.pattern, e);
     }
-    Ok(TurnEnd::Go(Doing::Back(End::Raised(e, trace))))
+    Ok(TurnEnd::Go(NextAction::Back(End::Raised(e, trace))))
 }
 
 ghost use Rattle.py_kinds.specs.Classes.{is_a as is_of};
@@ -273,7 +273,7 @@ pub fn take_raises(
     info: ObjId,
     end: End,
 ) -> Result<TurnEnd, OutOfMemory>
-    ensures next { IfOk result (λ t. Follows t m.new m.old.left (world.context_left raises.now info (site_now m.old) (outcome end (state_of m.old)) (rest_of m.old))) }
+    ensures next { IfOk result (λ t. Follows t m.new m.old.left (world.context_left raises.now info (site_now m.old) (outcome end (state_of m.old)) (machine_rest m.old))) }
     ensures work { IfOk result (λ t. Falls t m.new m.old.left (2 + stack_work m.old)) }
 {
     match end {

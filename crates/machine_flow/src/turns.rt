@@ -7,22 +7,22 @@ ghost use Rattle.py_world.specs.Outcome.{on_next};
 ghost use Rattle.py_world.specs.Statements.{asked};
 ghost use Rattle.machine_state.specs.core_meaning.Requests.{ForOf};
 ghost use Rattle.machine_state.specs.core_meaning.Expressions.{eval};
-ghost use Rattle.machine_state.specs.core_meaning.Statements.{block, store};
+ghost use Rattle.machine_state.specs.core_meaning.Statements.{core_block_body, store};
 ghost use Rattle.machine_state.specs.Places.{outcome};
-ghost use Rattle.machine_state.specs.Frames.{layers_of, on_flow, rest_of, site_now, state_of, todo, Follows};
+ghost use Rattle.machine_state.specs.Frames.{layers_of, on_flow, machine_rest, site_now, state_of, todo, Follows};
 ghost use Rattle.machine_state.specs.Work.{doing_work, flow_work, stack_work, Falls};
-ghost use Rattle.machine_flow.specs.Looks.{told};
+ghost use Rattle.machine_flow.specs.Looks.{look_of};
 
 use machine_assign::assign::store_target;
 use machine_assign::{begin_block, descend};
 use machine_state::frame::{End, FlowFrame, Frame};
-use machine_state::machine::{Doing, Machine, Origin, TurnEnd};
+use machine_state::machine::{Machine, NextAction, Origin, TurnEnd};
 use py_core::{CoreBlock, CoreExpr, CoreTarget};
 use py_items::iter::IterAt;
 use py_items::turn::{iterate, turn_made};
 use py_operands::faults::not_iterable;
 use py_text::OutOfMemory;
-use py_values::end::{Made, Raise};
+use py_values::end::{Effect, Raise};
 use py_values::value::Value;
 use std::rc::Rc;
 
@@ -32,8 +32,8 @@ pub fn begin_for(
     target: &Rc<CoreTarget>,
     e: &Rc<CoreExpr>,
     body: &Rc<CoreBlock>,
-) -> Result<Doing, OutOfMemory>
-    ensures next { IfOk result (λ d. todo d m.new ≡ world.for_statement (ForOf target.now.value body.now.value) (eval e.now.value) (site_now m.old) (state_of m.old) (rest_of m.old)) }
+) -> Result<NextAction, OutOfMemory>
+    ensures next { IfOk result (λ d. todo d m.new ≡ world.for_statement (ForOf target.now.value body.now.value) (eval e.now.value) (site_now m.old) (state_of m.old) (machine_rest m.old)) }
     ensures left { m.new.left ≡ m.old.left }
 {
     let frame = FlowFrame::Iterable(target.clone()?, body.clone()?);
@@ -41,13 +41,13 @@ pub fn begin_for(
 }
 
 /// The place behind an element.
-fn place_behind(at: IterAt, made: &Made) -> IterAt
+fn place_behind(at: IterAt, made: &Effect) -> IterAt
     requires { items.HasRoom at.next (Some made.now) }
-    ensures { result ≡ items.next_by at made.now }
+    ensures { result ≡ items.iterator_after at made.now }
 {
     match made {
-        Made::Fail(_, _) => at,
-        Made::Give(_, _) | Made::New(_, _) | Made::Put(_, _, _, _) => IterAt {
+        Effect::Fail(_, _) => at,
+        Effect::Give(_, _) | Effect::New(_, _) | Effect::Put(_, _, _, _) => IterAt {
             of: at.of,
             next: at.next + 1,
             length: at.length,
@@ -62,8 +62,8 @@ fn store_element(
     body: Rc<CoreBlock>,
     next: IterAt,
     v: Value,
-) -> Result<Doing, OutOfMemory>
-    ensures next { IfOk result (λ d. todo d m.new ≡ store target.value v (site_now m.old) (state_of m.old) (λ o. on_next o (rest_of m.old) (λ s. world.behind_target (ForOf target.value body.value) (block [] body.value) next (site_now m.old) s (rest_of m.old)))) }
+) -> Result<NextAction, OutOfMemory>
+    ensures next { IfOk result (λ d. todo d m.new ≡ store target.value v (site_now m.old) (state_of m.old) (λ o. on_next o (machine_rest m.old) (λ s. world.behind_target (ForOf target.value body.value) (core_block_body [] body.value) next (site_now m.old) s (machine_rest m.old)))) }
     ensures left { m.new.left ≡ m.old.left }
 {
     let again = target.clone()?;
@@ -80,24 +80,24 @@ fn take_element(
     target: Rc<CoreTarget>,
     body: Rc<CoreBlock>,
     at: IterAt,
-    made: Made,
-) -> Result<Doing, OutOfMemory>
+    made: Effect,
+) -> Result<NextAction, OutOfMemory>
     requires { items.HasRoom at.next (Some made) }
-    ensures next { IfOk result (λ d. todo d m.new ≡ world.turn_with (ForOf target.value body.value) (store target.value) (block [] body.value) at (Some made) (site_now m.old) (state_of m.old) (rest_of m.old)) }
+    ensures next { IfOk result (λ d. todo d m.new ≡ world.turn_with (ForOf target.value body.value) (store target.value) (core_block_body [] body.value) at (Some made) (site_now m.old) (state_of m.old) (machine_rest m.old)) }
     ensures left { m.new.left ≡ m.old.left }
 {
     let next = place_behind(at, &made);
     match made {
-        Made::Give(v, _) => store_element(m, target, body, next, v),
-        Made::New(obj, _) => {
+        Effect::Give(v, _) => store_element(m, target, body, next, v),
+        Effect::New(obj, _) => {
             let id = m.heap.add(obj)?;
             store_element(m, target, body, next, Value::Ref(id))
         }
-        Made::Put(id, change, v, _) => {
+        Effect::Put(id, change, v, _) => {
             m.heap.change(id, change)?;
             store_element(m, target, body, next, v)
         }
-        Made::Fail(raise, _) => m.raise(raise, Origin::Code),
+        Effect::Fail(raise, _) => m.raise(raise, Origin::Code),
     }
 }
 
@@ -107,13 +107,13 @@ fn make_element(
     target: Rc<CoreTarget>,
     body: Rc<CoreBlock>,
     at: IterAt,
-) -> Result<Doing, OutOfMemory>
-    ensures next { IfOk result (λ d. todo d m.new ≡ world.for_turn (ForOf target.value body.value) (store target.value) (block [] body.value) at (site_now m.old) (state_of m.old) (rest_of m.old)) }
+) -> Result<NextAction, OutOfMemory>
+    ensures next { IfOk result (λ d. todo d m.new ≡ world.for_turn (ForOf target.value body.value) (store target.value) (core_block_body [] body.value) at (site_now m.old) (state_of m.old) (machine_rest m.old)) }
     ensures left { m.new.left ≡ m.old.left }
 {
     match turn_made(m.alloc, &m.heap, at)? {
         Some(made) => take_element(m, target, body, at, made),
-        None => Ok(Doing::Back(End::Next)),
+        None => Ok(NextAction::Back(End::Next)),
     }
 }
 
@@ -124,7 +124,7 @@ fn begin_turn(
     body: Rc<CoreBlock>,
     at: IterAt,
 ) -> Result<TurnEnd, OutOfMemory>
-    ensures next { IfOk result (λ t. Follows t m.new m.old.left (asked (ForOf target.value body.value at) (site_now m.old) (state_of m.old) (rest_of m.old))) }
+    ensures next { IfOk result (λ t. Follows t m.new m.old.left (asked (ForOf target.value body.value at) (site_now m.old) (state_of m.old) (machine_rest m.old))) }
     ensures work { IfOk result (λ t. (work : ℕ) → Falls t m.new m.old.left work) }
 {
     if !m.spend() {
@@ -145,14 +145,14 @@ enum Look {
 
 /// Looks whether there is an element at a place.
 fn look_for(m: &Machine, at: IterAt) -> Result<Look, OutOfMemory>
-    ensures { IfOk result (λ l. l ≡ told (items.turn_of m.now.heap at)) }
+    ensures { IfOk result (λ l. l ≡ look_of (items.turn_of m.now.heap at)) }
 {
     match turn_made(m.alloc, &m.heap, at)? {
         None => Ok(Look::Over),
-        Some(Made::Give(_, _)) => Ok(Look::There),
-        Some(Made::New(_, _)) => Ok(Look::There),
-        Some(Made::Put(_, _, _, _)) => Ok(Look::There),
-        Some(Made::Fail(raise, _)) => Ok(Look::Failed(raise)),
+        Some(Effect::Give(_, _)) => Ok(Look::There),
+        Some(Effect::New(_, _)) => Ok(Look::There),
+        Some(Effect::Put(_, _, _, _)) => Ok(Look::There),
+        Some(Effect::Fail(raise, _)) => Ok(Look::Failed(raise)),
     }
 }
 
@@ -164,12 +164,12 @@ fn go_on(
     body: Rc<CoreBlock>,
     at: IterAt,
 ) -> Result<TurnEnd, OutOfMemory>
-    ensures next { IfOk result (λ t. Follows t m.new m.old.left (world.for_from (ForOf target.value body.value) at (site_now m.old) (state_of m.old) (rest_of m.old))) }
+    ensures next { IfOk result (λ t. Follows t m.new m.old.left (world.for_from (ForOf target.value body.value) at (site_now m.old) (state_of m.old) (machine_rest m.old))) }
     ensures work { IfOk result (λ t. Falls t m.new m.old.left (1 + stack_work m.old)) }
 {
     let seen = look_for(m, at)?;
     match seen {
-        Look::Over => Ok(TurnEnd::Go(Doing::Back(End::Next))),
+        Look::Over => Ok(TurnEnd::Go(NextAction::Back(End::Next))),
         Look::There => begin_turn(m, target, body, at),
         Look::Failed(raise) => Ok(TurnEnd::Go(m.raise(raise, Origin::Code)?)),
     }
@@ -182,7 +182,7 @@ fn go_over(
     body: Rc<CoreBlock>,
     v: Value,
 ) -> Result<TurnEnd, OutOfMemory>
-    ensures next { IfOk result (λ t. Follows t m.new m.old.left (world.iterated (ForOf target.value body.value) v (items.iterate m.old.heap v) (site_now m.old) (state_of m.old) (rest_of m.old))) }
+    ensures next { IfOk result (λ t. Follows t m.new m.old.left (world.iterated (ForOf target.value body.value) v (items.iterate m.old.heap v) (site_now m.old) (state_of m.old) (machine_rest m.old))) }
     ensures work { IfOk result (λ t. Falls t m.new m.old.left (1 + stack_work m.old)) }
 {
     match iterate(&m.heap, v) {
@@ -201,16 +201,16 @@ pub fn take_iterable(
     body: Rc<CoreBlock>,
     end: End,
 ) -> Result<TurnEnd, OutOfMemory>
-    ensures next { IfOk result (λ t. Follows t m.new m.old.left (on_flow (FlowFrame.Iterable target body) (layers_of m.old.stack) (site_now m.old) (outcome end (state_of m.old)) (rest_of m.old))) }
+    ensures next { IfOk result (λ t. Follows t m.new m.old.left (on_flow (FlowFrame.Iterable target body) (layers_of m.old.stack) (site_now m.old) (outcome end (state_of m.old)) (machine_rest m.old))) }
     ensures work { IfOk result (λ t. Falls t m.new m.old.left (flow_work (FlowFrame.Iterable target body) + stack_work m.old)) }
 {
     match end {
         End::Value(v) => go_over(m, target, body, v),
-        End::Next => Ok(TurnEnd::Go(Doing::Back(End::Next))),
-        End::Returned(v) => Ok(TurnEnd::Go(Doing::Back(End::Returned(v)))),
-        End::Broke => Ok(TurnEnd::Go(Doing::Back(End::Broke))),
-        End::Continued => Ok(TurnEnd::Go(Doing::Back(End::Continued))),
-        End::Raised(e, trace) => Ok(TurnEnd::Go(Doing::Back(End::Raised(e, trace)))),
+        End::Next => Ok(TurnEnd::Go(NextAction::Back(End::Next))),
+        End::Returned(v) => Ok(TurnEnd::Go(NextAction::Back(End::Returned(v)))),
+        End::Broke => Ok(TurnEnd::Go(NextAction::Back(End::Broke))),
+        End::Continued => Ok(TurnEnd::Go(NextAction::Back(End::Continued))),
+        End::Raised(e, trace) => Ok(TurnEnd::Go(NextAction::Back(End::Raised(e, trace)))),
     }
 }
 
@@ -220,8 +220,8 @@ fn begin_body(
     target: Rc<CoreTarget>,
     body: Rc<CoreBlock>,
     next: IterAt,
-) -> Result<Doing, OutOfMemory>
-    ensures next { IfOk result (λ d. todo d m.new ≡ world.behind_target (ForOf target.value body.value) (block [] body.value) next (site_now m.old) (state_of m.old) (rest_of m.old)) }
+) -> Result<NextAction, OutOfMemory>
+    ensures next { IfOk result (λ d. todo d m.new ≡ world.behind_target (ForOf target.value body.value) (core_block_body [] body.value) next (site_now m.old) (state_of m.old) (machine_rest m.old)) }
     ensures left { m.new.left ≡ m.old.left }
     ensures work { IfOk result (λ d. doing_work d + stack_work m.new ≡ block_work (stmts_in body.value) + 1 + stack_work m.old) }
 {
@@ -242,16 +242,16 @@ pub fn take_taken(
     next: IterAt,
     end: End,
 ) -> Result<TurnEnd, OutOfMemory>
-    ensures next { IfOk result (λ t. Follows t m.new m.old.left (on_flow (FlowFrame.Taken target body next) (layers_of m.old.stack) (site_now m.old) (outcome end (state_of m.old)) (rest_of m.old))) }
+    ensures next { IfOk result (λ t. Follows t m.new m.old.left (on_flow (FlowFrame.Taken target body next) (layers_of m.old.stack) (site_now m.old) (outcome end (state_of m.old)) (machine_rest m.old))) }
     ensures work { IfOk result (λ t. Falls t m.new m.old.left (flow_work (FlowFrame.Taken target body next) + stack_work m.old)) }
 {
     match end {
         End::Next => Ok(TurnEnd::Go(begin_body(m, target, body, next)?)),
-        End::Value(v) => Ok(TurnEnd::Go(Doing::Back(End::Value(v)))),
-        End::Returned(v) => Ok(TurnEnd::Go(Doing::Back(End::Returned(v)))),
-        End::Broke => Ok(TurnEnd::Go(Doing::Back(End::Broke))),
-        End::Continued => Ok(TurnEnd::Go(Doing::Back(End::Continued))),
-        End::Raised(e, trace) => Ok(TurnEnd::Go(Doing::Back(End::Raised(e, trace)))),
+        End::Value(v) => Ok(TurnEnd::Go(NextAction::Back(End::Value(v)))),
+        End::Returned(v) => Ok(TurnEnd::Go(NextAction::Back(End::Returned(v)))),
+        End::Broke => Ok(TurnEnd::Go(NextAction::Back(End::Broke))),
+        End::Continued => Ok(TurnEnd::Go(NextAction::Back(End::Continued))),
+        End::Raised(e, trace) => Ok(TurnEnd::Go(NextAction::Back(End::Raised(e, trace)))),
     }
 }
 
@@ -263,15 +263,15 @@ pub fn take_for_turn(
     next: IterAt,
     end: End,
 ) -> Result<TurnEnd, OutOfMemory>
-    ensures next { IfOk result (λ t. Follows t m.new m.old.left (on_flow (FlowFrame.ForTurn target body next 0) (layers_of m.old.stack) (site_now m.old) (outcome end (state_of m.old)) (rest_of m.old))) }
+    ensures next { IfOk result (λ t. Follows t m.new m.old.left (on_flow (FlowFrame.ForTurn target body next 0) (layers_of m.old.stack) (site_now m.old) (outcome end (state_of m.old)) (machine_rest m.old))) }
     ensures work { IfOk result (λ t. Falls t m.new m.old.left (flow_work (FlowFrame.ForTurn target body next 0) + stack_work m.old)) }
 {
     match end {
         End::Next => go_on(m, target, body, next),
         End::Continued => go_on(m, target, body, next),
-        End::Broke => Ok(TurnEnd::Go(Doing::Back(End::Next))),
-        End::Value(v) => Ok(TurnEnd::Go(Doing::Back(End::Value(v)))),
-        End::Returned(v) => Ok(TurnEnd::Go(Doing::Back(End::Returned(v)))),
-        End::Raised(e, trace) => Ok(TurnEnd::Go(Doing::Back(End::Raised(e, trace)))),
+        End::Broke => Ok(TurnEnd::Go(NextAction::Back(End::Next))),
+        End::Value(v) => Ok(TurnEnd::Go(NextAction::Back(End::Value(v)))),
+        End::Returned(v) => Ok(TurnEnd::Go(NextAction::Back(End::Returned(v)))),
+        End::Raised(e, trace) => Ok(TurnEnd::Go(NextAction::Back(End::Raised(e, trace)))),
     }
 }

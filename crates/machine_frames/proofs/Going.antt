@@ -30,8 +30,8 @@ use Rattle.machine_state.specs.declared.frame.SimpleFrame.TheVariants as simple
 use Rattle.machine_state.specs.declared.frame.UnwindFrame.{UnwindFrame}
 use Rattle.machine_state.specs.declared.frame.UnwindFrame.TheVariants as unwind
 use Rattle.machine_state.specs.Places.{CoreOutcome, CoreThen, no_world, scene_in, site_of}
-use Rattle.machine_state.specs.Frames.{after, handling_of, layers_flow, layers_in, layers_module, layers_of, layers_simple, layers_unwind, outer_of}
-use Rattle.machine_frames.specs.Remaining.{GoesOn, flow_part, kept, kept_in, module_part, part_of, simple_part, unwind_part}
+use Rattle.machine_state.specs.Frames.{after_stack, handled_exception, layers_flow, layers_in, layers_module, layers_of, layers_simple, layers_unwind, outer_of}
+use Rattle.machine_frames.specs.Remaining.{IsRemainder, flow_part, frames_kept, kept_in, module_part, part_of, simple_part, unwind_part}
 
 -- the end of a call by the runner, whatever the world is
 ends_so : (w : CoreWorld) (o : CoreOutcome) → call_end (state [] [] no_world) o ≡ call_end (start w) o
@@ -53,10 +53,10 @@ module _ (at : Place) (around line : ℕ) (k : CoreThen) where
   record Below (below : List Frame) (ls : List Layer) : Type 0 where
     layers : layers_of below ≡ ls
     outer : outer_of below ≡ []
-    handling : handling_of below ≡ None
-    goes : (n : ℕ) (o : CoreOutcome) → after below (here n) o ≡ remains ls p o k
+    handling : handled_exception below ≡ None
+    goes : (n : ℕ) (o : CoreOutcome) → after_stack below (here n) o ≡ remains ls p o k
 
-  follows : {below : List Frame} {ls : List Layer} → Below below ls → (n : ℕ) → after below (here n) ≡ (λ o. remains ls p o k)
+  follows : {below : List Frame} {ls : List Layer} → Below below ls → (n : ℕ) → after_stack below (here n) ≡ (λ o. remains ls p o k)
   follows h n = fun_ext (h.goes n)
 
   -- frames that are kept
@@ -139,9 +139,9 @@ module _ (at : Place) (around line : ℕ) (k : CoreThen) where
     frame_below (on.Caller c) = t
     frame_below (on.New v) = t
 
-  all_below : (tail : List Frame) → Below tail [] → (fs : List Frame) → Below (kept line fs ++ tail) (layers_of fs)
+  all_below : (tail : List Frame) → Below tail [] → (fs : List Frame) → Below (frames_kept line fs ++ tail) (layers_of fs)
   all_below tail t [] = t
-  all_below tail t (f ∷ fs) = frame_below tail t (kept line fs) (layers_of fs) (all_below tail t fs) f
+  all_below tail t (f ∷ fs) = frame_below tail t (frames_kept line fs) (layers_of fs) (all_below tail t fs) f
 
 -- the end of a call by the runner, which has nothing below it
 last_below : (at : Place) (around line : ℕ) (w : CoreWorld) (c : CallerFrame) → c.from ≡ None → c.locals ≡ [] → c.temps.items ≡ [] → Below at around line (λ o. Done (call_end (start w) o)) (on.Caller c ∷ []) []
@@ -153,12 +153,12 @@ last_below at around line w c none locals temps = record {
 }
 
 -- THE FRAMES THAT GO ON, over that end
-go_on : (rest fs : List Frame) (line : ℕ) (c : CallerFrame) → rest ≡ kept line fs ++ on.Caller c ∷ [] → c.from ≡ None → c.locals ≡ [] → c.temps.items ≡ [] → GoesOn rest line fs
+go_on : (rest fs : List Frame) (line : ℕ) (c : CallerFrame) → rest ≡ frames_kept line fs ++ on.Caller c ∷ [] → c.from ≡ None → c.locals ≡ [] → c.temps.items ≡ [] → IsRemainder rest line fs
 go_on rest fs line c is none locals temps h o w =
     rw is ((all_below h.place h.around line (λ o. Done (call_end (start w) o)) (on.Caller c ∷ []) (last_below h.place h.around line w c none locals temps) fs).goes h.line o)
 
 -- as the code puts them there
-pub remains_so : (rest fs frames base bottom : List Frame) (line : ℕ) (c : CallerFrame) → rest ≡ frames ++ base → base ≡ on.Caller c ∷ bottom → bottom ≡ [] → frames ≡ kept line fs
-    → c.from ≡ None → c.locals ≡ [] → c.temps.items ≡ [] → GoesOn rest line fs
+pub remains_so : (rest fs frames base bottom : List Frame) (line : ℕ) (c : CallerFrame) → rest ≡ frames ++ base → base ≡ on.Caller c ∷ bottom → bottom ≡ [] → frames ≡ frames_kept line fs
+    → c.from ≡ None → c.locals ≡ [] → c.temps.items ≡ [] → IsRemainder rest line fs
 remains_so rest fs frames base bottom line c put pushed empty are none locals temps =
     go_on rest fs line c (put ∙ ap (λ xs. frames ++ xs) (pushed ∙ ap (λ xs. on.Caller c ∷ xs) empty) ∙ ap (λ xs. xs ++ on.Caller c ∷ []) are) none locals temps

@@ -18,7 +18,7 @@ use Rattle.machine_state.specs.declared.frame.SimpleFrame.TheVariants as simple
 use Rattle.machine_state.specs.declared.frame.UnwindFrame.{UnwindFrame}
 use Rattle.machine_state.specs.declared.frame.UnwindFrame.TheVariants as unwind
 use Rattle.machine_state.specs.Places.{CoreOutcome, scene_in}
-use Rattle.machine_state.specs.Frames.{after, layers_of}
+use Rattle.machine_state.specs.Frames.{after_stack, layers_of}
 use Rattle.machine_frames.specs.declared.remaining.Part.{Part}
 use Rattle.machine_frames.specs.declared.remaining.Part.TheVariants.{Kept, Passed, Ended}
 
@@ -77,21 +77,21 @@ part_of (on.Caller c) = Ended
 part_of (on.New v) = Ended
 
 -- what a `yield` is given is used on the line on which the body stopped
-abbrev pub placed : ℕ → Frame → Frame
-placed n (on.Simple (simple.Receive u line)) = on.Simple (simple.Receive u n)
-placed n f = f
+abbrev pub received_on : ℕ → Frame → Frame
+received_on n (on.Simple (simple.Receive u line)) = on.Simple (simple.Receive u n)
+received_on n f = f
 
 abbrev pub kept_in : Part → ℕ → Frame → List Frame → List Frame
-kept_in Kept n f below = placed n f ∷ below
+kept_in Kept n f below = received_on n f ∷ below
 kept_in Passed n f below = below
 kept_in Ended n f below = []
 
 -- THE FRAMES THAT GO ON of a body that stopped on a line, the innermost first
-abbrev pub kept : ℕ → List Frame → List Frame
-kept n [] = []
-kept n (f ∷ fs) = kept_in (part_of f) n f (kept n fs)
+abbrev pub frames_kept : ℕ → List Frame → List Frame
+frames_kept n [] = []
+frames_kept n (f ∷ fs) = kept_in (part_of f) n f (frames_kept n fs)
 
 -- what follows a stack is what remains of another, whatever end it is given, and then a call by the runner ends
-abbrev pub GoesOn : List Frame → ℕ → List Frame → Type 0
-GoesOn rest line stack = (h : Here) (o : CoreOutcome) (w : CoreWorld)
-    → after rest h o ≡ remains (layers_of stack) (site (scene_in h.place h.around [] None) line) o (λ o. Done (call_end (start w) o))
+abbrev pub IsRemainder : List Frame → ℕ → List Frame → Type 0
+IsRemainder rest line stack = (h : Here) (o : CoreOutcome) (w : CoreWorld)
+    → after_stack rest h o ≡ remains (layers_of stack) (site (scene_in h.place h.around [] None) line) o (λ o. Done (call_end (start w) o))

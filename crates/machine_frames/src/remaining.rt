@@ -99,7 +99,7 @@ fn part_of(frame: &Frame) -> Part
 
 /// What a `yield` is given is used on this line.
 fn place(frame: &mut Frame, line: u32)
-    ensures { frame.new ≡ remain.placed line frame.old }
+    ensures { frame.new ≡ remain.received_on line frame.old }
 {
     match frame {
         Frame::Simple(SimpleFrame::Receive(_, at)) => *at = line,
@@ -110,7 +110,7 @@ fn place(frame: &mut Frame, line: u32)
 /// Puts the next frame of a body behind those so far, where it is kept; whether there are more.
 #[tactic(auto, using(crate::proofs::Kept::keeps, crate::proofs::Kept::passes, crate::proofs::Kept::ends))]
 fn keep(frames: &mut Vec<Frame>, frame: Frame, line: u32) -> Result<bool, OutOfMemory>
-    ensures { IfOk result (λ more. (below : List Frame) → frames.new.items ++ (if more then remain.kept line below else []) ≡ frames.old.items ++ remain.kept line (frame ∷ below)) }
+    ensures { IfOk result (λ more. (below : List Frame) → frames.new.items ++ (if more then remain.frames_kept line below else []) ≡ frames.old.items ++ remain.frames_kept line (frame ∷ below)) }
 {
     match part_of(&frame) {
         Part::Kept => {
@@ -134,7 +134,7 @@ ghost use Rattle.std.specs.Prelude.{◌∷◌};
 
 /// The frames of a stack that are kept, the innermost first.
 fn kept_frames(alloc: Global, stack: ControlStack, line: u32) -> Result<Vec<Frame>, OutOfMemory>
-    ensures { IfOk result (λ frames. frames.items ≡ remain.kept line stack) }
+    ensures { IfOk result (λ frames. frames.items ≡ remain.frames_kept line stack) }
 {
     let mut stack = stack;
     let mut frames = Vec::new(alloc);
@@ -163,7 +163,7 @@ fn put_back(stack: &mut ControlStack, frames: Vec<Frame>) -> Result<(), OutOfMem
 
 /// The stack with which a body goes on that has stopped on a line: the frames of its blocks, over the end of a call by the runner.
 pub fn remaining(alloc: Global, stack: ControlStack, line: u32) -> Result<ControlStack, OutOfMemory>
-    ensures { IfOk result (λ rest. remain.GoesOn rest line stack) }
+    ensures { IfOk result (λ rest. remain.IsRemainder rest line stack) }
 {
     let frames = kept_frames(alloc, stack, line)?;
     let mut rest = ControlStack::new(alloc);

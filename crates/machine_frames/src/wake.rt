@@ -7,7 +7,7 @@ ghost use Rattle.machine_state.specs.py_world.Runs.{start};
 ghost use Rattle.machine_state.specs.py_world.World.{state};
 ghost use Rattle.machine_state.specs.core_meaning.Statements.{remains};
 ghost use Rattle.machine_state.specs.Places.{CoreOutcome, site_of};
-ghost use Rattle.machine_state.specs.Frames.{layers_of, rest_of, state_of, world_of};
+ghost use Rattle.machine_state.specs.Frames.{layers_of, machine_rest, state_of, world_of};
 
 use crate::remaining::remaining;
 use machine_state::frozen::FrozenFrame;
@@ -18,7 +18,7 @@ use py_text::OutOfMemory;
 pub fn wake(m: &mut Machine, frame: FrozenFrame, budget: u64) -> Result<(), OutOfMemory>
     ensures state { OnOk result (state_of m.new ≡ state frame.locals [] (world_of m.old)) }
     ensures left { OnOk result (m.new.left ≡ budget) }
-    ensures rest { OnOk result ((o : CoreOutcome) → rest_of m.new o ≡ remains (layers_of frame.stack) (site_of frame.here [] None) o (λ o. Done (call_end (start (world_of m.old)) o))) }
+    ensures rest { OnOk result ((o : CoreOutcome) → machine_rest m.new o ≡ remains (layers_of frame.stack) (site_of frame.here [] None) o (λ o. Done (call_end (start (world_of m.old)) o))) }
 {
     let FrozenFrame {
         stack,

@@ -12,17 +12,17 @@ use Rattle.py_core.specs.declared.expr.CoreExprKind.TheVariants as v
 use Rattle.py_tree.specs.declared.op.BinOp.{BinOp}
 use Rattle.py_tree.specs.declared.op.CmpOp.{CmpOp}
 use Rattle.py_tree.specs.declared.op.UnOp.{UnOp}
-use Rattle.py_values.specs.declared.end.Made.{Made}
-use Rattle.py_values.specs.declared.end.Made.TheVariants.{Give}
+use Rattle.py_values.specs.declared.end.Effect.{Effect}
+use Rattle.py_values.specs.declared.end.Effect.TheVariants.{Give}
 use Rattle.py_values.specs.declared.value.Value.{Value}
 use Rattle.py_values.specs.declared.value.Value.TheVariants as val
-use Rattle.py_values.specs.Ends.{within, cost_of}
+use Rattle.py_values.specs.Ends.{payable, cost_of}
 use Rattle.py_kinds.specs.Truth.{truth}
 use Rattle.py_ops.specs.Binary.{binary_of}
 use Rattle.py_ops.specs.Compare.{compare_of}
 use Rattle.py_ops.specs.Unary.{unary_of}
 use Rattle.machine_state.specs.py_world.Site.{trace_of}
-use Rattle.machine_state.specs.py_world.Names.{named}
+use Rattle.machine_state.specs.py_world.Names.{value_of_name}
 use Rattle.machine_state.specs.py_world.Outcome.{Gave, made, on_value, operated}
 use Rattle.machine_state.specs.py_world.World.{temp}
 use Rattle.machine_state.specs.py_world.Arguments.{Arguments}
@@ -30,14 +30,14 @@ use Rattle.machine_state.specs.py_world.Expressions.{call_on, call_part, noted, 
 use Rattle.machine_state.specs.core_meaning.Expressions.{CorePart, eval, eval_at}
 use Rattle.machine_state.specs.declared.machine.Machine.{Machine}
 use Rattle.machine_state.specs.Places.{CoreThen, ends, parts_from}
-use Rattle.machine_state.specs.Frames.{rest_of, site_now, state_of}
+use Rattle.machine_state.specs.Frames.{machine_rest, site_now, state_of}
 use Rattle.machine_state.proofs.Costs.{ends_note, paid}
 use Rattle.machine_immediate.specs.declared.immediate.Immediate.{Immediate}
-use Rattle.machine_immediate.specs.AtOnce.{IsGiven, IsImmediate, ended_at}
+use Rattle.machine_immediate.specs.AtOnce.{IsMadeWithin, IsImmediate, ended_at}
 use Rattle.machine_immediate.proofs.Parts.{next_some, next_none, parts_items}
 
 -- what an operator gives, its step and its cost being paid
-pub given : (v : Value) (c left rest : ℕ) → rest ≡ left - c → IsGiven (Some (Give v c)) left (record { value = v; left = rest })
+pub given : (v : Value) (c left rest : ℕ) → rest ≡ left - c → IsMadeWithin (Some (Give v c)) left (record { value = v; left = rest })
 given v c left rest h =
     record {
       fewer = omega arith;
@@ -45,17 +45,17 @@ given v c left rest h =
     }
 
 -- what costs nothing is within any budget
-free_by : (b : Bool) (n : ℕ) (what : Made) → (b ≡ true → n < cost_of what) → cost_of what ≡ 0 → Some what ≡ (if b then None else Some what)
+free_by : (b : Bool) (n : ℕ) (what : Effect) → (b ≡ true → n < cost_of what) → cost_of what ≡ 0 → Some what ≡ (if b then None else Some what)
 free_by true n what g h = let short : n < cost_of what = g refl in absurd (omega arith)
 free_by false n what g h = refl
 
-free : (n : ℕ) (what : Made) → cost_of what ≡ 0 → Some what ≡ within n what
+free : (n : ℕ) (what : Effect) → cost_of what ≡ 0 → Some what ≡ payable n what
 free n what h =
     let g : nat_lt n (cost_of what) ≡ true → n < cost_of what = λ e. grind (arith, common_steps) in
     free_by (nat_lt n (cost_of what)) n what g h
 
 module _ (m : Machine) where
-  operated_one : (made : Option Made) (what : Made) (left : ℕ) (d : Immediate) → IsGiven made (left - 1) d → made ≡ within (left - 1) what → left ≢ 0 → IsImmediate (operated what) left d m
+  operated_one : (made : Option Effect) (what : Effect) (left : ℕ) (d : Immediate) → IsMadeWithin made (left - 1) d → made ≡ payable (left - 1) what → left ≢ 0 → IsImmediate (operated what) left d m
   operated_one made what left d h e n =
       let f : d.left ≤ left - 1 = h.fewer in
       let one : left ≡ suc (left - 1) = omega arith in
@@ -64,20 +64,20 @@ module _ (m : Machine) where
         goes_on = λ k. ap (λ (n : ℕ). ends n (operated what (site_now m) (state_of m) k)) one ∙ h.goes_on what e (site_now m) (state_of m) k;
       }
 
-  pub operated_now : (made : Option Made) (what : Made) (left : ℕ) (r : Option Immediate) → IfSome r (IsGiven made (left - 1)) → made ≡ within (left - 1) what → left ≢ 0 → IfSome r (λ d. IsImmediate (operated what) left d m)
+  pub operated_now : (made : Option Effect) (what : Effect) (left : ℕ) (r : Option Immediate) → IfSome r (IsMadeWithin made (left - 1)) → made ≡ payable (left - 1) what → left ≢ 0 → IfSome r (λ d. IsImmediate (operated what) left d m)
   operated_now made what left None h e n = tt
   operated_now made what left (Some d) h e n = operated_one made what left d h e n
 
   -- what is told at once costs the operator's own step alone
-  pub told_now : (what : Made) (v : Value) (left : ℕ) → what ≡ Give v 0 → left ≢ 0 → IsImmediate (operated what) left (ended_at v (left - 1)) m
+  pub told_now : (what : Effect) (v : Value) (left : ℕ) → what ≡ Give v 0 → left ≢ 0 → IsImmediate (operated what) left (ended_at v (left - 1)) m
   told_now what v left h n = operated_one (Some (Give v 0)) what left (ended_at v (left - 1)) (given v 0 (left - 1) (left - 1) (omega arith)) (ap Some (sym h) ∙ free (left - 1) what (ap cost_of h)) n
 
   -- parts without parts
-  name_now : (name : List ℕ) (v : Value) (left : ℕ) → named name (site_now m).scene m.locals m.heap ≡ Give v 0 → IsImmediate (name_part name) left (ended_at v left) m
-  name_now name v left h = record { fewer = omega arith; goes_on = λ k. ap (λ (x : Made). ends left (k (made x (trace_of (site_now m)) (state_of m)))) h }
+  name_now : (name : List ℕ) (v : Value) (left : ℕ) → value_of_name name (site_now m).scene m.locals m.heap ≡ Give v 0 → IsImmediate (name_part name) left (ended_at v left) m
+  name_now name v left h = record { fewer = omega arith; goes_on = λ k. ap (λ (x : Effect). ends left (k (made x (trace_of (site_now m)) (state_of m)))) h }
 
-  pub name_found : (name : List ℕ) (r : Option Value) (v : Value) (left : ℕ) → r ≡ Some v → IfSome r (λ x. named name (site_now m).scene m.locals m.heap ≡ Give x 0) → IsImmediate (name_part name) left (ended_at v left) m
-  name_found name r v left is h = name_now name v left (subst (λ (o : Option Value). IfSome o (λ x. named name (site_now m).scene m.locals m.heap ≡ Give x 0)) is h)
+  pub name_found : (name : List ℕ) (r : Option Value) (v : Value) (left : ℕ) → r ≡ Some v → IfSome r (λ x. value_of_name name (site_now m).scene m.locals m.heap ≡ Give x 0) → IsImmediate (name_part name) left (ended_at v left) m
+  name_found name r v left is h = name_now name v left (subst (λ (o : Option Value). IfSome o (λ x. value_of_name name (site_now m).scene m.locals m.heap ≡ Give x 0)) is h)
 
   constant_now : (v : Value) (left : ℕ) → IsImmediate (constant v) left (ended_at v left) m
   constant_now v left = record { fewer = omega arith; goes_on = λ k. refl }
@@ -187,9 +187,9 @@ module _ (m : Machine) where
 
   pub one_part : (es : Rc (Vec (Rc CoreExpr Global) Global) Global) (e : Rc CoreExpr Global) → length es.value.items ≡ 1 → e ≡ get_or es.value.items 0 e → parts_from 0 es ≡ eval e.value ∷ []
   one_part es e one is =
-      let within : 0 < length es.value.items = omega arith in
+      let payable : 0 < length es.value.items = omega arith in
       let last : length es.value.items ≤ 1 = omega arith in
-      (next_some es 0 e e within is refl).0 ∙ ap (λ (ps : List CorePart). eval e.value ∷ ps) (next_none es 1 last)
+      (next_some es 0 e e payable is refl).0 ∙ ap (λ (ps : List CorePart). eval e.value ∷ ps) (next_none es 1 last)
 
   pub comparison_step : (op : CmpOp) (ops more : List CmpOp) (a b : Rc CoreExpr Global) (es : Rc (Vec (Rc CoreExpr Global) Global) Global) (a' b' : CoreExpr) (left : ℕ) (rx : Option Immediate) (x : Immediate) (ry : Option Immediate) (y : Immediate) (r : Option Immediate)
       → a' ≡ a.value → b' ≡ b.value → ops ≡ op ∷ more → parts_from 0 es ≡ eval b.value ∷ []
@@ -209,12 +209,12 @@ module _ (m : Machine) where
 
   -- a call goes on with the value of what is called
   pub called_now : (shape : List Value → Arguments) (f : Rc CoreExpr Global) (f' : CoreExpr) (es es' : Rc (Vec (Rc CoreExpr Global) Global) Global) (rx : Option Immediate) (x : Immediate) → f' ≡ f.value → es'.value ≡ es.value → rx ≡ Some x → IfSome rx (λ d. IsImmediate (eval f') m.left d m)
-      → ends x.left (call_on x.value shape (parts_from 0 es') [] (site_now m) (state_of m) (rest_of m)) ≡ ends m.left (call_part (eval f.value) shape (parts_from 0 es) (site_now m) (state_of m) (rest_of m))
+      → ends x.left (call_on x.value shape (parts_from 0 es') [] (site_now m) (state_of m) (machine_rest m)) ≡ ends m.left (call_part (eval f.value) shape (parts_from 0 es) (site_now m) (state_of m) (machine_rest m))
   called_now shape f f' es es' rx x ef same is h =
       let i : IsImmediate (eval f') m.left x m = found (eval f') m.left rx x is h in
-      sym (i.goes_on (λ o. on_value o (rest_of m) (λ c s. call_on c shape (parts_from 0 es') [] (site_now m) s (rest_of m))))
-      ∙ ap (λ (v : Vec (Rc CoreExpr Global) Global). ends m.left (call_part (eval f') shape (map (λ (e : Rc CoreExpr Global). eval e.value) (drop 0 v.items)) (site_now m) (state_of m) (rest_of m))) same
-      ∙ ap (λ (e : CoreExpr). ends m.left (call_part (eval e) shape (parts_from 0 es) (site_now m) (state_of m) (rest_of m))) ef
+      sym (i.goes_on (λ o. on_value o (machine_rest m) (λ c s. call_on c shape (parts_from 0 es') [] (site_now m) s (machine_rest m))))
+      ∙ ap (λ (v : Vec (Rc CoreExpr Global) Global). ends m.left (call_part (eval f') shape (map (λ (e : Rc CoreExpr Global). eval e.value) (drop 0 v.items)) (site_now m) (state_of m) (machine_rest m))) same
+      ∙ ap (λ (e : CoreExpr). ends m.left (call_part (eval e) shape (parts_from 0 es) (site_now m) (state_of m) (machine_rest m))) ef
 
 pub ruleset leaves = (name_form, number_form, true_form, false_form, none_form, temp_form)
 

@@ -8,10 +8,10 @@ use Rattle.py_tree.specs.declared.op.BinOp.{BinOp}
 use Rattle.py_tree.specs.declared.op.BinOp.TheVariants as op
 use Rattle.py_tree.specs.declared.op.CmpOp.{CmpOp}
 use Rattle.py_tree.specs.declared.op.CmpOp.TheVariants as cmp
-use Rattle.py_values.specs.Raises.{raise}
+use Rattle.py_values.specs.Raises.{text_raise}
 use Rattle.py_values.specs.declared.class.ExcClass.TheVariants.{ZeroDivisionError}
-use Rattle.py_values.specs.declared.end.Made.{Made}
-use Rattle.py_values.specs.declared.end.Made.TheVariants.{Give, Fail}
+use Rattle.py_values.specs.declared.end.Effect.{Effect}
+use Rattle.py_values.specs.declared.end.Effect.TheVariants.{Give, Fail}
 use Rattle.py_values.specs.declared.end.Raise.{Raise}
 use Rattle.py_values.specs.declared.object.Obj.{Obj}
 use Rattle.py_values.specs.declared.value.Value.TheVariants as val
@@ -20,26 +20,26 @@ use Rattle.py_compare.specs.Order.{order_of}
 use Rattle.py_compare.specs.Order as place
 use Rattle.py_operands.specs.Numbers as numbers
 use Rattle.py_ops.specs.Binary.{binary_of, numbers_by}
-use Rattle.py_ops.specs.Compare.{compare_of, judged, placed_by, places}
+use Rattle.py_ops.specs.Compare.{compare_of, judged, placed_by, order_places}
 use Rattle.py_ops.specs.declared.compare.Places.{Places}
 use Rattle.machine_immediate.specs.Numbers.{told_by}
 
 -- a number that has its 128 bits
-fitted : (z : ℤ) (r : Option ℤ) → r ≡ numbers.fitting z → IfSome r (λ n. numbers.number z ≡ Give (val.Int n) 0)
+fitted : (z : ℤ) (r : Option ℤ) → r ≡ numbers.fitting z → IfSome r (λ n. numbers.bounded_number z ≡ Give (val.Int n) 0)
 fitted z None h = tt
 fitted z (Some n) h = ap numbers.number_made (sym h)
 
 apart : (y : ℤ) → y ≢ pos 0 → int_eq y (pos 0) ≡ false
 apart y h = false_from_ne_true (int_eq y (pos 0)) (λ e. h ((Decides-int_eq y (pos 0)).0 e))
 
-otherwise : (b : Bool) (f m : Made) → b ≡ false → (if b then f else m) ≡ m
+otherwise : (b : Bool) (f m : Effect) → b ≡ false → (if b then f else m) ≡ m
 otherwise true f m h = absurd cc
 otherwise false f m h = refl
 
 divided : (y z : ℤ) (r : Option ℤ) → y ≢ pos 0 → r ≡ numbers.fitting z → IfSome r (λ n. numbers.divided y z ≡ Give (val.Int n) 0)
 divided y z None k h = tt
 divided y z (Some n) k h =
-    otherwise (int_eq y (pos 0)) (Fail (raise ZeroDivisionError (codes "division by zero")) 0) (numbers.number z) (apart y k) ∙ ap numbers.number_made (sym h)
+    otherwise (int_eq y (pos 0)) (Fail (text_raise ZeroDivisionError (codes "division by zero")) 0) (numbers.bounded_number z) (apart y k) ∙ ap numbers.number_made (sym h)
 
 -- each operator whose number is told at once
 module _ (o : BinOp) (x y : ℤ) (r : Option ℤ) where
@@ -120,10 +120,10 @@ tells : (heap : List Obj) (x y : ℤ) (o : CmpOp) → IfSome (told_by o (int_lt 
 unfolding compare_of equal_of order_of
 tells heap x y cmp.Equal = equal_if (int_eq x y)
 tells heap x y cmp.NotEqual = unequal_if (int_eq x y)
-tells heap x y cmp.Less = place_if _ (places true false false) (int_lt x y) (int_eq x y) ∙ boolean _ _ (less_if (int_lt x y) (int_eq x y))
-tells heap x y cmp.LessEqual = place_if _ (places true true false) (int_lt x y) (int_eq x y) ∙ boolean _ _ (at_most_if (int_lt x y) (int_eq x y))
-tells heap x y cmp.Greater = place_if _ (places false false true) (int_lt x y) (int_eq x y) ∙ boolean _ _ (more_if (int_lt x y) (int_eq x y))
-tells heap x y cmp.GreaterEqual = place_if _ (places false true true) (int_lt x y) (int_eq x y) ∙ boolean _ _ (at_least_if (int_lt x y) (int_eq x y))
+tells heap x y cmp.Less = place_if _ (order_places true false false) (int_lt x y) (int_eq x y) ∙ boolean _ _ (less_if (int_lt x y) (int_eq x y))
+tells heap x y cmp.LessEqual = place_if _ (order_places true true false) (int_lt x y) (int_eq x y) ∙ boolean _ _ (at_most_if (int_lt x y) (int_eq x y))
+tells heap x y cmp.Greater = place_if _ (order_places false false true) (int_lt x y) (int_eq x y) ∙ boolean _ _ (more_if (int_lt x y) (int_eq x y))
+tells heap x y cmp.GreaterEqual = place_if _ (order_places false true true) (int_lt x y) (int_eq x y) ∙ boolean _ _ (at_least_if (int_lt x y) (int_eq x y))
 tells heap x y cmp.In = tt
 tells heap x y cmp.NotIn = tt
 tells heap x y cmp.Is = tt

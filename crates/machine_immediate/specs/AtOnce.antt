@@ -1,8 +1,8 @@
 -- Parts whose value is there at once.
 use Rattle.std.specs.Prelude.{ℕ, suc, ◌≤◌, ◌≡◌, Option}
-use Rattle.py_values.specs.declared.end.Made.{Made}
+use Rattle.py_values.specs.declared.end.Effect.{Effect}
 use Rattle.py_values.specs.declared.value.Value.{Value}
-use Rattle.py_values.specs.Ends.{within}
+use Rattle.py_values.specs.Ends.{payable}
 use Rattle.machine_state.specs.py_world.Site.{Site}
 use Rattle.machine_state.specs.py_world.Outcome.{Gave, operated}
 use Rattle.machine_state.specs.core_meaning.Expressions.{CorePart}
@@ -21,6 +21,6 @@ pub record IsImmediate (part : CorePart) (left : ℕ) (d : Immediate) (m : Machi
   pub goes_on : (k : CoreThen) → ends left (part (site_now m) (state_of m) k) ≡ ends d.left (k (Gave d.value (state_of m)))
 
 -- what is made within these steps is this value, behind the operator's own step
-pub record IsGiven (made : Option Made) (left : ℕ) (d : Immediate) : Type 0 where
+pub record IsMadeWithin (made : Option Effect) (left : ℕ) (d : Immediate) : Type 0 where
   pub fewer : d.left ≤ left
-  pub goes_on : (m : Made) → made ≡ within left m → (p : Site) (s : CoreState) (k : CoreThen) → ends (suc left) (operated m p s k) ≡ ends d.left (k (Gave d.value s))
+  pub goes_on : (m : Effect) → made ≡ payable left m → (p : Site) (s : CoreState) (k : CoreThen) → ends (suc left) (operated m p s k) ≡ ends d.left (k (Gave d.value s))

@@ -9,7 +9,7 @@ ghost use Rattle.machine_state.specs.py_world.Expressions as world;
 ghost use Rattle.machine_state.specs.py_world.Outcome.{operated};
 ghost use Rattle.machine_state.specs.core_meaning.Expressions.{eval};
 ghost use Rattle.machine_state.specs.Places.{parts_from};
-ghost use Rattle.machine_immediate.specs.AtOnce.{IsImmediate, IsGiven, ended_at};
+ghost use Rattle.machine_immediate.specs.AtOnce.{IsImmediate, IsMadeWithin, ended_at};
 
 use crate::part::{op_at, temp_value};
 use crate::whole::{answer_by, value_by};
@@ -21,7 +21,7 @@ use py_ops::binary::binary_made;
 use py_ops::compare::compare_made;
 use py_ops::unary::unary_made;
 use py_text::OutOfMemory;
-use py_values::end::{Made, made_within};
+use py_values::end::{Effect, made_within};
 use py_values::value::Value;
 use std::rc::Rc;
 
@@ -36,8 +36,8 @@ pub struct Immediate {
 const DEEPEST: u32 = 8;
 
 /// The value that an operator gives, where it gives one that was there before.
-fn given(made: Option<Made>, left: u64) -> Option<Immediate>
-    ensures { IfSome result (IsGiven made left) }
+fn given(made: Option<Effect>, left: u64) -> Option<Immediate>
+    ensures { IfSome result (IsMadeWithin made left) }
 {
     match made {
         Some(made) => given_by(made, left),
@@ -45,10 +45,10 @@ fn given(made: Option<Made>, left: u64) -> Option<Immediate>
     }
 }
 
-fn given_by(made: Made, left: u64) -> Option<Immediate>
-    ensures { IfSome result (IsGiven (Some made) left) }
+fn given_by(made: Effect, left: u64) -> Option<Immediate>
+    ensures { IfSome result (IsMadeWithin (Some made) left) }
 {
-    if let Made::Give(value, cost) = made {
+    if let Effect::Give(value, cost) = made {
         let left = left.saturating_sub(cost);
         return Some(Immediate { value, left });
     }

@@ -4,7 +4,7 @@ ghost use Rattle.std.specs.Prelude.{◌≡◌, IfSome, List};
 ghost use Rattle.py_ops.specs.Binary.{numbers_by, binary_of};
 ghost use Rattle.py_ops.specs.Compare.{compare_of};
 ghost use Rattle.machine_immediate.specs.Numbers as numbers;
-ghost use Rattle.py_values.specs.declared.end.Made.TheVariants.{Give};
+ghost use Rattle.py_values.specs.declared.end.Effect.TheVariants.{Give};
 ghost use Rattle.py_values.specs.declared.object.Obj.{Obj};
 ghost use Rattle.py_values.specs.declared.value.Value.TheVariants.{Bool, Int};
 

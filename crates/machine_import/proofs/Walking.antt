@@ -2,13 +2,13 @@
 use Rattle.std.proofs.Common.{◌≡◌, ◌<◌, ◌≤◌, ◌+◌, ◌∙◌, ℕ, zero, suc, Bool, true, false, List, [], ◌∷◌, ◌++◌, length, drop, take, Option, Some, None, refl, sym, ap, arith, add-one}
 use Rattle.std.proofs.lemmas.List.{append_assoc, drop_all}
 use Rattle.py_values.specs.declared.value.Value.{Value}
-use Rattle.machine_state.specs.py_world.Imports.{faulty, import_path, is_pytest, module_at, modules_at, paths_of, prefixes_behind, pytest_or}
+use Rattle.machine_state.specs.py_world.Imports.{faulty, import_path, is_pytest, module_at, modules_at, source_paths, prefixes_behind, pytest_or}
 use Rattle.machine_state.specs.py_world.Outcome.{on_value}
 use Rattle.machine_state.specs.py_world.Runs.{load_part}
 use Rattle.machine_state.specs.py_world.Site.{Site}
 use Rattle.machine_state.specs.core_meaning.Statements.{core_body}
 use Rattle.machine_state.specs.Places.{CoreRest, CoreState, CoreThen}
-use Rattle.machine_import.specs.declared.walk.Found.{Found}
+use Rattle.machine_import.specs.declared.walk.NextModule.{NextModule}
 use Rattle.machine_import.specs.Walks.{built_in, found_by, found_from, last_value, source_path, source_unless}
 
 abbrev Dotted : Type 0
@@ -76,14 +76,14 @@ tail_at ps at d ds h = rw add-one (tail_suc ps at d ds h)
 
 -- what the meaning does, behind the look
 module _ (p : Site) (s : CoreState) (k : CoreThen) (go : Option Value → CoreState → CoreRest) (ps : List Dotted) where
-  abbrev behind_look : Option Found → List Dotted → Option Value → CoreRest
+  abbrev behind_look : Option NextModule → List Dotted → Option Value → CoreRest
   behind_look (Some f) ds m = load_part core_body f.path (faulty f.path) p s (λ o. on_value o k (λ v s. modules_at core_body (drop f.looked ps) (Some v) p s k go))
   behind_look None ds m = go (last_value ds m) s
 
-  abbrev look : ℕ → List Dotted → Option Found
-  look at ds = found_from (paths_of s.world.sources) p.scene.path at ds
+  abbrev look : ℕ → List Dotted → Option NextModule
+  look at ds = found_from (source_paths s.world.sources) p.scene.path at ds
 
-  passed : (b : Bool) (f : Option Found) (d : Dotted) (ds : List Dotted) (m : Option Value) → b ≡ is_pytest d → behind_look f ds (built_in b) ≡ behind_look f (d ∷ ds) m
+  passed : (b : Bool) (f : Option NextModule) (d : Dotted) (ds : List Dotted) (m : Option Value) → b ≡ is_pytest d → behind_look f ds (built_in b) ≡ behind_look f (d ∷ ds) m
   passed b (Some f) d ds m h = refl
   passed b None d ds m h = ap (λ (x : Bool). go (last_value ds (built_in x)) s) h
 
@@ -91,7 +91,7 @@ module _ (p : Site) (s : CoreState) (k : CoreThen) (go : Option Value → CoreSt
   onto ds m s = modules_at core_body ds m p s k go
 
   walk_by : (b : Bool) (o : Option (List ℕ)) (at : ℕ) (d : Dotted) (ds : List Dotted) (m : Option Value) → drop at ps ≡ d ∷ ds → b ≡ is_pytest d
-      → o ≡ import_path (paths_of s.world.sources) p.scene.path d → ((v : Option Value) → onto ds v s ≡ behind_look (look (at + 1) ds) ds v)
+      → o ≡ import_path (source_paths s.world.sources) p.scene.path d → ((v : Option Value) → onto ds v s ≡ behind_look (look (at + 1) ds) ds v)
       → pytest_or core_body b d p s k (onto ds) ≡ behind_look (found_by (source_unless b o) (at + 1) (look (at + 1) ds)) (d ∷ ds) m
   walk_by true o at d ds m h own is rest = rest (built_in true) ∙ passed true (look (at + 1) ds) d ds m own
   walk_by false (Some path) at d ds m h own is rest =
@@ -103,14 +103,14 @@ module _ (p : Site) (s : CoreState) (k : CoreThen) (go : Option Value → CoreSt
   walk : (at : ℕ) (ds : List Dotted) (m : Option Value) → drop at ps ≡ ds → modules_at core_body ds m p s k go ≡ behind_look (look at ds) ds m
   walk at [] m h = refl
   walk at (d ∷ ds) m h =
-      walk_by (is_pytest d) (import_path (paths_of s.world.sources) p.scene.path d) at d ds m h refl refl (λ v. walk (at + 1) ds v (tail_at ps at d ds h))
+      walk_by (is_pytest d) (import_path (source_paths s.world.sources) p.scene.path d) at d ds m h refl refl (λ v. walk (at + 1) ds v (tail_at ps at d ds h))
 
   pub walks : (at : ℕ) (m : Option Value) → modules_at core_body (drop at ps) m p s k go ≡ behind_look (look at (drop at ps)) (drop at ps) m
   walks at m = walk at (drop at ps) m refl
 
-  pub walks_to : (at : ℕ) (m : Option Value) (f : Found) → Some f ≡ look at (drop at ps)
+  pub walks_to : (at : ℕ) (m : Option Value) (f : NextModule) → Some f ≡ look at (drop at ps)
       → modules_at core_body (drop at ps) m p s k go ≡ load_part core_body f.path (faulty f.path) p s (λ o. on_value o k (λ v s. modules_at core_body (drop f.looked ps) (Some v) p s k go))
-  walks_to at m f is = walks at m ∙ ap (λ (x : Option Found). behind_look x (drop at ps) m) (sym is)
+  walks_to at m f is = walks at m ∙ ap (λ (x : Option NextModule). behind_look x (drop at ps) m) (sym is)
 
   pub walks_over : (at : ℕ) (m v : Option Value) → None ≡ look at (drop at ps) → v ≡ last_value (drop at ps) m → modules_at core_body (drop at ps) m p s k go ≡ go v s
-  walks_over at m v is last = walks at m ∙ ap (λ (x : Option Found). behind_look x (drop at ps) m) (sym is) ∙ ap (λ (y : Option Value). go y s) (sym last)
+  walks_over at m v is last = walks at m ∙ ap (λ (x : Option NextModule). behind_look x (drop at ps) m) (sym is) ∙ ap (λ (y : Option Value). go y s) (sym last)

@@ -11,7 +11,7 @@ use Rattle.machine_state.specs.core_meaning.Statements.{core_body}
 use Rattle.machine_state.specs.declared.machine.Machine.{Machine}
 use Rattle.machine_state.specs.declared.machine.TurnEnd.{TurnEnd}
 use Rattle.machine_state.specs.Places.{CoreRest, CoreState, CoreThen}
-use Rattle.machine_state.specs.Frames.{rest_of, site_now, state_of, Follows}
+use Rattle.machine_state.specs.Frames.{machine_rest, site_now, state_of, Follows}
 use Rattle.machine_state.specs.Work.{stack_work, Falls}
 
 -- what is raised for a name that is neither a module's own nor a module in it
@@ -32,7 +32,7 @@ named_behind m dotted (a ∷ rest) from last p s k =
 
 -- a name is imported and the others follow, or a turn ends
 abbrev pub Imported : Option TurnEnd → Machine → Machine → CoreRest → Option Value → List (List ℕ) → List Alias → Type 0
-Imported None old new u m dotted rest = u ≡ import_each core_body m dotted rest (site_now new) (state_of new) (rest_of new)
+Imported None old new u m dotted rest = u ≡ import_each core_body m dotted rest (site_now new) (state_of new) (machine_rest new)
 Imported (Some t) old new u m dotted rest = Follows t new old.left u
 
 abbrev pub LessToDo : Option TurnEnd → Machine → Machine → Type 0

@@ -11,11 +11,11 @@ use Rattle.machine_state.specs.declared.machine.Machine.{Machine}
 use Rattle.machine_state.specs.Places.{CoreRest, CoreState, CoreThen}
 use Rattle.machine_state.specs.Definings.{modules_behind}
 use Rattle.machine_state.specs.Frames.{site_now, state_of}
-use Rattle.machine_import.specs.declared.walk.Found.{Found}
-use Rattle.machine_import.specs.declared.walk.Reached.{Reached}
-use Rattle.machine_import.specs.declared.walk.Reached.TheVariants.{Module, Load}
+use Rattle.machine_import.specs.declared.walk.NextModule.{NextModule}
+use Rattle.machine_import.specs.declared.walk.ImportStep.{ImportStep}
+use Rattle.machine_import.specs.declared.walk.ImportStep.TheVariants.{Module, Load}
 
-abbrev pub found_by : Option (List ℕ) → ℕ → Option Found → Option Found
+abbrev pub found_by : Option (List ℕ) → ℕ → Option NextModule → Option NextModule
 found_by (Some path) looked rest = Some (record { path = path; looked = looked })
 found_by None looked rest = rest
 
@@ -34,7 +34,7 @@ module _ (paths : List (List ℕ)) (importer : List ℕ) where
   source_path d = source_unless (is_pytest d) (import_path paths importer d)
 
   -- the first of some dotted names of which there is a source, and how many are looked for with it
-  abbrev pub found_from : ℕ → List (List (List ℕ)) → Option Found
+  abbrev pub found_from : ℕ → List (List (List ℕ)) → Option NextModule
   found_from at [] = None
   found_from at (d ∷ ds) = found_by (source_path d) (at + 1) (found_from (at + 1) ds)
 
@@ -44,7 +44,7 @@ last_value [] m = m
 last_value (d ∷ ds) m = last_value ds (built_in (is_pytest d))
 
 -- what the meaning does with the beginnings of a dotted name from a place on
-abbrev pub Reaches : Reached → List (List ℕ) → ℕ → Option Value → Machine → Type 0
+abbrev pub Reaches : ImportStep → List (List ℕ) → ℕ → Option Value → Machine → Type 0
 Reaches (Module v) dotted from last m = (k : CoreThen) (go : Option Value → CoreState → CoreRest)
     → modules_at core_body (drop from (prefixes_behind [] dotted)) last (site_now m) (state_of m) k go ≡ go v (state_of m)
 Reaches (Load f) dotted from last m = (k : CoreThen) (go : Option Value → CoreState → CoreRest)

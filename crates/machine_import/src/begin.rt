@@ -3,14 +3,14 @@
 ghost use Rattle.std.specs.Prelude.{◌≡◌, ◌+◌, [], IfOk, drop};
 ghost use Rattle.machine_state.specs.py_world.Imports as imports;
 ghost use Rattle.machine_state.specs.core_meaning.Statements.{core_body};
-ghost use Rattle.machine_state.specs.Frames.{rest_of, site_now, state_of, todo, Follows};
+ghost use Rattle.machine_state.specs.Frames.{machine_rest, site_now, state_of, todo, Follows};
 ghost use Rattle.machine_state.specs.Work.{doing_work, stack_work, Falls};
 
 use crate::each::import_rest;
 use crate::faults::no_module;
-use crate::walk::{Reached, reach, wait};
+use crate::walk::{ImportStep, reach, wait};
 use machine_state::frame::ModuleFrame;
-use machine_state::machine::{Doing, Machine, Origin, TurnEnd};
+use machine_state::machine::{Machine, NextAction, Origin, TurnEnd};
 use machine_turns::names::store;
 use py_core::SrcText;
 use py_text::OutOfMemory;
@@ -42,8 +42,8 @@ fn end_import(
     found: Option<Value>,
     dotted: &[SrcText],
     name: &SrcText,
-) -> Result<Doing, OutOfMemory>
-    ensures next { IfOk result (λ d. todo d m.new ≡ rest_of m.old (imports.import_end found dotted.now name.now (site_now m.old) (state_of m.old))) }
+) -> Result<NextAction, OutOfMemory>
+    ensures next { IfOk result (λ d. todo d m.new ≡ machine_rest m.old (imports.import_end found dotted.now name.now (site_now m.old) (state_of m.old))) }
     ensures left { m.new.left ≡ m.old.left }
     ensures work { IfOk result (λ d. doing_work d ≡ 0) }
     ensures stack { m.new.stack ≡ m.old.stack }
@@ -65,15 +65,15 @@ pub fn import_behind(
     last: Option<Value>,
     name: SrcText,
 ) -> Result<TurnEnd, OutOfMemory>
-    ensures next { IfOk result (λ t. Follows t m.new m.old.left (imports.modules_at core_body (drop from (imports.prefixes_behind [] dotted.value.items)) last (site_now m.old) (state_of m.old) (rest_of m.old)
-        (λ v s. rest_of m.old (imports.import_end v dotted.value.items name (site_now m.old) s)))) }
+    ensures next { IfOk result (λ t. Follows t m.new m.old.left (imports.modules_at core_body (drop from (imports.prefixes_behind [] dotted.value.items)) last (site_now m.old) (state_of m.old) (machine_rest m.old)
+        (λ v s. machine_rest m.old (imports.import_end v dotted.value.items name (site_now m.old) s)))) }
     ensures left { m.new.left ≡ m.old.left }
     ensures work { IfOk result (λ t. Falls t m.new m.old.left (1 + stack_work m.old)) }
 {
     let reached = reach(m, &dotted, from, last)?;
     match reached {
-        Reached::Module(found) => Ok(TurnEnd::Go(end_import(m, found, &dotted, &name)?)),
-        Reached::Load(next) => {
+        ImportStep::Module(found) => Ok(TurnEnd::Go(end_import(m, found, &dotted, &name)?)),
+        ImportStep::Load(next) => {
             let frame = ModuleFrame::Import(dotted, next.looked, name);
             wait(m, frame, next.path)
         }
@@ -88,15 +88,15 @@ pub fn from_behind(
     last: Option<Value>,
     all: Rc<Vec<Alias>>,
 ) -> Result<TurnEnd, OutOfMemory>
-    ensures next { IfOk result (λ t. Follows t m.new m.old.left (imports.modules_at core_body (drop from (imports.prefixes_behind [] dotted.value.items)) last (site_now m.old) (state_of m.old) (rest_of m.old)
-        (λ v s. imports.import_each core_body v dotted.value.items all.value.items (site_now m.old) s (rest_of m.old)))) }
+    ensures next { IfOk result (λ t. Follows t m.new m.old.left (imports.modules_at core_body (drop from (imports.prefixes_behind [] dotted.value.items)) last (site_now m.old) (state_of m.old) (machine_rest m.old)
+        (λ v s. imports.import_each core_body v dotted.value.items all.value.items (site_now m.old) s (machine_rest m.old)))) }
     ensures left { m.new.left ≡ m.old.left }
     ensures work { IfOk result (λ t. Falls t m.new m.old.left (1 + stack_work m.old)) }
 {
     let reached = reach(m, &dotted, from, last)?;
     match reached {
-        Reached::Module(found) => import_rest(m, found, dotted, all, 0),
-        Reached::Load(next) => {
+        ImportStep::Module(found) => import_rest(m, found, dotted, all, 0),
+        ImportStep::Load(next) => {
             let frame = ModuleFrame::From(dotted, next.looked, all);
             wait(m, frame, next.path)
         }
@@ -109,7 +109,7 @@ pub fn begin_import(
     dotted: &Rc<Vec<SrcText>>,
     alias: &Option<SrcText>,
 ) -> Result<TurnEnd, OutOfMemory>
-    ensures next { IfOk result (λ t. Follows t m.new m.old.left (imports.import_statement core_body dotted.now.value.items alias.now (site_now m.old) (state_of m.old) (rest_of m.old))) }
+    ensures next { IfOk result (λ t. Follows t m.new m.old.left (imports.import_statement core_body dotted.now.value.items alias.now (site_now m.old) (state_of m.old) (machine_rest m.old))) }
     ensures left { m.new.left ≡ m.old.left }
 {
     let name = import_name(m.alloc, dotted, alias)?;
@@ -122,7 +122,7 @@ pub fn begin_import_from(
     dotted: &Rc<Vec<SrcText>>,
     all: &Rc<Vec<Alias>>,
 ) -> Result<TurnEnd, OutOfMemory>
-    ensures next { IfOk result (λ t. Follows t m.new m.old.left (imports.import_from core_body dotted.now.value.items all.now.value.items (site_now m.old) (state_of m.old) (rest_of m.old))) }
+    ensures next { IfOk result (λ t. Follows t m.new m.old.left (imports.import_from core_body dotted.now.value.items all.now.value.items (site_now m.old) (state_of m.old) (machine_rest m.old))) }
     ensures left { m.new.left ≡ m.old.left }
 {
     from_behind(m, dotted.clone()?, 0, None, all.clone()?)

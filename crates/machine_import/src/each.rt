@@ -5,15 +5,15 @@ ghost use Rattle.py_tree.specs.declared.stmt.Alias.{Alias};
 ghost use Rattle.machine_state.specs.py_world.Imports as imports;
 ghost use Rattle.machine_state.specs.core_meaning.Statements.{core_body};
 ghost use Rattle.machine_state.specs.Definings.{each_behind};
-ghost use Rattle.machine_state.specs.Frames.{rest_of, site_now, state_of, Follows};
+ghost use Rattle.machine_state.specs.Frames.{machine_rest, site_now, state_of, Follows};
 ghost use Rattle.machine_state.specs.Work.{stack_work, Falls};
 ghost use Rattle.machine_import.specs.Names.{not_there, named_behind, submodule_behind, Imported, LessToDo};
 
 use crate::faults::{no_module, not_imported};
 use crate::paths::is_pytest;
-use crate::walk::{Reached, reach, wait};
+use crate::walk::{ImportStep, reach, wait};
 use machine_state::frame::{End, ModuleFrame};
-use machine_state::machine::{Doing, Machine, Origin, TurnEnd};
+use machine_state::machine::{Machine, NextAction, Origin, TurnEnd};
 use machine_turns::names::bind;
 use py_attributes::names::own_value;
 use py_core::SrcText;
@@ -83,7 +83,7 @@ fn bind_submodule(
     alias: &Alias,
     inner: Option<Value>,
 ) -> Result<Option<TurnEnd>, OutOfMemory>
-    ensures next { IfOk result (λ t. (rest : List Alias) → Imported t m.old m.new (submodule_behind found dotted.now alias.now rest inner (site_now m.old) (state_of m.old) (rest_of m.old)) found dotted.now rest) }
+    ensures next { IfOk result (λ t. (rest : List Alias) → Imported t m.old m.new (submodule_behind found dotted.now alias.now rest inner (site_now m.old) (state_of m.old) (machine_rest m.old)) found dotted.now rest) }
     ensures left { m.new.left ≡ m.old.left }
     ensures work { IfOk result (λ t. LessToDo t m.old m.new) }
 {
@@ -111,7 +111,7 @@ fn import_submodule(
     last: Option<Value>,
 ) -> Result<Option<TurnEnd>, OutOfMemory>
     requires { at < length all.now.value.items }
-    ensures next { IfOk result (λ t. Imported t m.old m.new (named_behind found dotted.now.value.items (drop at all.now.value.items) from last (site_now m.old) (state_of m.old) (rest_of m.old)) found dotted.now.value.items (drop (at + 1) all.now.value.items)) }
+    ensures next { IfOk result (λ t. Imported t m.old m.new (named_behind found dotted.now.value.items (drop at all.now.value.items) from last (site_now m.old) (state_of m.old) (machine_rest m.old)) found dotted.now.value.items (drop (at + 1) all.now.value.items)) }
     ensures left { m.new.left ≡ m.old.left }
     ensures work { IfOk result (λ t. LessToDo t m.old m.new) }
 {
@@ -119,8 +119,8 @@ fn import_submodule(
     let name = submodule(m.alloc, dotted, &alias.name)?;
     let reached = reach(m, &name, from, last)?;
     match reached {
-        Reached::Module(inner) => bind_submodule(m, found, dotted, alias, inner),
-        Reached::Load(next) => {
+        ImportStep::Module(inner) => bind_submodule(m, found, dotted, alias, inner),
+        ImportStep::Load(next) => {
             let dotted = dotted.clone()?;
             let all = all.clone()?;
             let frame = ModuleFrame::Each(found, dotted, all, at, next.looked);
@@ -130,8 +130,8 @@ fn import_submodule(
 }
 
 /// Refuses to import a name that the built-in module does not have.
-fn refuse_name(m: &mut Machine, alias: &Alias) -> Result<Doing, OutOfMemory>
-    ensures next { IfOk result (λ d. todo d m.new ≡ rest_of m.old (raised_at (imports.not_imported alias.now.name) (site_now m.old) (state_of m.old))) }
+fn refuse_name(m: &mut Machine, alias: &Alias) -> Result<NextAction, OutOfMemory>
+    ensures next { IfOk result (λ d. todo d m.new ≡ machine_rest m.old (raised_at (imports.not_imported alias.now.name) (site_now m.old) (state_of m.old))) }
     ensures left { m.new.left ≡ m.old.left }
     ensures work { IfOk result (λ d. doing_work d ≡ 0) }
     ensures stack { m.new.stack ≡ m.old.stack }
@@ -153,7 +153,7 @@ fn import_one(
     at: usize,
 ) -> Result<Option<TurnEnd>, OutOfMemory>
     requires { at < length all.now.value.items }
-    ensures next { IfOk result (λ t. Imported t m.old m.new (imports.import_each core_body found dotted.now.value.items (drop at all.now.value.items) (site_now m.old) (state_of m.old) (rest_of m.old)) found dotted.now.value.items (drop (at + 1) all.now.value.items)) }
+    ensures next { IfOk result (λ t. Imported t m.old m.new (imports.import_each core_body found dotted.now.value.items (drop at all.now.value.items) (site_now m.old) (state_of m.old) (machine_rest m.old)) found dotted.now.value.items (drop (at + 1) all.now.value.items)) }
     ensures left { m.new.left ≡ m.old.left }
     ensures work { IfOk result (λ t. LessToDo t m.old m.new) }
 {
@@ -180,7 +180,7 @@ pub fn import_rest(
     all: Rc<Vec<Alias>>,
     from: usize,
 ) -> Result<TurnEnd, OutOfMemory>
-    ensures next { IfOk result (λ t. Follows t m.new m.old.left (imports.import_each core_body found dotted.value.items (drop from all.value.items) (site_now m.old) (state_of m.old) (rest_of m.old))) }
+    ensures next { IfOk result (λ t. Follows t m.new m.old.left (imports.import_each core_body found dotted.value.items (drop from all.value.items) (site_now m.old) (state_of m.old) (machine_rest m.old))) }
     ensures left { m.new.left ≡ m.old.left }
     ensures work { IfOk result (λ t. Falls t m.new m.old.left (1 + stack_work m.old)) }
 {
@@ -189,7 +189,7 @@ pub fn import_rest(
             return Ok(turned);
         }
     }
-    Ok(TurnEnd::Go(Doing::Back(End::Next)))
+    Ok(TurnEnd::Go(NextAction::Back(End::Next)))
 }
 
 /// Goes on behind the load of a beginning of the dotted name of a module in another.
@@ -202,11 +202,11 @@ pub fn each_behind(
     from: usize,
     v: Value,
 ) -> Result<TurnEnd, OutOfMemory>
-    ensures next { IfOk result (λ t. Follows t m.new m.old.left (each_behind found dotted.value.items (drop at all.value.items) from (site_now m.old) v (state_of m.old) (rest_of m.old))) }
+    ensures next { IfOk result (λ t. Follows t m.new m.old.left (each_behind found dotted.value.items (drop at all.value.items) from (site_now m.old) v (state_of m.old) (machine_rest m.old))) }
     ensures work { IfOk result (λ t. Falls t m.new m.old.left (1 + stack_work m.old)) }
 {
     if at >= all.len() {
-        return Ok(TurnEnd::Go(Doing::Back(End::Next)));
+        return Ok(TurnEnd::Go(NextAction::Back(End::Next)));
     }
     match import_submodule(m, found, &dotted, &all, at, from, Some(v))? {
         Some(turned) => Ok(turned),

@@ -2,11 +2,11 @@
 
 ghost use Rattle.std.specs.Prelude.{◌≡◌, List, ℕ, Some, IfOk};
 ghost use Rattle.machine_state.specs.py_world.Imports as imports;
-ghost use Rattle.machine_state.specs.py_world.Outcome.{Part};
+ghost use Rattle.machine_state.specs.py_world.Outcome.{Denotation};
 ghost use Rattle.machine_state.specs.py_world.Runs as runs;
 ghost use Rattle.machine_state.specs.core_meaning.Requests.{core_kinds};
 ghost use Rattle.machine_state.specs.core_meaning.Statements.{core_body};
-ghost use Rattle.machine_state.specs.Frames.{rest_of, site_now, state_of, todo};
+ghost use Rattle.machine_state.specs.Frames.{machine_rest, site_now, state_of, todo};
 ghost use Rattle.machine_import.specs.Codes.{IsCodeOf};
 
 use crate::faults::{no_source, source_error};
@@ -15,7 +15,7 @@ use machine_load::Load;
 use machine_load::begin::begin_by_code;
 use machine_load::load::{load_at, set_load};
 use machine_state::frame::End;
-use machine_state::machine::{Doing, Machine, Origin};
+use machine_state::machine::{Machine, NextAction, Origin};
 use machine_state::source::{SourceCode, SourceFile};
 use machine_state::traces::copy_trace;
 use py_core::CoreBlock;
@@ -26,16 +26,16 @@ use py_values::value::Value;
 use std::rc::Rc;
 
 /// What a module that is known gives: itself, or what its load has raised.
-fn known(m: &Machine, load: &Load) -> Result<Doing, OutOfMemory>
-    ensures { IfOk result (λ d. (path : List ℕ) → (missing : Part core_kinds) → todo d m.now ≡ runs.load_by core_body (Some load.now) path missing (site_now m.now) (state_of m.now) (rest_of m.now)) }
+fn known(m: &Machine, load: &Load) -> Result<NextAction, OutOfMemory>
+    ensures { IfOk result (λ d. (path : List ℕ) → (missing : Denotation core_kinds) → todo d m.now ≡ runs.load_by core_body (Some load.now) path missing (site_now m.now) (state_of m.now) (machine_rest m.now)) }
 {
     match load {
-        Load::Running(id) => Ok(Doing::Back(End::Value(Value::Ref(*id)))),
-        Load::Loaded(id) => Ok(Doing::Back(End::Value(Value::Ref(*id)))),
+        Load::Running(id) => Ok(NextAction::Back(End::Value(Value::Ref(*id)))),
+        Load::Loaded(id) => Ok(NextAction::Back(End::Value(Value::Ref(*id)))),
         Load::Failed(exc, trace) => {
             let exc = *exc;
             let trace = copy_trace(m.alloc, trace)?;
-            Ok(Doing::Back(End::Raised(exc, trace)))
+            Ok(NextAction::Back(End::Raised(exc, trace)))
         }
     }
 }
@@ -67,8 +67,8 @@ fn fault_of(sources: &[SourceFile], path: &PyText) -> Option<SourceFault>
 }
 
 /// Fails the load of a source with a fault.
-fn fail_load(m: &mut Machine, path: PyText, fault: SourceFault) -> Result<Doing, OutOfMemory>
-    ensures next { IfOk result (λ d. todo d m.new ≡ rest_of m.old (imports.faulty_by (Some fault) path (site_now m.old) (state_of m.old))) }
+fn fail_load(m: &mut Machine, path: PyText, fault: SourceFault) -> Result<NextAction, OutOfMemory>
+    ensures next { IfOk result (λ d. todo d m.new ≡ machine_rest m.old (imports.faulty_by (Some fault) path (site_now m.old) (state_of m.old))) }
     ensures left { m.new.left ≡ m.old.left }
 {
     let raise = source_error(m.alloc, &path, fault)?;
@@ -76,12 +76,12 @@ fn fail_load(m: &mut Machine, path: PyText, fault: SourceFault) -> Result<Doing,
     let kept = copy_trace(m.alloc, &trace)?;
     let exc = throw(m.alloc, &mut m.heap, raise)?;
     set_load(&mut m.modules, path, Load::Failed(exc, kept))?;
-    Ok(Doing::Back(End::Raised(exc, trace)))
+    Ok(NextAction::Back(End::Raised(exc, trace)))
 }
 
 /// A path without code is not executed.
-fn refuse_load(m: &mut Machine, path: PyText) -> Result<Doing, OutOfMemory>
-    ensures next { IfOk result (λ d. todo d m.new ≡ imports.faulty path (site_now m.old) (state_of m.old) (rest_of m.old)) }
+fn refuse_load(m: &mut Machine, path: PyText) -> Result<NextAction, OutOfMemory>
+    ensures next { IfOk result (λ d. todo d m.new ≡ imports.faulty path (site_now m.old) (state_of m.old) (machine_rest m.old)) }
     ensures left { m.new.left ≡ m.old.left }
 {
     match fault_of(&m.sources, &path) {
@@ -94,8 +94,8 @@ fn refuse_load(m: &mut Machine, path: PyText) -> Result<Doing, OutOfMemory>
 }
 
 /// Loads the module of a path, which is executed once.
-pub fn enter_load(m: &mut Machine, path: PyText) -> Result<Doing, OutOfMemory>
-    ensures next { IfOk result (λ d. todo d m.new ≡ runs.load_part core_body path (imports.faulty path) (site_now m.old) (state_of m.old) (rest_of m.old)) }
+pub fn enter_load(m: &mut Machine, path: PyText) -> Result<NextAction, OutOfMemory>
+    ensures next { IfOk result (λ d. todo d m.new ≡ runs.load_part core_body path (imports.faulty path) (site_now m.old) (state_of m.old) (machine_rest m.old)) }
     ensures left { m.new.left ≡ m.old.left }
 {
     if let Some(load) = load_at(&m.modules, &path) {

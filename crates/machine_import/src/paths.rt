@@ -34,7 +34,7 @@ fn encoded(alloc: Global, chars: &[char]) -> Result<String, OutOfMemory>
 /// The paths of sources, in UTF-8.
 #[tactic(auto, using(crate::proofs::Sources::paths_more, crate::proofs::Sources::paths_all))]
 fn paths_of(alloc: Global, sources: &[SourceFile]) -> Result<Vec<String>, OutOfMemory>
-    ensures { IfOk result (λ paths. map string_bytes paths.items ≡ map encode_utf8_all (imports.paths_of sources.now)) }
+    ensures { IfOk result (λ paths. map string_bytes paths.items ≡ map encode_utf8_all (imports.source_paths sources.now)) }
 {
     let mut paths = Vec::new(alloc);
     for source in sources {
@@ -47,7 +47,7 @@ fn paths_of(alloc: Global, sources: &[SourceFile]) -> Result<Vec<String>, OutOfM
 /// The path of the source at a place.
 #[tactic(auto, using(crate::proofs::Sources::path_there, crate::proofs::Sources::path_missing))]
 fn path_at(alloc: Global, sources: &[SourceFile], at: usize) -> Result<Option<PyText>, OutOfMemory>
-    ensures { IfOk result (λ path. path ≡ slice_get (imports.paths_of sources.now) at) }
+    ensures { IfOk result (λ path. path ≡ slice_get (imports.source_paths sources.now) at) }
 {
     match sources.get(at) {
         Some(source) => {
@@ -71,7 +71,7 @@ pub fn is_pytest(dotted: &[SrcText]) -> bool
 
 /// The path that an import names here: that of a package or of a module (Language Reference, the import system).
 pub fn import_path(m: &Machine, dotted: &[SrcText]) -> Result<Option<PyText>, OutOfMemory>
-    ensures { IfOk result (λ path. path ≡ imports.import_path (imports.paths_of m.now.sources.items) (path_in m.now.here.place) dotted.now) }
+    ensures { IfOk result (λ path. path ≡ imports.import_path (imports.source_paths m.now.sources.items) (path_in m.now.here.place) dotted.now) }
 {
     let paths = paths_of(m.alloc, &m.sources)?;
     let importer = encoded(m.alloc, m.here.path().chars())?;

@@ -2,7 +2,7 @@
 
 ghost use Rattle.std.specs.Prelude.{◌≡◌, ◌+◌, IfOk};
 ghost use Rattle.machine_state.specs.Definings.{on_module};
-ghost use Rattle.machine_state.specs.Frames.{rest_of, site_now, state_of, Follows};
+ghost use Rattle.machine_state.specs.Frames.{machine_rest, site_now, state_of, Follows};
 ghost use Rattle.machine_state.specs.Places.{outcome};
 ghost use Rattle.machine_state.specs.Work.{stack_work, Falls};
 
@@ -10,7 +10,7 @@ use crate::begin::{from_behind, import_behind};
 use crate::each::each_behind;
 use machine_load::load::take_load;
 use machine_state::frame::{End, ModuleFrame};
-use machine_state::machine::{Doing, Machine, TurnEnd};
+use machine_state::machine::{Machine, NextAction, TurnEnd};
 use py_core::SrcText;
 use py_text::OutOfMemory;
 use py_tree::Alias;
@@ -25,16 +25,16 @@ fn take_import(
     name: SrcText,
     end: End,
 ) -> Result<TurnEnd, OutOfMemory>
-    ensures next { IfOk result (λ t. Follows t m.new m.old.left (on_module (ModuleFrame.Import dotted from name) (site_now m.old) (outcome end (state_of m.old)) (rest_of m.old))) }
+    ensures next { IfOk result (λ t. Follows t m.new m.old.left (on_module (ModuleFrame.Import dotted from name) (site_now m.old) (outcome end (state_of m.old)) (machine_rest m.old))) }
     ensures work { IfOk result (λ t. Falls t m.new m.old.left (1 + stack_work m.old)) }
 {
     match end {
         End::Value(v) => import_behind(m, dotted, from, Some(v), name),
-        End::Next => Ok(TurnEnd::Go(Doing::Back(End::Next))),
-        End::Returned(v) => Ok(TurnEnd::Go(Doing::Back(End::Returned(v)))),
-        End::Broke => Ok(TurnEnd::Go(Doing::Back(End::Broke))),
-        End::Continued => Ok(TurnEnd::Go(Doing::Back(End::Continued))),
-        End::Raised(e, trace) => Ok(TurnEnd::Go(Doing::Back(End::Raised(e, trace)))),
+        End::Next => Ok(TurnEnd::Go(NextAction::Back(End::Next))),
+        End::Returned(v) => Ok(TurnEnd::Go(NextAction::Back(End::Returned(v)))),
+        End::Broke => Ok(TurnEnd::Go(NextAction::Back(End::Broke))),
+        End::Continued => Ok(TurnEnd::Go(NextAction::Back(End::Continued))),
+        End::Raised(e, trace) => Ok(TurnEnd::Go(NextAction::Back(End::Raised(e, trace)))),
     }
 }
 
@@ -46,16 +46,16 @@ fn take_from(
     all: Rc<Vec<Alias>>,
     end: End,
 ) -> Result<TurnEnd, OutOfMemory>
-    ensures next { IfOk result (λ t. Follows t m.new m.old.left (on_module (ModuleFrame.From dotted from all) (site_now m.old) (outcome end (state_of m.old)) (rest_of m.old))) }
+    ensures next { IfOk result (λ t. Follows t m.new m.old.left (on_module (ModuleFrame.From dotted from all) (site_now m.old) (outcome end (state_of m.old)) (machine_rest m.old))) }
     ensures work { IfOk result (λ t. Falls t m.new m.old.left (1 + stack_work m.old)) }
 {
     match end {
         End::Value(v) => from_behind(m, dotted, from, Some(v), all),
-        End::Next => Ok(TurnEnd::Go(Doing::Back(End::Next))),
-        End::Returned(v) => Ok(TurnEnd::Go(Doing::Back(End::Returned(v)))),
-        End::Broke => Ok(TurnEnd::Go(Doing::Back(End::Broke))),
-        End::Continued => Ok(TurnEnd::Go(Doing::Back(End::Continued))),
-        End::Raised(e, trace) => Ok(TurnEnd::Go(Doing::Back(End::Raised(e, trace)))),
+        End::Next => Ok(TurnEnd::Go(NextAction::Back(End::Next))),
+        End::Returned(v) => Ok(TurnEnd::Go(NextAction::Back(End::Returned(v)))),
+        End::Broke => Ok(TurnEnd::Go(NextAction::Back(End::Broke))),
+        End::Continued => Ok(TurnEnd::Go(NextAction::Back(End::Continued))),
+        End::Raised(e, trace) => Ok(TurnEnd::Go(NextAction::Back(End::Raised(e, trace)))),
     }
 }
 
@@ -69,22 +69,22 @@ fn take_each(
     from: usize,
     end: End,
 ) -> Result<TurnEnd, OutOfMemory>
-    ensures next { IfOk result (λ t. Follows t m.new m.old.left (on_module (ModuleFrame.Each found dotted all at from) (site_now m.old) (outcome end (state_of m.old)) (rest_of m.old))) }
+    ensures next { IfOk result (λ t. Follows t m.new m.old.left (on_module (ModuleFrame.Each found dotted all at from) (site_now m.old) (outcome end (state_of m.old)) (machine_rest m.old))) }
     ensures work { IfOk result (λ t. Falls t m.new m.old.left (1 + stack_work m.old)) }
 {
     match end {
         End::Value(v) => each_behind(m, found, dotted, all, at, from, v),
-        End::Next => Ok(TurnEnd::Go(Doing::Back(End::Next))),
-        End::Returned(v) => Ok(TurnEnd::Go(Doing::Back(End::Returned(v)))),
-        End::Broke => Ok(TurnEnd::Go(Doing::Back(End::Broke))),
-        End::Continued => Ok(TurnEnd::Go(Doing::Back(End::Continued))),
-        End::Raised(e, trace) => Ok(TurnEnd::Go(Doing::Back(End::Raised(e, trace)))),
+        End::Next => Ok(TurnEnd::Go(NextAction::Back(End::Next))),
+        End::Returned(v) => Ok(TurnEnd::Go(NextAction::Back(End::Returned(v)))),
+        End::Broke => Ok(TurnEnd::Go(NextAction::Back(End::Broke))),
+        End::Continued => Ok(TurnEnd::Go(NextAction::Back(End::Continued))),
+        End::Raised(e, trace) => Ok(TurnEnd::Go(NextAction::Back(End::Raised(e, trace)))),
     }
 }
 
 /// Goes on behind the end of a module's load.
 pub fn take_module(m: &mut Machine, frame: ModuleFrame, end: End) -> Result<TurnEnd, OutOfMemory>
-    ensures next { IfOk result (λ t. Follows t m.new m.old.left (on_module frame (site_now m.old) (outcome end (state_of m.old)) (rest_of m.old))) }
+    ensures next { IfOk result (λ t. Follows t m.new m.old.left (on_module frame (site_now m.old) (outcome end (state_of m.old)) (machine_rest m.old))) }
     ensures work { IfOk result (λ t. Falls t m.new m.old.left (1 + stack_work m.old)) }
 {
     match frame {

@@ -1,11 +1,11 @@
 // The dotted names that a dotted name begins with, one after another.
 
 ghost use Rattle.std.specs.Prelude.{◌≡◌, ℕ, [], IfOk, drop};
-ghost use Rattle.machine_state.specs.py_world.Imports.{faulty, paths_of, prefixes_behind};
+ghost use Rattle.machine_state.specs.py_world.Imports.{faulty, source_paths, prefixes_behind};
 ghost use Rattle.machine_state.specs.py_world.Runs.{load_part};
 ghost use Rattle.machine_state.specs.core_meaning.Statements.{core_body};
 ghost use Rattle.machine_state.specs.Definings.{on_module};
-ghost use Rattle.machine_state.specs.Frames.{rest_of, site_now, state_of, Follows};
+ghost use Rattle.machine_state.specs.Frames.{machine_rest, site_now, state_of, Follows};
 ghost use Rattle.machine_state.specs.Places.{path_in};
 ghost use Rattle.machine_state.specs.Work.{Falls};
 ghost use Rattle.machine_import.specs.Walks.{built_in, found_from, last_value, source_path, Reaches};
@@ -20,14 +20,14 @@ use py_values::value::Value;
 
 /// A module that is loaded next: its path, and how many beginnings of the dotted name are looked for with it.
 #[derive(Drop)]
-pub struct Found {
+pub struct NextModule {
     pub path: PyText,
     pub looked: usize,
 }
 
 /// The path of the source of a dotted name; the built-in module has none.
 fn source_path(m: &Machine, dotted: &[SrcText]) -> Result<Option<PyText>, OutOfMemory>
-    ensures { IfOk result (λ path. path ≡ source_path (paths_of m.now.sources.items) (path_in m.now.here.place) dotted.now) }
+    ensures { IfOk result (λ path. path ≡ source_path (source_paths m.now.sources.items) (path_in m.now.here.place) dotted.now) }
 {
     if is_pytest(dotted) {
         return Ok(None);
@@ -37,12 +37,16 @@ fn source_path(m: &Machine, dotted: &[SrcText]) -> Result<Option<PyText>, OutOfM
 
 /// The first beginning of a dotted name, from a place on, of which there is a source.
 #[tactic(auto, using(crate::proofs::Walking::found_here, crate::proofs::Walking::found_on, crate::proofs::Walking::found_none))]
-fn next_found(m: &Machine, dotted: &[SrcText], from: usize) -> Result<Option<Found>, OutOfMemory>
-    ensures { IfOk result (λ f. f ≡ found_from (paths_of m.now.sources.items) (path_in m.now.here.place) from (drop from (prefixes_behind [] dotted.now))) }
+fn next_found(
+    m: &Machine,
+    dotted: &[SrcText],
+    from: usize,
+) -> Result<Option<NextModule>, OutOfMemory>
+    ensures { IfOk result (λ f. f ≡ found_from (source_paths m.now.sources.items) (path_in m.now.here.place) from (drop from (prefixes_behind [] dotted.now))) }
 {
     for at in from..dotted.len() {
         if let Some(path) = source_path(m, &dotted[..at + 1])? {
-            return Ok(Some(Found {
+            return Ok(Some(NextModule {
                 path,
                 looked: at + 1,
             }));
@@ -53,11 +57,11 @@ fn next_found(m: &Machine, dotted: &[SrcText], from: usize) -> Result<Option<Fou
 
 /// What the beginnings of a dotted name lead to.
 #[derive(Drop)]
-pub enum Reached {
+pub enum ImportStep {
     /// All are looked for; the module of the whole one, where it is one.
     Module(Option<Value>),
     /// This one is loaded next.
-    Load(Found),
+    Load(NextModule),
 }
 
 /// The built-in module, where a dotted name is its.
@@ -90,19 +94,19 @@ pub fn reach(
     dotted: &[SrcText],
     from: usize,
     last: Option<Value>,
-) -> Result<Reached, OutOfMemory>
+) -> Result<ImportStep, OutOfMemory>
     ensures { IfOk result (λ r. Reaches r dotted.now from last m.now) }
 {
     match next_found(m, dotted, from)? {
-        Some(found) => Ok(Reached::Load(found)),
-        None => Ok(Reached::Module(last_value(dotted, from, last))),
+        Some(found) => Ok(ImportStep::Load(found)),
+        None => Ok(ImportStep::Module(last_value(dotted, from, last))),
     }
 }
 
 /// Loads a module, behind whose end this frame goes on.
 #[tactic(auto, using(crate::proofs::Waiting::load_waits))]
 pub fn wait(m: &mut Machine, frame: ModuleFrame, path: PyText) -> Result<TurnEnd, OutOfMemory>
-    ensures next { IfOk result (λ t. Follows t m.new m.old.left (load_part core_body path (faulty path) (site_now m.old) (state_of m.old) (λ o. on_module frame (site_now m.old) o (rest_of m.old)))) }
+    ensures next { IfOk result (λ t. Follows t m.new m.old.left (load_part core_body path (faulty path) (site_now m.old) (state_of m.old) (λ o. on_module frame (site_now m.old) o (machine_rest m.old)))) }
     ensures left { m.new.left ≡ m.old.left }
     ensures work { IfOk result (λ t. (work : ℕ) → Falls t m.new m.old.left work) }
 {

@@ -1,16 +1,16 @@
 -- The pairs of a dict's display.
 use Rattle.std.proofs.Common.{ℕ, suc, ◌+◌, ◌-◌, ◌*◌, ◌/◌, ◌^◌, ◌<◌, ◌≤◌, ◌≡◌, ◌∙◌, Bool, true, false, List, [], ◌∷◌, length, drop, get_or, nat_le, not, ◌&&◌, is_some, if◌then◌else◌, Some, None, refl, ap, arith, drop-cons}
 use Rattle.std.proofs.lemmas.Bool.{lt-ltb}
-use Rattle.py_values.specs.Ends.{cost_of, within}
+use Rattle.py_values.specs.Ends.{cost_of, payable}
 use Rattle.py_kinds.specs.Keys.{key_of, key_steps}
 use Rattle.py_values.specs.Limits.{most_elements}
 use Rattle.py_values.specs.Pairs.{find_pair, put_pair}
 use Rattle.py_values.specs.declared.dict.Pair.{Pair}
-use Rattle.py_values.specs.declared.end.Made.{Made}
-use Rattle.py_values.specs.declared.end.Made.TheVariants.{New}
+use Rattle.py_values.specs.declared.end.Effect.{Effect}
+use Rattle.py_values.specs.declared.end.Effect.TheVariants.{New}
 use Rattle.py_values.specs.declared.key.Atom.{Atom}
-use Rattle.py_kinds.specs.declared.keys.Keyed.{Keyed}
-use Rattle.py_kinds.specs.declared.keys.Keyed.TheVariants as keyed
+use Rattle.py_kinds.specs.declared.keys.KeyResult.{KeyResult}
+use Rattle.py_kinds.specs.declared.keys.KeyResult.TheVariants as keyed
 use Rattle.py_values.specs.declared.object.Obj.{Obj}
 use Rattle.py_values.specs.declared.object.Obj.TheVariants as obj
 use Rattle.py_values.specs.declared.value.Value.{Value}
@@ -41,11 +41,11 @@ most (x ∷ (y ∷ xs)) = let h : length xs < pair_count xs * 2 + 2 = most xs in
 pub halves : (xs : List Value) → pair_count xs ≡ length xs / 2
 halves xs = let a : pair_count xs * 2 ≤ length xs = least xs in let b : length xs < pair_count xs * 2 + 2 = most xs in omega arith
 
-by_test : (b : Bool) (n : ℕ) (m : Made) → n ≤ cost_of m → n ≤ cost_of (if b then too_long n else m)
+by_test : (b : Bool) (n : ℕ) (m : Effect) → n ≤ cost_of m → n ≤ cost_of (if b then too_long n else m)
 by_test true n m h = omega arith
 by_test false n m h = h
 
-pair_grows : (heap : List Obj) (es : List (List Atom × Pair)) (n : ℕ) (key v : Value) (k : Keyed) (go : List (List Atom × Pair) → ℕ → Made)
+pair_grows : (heap : List Obj) (es : List (List Atom × Pair)) (n : ℕ) (key v : Value) (k : KeyResult) (go : List (List Atom × Pair) → ℕ → Effect)
     → ((fs : List (List Atom × Pair)) (m : ℕ) → m ≤ cost_of (go fs m)) → n + key_steps k ≤ cost_of (pair_stored heap es n key v k go)
 pair_grows heap es n key v (keyed.Key k) go h =
     by_test (not (is_some (find_pair k es)) && nat_le most_elements (length es)) (n + (length k - 1)) (go (put_pair k key v es) (n + (length k - 1))) (h (put_pair k key v es) (n + (length k - 1)))
@@ -58,12 +58,12 @@ grows heap es n (key ∷ (v ∷ rest)) =
     let h : n + key_steps (key_of heap key) ≤ cost_of (pairs_stored heap es n (key ∷ (v ∷ rest))) = pair_grows heap es n key v (key_of heap key) (λ fs m. pairs_stored heap fs m rest) (λ fs m. grows heap fs m rest) in
     omega arith
 
-above : (budget : ℕ) (m : Made) → budget < cost_of m → within budget m ≡ None
+above : (budget : ℕ) (m : Effect) → budget < cost_of m → payable budget m ≡ None
 above budget m h = ap (λ (b : Bool). if b then None else Some m) (lt-ltb budget (cost_of m) h)
 
 -- no budget has the steps of a pair
 pub beyond : (budget : ℕ) (heap : List Obj) (es : List (List Atom × Pair)) (n : ℕ) (key v : Value) (rest : List Value)
-    → budget < 2 ^ 64 → 2 ^ 64 ≤ n + key_steps (key_of heap key) → within budget (pairs_stored heap es n (key ∷ (v ∷ rest))) ≡ None
+    → budget < 2 ^ 64 → 2 ^ 64 ≤ n + key_steps (key_of heap key) → payable budget (pairs_stored heap es n (key ∷ (v ∷ rest))) ≡ None
 beyond budget heap es n key v rest b h =
     let g : n + key_steps (key_of heap key) ≤ cost_of (pairs_stored heap es n (key ∷ (v ∷ rest))) = pair_grows heap es n key v (key_of heap key) (λ fs m. pairs_stored heap fs m rest) (λ fs m. grows heap fs m rest) in
     above budget (pairs_stored heap es n (key ∷ (v ∷ rest))) (omega arith)

@@ -7,7 +7,7 @@ use Rattle.py_values.specs.declared.value.Value.TheVariants as val
 use Rattle.py_world.specs.Attributes.{changed_or}
 use Rattle.py_world.specs.Outcome.{Next, raised_at}
 use Rattle.py_world.specs.Site.{Site}
-use Rattle.py_world.specs.World.{Kinds, State, heap_of, with_heap}
+use Rattle.py_world.specs.World.{Kinds, CallState, heap_of, with_heap}
 use Rattle.machine_items.specs.Changes.{attribute_told}
 
 none_raised : {A : Type 0} (none : Raise) (heap old : List Obj) → ◌≡◌ {A = Option Raise × List Obj} (None, heap) (Some none, old) → A
@@ -24,7 +24,7 @@ same_heap r q heap old e = ap (λ (t : Option Raise × List Obj). t.1) e
 
 module _ {K : Kinds} where
   -- it is done
-  pub set_next : (b : Bool) (f : Obj → Obj) (x : Value) (none : Raise) (p : Site) (s : State K) (heap : List Obj)
+  pub set_next : (b : Bool) (f : Obj → Obj) (x : Value) (none : Raise) (p : Site) (s : CallState K) (heap : List Obj)
       → ◌≡◌ {A = Option Raise × List Obj} (None, heap) (attribute_told b f x none (heap_of s)) → changed_or b f x none p s ≡ Next (with_heap heap s)
   set_next true f (val.Ref id) none p s heap e = ap (λ (h : List Obj). Next (with_heap h s)) (sym (same_heap None None heap _ e))
   set_next true f val.None none p s heap e = none_raised none heap (heap_of s) e
@@ -33,7 +33,7 @@ module _ {K : Kinds} where
   set_next false f x none p s heap e = none_raised none heap (heap_of s) e
 
   -- something is raised, and the heap stays
-  pub set_raised : (b : Bool) (f : Obj → Obj) (x : Value) (none : Raise) (p : Site) (s : State K) (r : Raise) (heap : List Obj)
+  pub set_raised : (b : Bool) (f : Obj → Obj) (x : Value) (none : Raise) (p : Site) (s : CallState K) (r : Raise) (heap : List Obj)
       → ◌≡◌ {A = Option Raise × List Obj} (Some r, heap) (attribute_told b f x none (heap_of s)) → (changed_or b f x none p s ≡ raised_at r p s) × (heap ≡ heap_of s)
   set_raised true f (val.Ref id) none p s r heap e = some_done r heap _ e
   set_raised true f val.None none p s r heap e =

@@ -2,17 +2,17 @@
 use Rattle.std.specs.Prelude.{ℕ, ◌+◌, ◌^◌, ◌≤◌, ◌≡◌, List}
 use Rattle.py_kinds.specs.Keys.{key_steps}
 use Rattle.py_values.specs.declared.dict.Pair.{Pair}
-use Rattle.py_values.specs.declared.end.Made.{Made}
+use Rattle.py_values.specs.declared.end.Effect.{Effect}
 use Rattle.py_values.specs.declared.key.Atom.{Atom}
-use Rattle.py_kinds.specs.declared.keys.Keyed.{Keyed}
+use Rattle.py_kinds.specs.declared.keys.KeyResult.{KeyResult}
 use Rattle.py_values.specs.declared.object.Obj.{Obj}
 use Rattle.py_values.specs.declared.value.Value.{Value}
 use Rattle.py_world.specs.Displays.{pair_stored}
-use Rattle.machine_items.specs.declared.displays.Stored.{Stored}
-use Rattle.machine_items.specs.declared.displays.Stored.TheVariants.{Steps, Refused, Beyond}
+use Rattle.machine_items.specs.declared.displays.PairResult.{PairResult}
+use Rattle.machine_items.specs.declared.displays.PairResult.TheVariants.{Steps, Refused, Beyond}
 
 -- whatever follows the pair: it goes on from these pairs and steps, or the display ends with this, or no budget has the steps
-abbrev pub pair_told : Stored → List Obj → List (List Atom × Pair) → List (List Atom × Pair) → ℕ → Value → Value → Keyed → Type 0
-pair_told (Steps n) heap es fs before key v k = (go : List (List Atom × Pair) → ℕ → Made) → pair_stored heap es before key v k go ≡ go fs n
-pair_told (Refused made) heap es fs before key v k = (go : List (List Atom × Pair) → ℕ → Made) → pair_stored heap es before key v k go ≡ made
+abbrev pub pair_told : PairResult → List Obj → List (List Atom × Pair) → List (List Atom × Pair) → ℕ → Value → Value → KeyResult → Type 0
+pair_told (Steps n) heap es fs before key v k = (go : List (List Atom × Pair) → ℕ → Effect) → pair_stored heap es before key v k go ≡ go fs n
+pair_told (Refused made) heap es fs before key v k = (go : List (List Atom × Pair) → ℕ → Effect) → pair_stored heap es before key v k go ≡ made
 pair_told Beyond heap es fs before key v k = 2 ^ 64 ≤ before + key_steps k

@@ -1,17 +1,17 @@
 // Displays of lists, tuples and dicts, and the bounds of slices.
 
 ghost use Rattle.std.specs.Prelude.{◌≡◌, IfOk};
-ghost use Rattle.py_values.specs.Ends.{within};
+ghost use Rattle.py_values.specs.Ends.{payable};
 ghost use Rattle.py_kinds.specs.Keys.{key_of};
 ghost use Rattle.py_values.specs.declared.object.Obj.TheVariants as obj;
 ghost use Rattle.py_world.specs.Displays as world;
 ghost use Rattle.machine_items.specs.Storing.{pair_told};
 
-use py_kinds::keys::{Keyed, key};
+use py_kinds::keys::{KeyResult, key};
 use py_operands::faults::{key_fault, too_long};
 use py_values::OutOfMemory;
 use py_values::dict::Dict;
-use py_values::end::{Made, made_within};
+use py_values::end::{Effect, made_within};
 use py_values::heap::Heap;
 use py_values::limits::MOST_ELEMENTS;
 use py_values::object::Obj;
@@ -20,7 +20,7 @@ use py_values::value::Value;
 use std::alloc::Global;
 
 /// A list of values, at a step for each (Language Reference, list displays).
-pub fn list_displayed(alloc: Global, values: Vec<Value>) -> Result<Made, OutOfMemory>
+pub fn list_displayed(alloc: Global, values: Vec<Value>) -> Result<Effect, OutOfMemory>
     ensures { IfOk result (λ m. m ≡ world.displayed obj.List values.items) }
 {
     let count = values.len();
@@ -28,11 +28,11 @@ pub fn list_displayed(alloc: Global, values: Vec<Value>) -> Result<Made, OutOfMe
         return too_long(alloc, count as u64);
     }
     let list = Obj::List(Values::from_vec(values));
-    Ok(Made::New(list, count as u64))
+    Ok(Effect::New(list, count as u64))
 }
 
 /// A tuple of values, at a step for each (Language Reference, parenthesized forms).
-pub fn tuple_displayed(alloc: Global, values: Vec<Value>) -> Result<Made, OutOfMemory>
+pub fn tuple_displayed(alloc: Global, values: Vec<Value>) -> Result<Effect, OutOfMemory>
     ensures { IfOk result (λ m. m ≡ world.displayed obj.Tuple values.items) }
 {
     let count = values.len();
@@ -40,16 +40,16 @@ pub fn tuple_displayed(alloc: Global, values: Vec<Value>) -> Result<Made, OutOfM
         return too_long(alloc, count as u64);
     }
     let tuple = Obj::Tuple(Values::from_vec(values));
-    Ok(Made::New(tuple, count as u64))
+    Ok(Effect::New(tuple, count as u64))
 }
 
 /// What comes of a pair of a dict's display.
 #[derive(Drop)]
-pub enum Stored {
+pub enum PairResult {
     /// It is stored; the steps so far.
     Steps(u64),
     /// The display ends with this.
-    Refused(Made),
+    Refused(Effect),
     /// The steps are more than any budget has.
     Beyond,
 }
@@ -62,24 +62,24 @@ fn store_pair(
     before: u64,
     at: Value,
     v: Value,
-) -> Result<Stored, OutOfMemory>
+) -> Result<PairResult, OutOfMemory>
     ensures { IfOk result (λ r. pair_told r heap.now dict.old dict.new before at v (key_of heap.now at)) }
 {
     let keyed = key(alloc, heap, at)?;
     let Some(steps) = before.checked_add(keyed.cost()) else {
-        return Ok(Stored::Beyond);
+        return Ok(PairResult::Beyond);
     };
     match keyed {
-        Keyed::Key(k) => {
+        KeyResult::Key(k) => {
             if dict.get(&k).is_none() && dict.len() >= MOST_ELEMENTS {
-                return Ok(Stored::Refused(too_long(alloc, steps)?));
+                return Ok(PairResult::Refused(too_long(alloc, steps)?));
             }
             dict.put(k, at, v)?;
-            Ok(Stored::Steps(steps))
+            Ok(PairResult::Steps(steps))
         }
-        Keyed::Fault(fault, _) => {
+        KeyResult::Fault(fault, _) => {
             let raise = key_fault(alloc, heap, fault)?;
-            Ok(Stored::Refused(Made::Fail(raise, steps)))
+            Ok(PairResult::Refused(Effect::Fail(raise, steps)))
         }
     }
 }
@@ -90,8 +90,8 @@ pub fn dict_displayed(
     heap: &Heap,
     values: &[Value],
     budget: u64,
-) -> Result<Option<Made>, OutOfMemory>
-    ensures { IfOk result (λ m. m ≡ within budget (world.dict_displayed heap.now values.now)) }
+) -> Result<Option<Effect>, OutOfMemory>
+    ensures { IfOk result (λ m. m ≡ payable budget (world.dict_displayed heap.now values.now)) }
 {
     let pairs = values.len() / 2;
     let mut dict = Dict::new(alloc);
@@ -100,12 +100,12 @@ pub fn dict_displayed(
         let at = values[2 * i];
         let v = values[2 * i + 1];
         match store_pair(alloc, heap, &mut dict, steps, at, v)? {
-            Stored::Steps(n) => steps = n,
-            Stored::Refused(made) => return Ok(made_within(made, budget)),
-            Stored::Beyond => return Ok(None),
+            PairResult::Steps(n) => steps = n,
+            PairResult::Refused(made) => return Ok(made_within(made, budget)),
+            PairResult::Beyond => return Ok(None),
         }
     }
-    let made = Made::New(Obj::Dict(dict), steps);
+    let made = Effect::New(Obj::Dict(dict), steps);
     Ok(made_within(made, budget))
 }
 

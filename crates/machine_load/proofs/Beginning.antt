@@ -16,7 +16,7 @@ use Rattle.py_world.specs.declared.load.Load.{Load}
 use Rattle.py_world.specs.declared.load.Load.TheVariants.{Running}
 use Rattle.py_world.specs.Runs.{start, with_load, with_module, module_place, module_scene, module_end}
 use Rattle.machine_state.specs.core_meaning.Meaning.{CoreWorld}
-use Rattle.machine_state.specs.core_meaning.Statements.{block}
+use Rattle.machine_state.specs.core_meaning.Statements.{core_block_body}
 use Rattle.machine_state.specs.declared.machine.Machine.{Machine}
 use Rattle.machine_state.specs.declared.frame.CallerFrame.{CallerFrame}
 use Rattle.machine_state.specs.declared.frame.Frame.{Frame}
@@ -26,11 +26,11 @@ use Rattle.machine_state.specs.declared.frame.ModuleFrame.TheVariants as loads
 use Rattle.machine_state.specs.declared.place.Here.{Here}
 use Rattle.machine_state.specs.declared.place.Place.TheVariants.{Module}
 use Rattle.machine_state.specs.Places.{CoreOutcome, CoreRest, CoreState, CoreThen, depth_of, no_world}
-use Rattle.machine_state.specs.Frames.{after, rest_of, site_now, state_of, world_of}
+use Rattle.machine_state.specs.Frames.{after_stack, machine_rest, site_now, state_of, world_of}
 
 -- a module's body, and then the end of its load
 abbrev pub load_tree : List ℕ → CoreBlock → Around → CoreWorld → CoreThen → CoreRest
-load_tree path body a w k = block [] body (module_scene path (module_place path w) a) (start (with_module path w)) (λ o. k (module_end path (module_place path w) o))
+load_tree path body a w k = core_block_body [] body (module_scene path (module_place path w) a) (start (with_module path w)) (λ o. k (module_end path (module_place path w) o))
 
 -- its object is made
 module _ (path running name : List ℕ) (w : CoreWorld) (modules : List (List ℕ × Load)) (heap heap1 : List Obj) (named id : ℕ) (object : Obj) where
@@ -45,7 +45,7 @@ module _ (path running name : List ℕ) (w : CoreWorld) (modules : List (List �
 -- the runner's load
 pub runner_begins : (path shown : List ℕ) (body : Rc CoreBlock Global) (fs fs1 fs2 : List Frame) (locals : List (List ℕ × Value)) (temps : Temps) (w w1 : CoreWorld) (id : ℕ)
     → fs ≡ on.Flow (Block body 0 0) ∷ fs1 → fs1 ≡ on.Module (loads.Load path id) ∷ fs2 → fs2 ≡ [] → locals ≡ [] → temps ≡ [] → w1 ≡ with_module path w → id ≡ module_place path w → shown ≡ path
-    → after fs (record { place = Module shown id; around = 0; line = 0 }) (Next (state locals temps w1)) ≡ load_tree path body.value no_call w (λ (o : CoreOutcome). Done o)
+    → after_stack fs (record { place = Module shown id; around = 0; line = 0 }) (Next (state locals temps w1)) ≡ load_tree path body.value no_call w (λ (o : CoreOutcome). Done o)
 runner_begins path shown body fs fs1 fs2 locals temps w w1 id pushed below empty no_locals no_temps made placed same =
     rw (pushed, below, empty, no_locals, no_temps, made, placed, same) refl
 
@@ -67,9 +67,9 @@ pub code_begins : (m : Machine) (path shown : List ℕ) (body : Rc CoreBlock Glo
     → c ≡ record { from = Some m.here; locals = m.locals; temps = m.temps }
     → fs ≡ on.Flow (Block body 0 0) ∷ fs1 → fs1 ≡ on.Module (loads.Load path id) ∷ fs2 → fs2 ≡ on.Caller c ∷ fs3 → fs3 ≡ m.stack
     → h ≡ record { place = Module shown id; around = around; line = 0 } → around ≡ depth_of m.here → locals ≡ [] → temps ≡ [] → w1 ≡ with_module path (world_of m) → id ≡ module_place path (world_of m) → shown ≡ path
-    → after fs h (Next (state locals temps w1))
-    ≡ load_tree path body.value (around_of (site_now m)) (world_of m) (λ o. rest_of m (call_end (state_of m) o))
+    → after_stack fs h (Next (state locals temps w1))
+    ≡ load_tree path body.value (around_of (site_now m)) (world_of m) (λ o. machine_rest m (call_end (state_of m) o))
 code_begins m path shown body c fs fs1 fs2 fs3 h locals temps w1 around id caller pushed loads calls below place deep no_locals no_temps made placed same =
     rw (pushed, loads, calls, below, caller, place, deep, no_locals, no_temps, made, placed, same)
-    (ap (block [] body.value (module_scene path (module_place path (world_of m)) (around_of (site_now m))) (start (with_module path (world_of m))))
-    (behind_load path (module_place path (world_of m)) (state_of m) no_world (rest_of m)))
+    (ap (core_block_body [] body.value (module_scene path (module_place path (world_of m)) (around_of (site_now m))) (start (with_module path (world_of m))))
+    (behind_load path (module_place path (world_of m)) (state_of m) no_world (machine_rest m)))

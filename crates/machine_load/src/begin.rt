@@ -6,13 +6,13 @@ ghost use Rattle.py_world.specs.ModuleNames.{module_object};
 ghost use Rattle.py_world.specs.Outcome.{call_end};
 ghost use Rattle.py_world.specs.Runs as runs;
 ghost use Rattle.py_world.specs.Site.{around_of, no_call};
-ghost use Rattle.machine_state.specs.core_meaning.Statements.{block};
-ghost use Rattle.machine_state.specs.Frames.{rest_of, site_now, state_of, todo, world_of};
+ghost use Rattle.machine_state.specs.core_meaning.Statements.{core_block_body};
+ghost use Rattle.machine_state.specs.Frames.{machine_rest, site_now, state_of, todo, world_of};
 
 use crate::load::set_load;
 use machine_state::frame::{CallerFrame, End, FlowFrame, Frame, ModuleFrame};
 use machine_state::locals::Locals;
-use machine_state::machine::{Doing, Machine};
+use machine_state::machine::{Machine, NextAction};
 use machine_state::place::{Here, Place};
 use machine_state::traces::copy_text;
 use py_core::CoreBlock;
@@ -60,8 +60,8 @@ pub fn begin_load(m: &mut Machine, path: PyText, body: Rc<CoreBlock>) -> Result<
     requires stack { m.old.stack ≡ [] }
     requires locals { m.old.locals ≡ [] }
     requires temps { m.old.temps.items ≡ [] }
-    ensures next { OnOk result (todo (Doing.Back End.Next) m.new
-        ≡ block [] body.value (runs.module_scene path (runs.module_place path (world_of m.old)) no_call) (runs.start (runs.with_module path (world_of m.old))) (λ o. Done (runs.module_end path (runs.module_place path (world_of m.old)) o))) }
+    ensures next { OnOk result (todo (NextAction.Back End.Next) m.new
+        ≡ core_block_body [] body.value (runs.module_scene path (runs.module_place path (world_of m.old)) no_call) (runs.start (runs.with_module path (world_of m.old))) (λ o. Done (runs.module_end path (runs.module_place path (world_of m.old)) o))) }
     ensures left { m.new.left ≡ m.old.left }
 {
     let id = make_module(m, &path)?;
@@ -102,10 +102,10 @@ pub fn begin_by_code(
     m: &mut Machine,
     path: PyText,
     body: Rc<CoreBlock>,
-) -> Result<Doing, OutOfMemory>
+) -> Result<NextAction, OutOfMemory>
     ensures next { IfOk result (λ d. todo d m.new
-        ≡ block [] body.value (runs.module_scene path (runs.module_place path (world_of m.old)) (around_of (site_now m.old))) (runs.start (runs.with_module path (world_of m.old)))
-        (λ o. rest_of m.old (call_end (state_of m.old) (runs.module_end path (runs.module_place path (world_of m.old)) o)))) }
+        ≡ core_block_body [] body.value (runs.module_scene path (runs.module_place path (world_of m.old)) (around_of (site_now m.old))) (runs.start (runs.with_module path (world_of m.old)))
+        (λ o. machine_rest m.old (call_end (state_of m.old) (runs.module_end path (runs.module_place path (world_of m.old)) o)))) }
     ensures left { m.new.left ≡ m.old.left }
 {
     let around = m.here.depth()?;
@@ -123,5 +123,5 @@ pub fn begin_by_code(
     let load = ModuleFrame::Load(path, id.at);
     m.stack.push(Frame::Module(load))?;
     m.stack.push(Frame::Flow(FlowFrame::Block(body, 0, 0)))?;
-    Ok(Doing::Back(End::Next))
+    Ok(NextAction::Back(End::Next))
 }

@@ -2,13 +2,13 @@
 
 ghost use Rattle.std.specs.Prelude.{◌≡◌, IfOk, OnOk, option_copied};
 ghost use Rattle.py_world.specs.Runs.{load_at, module_end, with_load};
-ghost use Rattle.machine_state.specs.Frames.{rest_of, state_of, todo};
+ghost use Rattle.machine_state.specs.Frames.{machine_rest, state_of, todo};
 ghost use Rattle.machine_state.specs.Places.{outcome};
 ghost use Rattle.machine_state.specs.Work.{doing_work};
 ghost use Rattle.machine_load.specs.Loads.{PutsAt};
 
 use machine_state::frame::End;
-use machine_state::machine::{Doing, Machine};
+use machine_state::machine::{Machine, NextAction};
 use machine_state::source::ModuleLoad;
 use machine_state::traces::copy_trace;
 use py_text::{OutOfMemory, PyText};
@@ -58,8 +58,13 @@ pub fn load_at<'a>(modules: &'a [ModuleLoad], path: &PyText) -> Option<&'a Load>
 }
 
 /// How a module's load ends.
-pub fn take_load(m: &mut Machine, path: PyText, at: usize, end: End) -> Result<Doing, OutOfMemory>
-    ensures next { IfOk result (λ d. todo d m.new ≡ rest_of m.old (module_end path at (outcome end (state_of m.old)))) }
+pub fn take_load(
+    m: &mut Machine,
+    path: PyText,
+    at: usize,
+    end: End,
+) -> Result<NextAction, OutOfMemory>
+    ensures next { IfOk result (λ d. todo d m.new ≡ machine_rest m.old (module_end path at (outcome end (state_of m.old)))) }
     ensures left { m.new.left ≡ m.old.left }
     ensures work { IfOk result (λ d. doing_work d ≡ 0) }
     ensures stack { m.new.stack ≡ m.old.stack }
@@ -69,11 +74,11 @@ pub fn take_load(m: &mut Machine, path: PyText, at: usize, end: End) -> Result<D
         End::Raised(exc, trace) => {
             let kept = copy_trace(m.alloc, &trace)?;
             set_load(&mut m.modules, path, Load::Failed(exc, kept))?;
-            Ok(Doing::Back(End::Raised(exc, trace)))
+            Ok(NextAction::Back(End::Raised(exc, trace)))
         }
         _ => {
             set_load(&mut m.modules, path, Load::Loaded(id))?;
-            Ok(Doing::Back(End::Value(Value::Ref(id))))
+            Ok(NextAction::Back(End::Value(Value::Ref(id))))
         }
     }
 }

@@ -4,7 +4,7 @@ use Rattle.std.specs.Prelude.{slice_get}
 use Rattle.py_values.specs.Names.{find_name}
 use Rattle.py_values.specs.declared.object.Obj.{Obj}
 use Rattle.machine_state.specs.py_world.World.{Locals}
-use Rattle.machine_state.specs.py_world.Names.{named_in, local_found, class_found, global}
+use Rattle.machine_state.specs.py_world.Names.{named_in, local_found, class_found, value_of_global}
 use Rattle.py_attributes.specs.Attributes.{class_names}
 use Rattle.machine_state.specs.declared.place.Place.{Place}
 use Rattle.machine_state.specs.declared.place.Place.TheVariants.{Module, Function, Class}
@@ -18,7 +18,7 @@ named_own (Function code) name home locals heap h = rw h refl
 named_own (Class path title own at) name home locals heap h = absurd cc
 
 pub named_other : (place : Place) (name : List ℕ) (home : ℕ) (locals : Locals) (heap : List Obj) → is_own place name ≡ false → class_here place ≡ None
-    → named_in (own_in place) name home locals heap ≡ global name home heap
+    → named_in (own_in place) name home locals heap ≡ value_of_global name home heap
 named_other (Module path at) name home locals heap h none = refl
 named_other (Function code) name home locals heap h none = rw h refl
 named_other (Class path title own at) name home locals heap h none = absurd cc

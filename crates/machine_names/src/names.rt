@@ -4,7 +4,7 @@ ghost use Rattle.std.specs.Prelude.{◌≡◌, ◌++◌, IfOk, IfSome, false, sl
 ghost use Rattle.py_kinds.specs.Builtins.{builtin_names};
 ghost use Rattle.py_values.specs.Names.{find_name};
 ghost use Rattle.py_values.specs.Raises as raises;
-ghost use Rattle.py_values.specs.declared.end.Made.TheVariants.{Give};
+ghost use Rattle.py_values.specs.declared.end.Effect.TheVariants.{Give};
 ghost use Rattle.py_attributes.specs.Attributes.{class_names};
 ghost use Rattle.machine_state.specs.py_world.Names as world;
 ghost use Rattle.machine_state.specs.Places.{home_in};
@@ -17,7 +17,7 @@ use py_core::SrcText;
 use py_kinds::builtins::builtin_value;
 use py_text::OutOfMemory;
 use py_values::class::ExcClass;
-use py_values::end::{Made, Raise, push_ascii};
+use py_values::end::{Effect, Raise, push_ascii};
 use py_values::heap::Heap;
 use py_values::names::{Name, Names};
 use py_values::object::Obj;
@@ -32,7 +32,7 @@ pub fn raise_about(
     name: &[char],
     back: &str,
 ) -> Result<Raise, OutOfMemory>
-    ensures { IfOk result (λ r. r ≡ raises.raise class (front.now ++ (name.now ++ back.now))) }
+    ensures { IfOk result (λ r. r ≡ raises.text_raise class (front.now ++ (name.now ++ back.now))) }
 {
     let mut text = Vec::new(alloc);
     push_ascii(&mut text, front)?;
@@ -89,7 +89,7 @@ pub fn module_value(
 
 /// A name that is neither the module's nor built in.
 pub fn not_defined(alloc: Global, name: &SrcText) -> Result<Raise, OutOfMemory>
-    ensures { IfOk result (λ r. r ≡ raises.raise ExcClass.NameError (world.not_defined name.now)) }
+    ensures { IfOk result (λ r. r ≡ raises.text_raise ExcClass.NameError (world.not_defined name.now)) }
 {
     raise_about(
         alloc,
@@ -102,7 +102,7 @@ pub fn not_defined(alloc: Global, name: &SrcText) -> Result<Raise, OutOfMemory>
 
 /// A local name that has no value yet.
 pub fn unbound(alloc: Global, name: &SrcText) -> Result<Raise, OutOfMemory>
-    ensures { IfOk result (λ r. r ≡ raises.raise ExcClass.UnboundLocalError (world.unbound_local name.now)) }
+    ensures { IfOk result (λ r. r ≡ raises.text_raise ExcClass.UnboundLocalError (world.unbound_local name.now)) }
 {
     raise_about(
         alloc,
@@ -113,30 +113,30 @@ pub fn unbound(alloc: Global, name: &SrcText) -> Result<Raise, OutOfMemory>
     )
 }
 
-fn builtin_found(alloc: Global, name: &SrcText) -> Result<Made, OutOfMemory>
+fn builtin_found(alloc: Global, name: &SrcText) -> Result<Effect, OutOfMemory>
     ensures { IfOk result (λ made. made ≡ world.builtin_found (find_name name.now builtin_names) name.now) }
 {
     match builtin_value(name.chars()) {
-        Some(v) => Ok(Made::Give(v, 0)),
-        None => Ok(Made::Fail(not_defined(alloc, name)?, 0)),
+        Some(v) => Ok(Effect::Give(v, 0)),
+        None => Ok(Effect::Fail(not_defined(alloc, name)?, 0)),
     }
 }
 
-fn global_found(m: &Machine, name: &SrcText) -> Result<Made, OutOfMemory>
-    ensures { IfOk result (λ made. made ≡ world.global name.now (home_in m.now.here.place) m.now.heap) }
+fn global_found(m: &Machine, name: &SrcText) -> Result<Effect, OutOfMemory>
+    ensures { IfOk result (λ made. made ≡ world.value_of_global name.now (home_in m.now.here.place) m.now.heap) }
 {
     match module_value(m.alloc, &m.heap, m.here.home(), name)? {
-        Some(v) => Ok(Made::Give(v, 0)),
+        Some(v) => Ok(Effect::Give(v, 0)),
         None => builtin_found(m.alloc, name),
     }
 }
 
-fn local_found(m: &Machine, name: &SrcText) -> Result<Made, OutOfMemory>
+fn local_found(m: &Machine, name: &SrcText) -> Result<Effect, OutOfMemory>
     ensures { IfOk result (λ made. made ≡ world.local_found (find_name name.now m.now.locals) name.now) }
 {
     match m.locals.find(name) {
-        Some(v) => Ok(Made::Give(v, 0)),
-        None => Ok(Made::Fail(unbound(m.alloc, name)?, 0)),
+        Some(v) => Ok(Effect::Give(v, 0)),
+        None => Ok(Effect::Fail(unbound(m.alloc, name)?, 0)),
     }
 }
 
@@ -153,20 +153,20 @@ pub fn class_value(
     Ok(named_in(heap.get(ObjId { at }), &key))
 }
 
-fn class_found(m: &Machine, at: usize, name: &SrcText) -> Result<Made, OutOfMemory>
+fn class_found(m: &Machine, at: usize, name: &SrcText) -> Result<Effect, OutOfMemory>
     ensures { IfOk result (λ made. made ≡ world.class_found (find_name name.now (class_names (slice_get m.now.heap at))) name.now (home_in m.now.here.place) m.now.heap) }
 {
     match class_value(m.alloc, &m.heap, at, name)? {
-        Some(v) => Ok(Made::Give(v, 0)),
+        Some(v) => Ok(Effect::Give(v, 0)),
         None => global_found(m, name),
     }
 }
 
 /// What the look-up of a name gives that is not local.
 #[tactic(auto, using(crate::proofs::Naming::named_class, crate::proofs::Naming::named_other))]
-fn other_found(m: &Machine, name: &SrcText) -> Result<Made, OutOfMemory>
+fn other_found(m: &Machine, name: &SrcText) -> Result<Effect, OutOfMemory>
     requires { is_own m.now.here.place name.now ≡ false }
-    ensures { IfOk result (λ made. made ≡ world.named name.now (site_now m.now).scene m.now.locals m.now.heap) }
+    ensures { IfOk result (λ made. made ≡ world.value_of_name name.now (site_now m.now).scene m.now.locals m.now.heap) }
 {
     match m.here.class_at() {
         Some(at) => class_found(m, at, name),
@@ -176,7 +176,7 @@ fn other_found(m: &Machine, name: &SrcText) -> Result<Made, OutOfMemory>
 
 /// The value of a name of the module, or of a built-in one, where it is bound.
 fn global_value(m: &Machine, name: &SrcText) -> Result<Option<Value>, OutOfMemory>
-    ensures { IfOk result (λ r. IfSome r (λ v. world.global name.now (home_in m.now.here.place) m.now.heap ≡ Give v 0)) }
+    ensures { IfOk result (λ r. IfSome r (λ v. world.value_of_global name.now (home_in m.now.here.place) m.now.heap ≡ Give v 0)) }
 {
     match module_value(m.alloc, &m.heap, m.here.home(), name)? {
         Some(v) => Ok(Some(v)),
@@ -188,7 +188,7 @@ fn global_value(m: &Machine, name: &SrcText) -> Result<Option<Value>, OutOfMemor
 #[tactic(auto, using(crate::proofs::Naming::named_class, crate::proofs::Naming::named_other))]
 fn other_value(m: &Machine, name: &SrcText) -> Result<Option<Value>, OutOfMemory>
     requires { is_own m.now.here.place name.now ≡ false }
-    ensures { IfOk result (λ r. IfSome r (λ v. world.named name.now (site_now m.now).scene m.now.locals m.now.heap ≡ Give v 0)) }
+    ensures { IfOk result (λ r. IfSome r (λ v. world.value_of_name name.now (site_now m.now).scene m.now.locals m.now.heap ≡ Give v 0)) }
 {
     let Some(at) = m.here.class_at() else {
         return global_value(m, name);
@@ -202,7 +202,7 @@ fn other_value(m: &Machine, name: &SrcText) -> Result<Option<Value>, OutOfMemory
 /// The value that a name's look-up gives, where the name is bound.
 #[tactic(auto, using(crate::proofs::Naming::named_own))]
 pub fn bound_value(m: &Machine, name: &SrcText) -> Result<Option<Value>, OutOfMemory>
-    ensures { IfOk result (λ r. IfSome r (λ v. world.named name.now (site_now m.now).scene m.now.locals m.now.heap ≡ Give v 0)) }
+    ensures { IfOk result (λ r. IfSome r (λ v. world.value_of_name name.now (site_now m.now).scene m.now.locals m.now.heap ≡ Give v 0)) }
 {
     if m.here.is_own(name) {
         Ok(m.locals.find(name))
@@ -213,8 +213,8 @@ pub fn bound_value(m: &Machine, name: &SrcText) -> Result<Option<Value>, OutOfMe
 
 /// What a name's look-up gives, which costs nothing (Language Reference, naming and binding).
 #[tactic(auto, using(crate::proofs::Naming::named_own))]
-pub fn look_up(m: &Machine, name: &SrcText) -> Result<Made, OutOfMemory>
-    ensures { IfOk result (λ made. made ≡ world.named name.now (site_now m.now).scene m.now.locals m.now.heap) }
+pub fn look_up(m: &Machine, name: &SrcText) -> Result<Effect, OutOfMemory>
+    ensures { IfOk result (λ made. made ≡ world.value_of_name name.now (site_now m.now).scene m.now.locals m.now.heap) }
 {
     if m.here.is_own(name) {
         local_found(m, name)

@@ -4,13 +4,13 @@ ghost use Rattle.std.specs.Prelude.{◌≡◌, ◌+◌, ◌≤◌, IfOk, drop};
 ghost use Rattle.machine_state.specs.py_world.Expressions.{and_on, compare_on, or_on};
 ghost use Rattle.machine_state.specs.py_world.Outcome.{Gave};
 ghost use Rattle.machine_state.specs.Places.{parts_from};
-ghost use Rattle.machine_state.specs.Frames.{on_chain, rest_of, site_now, state_of, todo, Follows};
+ghost use Rattle.machine_state.specs.Frames.{on_chain, machine_rest, site_now, state_of, todo, Follows};
 ghost use Rattle.machine_state.specs.Work.{chain_work, doing_work, stack_work, weight_from, Falls};
 
 use crate::operate::compare;
 use machine_immediate::part::{op_at, part_at};
 use machine_state::frame::{ChainFrame, End, Frame};
-use machine_state::machine::{Doing, Machine, TurnEnd};
+use machine_state::machine::{Machine, NextAction, TurnEnd};
 use py_core::{CmpOp, CoreExpr};
 use py_kinds::truth::truth;
 use py_text::OutOfMemory;
@@ -22,20 +22,20 @@ fn next_and(
     es: Rc<Vec<Rc<CoreExpr>>>,
     at: usize,
     v: Value,
-) -> Result<Doing, OutOfMemory>
-    ensures next { IfOk result (λ d. todo d m.new ≡ and_on (parts_from at es) (site_now m.old) (Gave v (state_of m.old)) (rest_of m.old)) }
+) -> Result<NextAction, OutOfMemory>
+    ensures next { IfOk result (λ d. todo d m.new ≡ and_on (parts_from at es) (site_now m.old) (Gave v (state_of m.old)) (machine_rest m.old)) }
     ensures left { m.new.left ≡ m.old.left }
     ensures work { IfOk result (λ d. doing_work d + stack_work m.new ≤ weight_from at es + stack_work m.old) }
 {
     match part_at(&es, at)? {
         Some(e) => {
             if !truth(&m.heap, v) {
-                return Ok(Doing::Back(End::Value(v)));
+                return Ok(NextAction::Back(End::Value(v)));
             }
             m.stack.push(Frame::Chain(ChainFrame::And(es, at + 1)))?;
-            Ok(Doing::Evaluate(e))
+            Ok(NextAction::Evaluate(e))
         }
-        None => Ok(Doing::Back(End::Value(v))),
+        None => Ok(NextAction::Back(End::Value(v))),
     }
 }
 
@@ -44,20 +44,20 @@ fn next_or(
     es: Rc<Vec<Rc<CoreExpr>>>,
     at: usize,
     v: Value,
-) -> Result<Doing, OutOfMemory>
-    ensures next { IfOk result (λ d. todo d m.new ≡ or_on (parts_from at es) (site_now m.old) (Gave v (state_of m.old)) (rest_of m.old)) }
+) -> Result<NextAction, OutOfMemory>
+    ensures next { IfOk result (λ d. todo d m.new ≡ or_on (parts_from at es) (site_now m.old) (Gave v (state_of m.old)) (machine_rest m.old)) }
     ensures left { m.new.left ≡ m.old.left }
     ensures work { IfOk result (λ d. doing_work d + stack_work m.new ≤ weight_from at es + stack_work m.old) }
 {
     match part_at(&es, at)? {
         Some(e) => {
             if truth(&m.heap, v) {
-                return Ok(Doing::Back(End::Value(v)));
+                return Ok(NextAction::Back(End::Value(v)));
             }
             m.stack.push(Frame::Chain(ChainFrame::Or(es, at + 1)))?;
-            Ok(Doing::Evaluate(e))
+            Ok(NextAction::Evaluate(e))
         }
-        None => Ok(Doing::Back(End::Value(v))),
+        None => Ok(NextAction::Back(End::Value(v))),
     }
 }
 
@@ -68,21 +68,21 @@ fn next_compare(
     ops: Rc<Vec<CmpOp>>,
     es: Rc<Vec<Rc<CoreExpr>>>,
     at: usize,
-) -> Result<Doing, OutOfMemory>
-    ensures next { IfOk result (λ d. todo d m.new ≡ compare_on (drop at ops.value.items) (parts_from at es) x (site_now m.old) (state_of m.old) (rest_of m.old)) }
+) -> Result<NextAction, OutOfMemory>
+    ensures next { IfOk result (λ d. todo d m.new ≡ compare_on (drop at ops.value.items) (parts_from at es) x (site_now m.old) (state_of m.old) (machine_rest m.old)) }
     ensures left { m.new.left ≡ m.old.left }
     ensures work { IfOk result (λ d. doing_work d + stack_work m.new ≤ weight_from at es + stack_work m.old) }
 {
     let Some(op) = op_at(&ops, at) else {
-        return Ok(Doing::Back(End::Value(x)));
+        return Ok(NextAction::Back(End::Value(x)));
     };
     match part_at(&es, at)? {
         Some(e) => {
             let frame = ChainFrame::Compare(x, op, ops, es, at + 1);
             m.stack.push(Frame::Chain(frame))?;
-            Ok(Doing::Evaluate(e))
+            Ok(NextAction::Evaluate(e))
         }
-        None => Ok(Doing::Back(End::Value(x))),
+        None => Ok(NextAction::Back(End::Value(x))),
     }
 }
 
@@ -94,8 +94,8 @@ fn take_compared(
     es: Rc<Vec<Rc<CoreExpr>>>,
     at: usize,
     v: Value,
-) -> Result<Doing, OutOfMemory>
-    ensures next { IfOk result (λ d. todo d m.new ≡ on_chain (ChainFrame.Compared y ops es at) (site_now m.old) (Gave v (state_of m.old)) (rest_of m.old)) }
+) -> Result<NextAction, OutOfMemory>
+    ensures next { IfOk result (λ d. todo d m.new ≡ on_chain (ChainFrame.Compared y ops es at) (site_now m.old) (Gave v (state_of m.old)) (machine_rest m.old)) }
     ensures left { m.new.left ≡ m.old.left }
     ensures work { IfOk result (λ d. doing_work d + stack_work m.new ≤ weight_from at es + stack_work m.old) }
 {
@@ -104,15 +104,15 @@ fn take_compared(
             if truth(&m.heap, v) {
                 return next_compare(m, y, ops, es, at);
             }
-            Ok(Doing::Back(End::Value(v)))
+            Ok(NextAction::Back(End::Value(v)))
         }
-        None => Ok(Doing::Back(End::Value(v))),
+        None => Ok(NextAction::Back(End::Value(v))),
     }
 }
 
 /// Goes on with the value of an operand of a chain.
 pub fn take_chain(m: &mut Machine, frame: ChainFrame, v: Value) -> Result<TurnEnd, OutOfMemory>
-    ensures next { IfOk result (λ t. Follows t m.new m.old.left (on_chain frame (site_now m.old) (Gave v (state_of m.old)) (rest_of m.old))) }
+    ensures next { IfOk result (λ t. Follows t m.new m.old.left (on_chain frame (site_now m.old) (Gave v (state_of m.old)) (machine_rest m.old))) }
     ensures work { IfOk result (λ t. Falls t m.new m.old.left (chain_work frame + stack_work m.old)) }
 {
     match frame {

@@ -1,7 +1,7 @@
 // The values of parts of displays, attributes, subscripts and slices.
 
 ghost use Rattle.std.specs.Prelude.{◌≡◌, ◌+◌, IfOk, length};
-ghost use Rattle.py_values.specs.Ends.{within};
+ghost use Rattle.py_values.specs.Ends.{payable};
 ghost use Rattle.machine_state.specs.py_world.Attributes.{attribute_end};
 ghost use Rattle.machine_state.specs.py_world.Displays as world;
 ghost use Rattle.machine_state.specs.py_world.Expressions as forms;
@@ -10,7 +10,7 @@ ghost use Rattle.machine_state.specs.py_world.Site.{trace_of};
 ghost use Rattle.machine_state.specs.py_world.World.{heap_of};
 ghost use Rattle.machine_state.specs.core_meaning.Statements.{some_part};
 ghost use Rattle.machine_state.specs.Places.{parts_from};
-ghost use Rattle.machine_state.specs.Frames.{display_of, on_item, rest_of, site_now, state_of, todo, Follows};
+ghost use Rattle.machine_state.specs.Frames.{display_of, on_item, machine_rest, site_now, state_of, todo, Follows};
 ghost use Rattle.machine_state.specs.Work.{doing_work, item_work, some_weight, stack_work, weight_from, Falls};
 ghost use Rattle.machine_expr.specs.Pairs.{IsNextPair, pairs_from, pairs_weight};
 
@@ -20,11 +20,11 @@ use machine_immediate::part::next_argument;
 use machine_items::attribute_made;
 use machine_items::displays::{bound_given, dict_displayed};
 use machine_state::frame::{Display, Frame, ItemFrame};
-use machine_state::machine::{Doing, Machine, Origin, TurnEnd};
+use machine_state::machine::{Machine, NextAction, Origin, TurnEnd};
 use machine_turns::subscript::subscript;
 use py_core::{CoreExpr, SrcText};
 use py_text::OutOfMemory;
-use py_values::end::{Made, made_within};
+use py_values::end::{Effect, made_within};
 use py_values::index::Index;
 use py_values::value::Value;
 use std::alloc::Global;
@@ -36,8 +36,8 @@ fn displayed_within(
     display: Display,
     values: Vec<Value>,
     budget: u64,
-) -> Result<Option<Made>, OutOfMemory>
-    ensures { IfOk result (λ m. m ≡ within budget (world.displayed (display_of display) values.items)) }
+) -> Result<Option<Effect>, OutOfMemory>
+    ensures { IfOk result (λ m. m ≡ payable budget (world.displayed (display_of display) values.items)) }
 {
     let made = displayed(alloc, display, values)?;
     Ok(made_within(made, budget))
@@ -50,15 +50,15 @@ fn element(
     es: Rc<Vec<Rc<CoreExpr>>>,
     so_far: Vec<Value>,
 ) -> Result<TurnEnd, OutOfMemory>
-    ensures next { IfOk result (λ t. Follows t m.new m.old.left (forms.arguments (parts_from (length so_far.items) es) so_far.items (site_now m.old) (state_of m.old) (rest_of m.old)
-        (λ vs s. costing (world.displayed (display_of display) vs) (trace_of (site_now m.old)) s (rest_of m.old)))) }
+    ensures next { IfOk result (λ t. Follows t m.new m.old.left (forms.arguments (parts_from (length so_far.items) es) so_far.items (site_now m.old) (state_of m.old) (machine_rest m.old)
+        (λ vs s. costing (world.displayed (display_of display) vs) (trace_of (site_now m.old)) s (machine_rest m.old)))) }
     ensures work { IfOk result (λ t. Falls t m.new m.old.left (weight_from (length so_far.items) es + 1 + stack_work m.old)) }
 {
     match next_argument(&es, &so_far)? {
         Some(e) => {
             let frame = ItemFrame::Collect(display, es, so_far);
             m.stack.push(Frame::Item(frame))?;
-            Ok(TurnEnd::Go(Doing::Evaluate(e)))
+            Ok(TurnEnd::Go(NextAction::Evaluate(e)))
         }
         None => {
             let made = displayed_within(m.alloc, display, so_far, m.left)?;
@@ -85,15 +85,15 @@ fn pair(
     es: Rc<Vec<Rc<CoreExpr>>>,
     so_far: Vec<Value>,
 ) -> Result<TurnEnd, OutOfMemory>
-    ensures next { IfOk result (λ t. Follows t m.new m.old.left (forms.arguments (pairs_from (length so_far.items) ks es) so_far.items (site_now m.old) (state_of m.old) (rest_of m.old)
-        (λ vs s. costing (world.dict_displayed (heap_of s) vs) (trace_of (site_now m.old)) s (rest_of m.old)))) }
+    ensures next { IfOk result (λ t. Follows t m.new m.old.left (forms.arguments (pairs_from (length so_far.items) ks es) so_far.items (site_now m.old) (state_of m.old) (machine_rest m.old)
+        (λ vs s. costing (world.dict_displayed (heap_of s) vs) (trace_of (site_now m.old)) s (machine_rest m.old)))) }
     ensures work { IfOk result (λ t. Falls t m.new m.old.left (pairs_weight (length so_far.items) ks es + 1 + stack_work m.old)) }
 {
     match next_in_pairs(&ks, &es, &so_far)? {
         Some(e) => {
             let frame = ItemFrame::Pairs(ks, es, so_far);
             m.stack.push(Frame::Item(frame))?;
-            Ok(TurnEnd::Go(Doing::Evaluate(e)))
+            Ok(TurnEnd::Go(NextAction::Evaluate(e)))
         }
         None => {
             let made = dict_displayed(m.alloc, &m.heap, &so_far, m.left)?;
@@ -103,8 +103,8 @@ fn pair(
 }
 
 /// Reads an attribute of a value.
-fn attribute(m: &mut Machine, x: Value, name: &SrcText) -> Result<Doing, OutOfMemory>
-    ensures next { IfOk result (λ d. todo d m.new ≡ rest_of m.old (attribute_end x name.now (site_now m.old) (state_of m.old))) }
+fn attribute(m: &mut Machine, x: Value, name: &SrcText) -> Result<NextAction, OutOfMemory>
+    ensures next { IfOk result (λ d. todo d m.new ≡ machine_rest m.old (attribute_end x name.now (site_now m.old) (state_of m.old))) }
     ensures left { m.new.left ≡ m.old.left }
     ensures work { IfOk result (λ d. doing_work d ≡ 0) }
     ensures stack { m.new.stack ≡ m.old.stack }
@@ -121,13 +121,13 @@ fn slice_by(
     b: Option<Value>,
     by: Option<Rc<CoreExpr>>,
 ) -> Result<TurnEnd, OutOfMemory>
-    ensures next { IfOk result (λ t. Follows t m.new m.old.left (world.slice_by x a b (some_part by) (site_now m.old) (state_of m.old) (rest_of m.old))) }
+    ensures next { IfOk result (λ t. Follows t m.new m.old.left (world.slice_by x a b (some_part by) (site_now m.old) (state_of m.old) (machine_rest m.old))) }
     ensures work { IfOk result (λ t. Falls t m.new m.old.left (some_weight by + 2 + stack_work m.old)) }
 {
     match by {
         Some(e) => {
             m.stack.push(Frame::Item(ItemFrame::By(x, a, b)))?;
-            Ok(TurnEnd::Go(Doing::Evaluate(e)))
+            Ok(TurnEnd::Go(NextAction::Evaluate(e)))
         }
         None => subscript(m, x, &Index::Slice(a, b, None)),
     }
@@ -141,13 +141,13 @@ fn slice_to(
     to: Option<Rc<CoreExpr>>,
     by: Option<Rc<CoreExpr>>,
 ) -> Result<TurnEnd, OutOfMemory>
-    ensures next { IfOk result (λ t. Follows t m.new m.old.left (world.slice_to x a (some_part to) (some_part by) (site_now m.old) (state_of m.old) (rest_of m.old))) }
+    ensures next { IfOk result (λ t. Follows t m.new m.old.left (world.slice_to x a (some_part to) (some_part by) (site_now m.old) (state_of m.old) (machine_rest m.old))) }
     ensures work { IfOk result (λ t. Falls t m.new m.old.left (some_weight to + some_weight by + 3 + stack_work m.old)) }
 {
     match to {
         Some(e) => {
             m.stack.push(Frame::Item(ItemFrame::To(x, a, by)))?;
-            Ok(TurnEnd::Go(Doing::Evaluate(e)))
+            Ok(TurnEnd::Go(NextAction::Evaluate(e)))
         }
         None => slice_by(m, x, a, None, by),
     }
@@ -161,13 +161,13 @@ fn slice_from(
     to: Option<Rc<CoreExpr>>,
     by: Option<Rc<CoreExpr>>,
 ) -> Result<TurnEnd, OutOfMemory>
-    ensures next { IfOk result (λ t. Follows t m.new m.old.left (world.slice_on x (some_part from) (some_part to) (some_part by) (site_now m.old) (state_of m.old) (rest_of m.old))) }
+    ensures next { IfOk result (λ t. Follows t m.new m.old.left (world.slice_on x (some_part from) (some_part to) (some_part by) (site_now m.old) (state_of m.old) (machine_rest m.old))) }
     ensures work { IfOk result (λ t. Falls t m.new m.old.left (some_weight from + some_weight to + some_weight by + 4 + stack_work m.old)) }
 {
     match from {
         Some(e) => {
             m.stack.push(Frame::Item(ItemFrame::From(x, to, by)))?;
-            Ok(TurnEnd::Go(Doing::Evaluate(e)))
+            Ok(TurnEnd::Go(NextAction::Evaluate(e)))
         }
         None => slice_to(m, x, None, to, by),
     }
@@ -175,7 +175,7 @@ fn slice_from(
 
 /// Goes on with the value of a part of a display, an attribute, a subscript or a slice.
 pub fn take_item(m: &mut Machine, frame: ItemFrame, v: Value) -> Result<TurnEnd, OutOfMemory>
-    ensures next { IfOk result (λ t. Follows t m.new m.old.left (on_item frame (site_now m.old) v (state_of m.old) (rest_of m.old))) }
+    ensures next { IfOk result (λ t. Follows t m.new m.old.left (on_item frame (site_now m.old) v (state_of m.old) (machine_rest m.old))) }
     ensures work { IfOk result (λ t. Falls t m.new m.old.left (item_work frame + stack_work m.old)) }
 {
     match frame {
@@ -192,7 +192,7 @@ pub fn take_item(m: &mut Machine, frame: ItemFrame, v: Value) -> Result<TurnEnd,
         ItemFrame::Attribute(name) => Ok(TurnEnd::Go(attribute(m, v, &name)?)),
         ItemFrame::Subscripted(i) => {
             m.stack.push(Frame::Item(ItemFrame::Subscript(v)))?;
-            Ok(TurnEnd::Go(Doing::Evaluate(i)))
+            Ok(TurnEnd::Go(NextAction::Evaluate(i)))
         }
         ItemFrame::Subscript(x) => subscript(m, x, &Index::At(v)),
         ItemFrame::Sliced(from, to, by) => slice_from(m, v, from, to, by),

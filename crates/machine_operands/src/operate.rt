@@ -6,20 +6,20 @@ ghost use Rattle.py_ops.specs.Compare.{compare_of};
 ghost use Rattle.py_ops.specs.Unary.{unary_of};
 ghost use Rattle.machine_state.specs.py_world.Outcome.{costing, operated};
 ghost use Rattle.machine_state.specs.py_world.Site.{trace_of};
-ghost use Rattle.py_values.specs.declared.end.Made.{Made};
-ghost use Rattle.machine_state.specs.Frames.{rest_of, site_now, state_of, Follows};
+ghost use Rattle.py_values.specs.declared.end.Effect.{Effect};
+ghost use Rattle.machine_state.specs.Frames.{machine_rest, site_now, state_of, Follows};
 ghost use Rattle.machine_state.specs.Work.{stack_work, Falls};
-ghost use Rattle.py_values.specs.Ends.{within};
+ghost use Rattle.py_values.specs.Ends.{payable};
 
 use machine_immediate::whole::{answer_by, value_by};
 use machine_state::frame::End;
-use machine_state::machine::{Doing, Machine, Origin, TurnEnd};
+use machine_state::machine::{Machine, NextAction, Origin, TurnEnd};
 use py_core::{BinOp, CmpOp, UnOp};
 use py_ops::binary::binary_made;
 use py_ops::compare::compare_made;
 use py_ops::unary::unary_made;
 use py_text::OutOfMemory;
-use py_values::end::{Made, made_within};
+use py_values::end::{Effect, made_within};
 use py_values::heap::Heap;
 use py_values::value::Value;
 use std::alloc::Global;
@@ -27,7 +27,7 @@ use std::alloc::Global;
 /// An operator whose value is not told at once: its cost, and its end.
 #[inline(never)]
 fn operate_made(m: &mut Machine, op: BinOp, x: Value, y: Value) -> Result<TurnEnd, OutOfMemory>
-    ensures next { IfOk result (λ t. Follows t m.new m.old.left (costing (binary_of op m.old.heap x y) (trace_of (site_now m.old)) (state_of m.old) (rest_of m.old))) }
+    ensures next { IfOk result (λ t. Follows t m.new m.old.left (costing (binary_of op m.old.heap x y) (trace_of (site_now m.old)) (state_of m.old) (machine_rest m.old))) }
     ensures left { m.new.left ≤ m.old.left }
     ensures work { IfOk result (λ t. Falls t m.new m.old.left (1 + stack_work m.old)) }
 {
@@ -38,14 +38,14 @@ fn operate_made(m: &mut Machine, op: BinOp, x: Value, y: Value) -> Result<TurnEn
 /// An operator between two values: its step, its cost, and its end.
 #[tactic(auto, using(crate::proofs::Operators::operator_told, crate::proofs::Operators::operator_made))]
 pub fn operate(m: &mut Machine, op: BinOp, x: Value, y: Value) -> Result<TurnEnd, OutOfMemory>
-    ensures next { IfOk result (λ t. Follows t m.new m.old.left (operated (binary_of op m.old.heap x y) (site_now m.old) (state_of m.old) (rest_of m.old))) }
+    ensures next { IfOk result (λ t. Follows t m.new m.old.left (operated (binary_of op m.old.heap x y) (site_now m.old) (state_of m.old) (machine_rest m.old))) }
     ensures work { IfOk result (λ t. (work : ℕ) → Falls t m.new m.old.left work) }
 {
     if !m.spend() {
         return Ok(TurnEnd::Exhausted(m.trace(Origin::Code)?));
     }
     match value_by(op, x, y) {
-        Some(v) => Ok(TurnEnd::Go(Doing::Back(End::Value(v)))),
+        Some(v) => Ok(TurnEnd::Go(NextAction::Back(End::Value(v)))),
         None => operate_made(m, op, x, y),
     }
 }
@@ -57,8 +57,8 @@ fn unary_within(
     op: UnOp,
     x: Value,
     budget: u64,
-) -> Result<Option<Made>, OutOfMemory>
-    ensures { IfOk result (λ m. m ≡ within budget (unary_of op heap.now x)) }
+) -> Result<Option<Effect>, OutOfMemory>
+    ensures { IfOk result (λ m. m ≡ payable budget (unary_of op heap.now x)) }
 {
     let made = unary_made(alloc, heap, op, x)?;
     Ok(made_within(made, budget))
@@ -66,7 +66,7 @@ fn unary_within(
 
 /// An operator before a value.
 pub fn operate_before(m: &mut Machine, op: UnOp, x: Value) -> Result<TurnEnd, OutOfMemory>
-    ensures next { IfOk result (λ t. Follows t m.new m.old.left (operated (unary_of op m.old.heap x) (site_now m.old) (state_of m.old) (rest_of m.old))) }
+    ensures next { IfOk result (λ t. Follows t m.new m.old.left (operated (unary_of op m.old.heap x) (site_now m.old) (state_of m.old) (machine_rest m.old))) }
     ensures work { IfOk result (λ t. (work : ℕ) → Falls t m.new m.old.left work) }
 {
     if !m.spend() {
@@ -79,7 +79,7 @@ pub fn operate_before(m: &mut Machine, op: UnOp, x: Value) -> Result<TurnEnd, Ou
 /// A comparison that is not told at once: its cost, and its end.
 #[inline(never)]
 fn compare_judged(m: &mut Machine, op: CmpOp, x: Value, y: Value) -> Result<TurnEnd, OutOfMemory>
-    ensures next { IfOk result (λ t. Follows t m.new m.old.left (costing (compare_of op m.old.heap x y) (trace_of (site_now m.old)) (state_of m.old) (rest_of m.old))) }
+    ensures next { IfOk result (λ t. Follows t m.new m.old.left (costing (compare_of op m.old.heap x y) (trace_of (site_now m.old)) (state_of m.old) (machine_rest m.old))) }
     ensures left { m.new.left ≤ m.old.left }
     ensures work { IfOk result (λ t. Falls t m.new m.old.left (1 + stack_work m.old)) }
 {
@@ -90,22 +90,22 @@ fn compare_judged(m: &mut Machine, op: CmpOp, x: Value, y: Value) -> Result<Turn
 /// A comparison of two values.
 #[tactic(auto, using(crate::proofs::Operators::comparison_told, crate::proofs::Operators::comparison_made))]
 pub fn compare(m: &mut Machine, op: CmpOp, x: Value, y: Value) -> Result<TurnEnd, OutOfMemory>
-    ensures next { IfOk result (λ t. Follows t m.new m.old.left (operated (compare_of op m.old.heap x y) (site_now m.old) (state_of m.old) (rest_of m.old))) }
+    ensures next { IfOk result (λ t. Follows t m.new m.old.left (operated (compare_of op m.old.heap x y) (site_now m.old) (state_of m.old) (machine_rest m.old))) }
     ensures work { IfOk result (λ t. (work : ℕ) → Falls t m.new m.old.left work) }
 {
     if !m.spend() {
         return Ok(TurnEnd::Exhausted(m.trace(Origin::Code)?));
     }
     match answer_by(&m.heap, op, x, y) {
-        Some(answer) => Ok(TurnEnd::Go(Doing::Back(End::Value(Value::Bool(answer))))),
+        Some(answer) => Ok(TurnEnd::Go(NextAction::Back(End::Value(Value::Bool(answer))))),
         None => compare_judged(m, op, x, y),
     }
 }
 
 /// Pays for what is made without a step of its own, and goes on with it.
 #[tactic(auto, using(machine_state::proofs::Costs::paid, machine_state::proofs::Costs::unpaid))]
-pub fn settle(m: &mut Machine, made: Option<Made>) -> Result<TurnEnd, OutOfMemory>
-    ensures next { IfOk result (λ t. (x : Made) → made ≡ within m.old.left x → Follows t m.new m.old.left (costing x (trace_of (site_now m.old)) (state_of m.old) (rest_of m.old))) }
+pub fn settle(m: &mut Machine, made: Option<Effect>) -> Result<TurnEnd, OutOfMemory>
+    ensures next { IfOk result (λ t. (x : Effect) → made ≡ payable m.old.left x → Follows t m.new m.old.left (costing x (trace_of (site_now m.old)) (state_of m.old) (machine_rest m.old))) }
     ensures work { IfOk result (λ t. Falls t m.new m.old.left (1 + stack_work m.old)) }
 {
     match made {

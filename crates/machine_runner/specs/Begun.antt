@@ -7,7 +7,7 @@ use Rattle.py_values.specs.declared.value.Value.{Value}
 use Rattle.lower_law.specs.py_world.declared.trace.TraceFrame.{TraceFrame}
 use Rattle.run_tree.specs.Todo.{Done}
 use Rattle.lower_law.specs.py_world.World.{Stored, Locals}
-use Rattle.lower_law.specs.py_world.Arguments.{plain}
+use Rattle.lower_law.specs.py_world.Arguments.{positional_arguments}
 use Rattle.lower_law.specs.py_world.Site.{frame, no_call}
 use Rattle.lower_law.specs.py_world.Outcome.{raised, call_end}
 use Rattle.lower_law.specs.py_world.Runs.{begun_by_runner}
@@ -31,9 +31,9 @@ Fits x names (Some code) at = FitsNames x names at
 -- a call of a function, or of a method with its receiver, by the runner; all else is called as the language does
 abbrev pub FitsCall : Option Misfit → Option (FunctionObj × List Value) → List (Stored CoreFn) → Type 0
 FitsCall x None codes = x ≡ None
-FitsCall x (Some c) codes = Fits x (arguments_for c.0 (plain c.1)) (slice_get codes c.0.code) (frame c.0.path c.0.line c.0.name ∷ [])
+FitsCall x (Some c) codes = Fits x (arguments_for c.0 (positional_arguments c.1)) (slice_get codes c.0.code) (frame c.0.path c.0.line c.0.name ∷ [])
 
 -- how the call begins
 abbrev pub Begins : Option Misfit → Value → List Value → CoreState → Type 0
-Begins None f args s = begun_by_runner core f args s ≡ invoke entry f (plain args) no_call s (λ o. Done (call_end s o))
+Begins None f args s = begun_by_runner core f args s ≡ invoke entry f (positional_arguments args) no_call s (λ o. Done (call_end s o))
 Begins (Some x) f args s = begun_by_runner core f args s ≡ Done (raised x.raise x.trace s)

@@ -69,7 +69,7 @@ fn fail_all(
 }
 
 fn step_limit(alloc: Global, budget: u64) -> Result<Raise, OutOfMemory>
-    ensures { IfOk result (λ r. r ≡ raises.raise ExcClass.StepLimit (runs.step_limit budget)) }
+    ensures { IfOk result (λ r. r ≡ raises.text_raise ExcClass.StepLimit (runs.step_limit budget)) }
 {
     let number = budget.to_string(alloc)?;
     let mut text = Vec::new(alloc);

@@ -1,7 +1,7 @@
 // Calls by the runner whose arguments don't fit, and where a call by the runner begins.
 
 ghost use Rattle.std.specs.Prelude.{◌≡◌, ◌∷◌, [], IfOk, slice_get};
-ghost use Rattle.lower_law.specs.py_world.Arguments.{plain};
+ghost use Rattle.lower_law.specs.py_world.Arguments.{positional_arguments};
 ghost use Rattle.lower_law.specs.py_world.Calls as calls;
 ghost use Rattle.lower_law.specs.py_world.Outcome.{raised};
 ghost use Rattle.lower_law.specs.py_world.Runs as runs;
@@ -46,7 +46,7 @@ pub struct Misfit {
 
 /// Arguments by position.
 pub fn plain_arguments(alloc: Global, args: &[Value]) -> Result<CallArguments, OutOfMemory>
-    ensures { IfOk result (λ all. arguments_in all ≡ plain args.now) }
+    ensures { IfOk result (λ all. arguments_in all ≡ positional_arguments args.now) }
 {
     let mut values = Vec::new(alloc);
     values.extend_from_slice(args)?;
@@ -59,7 +59,7 @@ fn arguments_misfit(
     function: &FunctionObj,
     args: &[Value],
 ) -> Result<Option<Misfit>, OutOfMemory>
-    ensures { IfOk result (λ x. FitsNames x (calls.arguments_for function.now (plain args.now)) (site.frame function.now.path function.now.line function.now.name ∷ [])) }
+    ensures { IfOk result (λ x. FitsNames x (calls.arguments_for function.now (positional_arguments args.now)) (site.frame function.now.path function.now.line function.now.name ∷ [])) }
 {
     let args = plain_arguments(alloc, args)?;
     match arguments_for(alloc, function, &args)? {
@@ -77,7 +77,7 @@ fn function_misfit(
     function: &FunctionObj,
     args: &[Value],
 ) -> Result<Option<Misfit>, OutOfMemory>
-    ensures { IfOk result (λ x. Fits x (calls.arguments_for function.now (plain args.now)) (slice_get m.now.codes.items function.now.code) (site.frame function.now.path function.now.line function.now.name ∷ [])) }
+    ensures { IfOk result (λ x. Fits x (calls.arguments_for function.now (positional_arguments args.now)) (slice_get m.now.codes.items function.now.code) (site.frame function.now.path function.now.line function.now.name ∷ [])) }
 {
     if m.codes.get(function.code).is_none() {
         return Ok(None);

@@ -18,7 +18,7 @@ use Rattle.machine_unwind.specs.machine_state.declared.frame.Frame.{Frame}
 use Rattle.machine_unwind.specs.machine_state.declared.frame.Frame.TheVariants.{Simple}
 use Rattle.machine_unwind.specs.machine_state.declared.frame.SimpleFrame.TheVariants.{Targets}
 use Rattle.machine_unwind.specs.machine_state.Places.{CoreOutcome, CoreState, CoreThen, site_of}
-use Rattle.machine_unwind.specs.machine_state.Frames.{after, handling_of, outer_of}
+use Rattle.machine_unwind.specs.machine_state.Frames.{after_stack, handled_exception, outer_of}
 use Rattle.machine_unwind.specs.machine_state.Work.{taker_work}
 use Rattle.machine_store.proofs.machine_turns_lemmas.Lists.{drop_some}
 
@@ -38,9 +38,9 @@ stores_some ts at t v p s k w h = sym (ap (λ (xs : List CoreTarget). store_all 
 -- a target begins, with those behind it
 pub next_turns : (h : Here) (fs fs' : List Frame) (ts again : Rc (Vec CoreTarget Global) Global) (at : ℕ) (t : CoreTarget) (v : Value) (s : CoreState)
     → at < length ts.value.items → t ≡ get_or ts.value.items at t → fs' ≡ Simple (Targets again (at + 1) v) ∷ fs → again.value ≡ ts.value
-    → store t v (site_of h (outer_of fs') (handling_of fs')) s (after fs' h) ≡ store_all (stores (drop at ts.value.items)) v (site_of h (outer_of fs) (handling_of fs)) s (after fs h)
+    → store t v (site_of h (outer_of fs') (handled_exception fs')) s (after_stack fs' h) ≡ store_all (stores (drop at ts.value.items)) v (site_of h (outer_of fs) (handled_exception fs)) s (after_stack fs h)
 next_turns h fs fs' ts again at t v s w is pushed same =
-    rw (pushed, same) (stores_some ts.value.items at t v (site_of h (outer_of fs) (handling_of fs)) s (after fs h) w is)
+    rw (pushed, same) (stores_some ts.value.items at t v (site_of h (outer_of fs) (handled_exception fs)) s (after_stack fs h) w is)
 
 pub stores_last : (ts : List CoreTarget) (at : ℕ) (t : CoreTarget) (v : Value) (p : Site) (s : CoreState) (k : CoreThen) → at < length ts → t ≡ get_or ts at t → length ts ≤ at + 1
     → store t v p s k ≡ store_all (stores (drop at ts)) v p s k

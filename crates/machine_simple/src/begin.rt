@@ -9,32 +9,33 @@ ghost use Rattle.machine_unwind.specs.core_meaning.Expressions.{eval};
 ghost use Rattle.machine_unwind.specs.core_meaning.Requests.{Receives};
 ghost use Rattle.machine_unwind.specs.core_meaning.Statements as meaning;
 ghost use Rattle.machine_unwind.specs.machine_state.Places.{ends};
-ghost use Rattle.machine_unwind.specs.machine_state.Frames.{layers_of, rest_of, site_now, state_of, todo};
+ghost use Rattle.machine_unwind.specs.machine_state.Frames.{layers_of, machine_rest, site_now, state_of, todo};
 ghost use Rattle.machine_simple.specs.Simple as kinds;
 
 use crate::failure::begin_failure;
 use crate::simple::{stop, store_next};
+use machine_expr::evaluate::descend_into;
 use machine_store::augment::begin_augment;
 use machine_store::delete::begin_delete;
 use machine_store::{at_once, descend};
 use machine_unwind::raise::raise_again;
-use machine_unwind::{Doing, End, Frame, Machine, SimpleFrame};
+use machine_unwind::{End, Frame, Machine, NextAction, SimpleFrame};
 use py_core::{CoreExpr, CoreSingle, CoreStmtKind, CoreTarget, CoreUse};
 use py_text::OutOfMemory;
 use py_values::value::Value;
 use std::rc::Rc;
 
 /// Begins a statement that is an expression.
-fn begin_expression(m: &mut Machine, e: &Rc<CoreExpr>) -> Result<Doing, OutOfMemory>
-    ensures next { IfOk result (λ d. ends m.new.left (todo d m.new) ≡ ends m.old.left (world.expression_statement (eval e.now.value) (site_now m.old) (state_of m.old) (rest_of m.old))) }
+fn begin_expression(m: &mut Machine, e: &Rc<CoreExpr>) -> Result<NextAction, OutOfMemory>
+    ensures next { IfOk result (λ d. ends m.new.left (todo d m.new) ≡ ends m.old.left (world.expression_statement (eval e.now.value) (site_now m.old) (state_of m.old) (machine_rest m.old))) }
     ensures left { m.new.left ≤ m.old.left }
 {
     match at_once(m, e)? {
         Some(there) => {
             m.left = there.left;
-            Ok(Doing::Back(End::Next))
+            Ok(NextAction::Back(End::Next))
         }
-        None => descend(m, Frame::Simple(SimpleFrame::Forget), e),
+        None => descend_into(m, Frame::Simple(SimpleFrame::Forget), e),
     }
 }
 
@@ -43,8 +44,8 @@ fn begin_assign(
     m: &mut Machine,
     ts: &Rc<Vec<CoreTarget>>,
     e: &Rc<CoreExpr>,
-) -> Result<Doing, OutOfMemory>
-    ensures next { IfOk result (λ d. ends m.new.left (todo d m.new) ≡ ends m.old.left (targets.assign (meaning.stores ts.now.value.items) (eval e.now.value) (site_now m.old) (state_of m.old) (rest_of m.old))) }
+) -> Result<NextAction, OutOfMemory>
+    ensures next { IfOk result (λ d. ends m.new.left (todo d m.new) ≡ ends m.old.left (targets.assign (meaning.stores ts.now.value.items) (eval e.now.value) (site_now m.old) (state_of m.old) (machine_rest m.old))) }
     ensures left { m.new.left ≤ m.old.left }
 {
     let targets = ts.clone()?;
@@ -53,32 +54,32 @@ fn begin_assign(
             m.left = there.left;
             store_next(m, targets, 0, there.value)
         }
-        None => descend(m, Frame::Simple(SimpleFrame::Assign(targets)), e),
+        None => descend_into(m, Frame::Simple(SimpleFrame::Assign(targets)), e),
     }
 }
 
 /// Begins a return of a value.
-fn begin_return(m: &mut Machine, e: &Rc<CoreExpr>) -> Result<Doing, OutOfMemory>
-    ensures next { IfOk result (λ d. ends m.new.left (todo d m.new) ≡ ends m.old.left (world.return_value (Some (eval e.now.value)) (site_now m.old) (state_of m.old) (rest_of m.old))) }
+fn begin_return(m: &mut Machine, e: &Rc<CoreExpr>) -> Result<NextAction, OutOfMemory>
+    ensures next { IfOk result (λ d. ends m.new.left (todo d m.new) ≡ ends m.old.left (world.return_value (Some (eval e.now.value)) (site_now m.old) (state_of m.old) (machine_rest m.old))) }
     ensures left { m.new.left ≤ m.old.left }
 {
     match at_once(m, e)? {
         Some(there) => {
             m.left = there.left;
-            Ok(Doing::Back(End::Returned(there.value)))
+            Ok(NextAction::Back(End::Returned(there.value)))
         }
-        None => descend(m, Frame::Simple(SimpleFrame::Return), e),
+        None => descend_into(m, Frame::Simple(SimpleFrame::Return), e),
     }
 }
 
 /// Begins a return.
-fn begin_some_return(m: &mut Machine, e: &Option<Rc<CoreExpr>>) -> Result<Doing, OutOfMemory>
-    ensures next { IfOk result (λ d. ends m.new.left (todo d m.new) ≡ ends m.old.left (world.return_value (meaning.some_part e.now) (site_now m.old) (state_of m.old) (rest_of m.old))) }
+fn begin_some_return(m: &mut Machine, e: &Option<Rc<CoreExpr>>) -> Result<NextAction, OutOfMemory>
+    ensures next { IfOk result (λ d. ends m.new.left (todo d m.new) ≡ ends m.old.left (world.return_value (meaning.some_part e.now) (site_now m.old) (state_of m.old) (machine_rest m.old))) }
     ensures left { m.new.left ≤ m.old.left }
 {
     match e {
         Some(e) => begin_return(m, e),
-        None => Ok(Doing::Back(End::Returned(Value::None))),
+        None => Ok(NextAction::Back(End::Returned(Value::None))),
     }
 }
 
@@ -87,8 +88,8 @@ fn begin_yield(
     m: &mut Machine,
     e: &Option<Rc<CoreExpr>>,
     given: &Rc<CoreUse>,
-) -> Result<Doing, OutOfMemory>
-    ensures next { IfOk result (λ d. todo d m.new ≡ world.yield_value (meaning.some_part e.now) (Receives given.now.value ∷ layers_of m.old.stack) (site_now m.old) (state_of m.old) (rest_of m.old)) }
+) -> Result<NextAction, OutOfMemory>
+    ensures next { IfOk result (λ d. todo d m.new ≡ world.yield_value (meaning.some_part e.now) (Receives given.now.value ∷ layers_of m.old.stack) (site_now m.old) (state_of m.old) (machine_rest m.old)) }
     ensures left { m.new.left ≡ m.old.left }
 {
     let given = given.clone()?;
@@ -99,8 +100,8 @@ fn begin_yield(
 }
 
 /// Begins a `raise`.
-fn begin_raise(m: &mut Machine, e: &Option<Rc<CoreExpr>>) -> Result<Doing, OutOfMemory>
-    ensures next { IfOk result (λ d. todo d m.new ≡ raising.raise_value meaning.entry (meaning.some_part e.now) (site_now m.old) (state_of m.old) (rest_of m.old)) }
+fn begin_raise(m: &mut Machine, e: &Option<Rc<CoreExpr>>) -> Result<NextAction, OutOfMemory>
+    ensures next { IfOk result (λ d. todo d m.new ≡ raising.raise_value meaning.entry (meaning.some_part e.now) (site_now m.old) (state_of m.old) (machine_rest m.old)) }
     ensures left { m.new.left ≡ m.old.left }
 {
     match e {
@@ -139,9 +140,9 @@ pub fn is_simple(kind: &CoreStmtKind) -> bool
 }
 
 /// Begins a simple statement whose step is taken.
-pub fn begin_simple(m: &mut Machine, kind: &CoreStmtKind) -> Result<Doing, OutOfMemory>
+pub fn begin_simple(m: &mut Machine, kind: &CoreStmtKind) -> Result<NextAction, OutOfMemory>
     requires { kinds.is_simple kind.now ≡ true }
-    ensures next { IfOk result (λ d. ends m.new.left (todo d m.new) ≡ ends m.old.left (meaning.statement_at (layers_of m.old.stack) kind.now (site_now m.old) (state_of m.old) (rest_of m.old))) }
+    ensures next { IfOk result (λ d. ends m.new.left (todo d m.new) ≡ ends m.old.left (meaning.statement_at (layers_of m.old.stack) kind.now (site_now m.old) (state_of m.old) (machine_rest m.old))) }
     ensures left { m.new.left ≤ m.old.left }
 {
     match kind {
@@ -150,7 +151,7 @@ pub fn begin_simple(m: &mut Machine, kind: &CoreStmtKind) -> Result<Doing, OutOf
         CoreStmtKind::AugAssign(target, op, e) => begin_augment(m, target, *op, e),
         CoreStmtKind::Return(e) => begin_some_return(m, e),
         CoreStmtKind::FailWith(template, message) => begin_failure(m, template, message),
-        CoreStmtKind::Global(_) => Ok(Doing::Back(End::Next)),
+        CoreStmtKind::Global(_) => Ok(NextAction::Back(End::Next)),
         CoreStmtKind::Yield(e, given) => begin_yield(m, e, given),
         CoreStmtKind::Raise(e) => begin_raise(m, e),
         CoreStmtKind::Del(target) => begin_delete(m, target),

@@ -2,7 +2,7 @@
 
 ghost use Rattle.std.specs.Prelude.{◌≡◌, ◌+◌, ◌<◌, IfOk};
 ghost use Rattle.machine_unwind.specs.core_meaning.Statements as meaning;
-ghost use Rattle.machine_unwind.specs.machine_state.Frames.{rest_of, site_now, state_of, todo};
+ghost use Rattle.machine_unwind.specs.machine_state.Frames.{machine_rest, site_now, state_of, todo};
 ghost use Rattle.machine_unwind.specs.machine_state.Work.{doing_work, stack_work};
 ghost use Rattle.machine_simple.specs.Failing.{failure_work};
 ghost use Rattle.py_tree.specs.Trees.{tree};
@@ -12,7 +12,7 @@ ghost use Rattle.assert_explain.specs.py_world.Statements as world;
 
 use assert_explain::explain as explained_text;
 use machine_store::descend;
-use machine_unwind::{Doing, Frame, Machine, Origin, SimpleFrame};
+use machine_unwind::{Frame, Machine, NextAction, Origin, SimpleFrame};
 use py_core::{CoreExpr, Expr, Template};
 use py_text::{OutOfMemory, PyText};
 use py_values::class::ExcClass;
@@ -22,8 +22,8 @@ use py_values::value::Value;
 use std::rc::Rc;
 
 /// Raises the `AssertionError` of a failed assert, with its message where there is one.
-pub fn fail(m: &mut Machine, message: Option<Value>) -> Result<Doing, OutOfMemory>
-    ensures next { IfOk result (λ d. todo d m.new ≡ rest_of m.old (raised_at (world.assertion message) (site_now m.old) (state_of m.old))) }
+pub fn fail(m: &mut Machine, message: Option<Value>) -> Result<NextAction, OutOfMemory>
+    ensures next { IfOk result (λ d. todo d m.new ≡ machine_rest m.old (raised_at (world.assertion message) (site_now m.old) (state_of m.old))) }
     ensures left { m.new.left ≡ m.old.left }
     ensures work { IfOk result (λ d. doing_work d ≡ 0) }
     ensures stack { m.new.stack ≡ m.old.stack }
@@ -42,8 +42,8 @@ pub fn begin_failure(
     m: &mut Machine,
     template: &Template,
     message: &Option<Rc<CoreExpr>>,
-) -> Result<Doing, OutOfMemory>
-    ensures next { IfOk result (λ d. todo d m.new ≡ meaning.failure template.now message.now (site_now m.old) (state_of m.old) (rest_of m.old)) }
+) -> Result<NextAction, OutOfMemory>
+    ensures next { IfOk result (λ d. todo d m.new ≡ meaning.failure template.now message.now (site_now m.old) (state_of m.old) (machine_rest m.old)) }
     ensures left { m.new.left ≡ m.old.left }
     ensures work { IfOk result (λ d. doing_work d + stack_work m.new < failure_work message.now + stack_work m.old) }
 {
@@ -59,8 +59,12 @@ pub fn begin_failure(
 }
 
 /// Raises the `AssertionError` of a failed assert whose condition is explained.
-pub fn explain(m: &mut Machine, shown: &Expr, message: Option<Value>) -> Result<Doing, OutOfMemory>
-    ensures next { IfOk result (λ d. todo d m.new ≡ rest_of m.old (world.failed_with (explanation (tree shown.now) m.old.temps.items message m.old.heap) (site_now m.old) (state_of m.old))) }
+pub fn explain(
+    m: &mut Machine,
+    shown: &Expr,
+    message: Option<Value>,
+) -> Result<NextAction, OutOfMemory>
+    ensures next { IfOk result (λ d. todo d m.new ≡ machine_rest m.old (world.failed_with (explanation (tree shown.now) m.old.temps.items message m.old.heap) (site_now m.old) (state_of m.old))) }
     ensures left { m.new.left ≡ m.old.left }
     ensures work { IfOk result (λ d. doing_work d ≡ 0) }
     ensures stack { m.new.stack ≡ m.old.stack }

@@ -17,7 +17,7 @@ use Rattle.core_meaning.specs.py_world.Definitions.{with_defaults, define_as, de
 use Rattle.core_meaning.specs.py_world.Imports.{alias_name, prefixes_behind, modules_at, import_end, import_each, submodule_or}
 use Rattle.core_meaning.specs.py_world.Runs.{module_end}
 use Rattle.core_meaning.specs.Expressions.{CorePart}
-use Rattle.core_meaning.specs.Statements.{block, core_body, some_part, written}
+use Rattle.core_meaning.specs.Statements.{core_block_body, core_body, some_part, written}
 use Rattle.machine_state.specs.declared.frame.DefineFrame.{DefineFrame}
 use Rattle.machine_state.specs.declared.frame.DefineFrame.TheVariants as define
 use Rattle.machine_state.specs.declared.frame.ModuleFrame.{ModuleFrame}
@@ -36,11 +36,11 @@ fn_made (fn.CoreFn' source at name params locals yields p body) ds vs =
 
 -- behind the decorators of a class: its base
 abbrev pub core_class_behind : Option CorePart → class.CoreClass → List Value → CorePart
-core_class_behind base (class.CoreClass' at name p body) ds = class_behind base name at.line (block [] body) ds
+core_class_behind base (class.CoreClass' at name p body) ds = class_behind base name at.line (core_block_body [] body) ds
 
 -- behind its base too
 abbrev pub core_class_made : class.CoreClass → List Value → Option ObjId → CorePart
-core_class_made (class.CoreClass' at name p body) ds base = class_made name at.line (block [] body) ds base
+core_class_made (class.CoreClass' at name p body) ds base = class_made name at.line (core_block_body [] body) ds base
 
 abbrev pub on_define : DefineFrame → Site → Value → CoreState → CoreThen → CoreRest
 on_define (define.Decorator ds es function vs) p v s k =

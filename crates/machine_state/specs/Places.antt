@@ -8,10 +8,10 @@ use Rattle.py_source.specs.declared.pos.Pos.{Pos}
 use Rattle.py_core.specs.declared.expr.CoreExpr.{CoreExpr}
 use Rattle.core_meaning.specs.py_world.declared.trace.TraceFrame.{TraceFrame}
 use Rattle.core_meaning.specs.py_world.declared.ended.Thrown.{Thrown}
-use Rattle.core_meaning.specs.py_world.World.{State}
+use Rattle.core_meaning.specs.py_world.World.{CallState}
 use Rattle.core_meaning.specs.py_world.Arguments.{Arguments}
 use Rattle.core_meaning.specs.py_world.Site.{Own, InModule, InFunction, InClass, Scene, Site, site, frame}
-use Rattle.core_meaning.specs.py_world.Outcome.{Outcome, Gave, Next, Returned, Broke, Continued, Raised, Spent, Rest, Then, Request, Paused}
+use Rattle.core_meaning.specs.py_world.Outcome.{Outcome, Gave, Next, Returned, Broke, Continued, Raised, Spent, Rest, Continuation, Request, Paused}
 use Rattle.core_meaning.specs.py_world.Calls.{body_of}
 use Rattle.core_meaning.specs.Requests.{core_kinds}
 use Rattle.core_meaning.specs.Expressions.{CorePart, eval}
@@ -25,7 +25,7 @@ use Rattle.machine_state.specs.declared.frame.End.{End}
 use Rattle.machine_state.specs.declared.frame.End.TheVariants as end
 
 abbrev pub CoreState : Type 0
-CoreState = State core_kinds
+CoreState = CallState core_kinds
 
 abbrev pub CoreOutcome : Type 0
 CoreOutcome = Outcome core_kinds
@@ -34,7 +34,7 @@ abbrev pub CoreRest : Type 0
 CoreRest = Rest core_kinds
 
 abbrev pub CoreThen : Type 0
-CoreThen = Then core_kinds
+CoreThen = Continuation core_kinds
 
 abbrev pub CoreEnding : Type 0
 CoreEnding = Ending Pos (Spent core_kinds) (Request core_kinds) CoreOutcome (Paused core_kinds)
@@ -61,10 +61,10 @@ path_in (Module path home) = path
 path_in (Function code) = code.path
 path_in (Class path name home at) = path
 
-abbrev pub name_in : Place → List ℕ
-name_in (Module path home) = codes "<module>"
-name_in (Function code) = (entry code.code).name
-name_in (Class path name home at) = name
+abbrev pub place_name : Place → List ℕ
+place_name (Module path home) = codes "<module>"
+place_name (Function code) = (entry code.code).name
+place_name (Class path name home at) = name
 
 abbrev pub home_in : Place → ℕ
 home_in (Module path home) = home
@@ -88,10 +88,10 @@ depth_of h = depth_in h.place h.around
 -- where the machine is, given the open calls and the exception that is being handled
 abbrev pub scene_in : Place → ℕ → List TraceFrame → Option Thrown → Scene
 scene_in place around outer handled =
-    record { around = record { trace = outer; depth = depth_in place around; handling = handled }; path = path_in place; name = name_in place; home = home_in place; own = own_in place }
+    record { around = record { trace = outer; depth = depth_in place around; handling = handled }; path = path_in place; name = place_name place; home = home_in place; own = own_in place }
 
 abbrev pub frame_of : Here → TraceFrame
-frame_of h = frame (path_in h.place) h.line (name_in h.place)
+frame_of h = frame (path_in h.place) h.line (place_name h.place)
 
 abbrev pub site_of : Here → List TraceFrame → Option Thrown → Site
 site_of h outer handled = site (scene_in h.place h.around outer handled) h.line

@@ -1,7 +1,7 @@
 // The arguments of calls.
 
 ghost use Rattle.std.specs.Prelude.{◌≡◌};
-ghost use Rattle.core_meaning.specs.py_world.Arguments.{plain};
+ghost use Rattle.core_meaning.specs.py_world.Arguments.{positional_arguments};
 ghost use Rattle.machine_state.specs.Places.{arguments_in};
 
 use crate::locals::Locals;
@@ -23,7 +23,7 @@ impl Drop for CallArguments {
 impl CallArguments {
     /// Arguments by position alone.
     pub fn plain(alloc: Global, values: Vec<Value>) -> Self
-        ensures { arguments_in result ≡ plain values.items }
+        ensures { arguments_in result ≡ positional_arguments values.items }
     {
         CallArguments {
             plain: values,

@@ -42,10 +42,10 @@ impl Drop for SourceFile {
 }
 
 impl Model for SourceFile {
-    ghost use Rattle.core_meaning.specs.py_world.World.{Source};
+    ghost use Rattle.core_meaning.specs.py_world.World.{CodedSource};
     ghost use Rattle.py_core.specs.declared.stmt.Core.{Core};
 
-    ghost Value = { Source Core };
+    ghost Value = { CodedSource Core };
 
     ghost use Rattle.py_core.specs.contracts.stmt.CoreStmtKind as kind;
     ghost use Rattle.py_core.specs.contracts.stmt.CoreBlock as block;

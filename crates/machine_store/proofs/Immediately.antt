@@ -11,7 +11,7 @@ use Rattle.machine_assign.specs.py_world.Targets.{augmented, augment_on, store_n
 use Rattle.machine_assign.specs.core_meaning.Expressions.{eval}
 use Rattle.machine_assign.specs.machine_state.declared.machine.Machine.{Machine}
 use Rattle.machine_assign.specs.machine_state.Places.{CoreThen, ends}
-use Rattle.machine_assign.specs.machine_state.Frames.{rest_of, site_now, state_of}
+use Rattle.machine_assign.specs.machine_state.Frames.{machine_rest, site_now, state_of}
 use Rattle.machine_immediate.specs.declared.immediate.Immediate.{Immediate}
 use Rattle.machine_immediate.specs.AtOnce.{IsImmediate}
 use Rattle.machine_immediate.proofs.AtOnces.{found}
@@ -27,15 +27,15 @@ module _ (m : Machine) (e : Rc CoreExpr Global) (e' : CoreExpr) (rx : Option Imm
   fewer = there.fewer
 
   pub augment_there : (y : Value) (name : List ℕ) (op : BinOp)
-      → ends x.left (augmented y op x.value (store_name name) (site_now m) (state_of m) (rest_of m)) ≡ ends m.left (augment_on y op (eval e.value) (store_name name) (site_now m) (state_of m) (rest_of m))
-  augment_there y name op = goes (λ o. on_value o (rest_of m) (λ z s. augmented y op z (store_name name) (site_now m) s (rest_of m)))
+      → ends x.left (augmented y op x.value (store_name name) (site_now m) (state_of m) (machine_rest m)) ≡ ends m.left (augment_on y op (eval e.value) (store_name name) (site_now m) (state_of m) (machine_rest m))
+  augment_there y name op = goes (λ o. on_value o (machine_rest m) (λ z s. augmented y op z (store_name name) (site_now m) s (machine_rest m)))
 
 -- an augmented assignment whose operator's value is there at once
 pub augmented_there : (m : Machine) (x y : Value) (op : BinOp) (name : List ℕ) (r : Option Immediate) (d : Immediate) → r ≡ Some d → IfSome r (λ d. IsImmediate (operated (augmented_of op m.heap x y)) m.left d m)
-    → ends d.left (store_name name d.value (site_now m) (state_of m) (rest_of m)) ≡ ends m.left (augmented x op y (store_name name) (site_now m) (state_of m) (rest_of m))
+    → ends d.left (store_name name d.value (site_now m) (state_of m) (machine_rest m)) ≡ ends m.left (augmented x op y (store_name name) (site_now m) (state_of m) (machine_rest m))
 augmented_there m x y op name r d is h =
     let i : IsImmediate (operated (augmented_of op m.heap x y)) m.left d m = found m (operated (augmented_of op m.heap x y)) m.left r d is h in
-    sym (i.goes_on (λ o. on_value o (rest_of m) (λ v s. store_name name v (site_now m) s (rest_of m))))
+    sym (i.goes_on (λ o. on_value o (machine_rest m) (λ v s. store_name name v (site_now m) s (machine_rest m))))
 
 -- what is there behind the operator
 pub augmented_fewer : (m : Machine) (x y : Value) (op : BinOp) (r : Option Immediate) (d : Immediate) → r ≡ Some d → IfSome r (λ d. IsImmediate (operated (augmented_of op m.heap x y)) m.left d m) → d.left ≤ m.left

@@ -5,26 +5,26 @@ use Rattle.py_values.specs.declared.value.Value.{Value}
 use Rattle.py_values.specs.declared.value.Value.TheVariants as val
 use Rattle.py_values.specs.declared.value.ObjId.{ObjId}
 use Rattle.py_values.specs.declared.change.Change.{Change}
-use Rattle.py_values.specs.declared.end.Made.{Made}
-use Rattle.py_values.specs.declared.end.Made.TheVariants.{Give, New, Put, Fail}
+use Rattle.py_values.specs.declared.end.Effect.{Effect}
+use Rattle.py_values.specs.declared.end.Effect.TheVariants.{Give, New, Put, Fail}
 use Rattle.py_values.specs.declared.end.Raise.{Raise}
 use Rattle.py_values.specs.declared.object.Obj.{Obj}
 use Rattle.py_values.specs.Changes.{heap_after}
 use Rattle.py_values.specs.Ends.{id_at}
 use Rattle.machine_assign.specs.py_world.Site.{Site, trace_of}
 use Rattle.machine_assign.specs.py_world.World.{heap_of, with_heap, with_object}
-use Rattle.machine_assign.specs.py_world.Names.{named}
+use Rattle.machine_assign.specs.py_world.Names.{value_of_name}
 use Rattle.machine_assign.specs.py_world.Outcome.{made, on_value, raised}
 use Rattle.machine_assign.specs.py_world.Targets.{augment_name, augment_on, store_name}
 use Rattle.machine_assign.specs.core_meaning.Expressions.{CorePart}
 use Rattle.machine_assign.specs.machine_state.Places.{CoreState, CoreThen}
 
-module _ (name : List ℕ) (op : BinOp) (e : CorePart) (p : Site) (s : CoreState) (k : CoreThen) (look : Made) (is : look ≡ named name p.scene s.locals (heap_of s)) where
+module _ (name : List ℕ) (op : BinOp) (e : CorePart) (p : Site) (s : CoreState) (k : CoreThen) (look : Effect) (is : look ≡ value_of_name name p.scene s.locals (heap_of s)) where
   taken : on_value (made look (trace_of p) s) k (λ x s. augment_on x op e (store_name name) p s k) ≡ augment_name name op e p s k
-  taken = ap (λ (m : Made). on_value (made m (trace_of p) s) k (λ x s. augment_on x op e (store_name name) p s k)) is
+  taken = ap (λ (m : Effect). on_value (made m (trace_of p) s) k (λ x s. augment_on x op e (store_name name) p s k)) is
 
-  by_look : (m : Made) → look ≡ m → on_value (made m (trace_of p) s) k (λ x s. augment_on x op e (store_name name) p s k) ≡ augment_name name op e p s k
-  by_look m g = ap (λ (m : Made). on_value (made m (trace_of p) s) k (λ x s. augment_on x op e (store_name name) p s k)) (sym g) ∙ taken
+  by_look : (m : Effect) → look ≡ m → on_value (made m (trace_of p) s) k (λ x s. augment_on x op e (store_name name) p s k) ≡ augment_name name op e p s k
+  by_look m g = ap (λ (m : Effect). on_value (made m (trace_of p) s) k (λ x s. augment_on x op e (store_name name) p s k)) (sym g) ∙ taken
 
   pub augment_found : (x : Value) (c : ℕ) → look ≡ Give x c → augment_on x op e (store_name name) p s k ≡ augment_name name op e p s k
   augment_found x c g = by_look (Give x c) g

@@ -8,18 +8,18 @@ ghost use Rattle.machine_assign.specs.core_meaning.Expressions.{eval};
 ghost use Rattle.machine_assign.specs.core_meaning.Statements as meaning;
 ghost use Rattle.machine_immediate.specs.AtOnce.{IsImmediate};
 ghost use Rattle.machine_assign.specs.machine_state.Places.{ends};
-ghost use Rattle.machine_assign.specs.machine_state.Frames.{rest_of, site_now, state_of, todo, Follows};
+ghost use Rattle.machine_assign.specs.machine_state.Frames.{machine_rest, site_now, state_of, todo, Follows};
 ghost use Rattle.machine_assign.specs.machine_state.Work.{doing_work, stack_work, weight, Falls};
 
 use machine_assign::{
-    Doing, End, Frame, Machine, Origin, SimpleFrame, Spot, TargetFrame, TurnEnd, bound_value,
+    End, Frame, Machine, NextAction, Origin, SimpleFrame, Spot, TargetFrame, TurnEnd, bound_value,
     descend, look_up, store, subscript,
 };
 use machine_immediate::immediate::{Immediate, at_once, operate_now};
 use py_attributes::attributes::attribute_made;
 use py_core::{BinOp, CoreExpr, CoreSingle, CoreSingleKind, SrcText};
 use py_text::OutOfMemory;
-use py_values::end::Made;
+use py_values::end::Effect;
 use py_values::index::Index;
 use py_values::value::Value;
 use std::rc::Rc;
@@ -46,8 +46,8 @@ fn augment_now(
     op: BinOp,
     y: Value,
     name: &SrcText,
-) -> Result<Doing, OutOfMemory>
-    ensures next { IfOk result (λ d. ends m.new.left (todo d m.new) ≡ ends m.old.left (world.augmented x op y (world.store_name name.now) (site_now m.old) (state_of m.old) (rest_of m.old))) }
+) -> Result<NextAction, OutOfMemory>
+    ensures next { IfOk result (λ d. ends m.new.left (todo d m.new) ≡ ends m.old.left (world.augmented x op y (world.store_name name.now) (site_now m.old) (state_of m.old) (machine_rest m.old))) }
     ensures left { m.new.left ≤ m.old.left }
 {
     match augmented_now(m, op, x, y)? {
@@ -59,7 +59,7 @@ fn augment_now(
             let name = name.clone()?;
             let frame = SimpleFrame::Augment(x, op, Spot::Name(name));
             m.stack.push(Frame::Simple(frame))?;
-            Ok(Doing::Back(End::Value(y)))
+            Ok(NextAction::Back(End::Value(y)))
         }
     }
 }
@@ -71,8 +71,8 @@ fn augment_from(
     name: &SrcText,
     op: BinOp,
     e: &Rc<CoreExpr>,
-) -> Result<Doing, OutOfMemory>
-    ensures next { IfOk result (λ d. ends m.new.left (todo d m.new) ≡ ends m.old.left (world.augment_on x op (eval e.now.value) (world.store_name name.now) (site_now m.old) (state_of m.old) (rest_of m.old))) }
+) -> Result<NextAction, OutOfMemory>
+    ensures next { IfOk result (λ d. ends m.new.left (todo d m.new) ≡ ends m.old.left (world.augment_on x op (eval e.now.value) (world.store_name name.now) (site_now m.old) (state_of m.old) (machine_rest m.old))) }
     ensures left { m.new.left ≤ m.old.left }
 {
     match at_once(m, e)? {
@@ -95,21 +95,21 @@ fn augment_unbound(
     name: &SrcText,
     op: BinOp,
     e: &Rc<CoreExpr>,
-) -> Result<Doing, OutOfMemory>
-    ensures next { IfOk result (λ d. ends m.new.left (todo d m.new) ≡ ends m.old.left (world.augment_name name.now op (eval e.now.value) (site_now m.old) (state_of m.old) (rest_of m.old))) }
+) -> Result<NextAction, OutOfMemory>
+    ensures next { IfOk result (λ d. ends m.new.left (todo d m.new) ≡ ends m.old.left (world.augment_name name.now op (eval e.now.value) (site_now m.old) (state_of m.old) (machine_rest m.old))) }
     ensures left { m.new.left ≤ m.old.left }
 {
     match look_up(m, name)? {
-        Made::Give(x, _) => augment_from(m, x, name, op, e),
-        Made::New(obj, _) => {
+        Effect::Give(x, _) => augment_from(m, x, name, op, e),
+        Effect::New(obj, _) => {
             let id = m.heap.add(obj)?;
             augment_from(m, Value::Ref(id), name, op, e)
         }
-        Made::Put(id, change, x, _) => {
+        Effect::Put(id, change, x, _) => {
             m.heap.change(id, change)?;
             augment_from(m, x, name, op, e)
         }
-        Made::Fail(raise, _) => m.raise(raise, Origin::Code),
+        Effect::Fail(raise, _) => m.raise(raise, Origin::Code),
     }
 }
 
@@ -119,8 +119,8 @@ fn augment_name(
     name: &SrcText,
     op: BinOp,
     e: &Rc<CoreExpr>,
-) -> Result<Doing, OutOfMemory>
-    ensures next { IfOk result (λ d. ends m.new.left (todo d m.new) ≡ ends m.old.left (world.augment_name name.now op (eval e.now.value) (site_now m.old) (state_of m.old) (rest_of m.old))) }
+) -> Result<NextAction, OutOfMemory>
+    ensures next { IfOk result (λ d. ends m.new.left (todo d m.new) ≡ ends m.old.left (world.augment_name name.now op (eval e.now.value) (site_now m.old) (state_of m.old) (machine_rest m.old))) }
     ensures left { m.new.left ≤ m.old.left }
 {
     match bound_value(m, name)? {
@@ -136,8 +136,8 @@ fn begin_attribute(
     name: &SrcText,
     op: BinOp,
     e: &Rc<CoreExpr>,
-) -> Result<Doing, OutOfMemory>
-    ensures next { IfOk result (λ d. todo d m.new ≡ world.augment_attribute (eval a.now.value) name.now op (eval e.now.value) (site_now m.old) (state_of m.old) (rest_of m.old)) }
+) -> Result<NextAction, OutOfMemory>
+    ensures next { IfOk result (λ d. todo d m.new ≡ world.augment_attribute (eval a.now.value) name.now op (eval e.now.value) (site_now m.old) (state_of m.old) (machine_rest m.old)) }
     ensures left { m.new.left ≡ m.old.left }
 {
     let frame = TargetFrame::AugmentAttribute(name.clone()?, op, e.clone()?);
@@ -151,8 +151,8 @@ fn begin_item(
     i: &Rc<CoreExpr>,
     op: BinOp,
     e: &Rc<CoreExpr>,
-) -> Result<Doing, OutOfMemory>
-    ensures next { IfOk result (λ d. todo d m.new ≡ world.augment_item (eval a.now.value) (eval i.now.value) op (eval e.now.value) (site_now m.old) (state_of m.old) (rest_of m.old)) }
+) -> Result<NextAction, OutOfMemory>
+    ensures next { IfOk result (λ d. todo d m.new ≡ world.augment_item (eval a.now.value) (eval i.now.value) op (eval e.now.value) (site_now m.old) (state_of m.old) (machine_rest m.old)) }
     ensures left { m.new.left ≡ m.old.left }
 {
     let frame = TargetFrame::AugmentItem(i.clone()?, op, e.clone()?);
@@ -165,8 +165,8 @@ pub fn begin_augment(
     target: &CoreSingle,
     op: BinOp,
     e: &Rc<CoreExpr>,
-) -> Result<Doing, OutOfMemory>
-    ensures next { IfOk result (λ d. ends m.new.left (todo d m.new) ≡ ends m.old.left (meaning.augment_at target.now.kind op (eval e.now.value) (site_now m.old) (state_of m.old) (rest_of m.old))) }
+) -> Result<NextAction, OutOfMemory>
+    ensures next { IfOk result (λ d. ends m.new.left (todo d m.new) ≡ ends m.old.left (meaning.augment_at target.now.kind op (eval e.now.value) (site_now m.old) (state_of m.old) (machine_rest m.old))) }
     ensures left { m.new.left ≤ m.old.left }
 {
     match &target.kind {
@@ -183,8 +183,8 @@ pub fn augment_attribute(
     name: SrcText,
     op: BinOp,
     e: Rc<CoreExpr>,
-) -> Result<Doing, OutOfMemory>
-    ensures next { IfOk result (λ d. todo d m.new ≡ world.augment_attribute_of x name op (eval e.value) (site_now m.old) (state_of m.old) (rest_of m.old)) }
+) -> Result<NextAction, OutOfMemory>
+    ensures next { IfOk result (λ d. todo d m.new ≡ world.augment_attribute_of x name op (eval e.value) (site_now m.old) (state_of m.old) (machine_rest m.old)) }
     ensures left { m.new.left ≡ m.old.left }
     ensures work { IfOk result (λ d. doing_work d + stack_work m.new < weight e.value + 3 + stack_work m.old) }
 {
@@ -202,7 +202,7 @@ pub fn augment_item(
     op: BinOp,
     e: Rc<CoreExpr>,
 ) -> Result<TurnEnd, OutOfMemory>
-    ensures next { IfOk result (λ t. Follows t m.new m.old.left (world.augment_item_of x i op (eval e.value) (site_now m.old) (state_of m.old) (rest_of m.old))) }
+    ensures next { IfOk result (λ t. Follows t m.new m.old.left (world.augment_item_of x i op (eval e.value) (site_now m.old) (state_of m.old) (machine_rest m.old))) }
     ensures work { IfOk result (λ t. (work : ℕ) → Falls t m.new m.old.left work) }
 {
     let frame = TargetFrame::Old(Spot::Item(x, i), op, e);

@@ -4,16 +4,20 @@ ghost use Rattle.std.specs.Prelude.{◌≡◌, IfOk};
 ghost use Rattle.machine_assign.specs.py_world.Targets as world;
 ghost use Rattle.machine_assign.specs.core_meaning.Expressions.{eval};
 ghost use Rattle.machine_assign.specs.core_meaning.Statements as meaning;
-ghost use Rattle.machine_assign.specs.machine_state.Frames.{rest_of, site_now, state_of, todo};
+ghost use Rattle.machine_assign.specs.machine_state.Frames.{machine_rest, site_now, state_of, todo};
 
-use machine_assign::{Doing, Frame, Machine, TargetFrame, delete_name, descend};
+use machine_assign::{Frame, Machine, NextAction, TargetFrame, delete_name, descend};
 use py_core::{CoreExpr, CoreSingle, CoreSingleKind, SrcText};
 use py_text::OutOfMemory;
 use std::rc::Rc;
 
 /// Begins the deletion of an attribute: its object comes first.
-fn delete_attribute(m: &mut Machine, e: &Rc<CoreExpr>, name: &SrcText) -> Result<Doing, OutOfMemory>
-    ensures next { IfOk result (λ d. todo d m.new ≡ world.delete_attribute (eval e.now.value) name.now (site_now m.old) (state_of m.old) (rest_of m.old)) }
+fn delete_attribute(
+    m: &mut Machine,
+    e: &Rc<CoreExpr>,
+    name: &SrcText,
+) -> Result<NextAction, OutOfMemory>
+    ensures next { IfOk result (λ d. todo d m.new ≡ world.delete_attribute (eval e.now.value) name.now (site_now m.old) (state_of m.old) (machine_rest m.old)) }
     ensures left { m.new.left ≡ m.old.left }
 {
     let frame = TargetFrame::DeleteAttribute(name.clone()?);
@@ -21,8 +25,12 @@ fn delete_attribute(m: &mut Machine, e: &Rc<CoreExpr>, name: &SrcText) -> Result
 }
 
 /// Begins the deletion of an item: its object comes first, then its index or key.
-fn delete_item(m: &mut Machine, e: &Rc<CoreExpr>, i: &Rc<CoreExpr>) -> Result<Doing, OutOfMemory>
-    ensures next { IfOk result (λ d. todo d m.new ≡ world.delete_item (eval e.now.value) (eval i.now.value) (site_now m.old) (state_of m.old) (rest_of m.old)) }
+fn delete_item(
+    m: &mut Machine,
+    e: &Rc<CoreExpr>,
+    i: &Rc<CoreExpr>,
+) -> Result<NextAction, OutOfMemory>
+    ensures next { IfOk result (λ d. todo d m.new ≡ world.delete_item (eval e.now.value) (eval i.now.value) (site_now m.old) (state_of m.old) (machine_rest m.old)) }
     ensures left { m.new.left ≡ m.old.left }
 {
     let frame = TargetFrame::DeleteItem(i.clone()?);
@@ -30,8 +38,8 @@ fn delete_item(m: &mut Machine, e: &Rc<CoreExpr>, i: &Rc<CoreExpr>) -> Result<Do
 }
 
 /// Begins a deletion (Language Reference, the `del` statement).
-pub fn begin_delete(m: &mut Machine, target: &CoreSingle) -> Result<Doing, OutOfMemory>
-    ensures next { IfOk result (λ d. todo d m.new ≡ meaning.delete_at target.now.kind (site_now m.old) (state_of m.old) (rest_of m.old)) }
+pub fn begin_delete(m: &mut Machine, target: &CoreSingle) -> Result<NextAction, OutOfMemory>
+    ensures next { IfOk result (λ d. todo d m.new ≡ meaning.delete_at target.now.kind (site_now m.old) (state_of m.old) (machine_rest m.old)) }
     ensures left { m.new.left ≡ m.old.left }
 {
     match &target.kind {

@@ -3,9 +3,9 @@
 ghost use Rattle.std.specs.Prelude.{◌≡◌, ℕ, IfOk};
 ghost use Rattle.py_items.specs.Items.{delete_of, store_of};
 ghost use Rattle.py_ops.specs.Binary.{augmented_of};
-ghost use Rattle.py_values.specs.Ends.{within};
+ghost use Rattle.py_values.specs.Ends.{payable};
 ghost use Rattle.machine_assign.specs.py_world.Outcome.{operated};
-ghost use Rattle.machine_assign.specs.machine_state.Frames.{rest_of, site_now, state_of, Follows};
+ghost use Rattle.machine_assign.specs.machine_state.Frames.{machine_rest, site_now, state_of, Follows};
 ghost use Rattle.machine_assign.specs.machine_state.Work.{Falls};
 
 use machine_assign::{Machine, Origin, TurnEnd};
@@ -13,7 +13,7 @@ use py_core::BinOp;
 use py_items::store::{delete_made, store_made};
 use py_ops::binary::augmented_made;
 use py_text::OutOfMemory;
-use py_values::end::{Made, made_within};
+use py_values::end::{Effect, made_within};
 use py_values::heap::Heap;
 use py_values::value::Value;
 use std::alloc::Global;
@@ -26,8 +26,8 @@ fn store_within(
     i: Value,
     v: Value,
     budget: u64,
-) -> Result<Option<Made>, OutOfMemory>
-    ensures { IfOk result (λ m. m ≡ within budget (store_of heap.now x i v)) }
+) -> Result<Option<Effect>, OutOfMemory>
+    ensures { IfOk result (λ m. m ≡ payable budget (store_of heap.now x i v)) }
 {
     let made = store_made(alloc, heap, x, i, v)?;
     Ok(made_within(made, budget))
@@ -35,7 +35,7 @@ fn store_within(
 
 /// The store of an item.
 pub fn put(m: &mut Machine, x: Value, i: Value, v: Value) -> Result<TurnEnd, OutOfMemory>
-    ensures next { IfOk result (λ t. Follows t m.new m.old.left (operated (store_of m.old.heap x i v) (site_now m.old) (state_of m.old) (rest_of m.old))) }
+    ensures next { IfOk result (λ t. Follows t m.new m.old.left (operated (store_of m.old.heap x i v) (site_now m.old) (state_of m.old) (machine_rest m.old))) }
     ensures work { IfOk result (λ t. (work : ℕ) → Falls t m.new m.old.left work) }
 {
     if !m.spend() {
@@ -52,8 +52,8 @@ fn delete_within(
     x: Value,
     i: Value,
     budget: u64,
-) -> Result<Option<Made>, OutOfMemory>
-    ensures { IfOk result (λ m. m ≡ within budget (delete_of heap.now x i)) }
+) -> Result<Option<Effect>, OutOfMemory>
+    ensures { IfOk result (λ m. m ≡ payable budget (delete_of heap.now x i)) }
 {
     let made = delete_made(alloc, heap, x, i)?;
     Ok(made_within(made, budget))
@@ -61,7 +61,7 @@ fn delete_within(
 
 /// The deletion of an item.
 pub fn take_away(m: &mut Machine, x: Value, i: Value) -> Result<TurnEnd, OutOfMemory>
-    ensures next { IfOk result (λ t. Follows t m.new m.old.left (operated (delete_of m.old.heap x i) (site_now m.old) (state_of m.old) (rest_of m.old))) }
+    ensures next { IfOk result (λ t. Follows t m.new m.old.left (operated (delete_of m.old.heap x i) (site_now m.old) (state_of m.old) (machine_rest m.old))) }
     ensures work { IfOk result (λ t. (work : ℕ) → Falls t m.new m.old.left work) }
 {
     if !m.spend() {
@@ -73,7 +73,7 @@ pub fn take_away(m: &mut Machine, x: Value, i: Value) -> Result<TurnEnd, OutOfMe
 
 /// The operator of an augmented assignment, which changes a list in place.
 pub fn augment(m: &mut Machine, op: BinOp, x: Value, y: Value) -> Result<TurnEnd, OutOfMemory>
-    ensures next { IfOk result (λ t. Follows t m.new m.old.left (operated (augmented_of op m.old.heap x y) (site_now m.old) (state_of m.old) (rest_of m.old))) }
+    ensures next { IfOk result (λ t. Follows t m.new m.old.left (operated (augmented_of op m.old.heap x y) (site_now m.old) (state_of m.old) (machine_rest m.old))) }
     ensures work { IfOk result (λ t. (work : ℕ) → Falls t m.new m.old.left work) }
 {
     if !m.spend() {

@@ -3,7 +3,7 @@
 ghost use Rattle.std.specs.Prelude.{◌≡◌, OnOk};
 ghost use Rattle.std.specs.List.{list_any};
 ghost use Rattle.py_values.specs.Names.{name_eq};
-ghost use Rattle.py_world.specs.Imports.{paths_of};
+ghost use Rattle.py_world.specs.Imports.{source_paths};
 
 use crate::code::code_of;
 use crate::row::Source;
@@ -27,8 +27,8 @@ fn is_among(paths: &[PyText], path: &PyText) -> bool
 /// Adds a source, unless its path has one.
 #[tactic(auto, using(crate::proofs::Sources::absent_of, crate::proofs::Sources::paths_behind))]
 fn add(alloc: Global, world: &mut World, paths: &mut Vec<PyText>, source: &Source) -> Tried<()>
-    requires { paths_of world.old.sources ≡ paths.old.items }
-    ensures { OnOk result (paths_of world.new.sources ≡ paths.new.items) }
+    requires { source_paths world.old.sources ≡ paths.old.items }
+    ensures { OnOk result (source_paths world.new.sources ≡ paths.new.items) }
 {
     let path = PyText::from_str(alloc, source.path.as_str())?;
     if is_among(paths, &path) {

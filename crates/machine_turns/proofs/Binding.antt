@@ -5,7 +5,7 @@ use Rattle.py_values.specs.declared.class.ExcClass.TheVariants.{NameError, Unbou
 use Rattle.py_values.specs.declared.object.Obj.{Obj}
 use Rattle.py_values.specs.declared.value.Value.{Value}
 use Rattle.py_values.specs.Names.{find_name}
-use Rattle.py_values.specs.Raises.{raise}
+use Rattle.py_values.specs.Raises.{text_raise}
 use Rattle.machine_state.specs.py_world.Site.{Scene}
 use Rattle.machine_state.specs.py_world.World.{Locals}
 use Rattle.py_attributes.specs.Attributes.{class_names}
@@ -70,12 +70,12 @@ value_of_class (Function code) name home locals heap at h = absurd cc
 value_of_class (Class path title own id) name home locals heap at h =
     let same : id ≡ at = cc in ap (λ (i : ℕ). find_name name (class_names (slice_get heap i))) same
 
-pub missing_own : (place : Place) (name : List ℕ) → is_own place name ≡ true → not_bound (own_in place) name ≡ raise UnboundLocalError (unbound_local name)
+pub missing_own : (place : Place) (name : List ℕ) → is_own place name ≡ true → not_bound (own_in place) name ≡ text_raise UnboundLocalError (unbound_local name)
 missing_own (Module path at) name h = absurd cc
 missing_own (Function code) name h = rw h refl
 missing_own (Class path title home at) name h = absurd cc
 
-pub missing_other : (place : Place) (name : List ℕ) → is_own place name ≡ false → not_bound (own_in place) name ≡ raise NameError (not_defined name)
+pub missing_other : (place : Place) (name : List ℕ) → is_own place name ≡ false → not_bound (own_in place) name ≡ text_raise NameError (not_defined name)
 missing_other (Module path at) name h = refl
 missing_other (Function code) name h = rw h refl
 missing_other (Class path title home at) name h = refl

@@ -5,7 +5,7 @@ use Rattle.machine_state.specs.py_world.World.{state}
 use Rattle.machine_state.specs.py_world.Site.{trace_of}
 use Rattle.machine_state.specs.py_world.Outcome.{Gave, Next, Returned, Broke, Continued, Raised, call_end}
 use Rattle.machine_state.specs.core_meaning.Meaning.{CoreWorld}
-use Rattle.machine_state.specs.core_meaning.Statements.{block}
+use Rattle.machine_state.specs.core_meaning.Statements.{core_block_body}
 use Rattle.machine_state.specs.declared.machine.Machine.{Machine}
 use Rattle.machine_state.specs.declared.place.Here.{Here}
 use Rattle.machine_state.specs.declared.place.Place.{Place}
@@ -13,7 +13,7 @@ use Rattle.machine_state.specs.declared.frame.CallerFrame.{CallerFrame}
 use Rattle.machine_state.specs.declared.frame.Frame.{Frame}
 use Rattle.machine_state.specs.declared.frame.Frame.TheVariants.{Caller}
 use Rattle.machine_state.specs.Places.{CoreOutcome, CoreState, CoreThen, depth_of, no_world, scene_in, site_of}
-use Rattle.machine_state.specs.Frames.{after, handling_of, layers_of, outer_of, rest_of, site_now, state_of, world_of}
+use Rattle.machine_state.specs.Frames.{after_stack, handled_exception, layers_of, outer_of, machine_rest, site_now, state_of, world_of}
 
 -- a call's end looks at the names and temporaries around it alone
 end_same : (s : CoreState) (w : CoreWorld) (o : CoreOutcome) → call_end (state s.locals s.temps w) o ≡ call_end s o
@@ -31,8 +31,8 @@ rest_same s w k = λ i o. k (end_same s w o i)
 pub body_begins : (m : Machine) (place : Place) (b : CoreBlock) (c : CallerFrame) (fs fs1 : List Frame) (h : Here) (s : CoreState)
     → c ≡ record { from = Some m.here; locals = m.locals; temps = m.temps } → fs ≡ Caller c ∷ fs1 → fs1 ≡ m.stack
     → h ≡ record { place = place; around = depth_of m.here; line = 0 } → s ≡ state [] [] (world_of m)
-    → block (layers_of fs) b (site_of h (outer_of fs) (handling_of fs)).scene s (after fs h)
-    ≡ block [] b (scene_in place (depth_of m.here) (trace_of (site_now m)) (handling_of m.stack)) (state [] [] (world_of m)) (λ o. rest_of m (call_end (state_of m) o))
+    → core_block_body (layers_of fs) b (site_of h (outer_of fs) (handled_exception fs)).scene s (after_stack fs h)
+    ≡ core_block_body [] b (scene_in place (depth_of m.here) (trace_of (site_now m)) (handled_exception m.stack)) (state [] [] (world_of m)) (λ o. machine_rest m (call_end (state_of m) o))
 body_begins m place b c fs fs1 h s caller pushed below there begun =
     rw (pushed, below, caller, there, begun)
-    (ap (λ (k : CoreThen). block [] b (scene_in place (depth_of m.here) (trace_of (site_now m)) (handling_of m.stack)) (state [] [] (world_of m)) k) (rest_same (state_of m) no_world (rest_of m)))
+    (ap (λ (k : CoreThen). core_block_body [] b (scene_in place (depth_of m.here) (trace_of (site_now m)) (handled_exception m.stack)) (state [] [] (world_of m)) k) (rest_same (state_of m) no_world (machine_rest m)))

@@ -27,7 +27,7 @@
 pub use machine_items::changes;
 pub use machine_names::names::{bound_value, look_up};
 pub use machine_state::frame::{End, Frame, SimpleFrame, Spot, TargetFrame};
-pub use machine_state::machine::{Doing, Machine, Origin, TurnEnd};
+pub use machine_state::machine::{Machine, NextAction, Origin, TurnEnd};
 
 pub mod begin;
 pub mod names;

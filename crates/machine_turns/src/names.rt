@@ -6,13 +6,13 @@ ghost use Rattle.machine_state.specs.py_world.Names as world;
 ghost use Rattle.machine_state.specs.py_world.Targets.{store_name};
 ghost use Rattle.machine_state.specs.Places.{own_in};
 ghost use Rattle.machine_state.specs.Owning.{is_own};
-ghost use Rattle.machine_state.specs.Frames.{rest_of, site_now, state_of, todo};
+ghost use Rattle.machine_state.specs.Frames.{machine_rest, site_now, state_of, todo};
 ghost use Rattle.machine_state.specs.Work.{doing_work};
 
 use machine_items::changes::{bind_at, unbind_at};
 use machine_names::names::{class_value, module_value, not_defined, unbound};
 use machine_state::frame::End;
-use machine_state::machine::{Doing, Machine, Origin};
+use machine_state::machine::{Machine, NextAction, Origin};
 use py_core::SrcText;
 use py_text::OutOfMemory;
 use py_values::end::Raise;
@@ -72,14 +72,14 @@ pub fn bind(m: &mut Machine, name: &SrcText, v: Value) -> Result<(), OutOfMemory
 
 /// Stores a value in a name.
 #[tactic(auto, using(crate::proofs::Same::next_same))]
-pub fn store(m: &mut Machine, name: &SrcText, v: Value) -> Result<Doing, OutOfMemory>
-    ensures next { IfOk result (λ d. todo d m.new ≡ store_name name.now v (site_now m.old) (state_of m.old) (rest_of m.old)) }
+pub fn store(m: &mut Machine, name: &SrcText, v: Value) -> Result<NextAction, OutOfMemory>
+    ensures next { IfOk result (λ d. todo d m.new ≡ store_name name.now v (site_now m.old) (state_of m.old) (machine_rest m.old)) }
     ensures left { m.new.left ≡ m.old.left }
     ensures work { IfOk result (λ d. doing_work d ≡ 0) }
     ensures stack { m.new.stack ≡ m.old.stack }
 {
     bind(m, name, v)?;
-    Ok(Doing::Back(End::Next))
+    Ok(NextAction::Back(End::Next))
 }
 
 /// Unbinds a name of a module.
@@ -166,8 +166,8 @@ fn not_bound(m: &Machine, name: &SrcText) -> Result<Raise, OutOfMemory>
 
 /// Deletes a name (Language Reference, the `del` statement).
 #[tactic(auto, using(crate::proofs::Same::next_same))]
-pub fn delete_name(m: &mut Machine, name: &SrcText) -> Result<Doing, OutOfMemory>
-    ensures next { IfOk result (λ d. todo d m.new ≡ world.delete_name name.now (site_now m.old) (state_of m.old) (rest_of m.old)) }
+pub fn delete_name(m: &mut Machine, name: &SrcText) -> Result<NextAction, OutOfMemory>
+    ensures next { IfOk result (λ d. todo d m.new ≡ world.delete_name name.now (site_now m.old) (state_of m.old) (machine_rest m.old)) }
     ensures left { m.new.left ≡ m.old.left }
     ensures work { IfOk result (λ d. doing_work d ≡ 0) }
     ensures stack { m.new.stack ≡ m.old.stack }
@@ -175,7 +175,7 @@ pub fn delete_name(m: &mut Machine, name: &SrcText) -> Result<Doing, OutOfMemory
     match bound_value(m, name)? {
         Some(_) => {
             unbind(m, name)?;
-            Ok(Doing::Back(End::Next))
+            Ok(NextAction::Back(End::Next))
         }
         None => {
             let raise = not_bound(m, name)?;

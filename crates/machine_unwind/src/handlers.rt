@@ -5,15 +5,15 @@ ghost use Rattle.std.specs.List.{sum_by};
 ghost use Rattle.py_core.specs.Blocks.{handlers_in, stmts_in};
 ghost use Rattle.py_core.specs.declared.stmt.CoreHandler.{out-CoreHandler};
 ghost use Rattle.machine_state.specs.py_world.Exceptions as world;
-ghost use Rattle.machine_state.specs.core_meaning.Statements.{block, handlings};
-ghost use Rattle.machine_state.specs.Frames.{handling_of, layers_of, on_caught, on_class, rest_of, site_now, state_of, todo};
+ghost use Rattle.machine_state.specs.core_meaning.Statements.{core_block_body, handlings};
+ghost use Rattle.machine_state.specs.Frames.{handled_exception, layers_of, on_caught, on_class, machine_rest, site_now, state_of, todo};
 ghost use Rattle.machine_state.specs.Work.{block_work, catch_work, doing_work, handler_work, stack_work};
 
 use crate::raise::refuse;
 use machine_items::Thrown;
 use machine_items::exceptions::takes_exception;
 use machine_state::frame::{End, Frame, UnwindFrame};
-use machine_state::machine::{Doing, Machine};
+use machine_state::machine::{Machine, NextAction};
 use machine_turns::begin::{begin_block, descend};
 use machine_turns::names::bind;
 use py_core::{CoreBlock, CoreGuard, CoreHandler, SrcText};
@@ -28,8 +28,8 @@ fn begin_named(
     name: &SrcText,
     body: Rc<CoreBlock>,
     thrown: Thrown,
-) -> Result<Doing, OutOfMemory>
-    ensures next { IfOk result (λ d. todo d m.new ≡ world.handler_block (Some name.now) (block (layers_of m.old.stack) body.value) thrown.exc thrown.trace (site_now m.old) (state_of m.old) (rest_of m.old)) }
+) -> Result<NextAction, OutOfMemory>
+    ensures next { IfOk result (λ d. todo d m.new ≡ world.handler_block (Some name.now) (core_block_body (layers_of m.old.stack) body.value) thrown.exc thrown.trace (site_now m.old) (state_of m.old) (machine_rest m.old)) }
     ensures left { m.new.left ≡ m.old.left }
     ensures work { IfOk result (λ d. doing_work d + stack_work m.new ≡ block_work (stmts_in body.value) + 1 + stack_work m.old) }
 {
@@ -45,8 +45,8 @@ fn begin_caught(
     m: &mut Machine,
     handler: &CoreHandler,
     thrown: Thrown,
-) -> Result<Doing, OutOfMemory>
-    ensures next { IfOk result (λ d. todo d m.new ≡ world.handler_block (out-CoreHandler handler.now).name (block (layers_of m.old.stack) (out-CoreHandler handler.now).body.value) thrown.exc thrown.trace (site_now m.old) (state_of m.old) (rest_of m.old)) }
+) -> Result<NextAction, OutOfMemory>
+    ensures next { IfOk result (λ d. todo d m.new ≡ world.handler_block (out-CoreHandler handler.now).name (core_block_body (layers_of m.old.stack) (out-CoreHandler handler.now).body.value) thrown.exc thrown.trace (site_now m.old) (state_of m.old) (machine_rest m.old)) }
     ensures left { m.new.left ≡ m.old.left }
     ensures work { IfOk result (λ d. doing_work d + stack_work m.new ≤ block_work (stmts_in (out-CoreHandler handler.now).body.value) + 1 + stack_work m.old) }
 {
@@ -63,14 +63,14 @@ pub fn next_handler(
     guard: Rc<CoreGuard>,
     at: usize,
     thrown: Thrown,
-) -> Result<Doing, OutOfMemory>
-    requires { handling_of m.old.stack ≡ Some thrown }
-    ensures next { IfOk result (λ d. todo d m.new ≡ world.handlers_on (handlings (layers_of m.old.stack) (drop at (handlers_in guard.value))) thrown.exc thrown.trace (site_now m.old) (state_of m.old) (rest_of m.old)) }
+) -> Result<NextAction, OutOfMemory>
+    requires { handled_exception m.old.stack ≡ Some thrown }
+    ensures next { IfOk result (λ d. todo d m.new ≡ world.handlers_on (handlings (layers_of m.old.stack) (drop at (handlers_in guard.value))) thrown.exc thrown.trace (site_now m.old) (state_of m.old) (machine_rest m.old)) }
     ensures left { m.new.left ≡ m.old.left }
     ensures work { IfOk result (λ d. doing_work d + stack_work m.new ≤ sum_by handler_work (drop at (handlers_in guard.value)) + stack_work m.old) }
 {
     if at >= guard.len() {
-        return Ok(Doing::Back(End::Raised(thrown.exc, thrown.trace)));
+        return Ok(NextAction::Back(End::Raised(thrown.exc, thrown.trace)));
     }
     let again = guard.clone()?;
     let handler = guard.handler(at);
@@ -90,14 +90,14 @@ fn catch(
     at: usize,
     class: Value,
     thrown: Thrown,
-) -> Result<Doing, OutOfMemory>
-    requires { handling_of m.old.stack ≡ Some thrown }
-    ensures next { IfOk result (λ d. todo d m.new ≡ on_class (handlings (layers_of m.old.stack) (drop at (handlers_in guard.value))) thrown.exc thrown.trace (site_now m.old) class (state_of m.old) (rest_of m.old)) }
+) -> Result<NextAction, OutOfMemory>
+    requires { handled_exception m.old.stack ≡ Some thrown }
+    ensures next { IfOk result (λ d. todo d m.new ≡ on_class (handlings (layers_of m.old.stack) (drop at (handlers_in guard.value))) thrown.exc thrown.trace (site_now m.old) class (state_of m.old) (machine_rest m.old)) }
     ensures left { m.new.left ≡ m.old.left }
     ensures work { IfOk result (λ d. doing_work d + stack_work m.new < catch_work (drop at (handlers_in guard.value)) + stack_work m.old) }
 {
     if at >= guard.len() {
-        return Ok(Doing::Back(End::Raised(thrown.exc, thrown.trace)));
+        return Ok(NextAction::Back(End::Raised(thrown.exc, thrown.trace)));
     }
     match takes_exception(&m.heap, thrown.exc, class) {
         Some(true) => begin_caught(m, guard.handler(at), thrown),
@@ -112,13 +112,13 @@ pub fn take_class(
     guard: Rc<CoreGuard>,
     at: usize,
     class: Value,
-) -> Result<Doing, OutOfMemory>
-    ensures next { IfOk result (λ d. todo d m.new ≡ on_caught (handlings (layers_of m.old.stack) (drop at (handlers_in guard.value))) (handling_of m.old.stack) (site_now m.old) class (state_of m.old) (rest_of m.old)) }
+) -> Result<NextAction, OutOfMemory>
+    ensures next { IfOk result (λ d. todo d m.new ≡ on_caught (handlings (layers_of m.old.stack) (drop at (handlers_in guard.value))) (handled_exception m.old.stack) (site_now m.old) class (state_of m.old) (machine_rest m.old)) }
     ensures left { m.new.left ≡ m.old.left }
     ensures work { IfOk result (λ d. doing_work d + stack_work m.new < catch_work (drop at (handlers_in guard.value)) + stack_work m.old) }
 {
     match m.stack.handled(m.alloc)? {
         Some(thrown) => catch(m, guard, at, class, thrown),
-        None => Ok(Doing::Back(End::Next)),
+        None => Ok(NextAction::Back(End::Next)),
     }
 }

@@ -26,7 +26,7 @@
 #![tactic(auto)]
 
 pub use machine_state::frame::{End, Frame, SimpleFrame};
-pub use machine_state::machine::{Doing, Machine, Origin, TurnEnd};
+pub use machine_state::machine::{Machine, NextAction, Origin, TurnEnd};
 pub use machine_turns::begin::begin_body;
 pub use machine_turns::names::store;
 

@@ -7,14 +7,14 @@ ghost use Rattle.machine_state.specs.py_world.Raising as raising;
 ghost use Rattle.machine_state.specs.py_world.Site.{trace_of};
 ghost use Rattle.machine_state.specs.py_world.World.{trace_at};
 ghost use Rattle.machine_state.specs.core_meaning.Statements.{entry};
-ghost use Rattle.machine_state.specs.Frames.{handling_of, rest_of, site_now, state_of, todo, Follows};
+ghost use Rattle.machine_state.specs.Frames.{handled_exception, machine_rest, site_now, state_of, todo, Follows};
 ghost use Rattle.machine_state.specs.Work.{doing_work, stack_work, Falls};
 
 use machine_items::Trace;
 use machine_items::exceptions::{RaiseKind, raisable, raise_init};
 use machine_state::arguments::CallArguments;
 use machine_state::frame::{End, Frame, SimpleFrame};
-use machine_state::machine::{Doing, Entry, Machine, Origin, TurnEnd};
+use machine_state::machine::{Entry, Machine, NextAction, Origin, TurnEnd};
 use machine_state::traces::copy_trace;
 use py_text::OutOfMemory;
 use py_values::class::{ClassRef, ExcClass};
@@ -34,8 +34,8 @@ fn trace_for(m: &Machine, id: ObjId) -> Result<Trace, OutOfMemory>
 }
 
 /// Raises an exception of the heap, whose first trace is kept.
-fn raise_object(m: &mut Machine, id: ObjId) -> Result<Doing, OutOfMemory>
-    ensures next { IfOk result (λ d. todo d m.new ≡ rest_of m.old (world.raised_by (world.Exception_of id) (site_now m.old) (state_of m.old))) }
+fn raise_object(m: &mut Machine, id: ObjId) -> Result<NextAction, OutOfMemory>
+    ensures next { IfOk result (λ d. todo d m.new ≡ machine_rest m.old (world.raised_by (world.Exception_of id) (site_now m.old) (state_of m.old))) }
     ensures left { m.new.left ≡ m.old.left }
     ensures work { IfOk result (λ d. doing_work d ≡ 0) }
     ensures stack { m.new.stack ≡ m.old.stack }
@@ -43,12 +43,12 @@ fn raise_object(m: &mut Machine, id: ObjId) -> Result<Doing, OutOfMemory>
     let trace = trace_for(m, id)?;
     let kept = copy_trace(m.alloc, &trace)?;
     m.keep_trace(Value::Ref(id), kept)?;
-    Ok(Doing::Back(End::Raised(Value::Ref(id), trace)))
+    Ok(NextAction::Back(End::Raised(Value::Ref(id), trace)))
 }
 
 /// Raises a new exception of a class, which costs no step.
-fn raise_class(m: &mut Machine, class: ClassRef) -> Result<Doing, OutOfMemory>
-    ensures next { IfOk result (λ d. todo d m.new ≡ rest_of m.old (world.raised_by (world.Class_of class) (site_now m.old) (state_of m.old))) }
+fn raise_class(m: &mut Machine, class: ClassRef) -> Result<NextAction, OutOfMemory>
+    ensures next { IfOk result (λ d. todo d m.new ≡ machine_rest m.old (world.raised_by (world.Class_of class) (site_now m.old) (state_of m.old))) }
     ensures left { m.new.left ≡ m.old.left }
     ensures work { IfOk result (λ d. doing_work d ≡ 0) }
     ensures stack { m.new.stack ≡ m.old.stack }
@@ -56,12 +56,12 @@ fn raise_class(m: &mut Machine, class: ClassRef) -> Result<Doing, OutOfMemory>
     let trace = m.trace(Origin::Code)?;
     let args = Values::new(m.alloc);
     let exc = throw_with(m.alloc, &mut m.heap, class, args)?;
-    Ok(Doing::Back(End::Raised(exc, trace)))
+    Ok(NextAction::Back(End::Raised(exc, trace)))
 }
 
 /// Says that a value is no exception and no class of them.
-pub fn refuse(m: &mut Machine) -> Result<Doing, OutOfMemory>
-    ensures next { IfOk result (λ d. todo d m.new ≡ rest_of m.old (raised_at world.no_exception (site_now m.old) (state_of m.old))) }
+pub fn refuse(m: &mut Machine) -> Result<NextAction, OutOfMemory>
+    ensures next { IfOk result (λ d. todo d m.new ≡ machine_rest m.old (raised_at world.no_exception (site_now m.old) (state_of m.old))) }
     ensures left { m.new.left ≡ m.old.left }
     ensures work { IfOk result (λ d. doing_work d ≡ 0) }
     ensures stack { m.new.stack ≡ m.old.stack }
@@ -75,8 +75,8 @@ pub fn refuse(m: &mut Machine) -> Result<Doing, OutOfMemory>
 }
 
 /// Raises a value as it is: an exception of the heap keeps the trace of its first raise, and of a class one is made.
-pub fn raise_it(m: &mut Machine, v: Value) -> Result<Doing, OutOfMemory>
-    ensures next { IfOk result (λ d. todo d m.new ≡ raising.raise_it v (site_now m.old) (state_of m.old) (rest_of m.old)) }
+pub fn raise_it(m: &mut Machine, v: Value) -> Result<NextAction, OutOfMemory>
+    ensures next { IfOk result (λ d. todo d m.new ≡ raising.raise_it v (site_now m.old) (state_of m.old) (machine_rest m.old)) }
     ensures left { m.new.left ≡ m.old.left }
     ensures work { IfOk result (λ d. doing_work d ≡ 0) }
     ensures stack { m.new.stack ≡ m.old.stack }
@@ -91,7 +91,7 @@ pub fn raise_it(m: &mut Machine, v: Value) -> Result<Doing, OutOfMemory>
 /// Raises what code hands to `raise`: of a class of exceptions with an `__init__` the instance that a call of it makes, which takes no
 /// step, and else the value as it is.
 pub fn raise_value(m: &mut Machine, v: Value) -> Result<TurnEnd, OutOfMemory>
-    ensures next { IfOk result (λ t. Follows t m.new m.old.left (raising.raise_on entry (raising.raise_init m.old.heap v) v (site_now m.old) (state_of m.old) (rest_of m.old))) }
+    ensures next { IfOk result (λ t. Follows t m.new m.old.left (raising.raise_on entry (raising.raise_init m.old.heap v) v (site_now m.old) (state_of m.old) (machine_rest m.old))) }
     ensures work { IfOk result (λ t. Falls t m.new m.old.left (1 + stack_work m.old)) }
 {
     match raise_init(m.alloc, &m.heap, v)? {
@@ -105,14 +105,14 @@ pub fn raise_value(m: &mut Machine, v: Value) -> Result<TurnEnd, OutOfMemory>
 }
 
 /// Raises the exception that is being handled again, with its trace.
-pub fn raise_again(m: &mut Machine) -> Result<Doing, OutOfMemory>
-    ensures next { IfOk result (λ d. todo d m.new ≡ rest_of m.old (world.raised_again (handling_of m.old.stack) (site_now m.old) (state_of m.old))) }
+pub fn raise_again(m: &mut Machine) -> Result<NextAction, OutOfMemory>
+    ensures next { IfOk result (λ d. todo d m.new ≡ machine_rest m.old (world.raised_again (handled_exception m.old.stack) (site_now m.old) (state_of m.old))) }
     ensures left { m.new.left ≡ m.old.left }
     ensures work { IfOk result (λ d. doing_work d ≡ 0) }
     ensures stack { m.new.stack ≡ m.old.stack }
 {
     match m.stack.handled(m.alloc)? {
-        Some(thrown) => Ok(Doing::Back(End::Raised(thrown.exc, thrown.trace))),
+        Some(thrown) => Ok(NextAction::Back(End::Raised(thrown.exc, thrown.trace))),
         None => {
             let raise = Raise::from_ascii(
                 m.alloc,

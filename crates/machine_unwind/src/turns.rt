@@ -7,15 +7,15 @@ ghost use Rattle.machine_state.specs.py_world.Exceptions as world;
 ghost use Rattle.machine_state.specs.py_world.Outcome.{changing, on_next, on_value, route};
 ghost use Rattle.machine_state.specs.py_world.Names.{unbound};
 ghost use Rattle.machine_state.specs.core_meaning.Statements as meaning;
-ghost use Rattle.machine_state.specs.core_meaning.Statements.{block, handlings};
+ghost use Rattle.machine_state.specs.core_meaning.Statements.{core_block_body, handlings};
 ghost use Rattle.machine_state.specs.Places.{CoreState, CoreThen, outcome, site_of};
-ghost use Rattle.machine_state.specs.Frames.{after, handling_of, here_unwind, layers_of, on_caught, on_unwind, outer_of, rest_of, site_now, state_of, todo};
+ghost use Rattle.machine_state.specs.Frames.{after_stack, handled_exception, here_unwind, layers_of, on_caught, on_unwind, outer_of, machine_rest, site_now, state_of, todo};
 ghost use Rattle.machine_state.specs.Work.{block_work, catch_work, doing_work, handler_work, last_work, stack_work, unwind_work};
 
 use crate::handlers::{next_handler, take_class};
 use machine_items::{Thrown, Trace};
 use machine_state::frame::{End, Frame, UnwindFrame};
-use machine_state::machine::{Doing, Machine};
+use machine_state::machine::{Machine, NextAction};
 use machine_state::traces::copy_trace;
 use machine_turns::begin::begin_block;
 use machine_turns::names::unbind;
@@ -45,8 +45,8 @@ pub fn begin_try(
     m: &mut Machine,
     body: &Rc<CoreBlock>,
     guard: &Rc<CoreGuard>,
-) -> Result<Doing, OutOfMemory>
-    ensures next { IfOk result (λ d. todo d m.new ≡ meaning.try_at (layers_of m.old.stack) body.now.value guard.now.value (site_now m.old) (state_of m.old) (rest_of m.old)) }
+) -> Result<NextAction, OutOfMemory>
+    ensures next { IfOk result (λ d. todo d m.new ≡ meaning.try_at (layers_of m.old.stack) body.now.value guard.now.value (site_now m.old) (state_of m.old) (machine_rest m.old)) }
     ensures left { m.new.left ≡ m.old.left }
 {
     let block = body.clone()?;
@@ -63,13 +63,13 @@ fn handle(
     guard: Rc<CoreGuard>,
     exc: Value,
     trace: Trace,
-) -> Result<Doing, OutOfMemory>
-    ensures next { IfOk result (λ d. todo d m.new ≡ world.handlers_on (handlings (layers_of m.old.stack) (handlers_in guard.value)) exc trace (site_handling exc trace (site_now m.old)) (state_of m.old) (rest_of m.old)) }
+) -> Result<NextAction, OutOfMemory>
+    ensures next { IfOk result (λ d. todo d m.new ≡ world.handlers_on (handlings (layers_of m.old.stack) (handlers_in guard.value)) exc trace (site_handling exc trace (site_now m.old)) (state_of m.old) (machine_rest m.old)) }
     ensures left { m.new.left ≡ m.old.left }
     ensures work { IfOk result (λ d. doing_work d + stack_work m.new < sum_by handler_work (handlers_in guard.value) + 2 + stack_work m.old) }
 {
     if guard.len() == 0 {
-        return Ok(Doing::Back(End::Raised(exc, trace)));
+        return Ok(NextAction::Back(End::Raised(exc, trace)));
     }
     let kept = copy_trace(m.alloc, &trace)?;
     m.stack
@@ -80,8 +80,8 @@ fn handle(
 ghost use Rattle.machine_state.specs.py_world.Site.{site_handling};
 
 /// Goes on behind the block of a `try`, over the block behind `finally`.
-fn guarded(m: &mut Machine, guard: Rc<CoreGuard>, end: End) -> Result<Doing, OutOfMemory>
-    ensures next { IfOk result (λ d. todo d m.new ≡ world.guarded_by (handlings (layers_of m.old.stack) (handlers_in guard.value)) (block (layers_of m.old.stack) (other_in guard.value)) (site_now m.old) (outcome end (state_of m.old)) (rest_of m.old)) }
+fn guarded(m: &mut Machine, guard: Rc<CoreGuard>, end: End) -> Result<NextAction, OutOfMemory>
+    ensures next { IfOk result (λ d. todo d m.new ≡ world.guarded_by (handlings (layers_of m.old.stack) (handlers_in guard.value)) (core_block_body (layers_of m.old.stack) (other_in guard.value)) (site_now m.old) (outcome end (state_of m.old)) (machine_rest m.old)) }
     ensures left { m.new.left ≡ m.old.left }
     ensures work { IfOk result (λ d. doing_work d + stack_work m.new < sum_by handler_work (handlers_in guard.value) + block_work (stmts_in (other_in guard.value)) + 2 + stack_work m.old) }
 {
@@ -91,16 +91,16 @@ fn guarded(m: &mut Machine, guard: Rc<CoreGuard>, end: End) -> Result<Doing, Out
             let other = other_of(&guard)?;
             begin_block(m, other)
         }
-        End::Value(v) => Ok(Doing::Back(End::Value(v))),
-        End::Returned(v) => Ok(Doing::Back(End::Returned(v))),
-        End::Broke => Ok(Doing::Back(End::Broke)),
-        End::Continued => Ok(Doing::Back(End::Continued)),
+        End::Value(v) => Ok(NextAction::Back(End::Value(v))),
+        End::Returned(v) => Ok(NextAction::Back(End::Returned(v))),
+        End::Broke => Ok(NextAction::Back(End::Broke)),
+        End::Continued => Ok(NextAction::Back(End::Continued)),
     }
 }
 
 /// Goes on behind the block of a `try`.
-fn take_guarded(m: &mut Machine, guard: Rc<CoreGuard>, end: End) -> Result<Doing, OutOfMemory>
-    ensures next { IfOk result (λ d. todo d m.new ≡ meaning.guard (layers_of m.old.stack) guard.value (site_now m.old) (outcome end (state_of m.old)) (rest_of m.old)) }
+fn take_guarded(m: &mut Machine, guard: Rc<CoreGuard>, end: End) -> Result<NextAction, OutOfMemory>
+    ensures next { IfOk result (λ d. todo d m.new ≡ meaning.guard (layers_of m.old.stack) guard.value (site_now m.old) (outcome end (state_of m.old)) (machine_rest m.old)) }
     ensures left { m.new.left ≡ m.old.left }
     ensures work { IfOk result (λ d. doing_work d + stack_work m.new < unwind_work (UnwindFrame.Guarded guard 0) + stack_work m.old) }
 {
@@ -115,41 +115,41 @@ fn take_catch(
     guard: Rc<CoreGuard>,
     at: usize,
     end: End,
-) -> Result<Doing, OutOfMemory>
-    ensures next { IfOk result (λ d. todo d m.new ≡ on_value (outcome end (state_of m.old)) (rest_of m.old) (λ c s. on_caught (handlings (layers_of m.old.stack) (drop at (handlers_in guard.value))) (handling_of m.old.stack) (site_now m.old) c s (rest_of m.old))) }
+) -> Result<NextAction, OutOfMemory>
+    ensures next { IfOk result (λ d. todo d m.new ≡ on_value (outcome end (state_of m.old)) (machine_rest m.old) (λ c s. on_caught (handlings (layers_of m.old.stack) (drop at (handlers_in guard.value))) (handled_exception m.old.stack) (site_now m.old) c s (machine_rest m.old))) }
     ensures left { m.new.left ≡ m.old.left }
     ensures work { IfOk result (λ d. doing_work d + stack_work m.new < catch_work (drop at (handlers_in guard.value)) + stack_work m.old) }
 {
     match end {
         End::Value(class) => take_class(m, guard, at, class),
-        End::Next => Ok(Doing::Back(End::Next)),
-        End::Returned(v) => Ok(Doing::Back(End::Returned(v))),
-        End::Broke => Ok(Doing::Back(End::Broke)),
-        End::Continued => Ok(Doing::Back(End::Continued)),
-        End::Raised(exc, trace) => Ok(Doing::Back(End::Raised(exc, trace))),
+        End::Next => Ok(NextAction::Back(End::Next)),
+        End::Returned(v) => Ok(NextAction::Back(End::Returned(v))),
+        End::Broke => Ok(NextAction::Back(End::Broke)),
+        End::Continued => Ok(NextAction::Back(End::Continued)),
+        End::Raised(exc, trace) => Ok(NextAction::Back(End::Raised(exc, trace))),
     }
 }
 
 /// Goes on behind the block of a handler whose name is unbound there.
 #[tactic(auto, using(crate::proofs::Ends::changed))]
-fn take_named(m: &mut Machine, name: &SrcText, end: End) -> Result<Doing, OutOfMemory>
-    ensures next { IfOk result (λ d. todo d m.new ≡ route (changing (unbound name.now (site_now m.old).scene) (rest_of m.old)) (outcome end (state_of m.old))) }
+fn take_named(m: &mut Machine, name: &SrcText, end: End) -> Result<NextAction, OutOfMemory>
+    ensures next { IfOk result (λ d. todo d m.new ≡ route (changing (unbound name.now (site_now m.old).scene) (machine_rest m.old)) (outcome end (state_of m.old))) }
     ensures left { m.new.left ≡ m.old.left }
     ensures work { IfOk result (λ d. doing_work d + stack_work m.new ≡ stack_work m.old) }
 {
     unbind(m, name)?;
-    Ok(Doing::Back(end))
+    Ok(NextAction::Back(end))
 }
 
 /// Begins the block behind `finally`; the end before it comes again behind it.
-fn begin_last(m: &mut Machine, guard: &CoreGuard, end: End) -> Result<Doing, OutOfMemory>
-    ensures next { IfOk result (λ d. todo d m.new ≡ world.finally_on (block (layers_of m.old.stack) (last_in guard.now)) (site_now m.old) (outcome end (state_of m.old)) (rest_of m.old)) }
+fn begin_last(m: &mut Machine, guard: &CoreGuard, end: End) -> Result<NextAction, OutOfMemory>
+    ensures next { IfOk result (λ d. todo d m.new ≡ world.finally_on (core_block_body (layers_of m.old.stack) (last_in guard.now)) (site_now m.old) (outcome end (state_of m.old)) (machine_rest m.old)) }
     ensures left { m.new.left ≡ m.old.left }
     ensures work { IfOk result (λ d. doing_work d + stack_work m.new < last_work guard.now + stack_work m.old) }
 {
     let last = last_of(guard)?;
     if last.len() == 0 {
-        return Ok(Doing::Back(end));
+        return Ok(NextAction::Back(end));
     }
     m.stack.push(Frame::Unwind(UnwindFrame::Again(end)))?;
     begin_block(m, last)
@@ -170,9 +170,9 @@ fn end_of(kept: End, own: End) -> End
 }
 
 /// Goes on behind a part of a `try`.
-pub fn take_unwind(m: &mut Machine, frame: UnwindFrame, end: End) -> Result<Doing, OutOfMemory>
+pub fn take_unwind(m: &mut Machine, frame: UnwindFrame, end: End) -> Result<NextAction, OutOfMemory>
     ensures next { IfOk result (λ d. todo d m.new
-        ≡ on_unwind frame (layers_of m.old.stack) (site_of (here_unwind frame m.old.here) (outer_of m.old.stack) (handling_of m.old.stack)) (outcome end (state_of m.old)) (after m.old.stack (here_unwind frame m.old.here))) }
+        ≡ on_unwind frame (layers_of m.old.stack) (site_of (here_unwind frame m.old.here) (outer_of m.old.stack) (handled_exception m.old.stack)) (outcome end (state_of m.old)) (after_stack m.old.stack (here_unwind frame m.old.here))) }
     ensures left { m.new.left ≡ m.old.left }
     ensures work { IfOk result (λ d. doing_work d + stack_work m.new < unwind_work frame + stack_work m.old) }
 {
@@ -182,9 +182,9 @@ pub fn take_unwind(m: &mut Machine, frame: UnwindFrame, end: End) -> Result<Doin
             take_guarded(m, guard, end)
         }
         UnwindFrame::Catch(guard, at) => take_catch(m, guard, at, end),
-        UnwindFrame::Handling(_, _) => Ok(Doing::Back(end)),
+        UnwindFrame::Handling(_, _) => Ok(NextAction::Back(end)),
         UnwindFrame::Named(name) => take_named(m, &name, end),
         UnwindFrame::Last(guard) => begin_last(m, &guard, end),
-        UnwindFrame::Again(kept) => Ok(Doing::Back(end_of(kept, end))),
+        UnwindFrame::Again(kept) => Ok(NextAction::Back(end_of(kept, end))),
     }
 }

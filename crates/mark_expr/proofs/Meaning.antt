@@ -9,8 +9,8 @@ use Rattle.mark_expr.specs.declared.matching.How.TheVariants.{Part, Whole}
 use Rattle.mark_expr.specs.declared.tree.MarkExpr.{MarkExpr}
 use Rattle.mark_expr.specs.declared.tree.MarkExpr.TheVariants as exprs
 use Rattle.mark_expr.proofs.Rows.{and_view, or_view}
-use Rattle.mark_expr.specs.Expression.{Tree, Name, Negation, Conjunction, Disjunction, view, joined}
-use Rattle.mark_expr.specs.Matching.{IsPart, lowered, Names, Holds, begins, has_part, names_it, truth, all_true, any_true}
+use Rattle.mark_expr.specs.Expression.{Tree, Name, Negation, Conjunction, Disjunction, view, joined_left}
+use Rattle.mark_expr.specs.Matching.{IsSubstring, lowered, Names, Holds, begins, has_part, names_it, truth, all_true, any_true}
 
 and_true : (a b : Bool) → (a && b) ≡ true → (a ≡ true) × (b ≡ true)
 and_true true b e = (refl, e)
@@ -55,10 +55,10 @@ is_begins (x ∷ part) (y ∷ whole) back e =
     let t : lowered whole ≡ lowered part ++ back = cc in
     true_and (eq_ignore_ascii_case x y) (begins part whole) (letter_same x y s) (is_begins part whole back t)
 
-at_begin : (part whole : List ℕ) → begins part whole ≡ true → IsPart (lowered part) (lowered whole)
+at_begin : (part whole : List ℕ) → begins part whole ≡ true → IsSubstring (lowered part) (lowered whole)
 at_begin part whole e = let r = begins_is part whole e in record { front = []; back = r.0; whole_is = r.1 }
 
-part_is : (part whole : List ℕ) → has_part part whole ≡ true → IsPart (lowered part) (lowered whole)
+part_is : (part whole : List ℕ) → has_part part whole ≡ true → IsSubstring (lowered part) (lowered whole)
 part_is part [] e = at_begin part [] e
 part_is part (y ∷ whole) e = elim (or_true (begins part (y ∷ whole)) (has_part part whole) e) [
   | inl b ↦ at_begin part (y ∷ whole) b
@@ -122,11 +122,11 @@ or_end : (a : Bool) → a ≡ (a || false)
 or_end true = refl
 or_end false = refl
 
-pub truth-all : (how : How) (names : List (List ℕ)) (a : Tree) (es : List MarkExpr) → truth how names (joined Conjunction a es) ≡ (truth how names a && all_true how names es)
+pub truth-all : (how : How) (names : List (List ℕ)) (a : Tree) (es : List MarkExpr) → truth how names (joined_left Conjunction a es) ≡ (truth how names a && all_true how names es)
 truth-all how names a [] = and_end (truth how names a)
 truth-all how names a (e ∷ es) = truth-all how names (Conjunction a (view e)) es ∙ and_assoc (truth how names a) (truth how names (view e)) (all_true how names es)
 
-pub truth-any : (how : How) (names : List (List ℕ)) (a : Tree) (es : List MarkExpr) → truth how names (joined Disjunction a es) ≡ (truth how names a || any_true how names es)
+pub truth-any : (how : How) (names : List (List ℕ)) (a : Tree) (es : List MarkExpr) → truth how names (joined_left Disjunction a es) ≡ (truth how names a || any_true how names es)
 truth-any how names a [] = or_end (truth how names a)
 truth-any how names a (e ∷ es) = truth-any how names (Disjunction a (view e)) es ∙ or_assoc (truth how names a) (truth how names (view e)) (any_true how names es)
 

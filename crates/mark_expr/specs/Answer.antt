@@ -5,7 +5,7 @@ use Rattle.mark_expr.specs.declared.token.Token.{Token}
 use Rattle.mark_expr.specs.declared.tree.MarkExpr.{MarkExpr}
 use Rattle.mark_expr.specs.declared.fault.ExprFault.{ExprFault}
 use Rattle.mark_expr.specs.declared.fault.ExprFault.TheVariants as faults
-use Rattle.mark_expr.specs.Expression.{Tree, view, Within}
+use Rattle.mark_expr.specs.Expression.{Tree, view, NestedWithin}
 use Rattle.mark_expr.specs.Text.{tokens_of, column_of}
 
 -- so many parentheses and `not`s may be open at once
@@ -14,28 +14,28 @@ most_nested = 100
 
 -- The text with the characters cs is this expression, with at most `most_nested` parentheses and `not`s open at once.
 abbrev pub IsExpression : List ℕ → Tree → Type 0
-IsExpression cs t = Within most_nested (tokens_of cs) t
+IsExpression cs t = NestedWithin most_nested (tokens_of cs) t
 
 -- The first token at which no reading goes on, however deep, stands at this column; the end is a token.
 pub record IsWrongAt (cs : List ℕ) (column : ℕ) : Type 0 where
   pub rest : List Token
-  pub fault : FirstFault (Within most_nested) (Ever Within) (tokens_of cs) rest
+  pub fault : FirstFault (NestedWithin most_nested) (Ever NestedWithin) (tokens_of cs) rest
   pub column_is : column ≡ column_of cs rest
 
 -- Before any such token there is one with which a parenthesis or `not` more than `most_nested` is open.
 pub record IsTooDeep (cs : List ℕ) : Type 0 where
   pub rest : List Token
-  pub deep : FirstDeep (Within most_nested) (Ever Within) (tokens_of cs) rest
+  pub deep : FirstDeep (NestedWithin most_nested) (Ever NestedWithin) (tokens_of cs) rest
 
-pub data Answer : Type 0 where
-  Reads : Tree → Answer
-  Wrong : ℕ → Answer
-  TooDeep : Answer
+pub data ParseResult : Type 0 where
+  Reads : Tree → ParseResult
+  Wrong : ℕ → ParseResult
+  TooDeep : ParseResult
 
-abbrev pub IsAnswer : List ℕ → Answer → Type 0
-IsAnswer cs (Reads t) = IsExpression cs t
-IsAnswer cs (Wrong column) = IsWrongAt cs column
-IsAnswer cs TooDeep = IsTooDeep cs
+abbrev pub IsParseResult : List ℕ → ParseResult → Type 0
+IsParseResult cs (Reads t) = IsExpression cs t
+IsParseResult cs (Wrong column) = IsWrongAt cs column
+IsParseResult cs TooDeep = IsTooDeep cs
 
 -- why the text is refused; want of memory has no cause in it
 abbrev pub IsCause : List ℕ → ExprFault → Type 0
@@ -44,7 +44,7 @@ IsCause cs faults.Nesting = IsTooDeep cs
 IsCause cs faults.OutOfMemory = Unit {0}
 
 -- the answer was given, unless memory ran out
-abbrev pub Gave : Result MarkExpr ExprFault → Answer → Type 0
+abbrev pub Gave : Result MarkExpr ExprFault → ParseResult → Type 0
 Gave (Ok e) (Reads t) = view e ≡ t
 Gave (Ok e) _ = ⊥
 Gave (Err (faults.Bad c)) (Wrong column) = c ≡ column

@@ -26,21 +26,21 @@ abbrev mutual
   joined_row f a (more_of-MarkExpr e rest) = joined_row f (f a (view e)) rest
 
 -- parts, joined from the left
-abbrev pub joined : (Tree → Tree → Tree) → Tree → List MarkExpr → Tree
-joined f a [] = a
-joined f a (e ∷ es) = joined f (f a (view e)) es
+abbrev pub joined_left : (Tree → Tree → Tree) → Tree → List MarkExpr → Tree
+joined_left f a [] = a
+joined_left f a (e ∷ es) = joined_left f (f a (view e)) es
 
 -- the lines of the grammar
-pub data Sort : Type 0 where
-  or_expr : Sort
-  and_expr : Sort
-  not_expr : Sort
+pub data Nonterminal : Type 0 where
+  or_expr : Nonterminal
+  and_expr : Nonterminal
+  not_expr : Nonterminal
 
 -- THE GRAMMAR, a case for each way to read a line. The number is how many parentheses and `not`s may be open at once.
 --     expr:     and_expr ("or" and_expr)*
 --     and_expr: not_expr ("and" not_expr)*
 --     not_expr: "not" not_expr | "(" expr ")" | ident
-pub data Reading : Sort → ℕ → List Token → Tree → Type 0 where
+pub data Reading : Nonterminal → ℕ → List Token → Tree → Type 0 where
   ident : {n : ℕ} {w : List Token} {name : List ℕ} (t : Token) → t.kind ≡ kinds.Ident name → w ≡ t ∷ [] → Reading not_expr n w (Name name)
   negation : {n : ℕ} {w v : List Token} {x : Tree} (t : Token) → t.kind ≡ kinds.Not → w ≡ t ∷ v → Reading not_expr n v x → Reading not_expr (suc n) w (Negation x)
   parens : {n : ℕ} {w v : List Token} {x : Tree} (o c : Token) → o.kind ≡ kinds.Open → c.kind ≡ kinds.Close → w ≡ o ∷ (v ++ c ∷ []) → Reading or_expr n v x → Reading not_expr (suc n) w x
@@ -50,5 +50,5 @@ pub data Reading : Sort → ℕ → List Token → Tree → Type 0 where
   or_more : {n : ℕ} {w u v : List Token} {l r : Tree} (t : Token) → t.kind ≡ kinds.Or → w ≡ u ++ t ∷ v → Reading or_expr n u l → Reading and_expr n v r → Reading or_expr n w (Disjunction l r)
 
 -- the tokens are this expression, with at most n parentheses and `not`s open at once
-abbrev pub Within : ℕ → List Token → Tree → Type 0
-Within n = Reading or_expr n
+abbrev pub NestedWithin : ℕ → List Token → Tree → Type 0
+NestedWithin n = Reading or_expr n

@@ -9,7 +9,7 @@ use Rattle.mark_expr.specs.declared.matching.How.TheVariants.{Part, Whole}
 use Rattle.mark_expr.specs.Expression.{Tree, Name, Negation, Conjunction, Disjunction, view}
 
 -- part stands somewhere in whole
-pub record IsPart (part whole : List ℕ) : Type 0 where
+pub record IsSubstring (part whole : List ℕ) : Type 0 where
   pub front : List ℕ
   pub back : List ℕ
   pub whole_is : whole ≡ front ++ (part ++ back)
@@ -20,7 +20,7 @@ lowered cs = map to_ascii_lowercase cs
 
 -- whether an ident names a name
 abbrev pub Names : How → List ℕ → List ℕ → Type 0
-Names Part ident name = IsPart (lowered ident) (lowered name)
+Names Part ident name = IsSubstring (lowered ident) (lowered name)
 Names Whole ident name = name ≡ ident
 
 -- THE MEANING, by cases

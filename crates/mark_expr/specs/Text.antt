@@ -12,8 +12,8 @@ abbrev pub is_ident : ℕ → Bool
 is_ident c = is_ascii_alphanumeric c || list_any (λ sign. c == sign) (codes "_:+-.[]\\/")
 
 -- a space or a tab
-abbrev pub is_blank : ℕ → Bool
-is_blank c = (c == 32) || (c == 9)
+abbrev pub is_inline_space : ℕ → Bool
+is_inline_space c = (c == 32) || (c == 9)
 
 -- what a word is: one of three keywords, or an ident
 abbrev pub word_kind : List ℕ → Kind
@@ -29,7 +29,7 @@ kind_at c cs = cond (is_ident c) (word_kind (take_while is_ident (c ∷ cs))) (s
 
 -- A token begins at each character that is no blank and doesn't go on with a word; inside says whether the character before it stands in one.
 abbrev pub begins : Bool → ℕ → Bool
-begins inside c = not (is_blank c) && not (inside && is_ident c)
+begins inside c = not (is_inline_space c) && not (inside && is_ident c)
 
 -- the tokens that begin in cs, of which the first character is that at the place
 unfoldable pub tokens_from : ℕ → Bool → List ℕ → List Token
@@ -41,10 +41,10 @@ abbrev pub tokens_of : List ℕ → List Token
 tokens_of cs = tokens_from 0 false cs
 
 -- Where the first of rest stands; the end stands behind the last of count characters.
-abbrev pub place_of : ℕ → List Token → ℕ
-place_of count [] = count
-place_of count (t ∷ ts) = t.at
+abbrev pub start_of_rest : ℕ → List Token → ℕ
+start_of_rest count [] = count
+start_of_rest count (t ∷ ts) = t.at
 
 -- its column from 1, as far as a column is counted
 abbrev pub column_of : List ℕ → List Token → ℕ
-column_of cs rest = min (place_of (length cs) rest + 1) 4294967295
+column_of cs rest = min (start_of_rest (length cs) rest + 1) 4294967295

@@ -1,5 +1,5 @@
 ghost use Rattle.std.specs.Prelude.{◌≡◌, ◌∷◌, List, ℕ, IfOk, MatchOption, take_while};
-ghost use Rattle.mark_expr.specs.Text.{is_ident, is_blank, begins, word_kind, sign_kind, kind_at, tokens_of};
+ghost use Rattle.mark_expr.specs.Text.{is_ident, is_inline_space, begins, word_kind, sign_kind, kind_at, tokens_of};
 
 use crate::token::{Kind, Token};
 use crate::tree::PyName;

@@ -2,10 +2,10 @@ ghost use Rattle.std.specs.Prelude.{◌≡◌, ◌+◌, [], min, IfOk, IfErr, Ma
 ghost use Rattle.std.specs.Str.{chars};
 ghost use Rattle.parsing.specs.Answer.{finish};
 ghost use Rattle.parsing.specs.Reading.{strip};
-ghost use Rattle.mark_expr.specs.Answer.{Answer, IsAnswer, IsCause, IsExpression, Gave, most_nested};
-ghost use Rattle.mark_expr.specs.Expression.{Conjunction, Disjunction, joined, view};
-ghost use Rattle.mark_expr.specs.Grammar.{Gives, IsExact, closed_at, is, not_at, and_at, or_at};
-ghost use Rattle.mark_expr.specs.Text.{column_of, place_of};
+ghost use Rattle.mark_expr.specs.Answer.{ParseResult, IsParseResult, IsCause, IsExpression, Gave, most_nested};
+ghost use Rattle.mark_expr.specs.Expression.{Conjunction, Disjunction, joined_left, view};
+ghost use Rattle.mark_expr.specs.Grammar.{MatchesRead, IsExact, parenthesized_at, has_kind, not_at, and_at, or_at};
+ghost use Rattle.mark_expr.specs.Text.{column_of, start_of_rest};
 
 use crate::fault::{ExprFault, Stop};
 use crate::lexing::tokens;
@@ -19,7 +19,7 @@ pub const MOST_NESTED: u32 = 100;
 
 /// The `and` of the parts.
 fn conjunction(first: Box<MarkExpr>, more: Vec<MarkExpr>) -> MarkExpr
-    ensures { view result ≡ joined Conjunction (view first.value) more.items }
+    ensures { view result ≡ joined_left Conjunction (view first.value) more.items }
 {
     if more.is_empty() {
         return Box::into_inner(first);
@@ -29,7 +29,7 @@ fn conjunction(first: Box<MarkExpr>, more: Vec<MarkExpr>) -> MarkExpr
 
 /// The `or` of the parts.
 fn disjunction(first: Box<MarkExpr>, more: Vec<MarkExpr>) -> MarkExpr
-    ensures { view result ≡ joined Disjunction (view first.value) more.items }
+    ensures { view result ≡ joined_left Disjunction (view first.value) more.items }
 {
     if more.is_empty() {
         return Box::into_inner(first);
@@ -39,7 +39,7 @@ fn disjunction(first: Box<MarkExpr>, more: Vec<MarkExpr>) -> MarkExpr
 
 /// The tokens behind an `and`.
 fn after_and(tokens: &[Token]) -> Option<&[Token]>
-    ensures { MatchOption result (strip (is 1) tokens.now ≡ None) (λ rest. strip (is 1) tokens.now ≡ Some rest.now) }
+    ensures { MatchOption result (strip (has_kind 1) tokens.now ≡ None) (λ rest. strip (has_kind 1) tokens.now ≡ Some rest.now) }
 {
     match tokens {
         [
@@ -55,7 +55,7 @@ fn after_and(tokens: &[Token]) -> Option<&[Token]>
 
 /// The tokens behind an `or`.
 fn after_or(tokens: &[Token]) -> Option<&[Token]>
-    ensures { MatchOption result (strip (is 0) tokens.now ≡ None) (λ rest. strip (is 0) tokens.now ≡ Some rest.now) }
+    ensures { MatchOption result (strip (has_kind 0) tokens.now ≡ None) (λ rest. strip (has_kind 0) tokens.now ≡ Some rest.now) }
 {
     match tokens {
         [Token { kind: Kind::Or, .. }, rest @ ..] => Some(rest),
@@ -65,7 +65,7 @@ fn after_or(tokens: &[Token]) -> Option<&[Token]>
 
 /// The tokens behind a `)`.
 fn after_close(tokens: &[Token]) -> Option<&[Token]>
-    ensures { MatchOption result (strip (is 4) tokens.now ≡ None) (λ rest. strip (is 4) tokens.now ≡ Some rest.now) }
+    ensures { MatchOption result (strip (has_kind 4) tokens.now ≡ None) (λ rest. strip (has_kind 4) tokens.now ≡ Some rest.now) }
 {
     match tokens {
         [
@@ -82,7 +82,7 @@ fn after_close(tokens: &[Token]) -> Option<&[Token]>
 #[tactic(auto, unfolding(crate::specs::Grammar::not_at))]
 #[cycle(expr)]
 fn not_expr(alloc: Global, levels: u32, tokens: &[Token]) -> Result<(MarkExpr, &[Token]), Stop<'_>>
-    ensures { Gives (λ x. (view x.0, x.1.now)) result (not_at levels tokens.now) }
+    ensures { MatchesRead (λ x. (view x.0, x.1.now)) result (not_at levels tokens.now) }
 {
     match tokens {
         [
@@ -127,7 +127,7 @@ fn not_expr(alloc: Global, levels: u32, tokens: &[Token]) -> Result<(MarkExpr, &
 /// What stands in parentheses, behind the first of them.
 #[cycle(expr)]
 fn parens(alloc: Global, levels: u32, tokens: &[Token]) -> Result<(MarkExpr, &[Token]), Stop<'_>>
-    ensures { Gives (λ x. (view x.0, x.1.now)) result (closed_at levels tokens.now) }
+    ensures { MatchesRead (λ x. (view x.0, x.1.now)) result (parenthesized_at levels tokens.now) }
 {
     let (inner, rest) = or_expr(alloc, levels, tokens)?;
     match after_close(rest) {
@@ -139,7 +139,7 @@ fn parens(alloc: Global, levels: u32, tokens: &[Token]) -> Result<(MarkExpr, &[T
 #[tactic(auto, using(crate::proofs::Steps::and_steps))]
 #[cycle(expr)]
 fn and_expr(alloc: Global, levels: u32, tokens: &[Token]) -> Result<(MarkExpr, &[Token]), Stop<'_>>
-    ensures { Gives (λ x. (view x.0, x.1.now)) result (and_at levels tokens.now) }
+    ensures { MatchesRead (λ x. (view x.0, x.1.now)) result (and_at levels tokens.now) }
 {
     let (first, mut rest) = not_expr(alloc, levels, tokens)?;
     let first = Box::new(alloc, first)?;
@@ -155,7 +155,7 @@ fn and_expr(alloc: Global, levels: u32, tokens: &[Token]) -> Result<(MarkExpr, &
 #[tactic(auto, using(crate::proofs::Steps::or_steps))]
 #[cycle(expr)]
 fn or_expr(alloc: Global, levels: u32, tokens: &[Token]) -> Result<(MarkExpr, &[Token]), Stop<'_>>
-    ensures { Gives (λ x. (view x.0, x.1.now)) result (or_at levels tokens.now) }
+    ensures { MatchesRead (λ x. (view x.0, x.1.now)) result (or_at levels tokens.now) }
 {
     let (first, mut rest) = and_expr(alloc, levels, tokens)?;
     let first = Box::new(alloc, first)?;
@@ -170,7 +170,7 @@ fn or_expr(alloc: Global, levels: u32, tokens: &[Token]) -> Result<(MarkExpr, &[
 
 /// The expression that all the tokens are.
 fn whole_expr(alloc: Global, tokens: &[Token]) -> Result<MarkExpr, Stop<'_>>
-    ensures { Gives (λ expr. (view expr, [])) result (finish (or_at most_nested tokens.now)) }
+    ensures { MatchesRead (λ expr. (view expr, [])) result (finish (or_at most_nested tokens.now)) }
 {
     let (expr, rest) = or_expr(alloc, MOST_NESTED, tokens)?;
     if !rest.is_empty() {
@@ -181,7 +181,7 @@ fn whole_expr(alloc: Global, tokens: &[Token]) -> Result<MarkExpr, Stop<'_>>
 
 /// The column of the first of these tokens, in a text of this many characters.
 fn column_of(length: usize, rest: &[Token]) -> u32
-    ensures { result ≡ min (place_of length rest.now + 1) u32.MAX }
+    ensures { result ≡ min (start_of_rest length rest.now + 1) u32.MAX }
 {
     let place = rest.first().map_or(length, |token| token.at);
     u32::try_from(place).unwrap_or(u32::MAX).saturating_add(1)
@@ -206,7 +206,7 @@ pub fn read_expr(alloc: Global, text: &str) -> Result<MarkExpr, ExprFault>
     // What is refused is refused for its cause.
     ensures cause { IfErr result (IsCause (chars text.now)) }
     // A text has one answer at most, and where it has it, this is given, unless memory runs out.
-    ensures only { (answer : Answer) → IsAnswer (chars text.now) answer → Gave result answer }
+    ensures only { (answer : ParseResult) → IsParseResult (chars text.now) answer → Gave result answer }
 {
     let written = PyName::from_str(alloc, text)?;
     let tokens = tokens(alloc, written.chars())?;

@@ -9,7 +9,7 @@ use Rattle.match_pattern.specs.declared.pattern.Times.{Times}
 use Rattle.match_pattern.specs.declared.pattern.Times.TheVariants.{Once, ZeroOrMore, OneOrMore}
 use Rattle.match_pattern.specs.declared.pattern.Item.{Item}
 use Rattle.match_pattern.specs.Pattern.{is_special, IsAtom, sign_of, IsItem, AreItems, end_sign}
-use Rattle.match_pattern.specs.Reading.{escaped_at, atom_at, times_at, timed, item_of, item_at, Goes}
+use Rattle.match_pattern.specs.Reading.{escaped_at, atom_at, times_at, timed, timed_item, item_at, Goes}
 
 -- a character with no meaning of its own is none of those that have one
 plain_other : (c x : ℕ) → not (is_special c) ≡ true → is_special x ≡ true → (c == x) ≡ false
@@ -64,7 +64,7 @@ item_read : (text : List ℕ) (i : Item) (items : List Item) (e : Bool) (h : Are
 item_read text i items e h =
     let rest : List ℕ = h.1 ++ end_sign e in
     let first : item_at (text ++ end_sign e) ≡ item_at (h.3.front ++ (sign_of i.times ++ rest)) = ap item_at (parts_shown text i items h (end_sign e)) in
-    let second : item_at (h.3.front ++ (sign_of i.times ++ rest)) ≡ Some (timed i.atom (times_at (sign_of i.times ++ rest))) = ap item_of (atom_read h.3.front i.atom (sign_of i.times ++ rest) h.3.atom) in
+    let second : item_at (h.3.front ++ (sign_of i.times ++ rest)) ≡ Some (timed i.atom (times_at (sign_of i.times ++ rest))) = ap timed_item (atom_read h.3.front i.atom (sign_of i.times ++ rest) h.3.atom) in
     let third : times_at (sign_of i.times ++ rest) ≡ (i.times, rest) = times_read i.times rest (clear_items 42 h.1 items e refl refl refl refl h.4) (clear_items 43 h.1 items e refl refl refl refl h.4) in
     first ∙ (second ∙ ap (λ (x : Times × List ℕ). Some (timed i.atom x)) third)
 
@@ -107,7 +107,7 @@ abbrev ItemFound : List ℕ → Option (Item × List ℕ) → Type 0
 ItemFound text None = Unit {0}
 ItemFound text (Some x) = (front : List ℕ) × IsItem front x.0 × (text ≡ front ++ x.1)
 
-item_by : (text : List ℕ) (o : Option (Atom × List ℕ)) → AtomFound text o → ItemFound text (item_of o)
+item_by : (text : List ℕ) (o : Option (Atom × List ℕ)) → AtomFound text o → ItemFound text (timed_item o)
 item_by text None h = tt
 item_by text (Some x) h = (h.0 ++ sign_of (times_at x.1).0, record { front = h.0; atom = h.1; text_is = refl }, h.2 ∙ (ap (λ (r : List ℕ). h.0 ++ r) (times_found x.1) ∙ sym (append_assoc h.0 (sign_of (times_at x.1).0) (times_at x.1).1)))
 

@@ -9,7 +9,7 @@ use Rattle.match_pattern.specs.declared.pattern.Times.TheVariants.{Once, ZeroOrM
 use Rattle.match_pattern.specs.declared.pattern.Item.{Item}
 use Rattle.match_pattern.specs.declared.pattern.Pattern.{Pattern}
 use Rattle.match_pattern.specs.Matching.{stands_for}
-use Rattle.match_pattern.specs.Searching.{begins_with, one_then, any_then, times_then, is_end, match_at, anywhere, kept, goes_on, rest_of, passed, first_marks, marked, found}
+use Rattle.match_pattern.specs.Searching.{atom_begins, one_then, any_then, times_then, is_end, match_at, anywhere, kept, goes_on, rest_of, passed, first_marks, marked, found}
 
 -- an equation of tests that holds in each row of their table
 every : (Bool → Bool) → Bool
@@ -82,7 +82,7 @@ and_false false = refl
 
 pub length_passed : (item : Item) (inside : Bool) (marks : List Bool) (text : List ℕ) → length (passed item inside marks text) ≡ length marks
 length_passed item inside [] text = refl
-length_passed item inside (m ∷ marks) text = ap suc (length_passed item (goes_on item.times m inside && begins_with item.atom text) marks (rest_of text))
+length_passed item inside (m ∷ marks) text = ap suc (length_passed item (goes_on item.times m inside && atom_begins item.atom text) marks (rest_of text))
 
 abbrev once : Atom → Item
 once a = record { atom = a; times = Once }
@@ -167,15 +167,15 @@ rest_drop (suc at) [] = refl
 rest_drop (suc at) (c ∷ text) = rest_drop at text
 
 -- A step of the pass: the marks before a place are moved, those from it on are not.
-pub pass_more : (item : Item) (at : ℕ) (inside : Bool) (marks : List Bool) (text : List ℕ) (here new next d : Bool) → at < length marks → here ≡ get_or marks at d → new ≡ kept item.times here inside → next ≡ (goes_on item.times here inside && begins_with item.atom (drop at text)) → take (at + 1) (set marks at new) ++ passed item next (drop (at + 1) (set marks at new)) (drop (at + 1) text) ≡ take at marks ++ passed item inside (drop at marks) (drop at text)
+pub pass_more : (item : Item) (at : ℕ) (inside : Bool) (marks : List Bool) (text : List ℕ) (here new next d : Bool) → at < length marks → here ≡ get_or marks at d → new ≡ kept item.times here inside → next ≡ (goes_on item.times here inside && atom_begins item.atom (drop at text)) → take (at + 1) (set marks at new) ++ passed item next (drop (at + 1) (set marks at new)) (drop (at + 1) text) ≡ take at marks ++ passed item inside (drop at marks) (drop at text)
 pass_more item at inside marks text here new next d h is_here is_new is_next =
     let front : take (at + 1) (set marks at new) ≡ take at marks ++ new ∷ [] = take_more_set marks at new h in
     let back : drop (at + 1) (set marks at new) ≡ drop (at + 1) marks = drop-set-lt (at + 1) marks at new (omega arith) in
     let tail : rest_of (drop at text) ≡ drop (at + 1) text = rw add-one (rest_drop at text) in
     let whole : drop at marks ≡ here ∷ drop (at + 1) marks = drop_more marks at d h ∙ ap (λ (x : Bool). x ∷ drop (at + 1) marks) (sym is_here) in
-    let on : List Bool = passed item (goes_on item.times here inside && begins_with item.atom (drop at text)) (drop (at + 1) marks) (rest_of (drop at text)) in
+    let on : List Bool = passed item (goes_on item.times here inside && atom_begins item.atom (drop at text)) (drop (at + 1) marks) (rest_of (drop at text)) in
     let moved : passed item inside (drop at marks) (drop at text) ≡ kept item.times here inside ∷ on = ap (λ (ms : List Bool). passed item inside ms (drop at text)) whole in
-    let same_on : passed item next (drop (at + 1) marks) (drop (at + 1) text) ≡ on = ap (λ (n : Bool). passed item n (drop (at + 1) marks) (drop (at + 1) text)) is_next ∙ ap (λ (r : List ℕ). passed item (goes_on item.times here inside && begins_with item.atom (drop at text)) (drop (at + 1) marks) r) (sym tail) in
+    let same_on : passed item next (drop (at + 1) marks) (drop (at + 1) text) ≡ on = ap (λ (n : Bool). passed item n (drop (at + 1) marks) (drop (at + 1) text)) is_next ∙ ap (λ (r : List ℕ). passed item (goes_on item.times here inside && atom_begins item.atom (drop at text)) (drop (at + 1) marks) r) (sym tail) in
     ap (λ (f : List Bool). f ++ passed item next (drop (at + 1) (set marks at new)) (drop (at + 1) text)) front
     ∙ (ap (λ (b : List Bool). (take at marks ++ new ∷ []) ++ passed item next b (drop (at + 1) text)) back
     ∙ (append_assoc (take at marks) (new ∷ []) (passed item next (drop (at + 1) marks) (drop (at + 1) text))

@@ -9,7 +9,7 @@ use Rattle.match_pattern.specs.declared.pattern.Times.{Times}
 use Rattle.match_pattern.specs.declared.pattern.Times.TheVariants.{Once, ZeroOrMore, OneOrMore}
 use Rattle.match_pattern.specs.declared.pattern.Item.{Item}
 use Rattle.match_pattern.specs.declared.pattern.Pattern.{Pattern}
-use Rattle.match_pattern.specs.Matching.{stands_for, Matches, AllMatch, IsFound}
+use Rattle.match_pattern.specs.Matching.{stands_for, Matches, AllMatch, IsMatch}
 use Rattle.match_pattern.specs.Searching.{any_then, times_then, is_end, match_at, anywhere, found}
 
 abbrev Each : Atom → List ℕ → Type 0
@@ -104,14 +104,14 @@ found_from true e items text f =
 found_from false e items text f = ap (anywhere (match_at e items)) f.3 ∙ place_from (match_at e items) f.0 (f.1 ++ f.2) (match_from e items f.1 f.2 f.4 f.6)
 
 -- what is found, is
-pub found_is : (p : Pattern) (text : List ℕ) → found p text ≡ true → IsFound p text
+pub found_is : (p : Pattern) (text : List ℕ) → found p text ≡ true → IsMatch p text
 found_is p text h = let f = found_cut p.at_start p.at_end p.items text h in record { before = f.0; middle = f.1; behind = f.2; text_is = f.3; matches = f.4; at_start = f.5; at_end = f.6 }
 
 -- what is, is found
-pub is_found : (p : Pattern) (text : List ℕ) → IsFound p text → found p text ≡ true
+pub is_found : (p : Pattern) (text : List ℕ) → IsMatch p text → found p text ≡ true
 is_found p text f = found_from p.at_start p.at_end p.items text (f.before, f.middle, f.behind, f.text_is, f.matches, f.at_start, f.at_end)
 
 -- what the search answers
-pub decided : (p : Pattern) (text : List ℕ) (r : Result Bool OutOfMemory) → IfOk r (λ answer. answer ≡ found p text) → IfOk r (λ answer. IsTrue answer ↔ IsFound p text)
+pub decided : (p : Pattern) (text : List ℕ) (r : Result Bool OutOfMemory) → IfOk r (λ answer. answer ≡ found p text) → IfOk r (λ answer. IsTrue answer ↔ IsMatch p text)
 decided p text (Ok answer) h = (λ e. found_is p text (sym h ∙ e), λ f. h ∙ is_found p text f)
 decided p text (Err e) h = tt

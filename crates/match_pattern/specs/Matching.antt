@@ -30,7 +30,7 @@ AllMatch [] text = text ≡ []
 AllMatch (item ∷ items) text = (front : List ℕ) × (back : List ℕ) × (text ≡ front ++ back) × Matches item front × AllMatch items back
 
 -- THE PATTERN IS FOUND: it matches somewhere in the text, at the places where it may
-pub record IsFound (pattern : Pattern) (text : List ℕ) : Type 0 where
+pub record IsMatch (pattern : Pattern) (text : List ℕ) : Type 0 where
   pub before : List ℕ
   pub middle : List ℕ
   pub behind : List ℕ

@@ -24,12 +24,12 @@ times_at (c ∷ rest) = cond (c == 42) (ZeroOrMore, rest) (cond (c == 43) (OneOr
 abbrev pub timed : Atom → Times × List ℕ → Item × List ℕ
 timed atom x = (record { atom = atom; times = x.0 }, x.1)
 
-abbrev pub item_of : Option (Atom × List ℕ) → Option (Item × List ℕ)
-item_of None = None
-item_of (Some x) = Some (timed x.0 (times_at x.1))
+abbrev pub timed_item : Option (Atom × List ℕ) → Option (Item × List ℕ)
+timed_item None = None
+timed_item (Some x) = Some (timed x.0 (times_at x.1))
 
 abbrev pub item_at : List ℕ → Option (Item × List ℕ)
-item_at text = item_of (atom_at text)
+item_at text = timed_item (atom_at text)
 
 abbrev pub start_at : List ℕ → Bool × List ℕ
 start_at [] = (false, [])

@@ -9,9 +9,9 @@ use Rattle.match_pattern.specs.declared.searching.SearchEnd.{SearchEnd}
 use Rattle.match_pattern.specs.declared.searching.SearchEnd.TheVariants.{Found, NotFound, Exhausted}
 use Rattle.match_pattern.specs.Matching.{stands_for}
 
-abbrev pub begins_with : Atom → List ℕ → Bool
-begins_with atom [] = false
-begins_with atom (c ∷ text) = stands_for atom c
+abbrev pub atom_begins : Atom → List ℕ → Bool
+atom_begins atom [] = false
+atom_begins atom (c ∷ text) = stands_for atom c
 
 -- one character that the atom stands for, and then what passes the test
 abbrev pub one_then : Atom → (List ℕ → Bool) → List ℕ → Bool
@@ -47,12 +47,12 @@ abbrev pub found : Pattern → List ℕ → Bool
 found pattern text = if pattern.at_start then match_at pattern.at_end pattern.items text else anywhere (match_at pattern.at_end pattern.items) text
 
 -- its cost in steps: the product of both lengths
-abbrev pub cost_of : Pattern → List ℕ → ℕ
-cost_of pattern text = pattern.length * length text
+abbrev pub match_cost : Pattern → List ℕ → ℕ
+match_cost pattern text = pattern.length * length text
 
 -- the cost, where it is within a budget
-abbrev pub within : ℕ → ℕ → Option ℕ
-within budget cost = if nat_lt budget cost then None else Some cost
+abbrev pub affordable : ℕ → ℕ → Option ℕ
+affordable budget cost = if nat_lt budget cost then None else Some cost
 
 -- how a search ends
 abbrev pub search_end : Option ℕ → Bool → SearchEnd
@@ -78,7 +78,7 @@ rest_of (c ∷ text) = text
 
 abbrev pub passed : Item → Bool → List Bool → List ℕ → List Bool
 passed item inside [] text = []
-passed item inside (here ∷ marks) text = kept item.times here inside ∷ passed item (goes_on item.times here inside && begins_with item.atom text) marks (rest_of text)
+passed item inside (here ∷ marks) text = kept item.times here inside ∷ passed item (goes_on item.times here inside && atom_begins item.atom text) marks (rest_of text)
 
 -- the places at which a pattern may begin
 abbrev pub first_marks : Bool → List ℕ → List Bool

@@ -2,7 +2,7 @@
 
 ghost use Rattle.std.specs.Prelude.{◌≡◌, false, drop};
 ghost use Rattle.match_pattern.specs.Matching.{stands_for};
-ghost use Rattle.match_pattern.specs.Searching.{begins_with, kept, goes_on, passed};
+ghost use Rattle.match_pattern.specs.Searching.{atom_begins, kept, goes_on, passed};
 
 use crate::pattern::{Atom, Item, Times};
 
@@ -18,7 +18,7 @@ fn stands_for(atom: Atom, c: char) -> bool
 
 /// Whether an atom stands for the character at a place; there is none behind the last.
 fn stands_at(atom: Atom, text: &[char], at: usize) -> bool
-    ensures { result ≡ begins_with atom (drop at text.now) }
+    ensures { result ≡ atom_begins atom (drop at text.now) }
 {
     match text.get(at) {
         Some(c) => stands_for(atom, *c),

@@ -2,8 +2,8 @@
 
 ghost use Rattle.std.specs.Prelude.{◌≡◌, ◌↔◌, ◌==◌, ◌||◌, suc, not, IfOk, IsTrue, length};
 ghost use Rattle.std.specs.List.{list_any};
-ghost use Rattle.match_pattern.specs.Matching.{IsFound};
-ghost use Rattle.match_pattern.specs.Searching.{found, cost_of, first_marks, is_end, match_at, marked, within, search_end};
+ghost use Rattle.match_pattern.specs.Matching.{IsMatch};
+ghost use Rattle.match_pattern.specs.Searching.{found, match_cost, first_marks, is_end, match_at, marked, affordable, search_end};
 
 use crate::matching::pass;
 use crate::pattern::{Item, Pattern};
@@ -80,14 +80,14 @@ fn is_found(alloc: Global, pattern: &Pattern, text: &[char]) -> Result<bool, Out
 /// place of the text, and goes back nowhere.
 pub fn found(alloc: Global, pattern: &Pattern, text: &[char]) -> Result<bool, OutOfMemory>
     ensures exact { IfOk result (λ answer. answer ≡ found pattern.now text.now) }
-    ensures matches { IfOk result (λ answer. IsTrue answer ↔ IsFound pattern.now text.now) }
+    ensures matches { IfOk result (λ answer. IsTrue answer ↔ IsMatch pattern.now text.now) }
 {
     is_found(alloc, pattern, text)
 }
 
 /// The cost of a search, where it is within the budget.
 fn cost_within(pattern: &Pattern, text: &[char], budget: u64) -> Option<u64>
-    ensures { result ≡ within budget (cost_of pattern.now text.now) }
+    ensures { result ≡ affordable budget (match_cost pattern.now text.now) }
 {
     let pattern_length = pattern.length as u64;
     let cost = pattern_length.checked_mul(text.len() as u64)?;
@@ -102,7 +102,7 @@ pub fn search(
     text: &[char],
     budget: u64,
 ) -> Result<SearchEnd, OutOfMemory>
-    ensures { IfOk result (λ end. end ≡ search_end (within budget (cost_of pattern.now text.now)) (found pattern.now text.now)) }
+    ensures { IfOk result (λ end. end ≡ search_end (affordable budget (match_cost pattern.now text.now)) (found pattern.now text.now)) }
 {
     match cost_within(pattern, text, budget) {
         Some(cost) => {

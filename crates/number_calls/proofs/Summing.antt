@@ -9,34 +9,34 @@ use Rattle.number_calls.specs.Sums.{sum_from, sum_by, plus_of, no_number, too_la
 use Rattle.number_calls.specs.declared.sums.Plus.{Plus}
 use Rattle.number_calls.specs.declared.sums.Plus.TheVariants.{Sum, NoNumber, TooLarge}
 use Rattle.number_calls.specs.Texts.{decimal, with_digit, bounded}
-use Rattle.py_values.specs.Numbers.{number_of}
-use Rattle.py_values.specs.declared.end.Made.TheVariants.{Give}
+use Rattle.py_values.specs.Numbers.{int_value}
+use Rattle.py_values.specs.declared.end.Effect.TheVariants.{Give}
 use Rattle.py_values.specs.declared.object.Obj.{Obj}
 use Rattle.py_values.specs.declared.value.Value.{Value}
 
 sum_step : (heap : List Obj) (total : Value) (vs : List Value) (i : ℕ) (d : Value) → i < length vs
-    → sum_from heap total i (drop i vs) ≡ sum_by heap (get_or vs i d) (i + 1) (plus_of (number_of total) (number_of (get_or vs i d)))
+    → sum_from heap total i (drop i vs) ≡ sum_by heap (get_or vs i d) (i + 1) (plus_of (int_value total) (int_value (get_or vs i d)))
     (λ t. sum_from heap t (i + 1) (drop (i + 1) vs))
 sum_step heap total vs i d h = rw (add-one i, drop-cons vs i d h) refl
 
 -- a turn of the loop over elements, by what comes of the element
 sum_turn : (heap : List Obj) (total : Value) (p : Plus) (vs : List Value) (i : ℕ) (d : Value) (all : Product) → i < length vs
-    → p ≡ plus_of (number_of total) (number_of (get_or vs i d)) → all ≡ sum_from heap total i (drop i vs)
+    → p ≡ plus_of (int_value total) (int_value (get_or vs i d)) → all ≡ sum_from heap total i (drop i vs)
     → all ≡ sum_by heap (get_or vs i d) (i + 1) p (λ t. sum_from heap t (i + 1) (drop (i + 1) vs))
 sum_turn heap total p vs i d all h e f = rw e (f ∙ sum_step heap total vs i d h)
 
 pub sum_goes : (heap : List Obj) (total t : Value) (vs : List Value) (i : ℕ) (d : Value) (all : Product) → i < length vs
-    → Sum t ≡ plus_of (number_of total) (number_of (get_or vs i d)) → all ≡ sum_from heap total i (drop i vs)
+    → Sum t ≡ plus_of (int_value total) (int_value (get_or vs i d)) → all ≡ sum_from heap total i (drop i vs)
     → all ≡ sum_from heap t (i + 1) (drop (i + 1) vs)
 sum_goes heap total t vs i d all h e f = sum_turn heap total (Sum t) vs i d all h e f
 
 pub sum_stops : (heap : List Obj) (total : Value) (vs : List Value) (i : ℕ) (d : Value) (all : Product) → i < length vs
-    → NoNumber ≡ plus_of (number_of total) (number_of (get_or vs i d)) → all ≡ sum_from heap total i (drop i vs)
+    → NoNumber ≡ plus_of (int_value total) (int_value (get_or vs i d)) → all ≡ sum_from heap total i (drop i vs)
     → all ≡ no_number heap (get_or vs i d) (i + 1)
 sum_stops heap total vs i d all h e f = sum_turn heap total NoNumber vs i d all h e f
 
 pub sum_leaves : (heap : List Obj) (total : Value) (vs : List Value) (i : ℕ) (d : Value) (all : Product) → i < length vs
-    → TooLarge ≡ plus_of (number_of total) (number_of (get_or vs i d)) → all ≡ sum_from heap total i (drop i vs) → all ≡ too_large (i + 1)
+    → TooLarge ≡ plus_of (int_value total) (int_value (get_or vs i d)) → all ≡ sum_from heap total i (drop i vs) → all ≡ too_large (i + 1)
 sum_leaves heap total vs i d all h e f = sum_turn heap total TooLarge vs i d all h e f
 
 pub sum_ends : (heap : List Obj) (total : Value) (vs : List Value) (i : ℕ) (all : Product) → length vs ≤ i → i ≤ length vs

@@ -3,21 +3,22 @@
 use Rattle.std.specs.Prelude.{ℕ, ◌+◌, ◌*◌, Bool, List, [], ◌∷◌, length, codes, nat_lt, if◌then◌else◌, Option, Some, None}
 use Rattle.text_methods.specs.call_products.Elements.{elements_of}
 use Rattle.text_methods.specs.call_products.Products.{plain, failed, wrong}
-use Rattle.text_methods.specs.call_products.declared.elements.Gathered.{Gathered}
-use Rattle.text_methods.specs.call_products.declared.elements.Gathered.TheVariants as gathered
+use Rattle.text_methods.specs.call_products.declared.elements.ElementsResult.{ElementsResult}
+use Rattle.text_methods.specs.call_products.declared.elements.ElementsResult.TheVariants as gathered
 use Rattle.text_methods.specs.call_products.declared.product.Product.{Product}
 use Rattle.number_calls.specs.declared.best.Pick.{Pick}
 use Rattle.number_calls.specs.declared.best.Pick.TheVariants.{Best, Refuse}
-use Rattle.py_compare.specs.Order.{Place, order_of}
+use Rattle.py_compare.specs.Order.{OrderVerdict, order_of}
 use Rattle.py_compare.specs.Order as place
-use Rattle.py_compare.specs.declared.tested.Ordered.{Ordered}
-use Rattle.py_compare.specs.declared.tested.Ordered.TheVariants as ordered
-use Rattle.text_methods.specs.py_ops.Compare.{not_supported, text_of}
+use Rattle.py_compare.specs.declared.tested.Comparison.{Comparison}
+use Rattle.py_compare.specs.declared.tested.Comparison.TheVariants as ordered
+use Rattle.text_methods.specs.py_operands.Faults.{not_supported}
+use Rattle.text_methods.specs.py_operands.Texts.{text_of}
 use Rattle.text_methods.specs.py_operands.Faults.{too_deep}
 use Rattle.text_methods.specs.py_kinds.Kinds.{kind_name}
 use Rattle.py_values.specs.declared.class.ExcClass.TheVariants.{ValueError}
-use Rattle.py_values.specs.declared.end.Made.{Made}
-use Rattle.py_values.specs.declared.end.Made.TheVariants.{Give, New, Fail}
+use Rattle.py_values.specs.declared.end.Effect.{Effect}
+use Rattle.py_values.specs.declared.end.Effect.TheVariants.{Give, New, Fail}
 use Rattle.py_values.specs.declared.end.Raise.{Raise}
 use Rattle.py_values.specs.declared.object.Obj.{Obj}
 use Rattle.py_values.specs.declared.object.Obj.TheVariants.{Text}
@@ -31,7 +32,7 @@ abbrev pub not_ordered : Bool → List Obj → Value → Value → Raise
 not_ordered least heap a b = not_supported (if least then codes "<" else codes ">") (kind_name heap a) (kind_name heap b)
 
 -- an element a beside the best so far, b, which stays where both are the same
-abbrev pub pick_by : Bool → List Obj → Value → Value → Place → ℕ → Pick
+abbrev pub pick_by : Bool → List Obj → Value → Value → OrderVerdict → ℕ → Pick
 pick_by least heap a b place.Less n = Best (if least then a else b) n
 pick_by least heap a b place.Same n = Best b n
 pick_by least heap a b place.More n = Best (if least then b else a) n
@@ -42,7 +43,7 @@ abbrev pub pick_of : Bool → List Obj → Value → Value → Pick
 pick_of least heap a b = pick_by least heap a b (order_of heap a b).place (order_of heap a b).cost
 
 -- the same of what is told of an order under a budget
-abbrev pub pick_told : Bool → List Obj → Value → Value → Ordered → Option Pick
+abbrev pub pick_told : Bool → List Obj → Value → Value → Comparison → Option Pick
 pick_told least heap a b (ordered.Less n) = Some (pick_by least heap a b place.Less n)
 pick_told least heap a b (ordered.Same n) = Some (pick_by least heap a b place.Same n)
 pick_told least heap a b (ordered.More n) = Some (pick_by least heap a b place.More n)
@@ -58,11 +59,11 @@ abbrev pub pick_within : ℕ → Pick → Option Pick
 pick_within budget p = if nat_lt budget (pick_cost p) then None else Some p
 
 -- the best of an element and others, behind so many steps
-abbrev pub best_by : Pick → ℕ → (Value → ℕ → Made) → Made
+abbrev pub best_by : Pick → ℕ → (Value → ℕ → Effect) → Effect
 best_by (Best v m) n f = f v (n + m)
 best_by (Refuse r m) n f = Fail r (n + m)
 
-abbrev pub best_from : Bool → List Obj → Value → ℕ → List Value → Made
+abbrev pub best_from : Bool → List Obj → Value → ℕ → List Value → Effect
 best_from least heap best n [] = Give best n
 best_from least heap best n (v ∷ vs) = best_by (pick_of least heap v best) (n + 2) (λ b m. best_from least heap b m vs)
 
@@ -85,7 +86,7 @@ abbrev pub text_best : Bool → List ℕ → Product
 text_best least [] = empty
 text_best least (c ∷ cs) = plain (New (Text (best_char least c cs ∷ [])) (1 + 3 * length cs))
 
-abbrev pub gathered_best : Bool → List Obj → Gathered → Product
+abbrev pub gathered_best : Bool → List Obj → ElementsResult → Product
 gathered_best least heap (gathered.Elements e) = values_best least heap e.values
 gathered_best least heap (gathered.Refused r) = plain (Fail r 0)
 

@@ -5,29 +5,29 @@ use Rattle.text_methods.specs.call_products.Arguments.{sole, pair, sole_text}
 use Rattle.text_methods.specs.call_products.Products.{plain, failed, wrong}
 use Rattle.text_methods.specs.call_products.declared.product.Product.{Product}
 use Rattle.text_methods.specs.py_operands.Numbers.{fitting, number_made, floor_div, floor_mod}
-use Rattle.py_values.specs.Numbers.{number_of}
+use Rattle.py_values.specs.Numbers.{int_value}
 use Rattle.text_methods.specs.py_kinds.Truth.{truth}
 use Rattle.py_values.specs.declared.class.ExcClass.TheVariants.{OverflowError, ZeroDivisionError}
-use Rattle.py_values.specs.declared.end.Made.TheVariants.{Give, New}
+use Rattle.py_values.specs.declared.end.Effect.TheVariants.{Give, New}
 use Rattle.py_values.specs.declared.object.Obj.{Obj}
 use Rattle.py_values.specs.declared.object.Obj.TheVariants as obj
 use Rattle.py_values.specs.declared.value.Value.{Value}
 use Rattle.py_values.specs.declared.value.Value.TheVariants as val
 
-abbrev pub number_in : Option Value → Option ℤ
-number_in (Some v) = number_of v
-number_in None = None
+abbrev pub given_number : Option Value → Option ℤ
+given_number (Some v) = int_value v
+given_number None = None
 
 -- the number that is the one argument of a call
 abbrev pub sole_number : List Value → List (List ℕ × Value) → Option ℤ
-sole_number args named = number_in (sole args named)
+sole_number args named = given_number (sole args named)
 
 abbrev pub both_numbers : Option ℤ → Option ℤ → Option (ℤ × ℤ)
 both_numbers (Some x) (Some y) = Some (x, y)
 both_numbers _ _ = None
 
 abbrev pub numbers_in : Option (Value × Value) → Option (ℤ × ℤ)
-numbers_in (Some p) = both_numbers (number_of p.0) (number_of p.1)
+numbers_in (Some p) = both_numbers (int_value p.0) (int_value p.1)
 numbers_in None = None
 
 -- the two numbers that are the arguments of a call

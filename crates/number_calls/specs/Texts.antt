@@ -3,11 +3,11 @@ use Rattle.std.specs.Prelude.{ℕ, ◌+◌, ◌*◌, ◌-◌, ◌^◌, Bool, fal
 use Rattle.text_methods.specs.call_products.Arguments.{sole}
 use Rattle.text_methods.specs.call_products.Products.{plain, failed, wrong}
 use Rattle.text_methods.specs.call_products.declared.product.Product.{Product}
-use Rattle.text_methods.specs.py_ops.Compare.{text_of}
-use Rattle.text_methods.specs.py_operands.Numbers.{number}
-use Rattle.py_values.specs.Numbers.{number_of}
+use Rattle.text_methods.specs.py_operands.Texts.{text_of}
+use Rattle.text_methods.specs.py_operands.Numbers.{bounded_number}
+use Rattle.py_values.specs.Numbers.{int_value}
 use Rattle.py_values.specs.declared.class.ExcClass.TheVariants.{ValueError}
-use Rattle.py_values.specs.declared.end.Made.TheVariants.{Give}
+use Rattle.py_values.specs.declared.end.Effect.TheVariants.{Give}
 use Rattle.py_values.specs.declared.object.Obj.{Obj}
 use Rattle.py_values.specs.declared.value.Value.{Value}
 use Rattle.py_values.specs.declared.value.Value.TheVariants.{Int}
@@ -39,7 +39,7 @@ signed negative n = if negative then neg_ℤ (pos n) else pos n
 
 abbrev pub spelled : List ℕ → Product
 spelled t =
-    if is_digits (behind_sign t) then plain (number (signed (is_below_zero t) (decimal 0 (behind_sign t))))
+    if is_digits (behind_sign t) then plain (bounded_number (signed (is_below_zero t) (decimal 0 (behind_sign t))))
     else failed ValueError (codes "invalid number") 0
 
 abbrev pub int_of_text : Option (List ℕ) → Product
@@ -51,7 +51,7 @@ int_or_text t (Some z) = plain (Give (Int z) 0)
 int_or_text t None = int_of_text t
 
 abbrev pub int_of_value : List Obj → Value → Product
-int_of_value heap v = int_or_text (text_of heap v) (number_of v)
+int_of_value heap v = int_or_text (text_of heap v) (int_value v)
 
 abbrev pub int_by : List Obj → Option Value → Product
 int_by heap (Some v) = int_of_value heap v

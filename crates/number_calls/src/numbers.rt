@@ -4,7 +4,7 @@ ghost use Rattle.std.specs.Prelude.{◌≡◌, IfOk, option_copied};
 ghost use Rattle.number_calls.specs.Numbers as numbers;
 
 use py_values::class::ExcClass;
-use py_values::end::Made;
+use py_values::end::Effect;
 use py_values::heap::Heap;
 use py_values::number::number;
 use py_values::object::Obj;
@@ -72,7 +72,7 @@ fn tuple_or_raise(
             let mut items = Vec::new(alloc);
             items.push(Value::Int(quotient))?;
             items.push(Value::Int(rest))?;
-            Ok(plain(alloc, Made::New(Obj::Tuple(Values::from_vec(items)), 0)))
+            Ok(plain(alloc, Effect::New(Obj::Tuple(Values::from_vec(items)), 0)))
         }
         _ => failed(
             alloc,
@@ -116,7 +116,7 @@ pub fn bool_of(
     ensures { IfOk result (λ p. p ≡ numbers.bool_of heap.now args.now named.now) }
 {
     match sole(args, named) {
-        Some(v) => Ok(plain(alloc, Made::Give(Value::Bool(truth(heap, v)), 0))),
+        Some(v) => Ok(plain(alloc, Effect::Give(Value::Bool(truth(heap, v)), 0))),
         None => wrong(alloc, "bool", 0),
     }
 }
@@ -144,7 +144,7 @@ pub fn ord(
     ensures { IfOk result (λ p. p ≡ numbers.ord_of heap.now args.now named.now) }
 {
     match sole_char(sole_text(heap, args, named)) {
-        Some(c) => Ok(plain(alloc, Made::Give(Value::Int(c as i128), 0))),
+        Some(c) => Ok(plain(alloc, Effect::Give(Value::Int(c as i128), 0))),
         None => wrong(alloc, "ord", 0),
     }
 }
@@ -165,7 +165,7 @@ pub fn chr(alloc: Global, args: &[Value], named: &[(PyText, Value)]) -> Result<P
     match char_of(sole_number(args, named)) {
         Some(c) => {
             let text = PyText::from_chars(alloc, &[c])?;
-            Ok(plain(alloc, Made::New(Obj::Text(text), 0)))
+            Ok(plain(alloc, Effect::New(Obj::Text(text), 0)))
         }
         None => wrong(alloc, "chr", 0),
     }

@@ -2,18 +2,18 @@
 
 ghost use Rattle.std.specs.Prelude.{◌≡◌, ◌+ℤ◌, IfOk, pos};
 ghost use Rattle.text_methods.specs.py_operands.Numbers.{fitting};
-ghost use Rattle.py_values.specs.Numbers.{number_of};
+ghost use Rattle.py_values.specs.Numbers.{int_value};
 ghost use Rattle.number_calls.specs.Sums as sums;
 
 use py_values::class::ExcClass;
-use py_values::end::{Made, Raise};
+use py_values::end::{Effect, Raise};
 use py_values::heap::Heap;
 use py_values::number::number;
 use py_values::value::Value;
 use py_values::{OutOfMemory, PyText};
 use std::alloc::Global;
 use text_methods::call_products::arguments::sole;
-use text_methods::call_products::elements::{Elements, Gathered, elements_of};
+use text_methods::call_products::elements::{Elements, ElementsResult, elements_of};
 use text_methods::call_products::product::{Product, failed, plain, wrong};
 use text_methods::py_kinds::kinds::kind_name;
 use text_methods::py_operands::faults::kinds_error;
@@ -38,7 +38,7 @@ fn no_number(alloc: Global, heap: &Heap, v: Value, cost: u64) -> Result<Product,
 {
     let kind = kind_name(alloc, heap, v)?;
     let raise = no_sum(alloc, kind.chars())?;
-    Ok(plain(alloc, Made::Fail(raise, cost)))
+    Ok(plain(alloc, Effect::Fail(raise, cost)))
 }
 
 /// A sum with an element more, where both are numbers and their sum has its 128 bits.
@@ -59,7 +59,7 @@ fn plus_numbers(x: i128, y: i128) -> Plus
 }
 
 fn with_element(total: Value, v: Value) -> Plus
-    ensures { result ≡ sums.plus_of (number_of total) (number_of v) }
+    ensures { result ≡ sums.plus_of (int_value total) (int_value v) }
 {
     match (number(total), number(v)) {
         (Some(x), Some(y)) => plus_numbers(x, y),
@@ -96,7 +96,7 @@ fn sum_all(alloc: Global, heap: &Heap, items: &[Value]) -> Result<Product, OutOf
             }
         }
     }
-    Ok(plain(alloc, Made::Give(total, items.len() as u64)))
+    Ok(plain(alloc, Effect::Give(total, items.len() as u64)))
 }
 
 fn sum_made(alloc: Global, heap: &Heap, elements: Elements) -> Result<Product, OutOfMemory>
@@ -106,7 +106,7 @@ fn sum_made(alloc: Global, heap: &Heap, elements: Elements) -> Result<Product, O
         return sum_all(alloc, heap, elements.values.items());
     }
     let raise = no_sum(alloc, &['s', 't', 'r'])?;
-    Ok(plain(alloc, Made::Fail(raise, 1)))
+    Ok(plain(alloc, Effect::Fail(raise, 1)))
 }
 
 /// A call of `sum` (Python library reference, built-in functions).
@@ -122,7 +122,7 @@ pub fn sum(
         return wrong(alloc, "sum", 0);
     };
     match elements_of(alloc, heap, heap.len(), v)? {
-        Gathered::Elements(elements) => sum_made(alloc, heap, elements),
-        Gathered::Refused(raise) => Ok(plain(alloc, Made::Fail(raise, 0))),
+        ElementsResult::Elements(elements) => sum_made(alloc, heap, elements),
+        ElementsResult::Refused(raise) => Ok(plain(alloc, Effect::Fail(raise, 0))),
     }
 }

@@ -5,16 +5,17 @@ ghost use Rattle.text_methods.specs.py_operands.Numbers.{fitting};
 ghost use Rattle.number_calls.specs.Texts as texts;
 
 use py_values::class::ExcClass;
-use py_values::end::Made;
+use py_values::end::Effect;
 use py_values::heap::Heap;
 use py_values::number::number;
 use py_values::value::Value;
 use py_values::{OutOfMemory, PyText};
 use std::alloc::Global;
-use text_methods::call_products::arguments::{sole, text_of};
+use text_methods::call_products::arguments::sole;
 use text_methods::call_products::product::{Product, failed, plain, wrong};
 use text_methods::chars::{is_digits, stripped};
 use text_methods::py_operands::numbers::number_made;
+use text_methods::py_operands::texts::text_of;
 
 /// The size of the greatest number below zero.
 const MOST: u128 = 1 << 127;
@@ -110,7 +111,7 @@ fn int_of_value(alloc: Global, heap: &Heap, v: Value) -> Result<Product, OutOfMe
     ensures { IfOk result (λ p. p ≡ texts.int_of_value heap.now v) }
 {
     match number(v) {
-        Some(n) => Ok(plain(alloc, Made::Give(Value::Int(n), 0))),
+        Some(n) => Ok(plain(alloc, Effect::Give(Value::Int(n), 0))),
         None => int_of_text(alloc, text_of(heap, v)),
     }
 }

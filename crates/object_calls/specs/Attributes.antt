@@ -5,59 +5,59 @@ use Rattle.call_products.specs.Arguments.{pair}
 use Rattle.call_products.specs.Products.{plain, wrong}
 use Rattle.call_products.specs.declared.product.Product.{Product}
 use Rattle.object_calls.specs.Kinds.{answered}
-use Rattle.object_calls.specs.declared.attributes.Asked.{Asked}
-use Rattle.call_products.specs.py_ops.Compare.{text_of}
-use Rattle.py_values.specs.declared.end.Made.{Made}
-use Rattle.py_values.specs.declared.end.Made.TheVariants.{Give, New, Put, Fail}
+use Rattle.object_calls.specs.declared.attributes.AttributeQuery.{AttributeQuery}
+use Rattle.call_products.specs.py_operands.Texts.{text_of}
+use Rattle.py_values.specs.declared.end.Effect.{Effect}
+use Rattle.py_values.specs.declared.end.Effect.TheVariants.{Give, New, Put, Fail}
 use Rattle.py_values.specs.declared.object.Obj.{Obj}
 use Rattle.py_values.specs.declared.value.Value.{Value}
 
-abbrev pub asked_by : Value → Option Value → Option (List ℕ) → Option Asked
+abbrev pub asked_by : Value → Option Value → Option (List ℕ) → Option AttributeQuery
 asked_by v other (Some name) = Some (record { target = v; name = name; other = other })
 asked_by v other None = None
 
 -- what a call asks for: a value's attribute of a name, and what is given where there is none
-abbrev pub getattr_asked : List Obj → List Value → List (List ℕ × Value) → Option Asked
+abbrev pub getattr_asked : List Obj → List Value → List (List ℕ × Value) → Option AttributeQuery
 getattr_asked heap (v ∷ n ∷ []) [] = asked_by v None (text_of heap n)
 getattr_asked heap (v ∷ n ∷ d ∷ []) [] = asked_by v (Some d) (text_of heap n)
 getattr_asked heap _ _ = None
 
-abbrev pub hasattr_by : List Obj → Option (Value × Value) → Option Asked
+abbrev pub hasattr_by : List Obj → Option (Value × Value) → Option AttributeQuery
 hasattr_by heap (Some p) = asked_by p.0 None (text_of heap p.1)
 hasattr_by heap None = None
 
-abbrev pub hasattr_asked : List Obj → List Value → List (List ℕ × Value) → Option Asked
+abbrev pub hasattr_asked : List Obj → List Value → List (List ℕ × Value) → Option AttributeQuery
 hasattr_asked heap args named = hasattr_by heap (pair args named)
 
 -- what is told of an attribute that was read
-abbrev pub getattr_told : Option Value → Made → Product
+abbrev pub getattr_told : Option Value → Effect → Product
 getattr_told (Some d) (Fail r n) = plain (Give d n)
 getattr_told (Some d) (Give v n) = plain (Give v n)
 getattr_told (Some d) (New o n) = plain (New o n)
 getattr_told (Some d) (Put id c v n) = plain (Put id c v n)
 getattr_told None m = plain m
 
-abbrev pub is_there : Made → Bool
+abbrev pub is_there : Effect → Bool
 is_there (Give v n) = true
 is_there (New o n) = true
 is_there (Put id c v n) = true
 is_there (Fail r n) = false
 
-abbrev pub hasattr_told : Made → Product
+abbrev pub hasattr_told : Effect → Product
 hasattr_told m = answered (is_there m)
 
-abbrev pub read_for_get : (Value → List ℕ → Made) → Option Asked → Product
+abbrev pub read_for_get : (Value → List ℕ → Effect) → Option AttributeQuery → Product
 read_for_get read (Some a) = getattr_told a.other (read a.target a.name)
 read_for_get read None = wrong (codes "getattr") 0
 
 -- `getattr(v, name)` and `getattr(v, name, d)`
-abbrev pub getattr_called : (Value → List ℕ → Made) → List Obj → List Value → List (List ℕ × Value) → Product
+abbrev pub getattr_called : (Value → List ℕ → Effect) → List Obj → List Value → List (List ℕ × Value) → Product
 getattr_called read heap args named = read_for_get read (getattr_asked heap args named)
 
-abbrev pub read_for_has : (Value → List ℕ → Made) → Option Asked → Product
+abbrev pub read_for_has : (Value → List ℕ → Effect) → Option AttributeQuery → Product
 read_for_has read (Some a) = hasattr_told (read a.target a.name)
 read_for_has read None = wrong (codes "hasattr") 0
 
 -- `hasattr(v, name)`
-abbrev pub hasattr_called : (Value → List ℕ → Made) → List Obj → List Value → List (List ℕ × Value) → Product
+abbrev pub hasattr_called : (Value → List ℕ → Effect) → List Obj → List Value → List (List ℕ × Value) → Product
 hasattr_called read heap args named = read_for_has read (hasattr_asked heap args named)

@@ -5,7 +5,7 @@ use Rattle.call_products.specs.Arguments.{sole, pair}
 use Rattle.call_products.specs.Products.{plain, wrong}
 use Rattle.call_products.specs.declared.product.Product.{Product}
 use Rattle.call_products.specs.py_kinds.Classes.{is_a}
-use Rattle.py_values.specs.declared.end.Made.TheVariants.{Give}
+use Rattle.py_values.specs.declared.end.Effect.TheVariants.{Give}
 use Rattle.py_values.specs.declared.object.Obj.{Obj}
 use Rattle.py_values.specs.declared.object.Obj.TheVariants as obj
 use Rattle.py_values.specs.declared.value.Value.{Value}

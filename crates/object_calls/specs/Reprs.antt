@@ -8,7 +8,7 @@ use Rattle.py_repr.specs.Symbols.{shown}
 use Rattle.py_repr.specs.declared.shown.Shown.{Shown}
 use Rattle.py_values.specs.Limits.{most_elements}
 use Rattle.py_values.specs.declared.class.ExcClass.TheVariants.{RecursionError, MemoryError}
-use Rattle.py_values.specs.declared.end.Made.TheVariants.{New}
+use Rattle.py_values.specs.declared.end.Effect.TheVariants.{New}
 use Rattle.py_values.specs.declared.object.Obj.{Obj}
 use Rattle.py_values.specs.declared.object.Obj.TheVariants as obj
 use Rattle.py_values.specs.declared.value.Value.{Value}

@@ -4,9 +4,10 @@ ghost use Rattle.std.specs.Prelude.{◌≡◌, IfOk, option_copied};
 ghost use Rattle.object_calls.specs.Attributes as attributes;
 
 use crate::kinds::answered;
-use call_products::arguments::{pair, text_of};
+use call_products::arguments::pair;
 use call_products::product::{Product, plain};
-use py_values::end::Made;
+use call_products::py_operands::texts::text_of;
+use py_values::end::Effect;
 use py_values::heap::Heap;
 use py_values::value::Value;
 use py_values::{OutOfMemory, PyText};
@@ -14,7 +15,7 @@ use std::alloc::Global;
 
 /// What a call asks for: a value's attribute of a name, and what is given where there is none.
 #[derive(Drop)]
-pub struct Asked {
+pub struct AttributeQuery {
     pub target: Value,
     pub name: PyText,
     pub other: Option<Value>,
@@ -25,13 +26,13 @@ fn asked_by(
     target: Value,
     other: Option<Value>,
     name: Option<&PyText>,
-) -> Result<Option<Asked>, OutOfMemory>
+) -> Result<Option<AttributeQuery>, OutOfMemory>
     ensures { IfOk result (λ o. o ≡ attributes.asked_by target other (option_copied name.entry)) }
 {
     match name {
         Some(name) => {
             let name = PyText::from_chars(alloc, name.chars())?;
-            Ok(Some(Asked {
+            Ok(Some(AttributeQuery {
                 target,
                 name,
                 other,
@@ -47,7 +48,7 @@ pub fn getattr_asked(
     heap: &Heap,
     args: &[Value],
     named: &[(PyText, Value)],
-) -> Result<Option<Asked>, OutOfMemory>
+) -> Result<Option<AttributeQuery>, OutOfMemory>
     ensures { IfOk result (λ o. o ≡ attributes.getattr_asked heap.now args.now named.now) }
 {
     match (args, named) {
@@ -63,7 +64,7 @@ pub fn hasattr_asked(
     heap: &Heap,
     args: &[Value],
     named: &[(PyText, Value)],
-) -> Result<Option<Asked>, OutOfMemory>
+) -> Result<Option<AttributeQuery>, OutOfMemory>
     ensures { IfOk result (λ o. o ≡ attributes.hasattr_asked heap.now args.now named.now) }
 {
     match pair(args, named) {
@@ -73,22 +74,22 @@ pub fn hasattr_asked(
 }
 
 /// What `getattr` gives, told what was read.
-pub fn getattr_told(alloc: Global, other: Option<Value>, read: Made) -> Product
+pub fn getattr_told(alloc: Global, other: Option<Value>, read: Effect) -> Product
     ensures { result ≡ attributes.getattr_told other read }
 {
     match (other, read) {
-        (Some(v), Made::Fail(_, cost)) => plain(alloc, Made::Give(v, cost)),
+        (Some(v), Effect::Fail(_, cost)) => plain(alloc, Effect::Give(v, cost)),
         (_, read) => plain(alloc, read),
     }
 }
 
 /// What `hasattr` gives, told what was read.
-pub fn hasattr_told(alloc: Global, read: &Made) -> Product
+pub fn hasattr_told(alloc: Global, read: &Effect) -> Product
     ensures { result ≡ attributes.hasattr_told read.now }
 {
     let there = match read {
-        Made::Give(_, _) | Made::New(_, _) | Made::Put(_, _, _, _) => true,
-        Made::Fail(_, _) => false,
+        Effect::Give(_, _) | Effect::New(_, _) | Effect::Put(_, _, _, _) => true,
+        Effect::Fail(_, _) => false,
     };
     answered(alloc, there)
 }

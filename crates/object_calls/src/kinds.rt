@@ -7,7 +7,7 @@ ghost use Rattle.object_calls.specs.Kinds as kinds;
 use call_products::arguments::{pair, sole};
 use call_products::product::{Product, plain, wrong};
 use call_products::py_kinds::classes::is_a;
-use py_values::end::Made;
+use py_values::end::Effect;
 use py_values::heap::Heap;
 use py_values::object::Obj;
 use py_values::value::Value;
@@ -18,7 +18,7 @@ use std::alloc::Global;
 pub(crate) fn answered(alloc: Global, answer: bool) -> Product
     ensures { result ≡ kinds.answered answer }
 {
-    plain(alloc, Made::Give(Value::Bool(answer), 0))
+    plain(alloc, Effect::Give(Value::Bool(answer), 0))
 }
 
 fn is_class(heap: &Heap, v: Value) -> bool

@@ -7,7 +7,7 @@ use call_products::arguments::sole;
 use call_products::product::{Product, failed, plain, wrong};
 use py_repr::shown::Shown;
 use py_values::class::ExcClass;
-use py_values::end::Made;
+use py_values::end::Effect;
 use py_values::heap::Heap;
 use py_values::limits::MOST_ELEMENTS;
 use py_values::object::Obj;
@@ -26,7 +26,7 @@ fn text_made(alloc: Global, shown: Shown) -> Result<Product, OutOfMemory>
         return failed(alloc, ExcClass::MemoryError, "sequence too long", 0);
     }
     let len = text.chars().len() as u64;
-    Ok(plain(alloc, Made::New(Obj::Text(text), len)))
+    Ok(plain(alloc, Effect::New(Obj::Text(text), len)))
 }
 
 /// A call of `repr` (Python library reference, built-in functions).

@@ -8,7 +8,7 @@ use Rattle.std.proofs.lemmas.List.{append_cancel_left}
 use Rattle.std.proofs.lemmas.Fmt.{decimal_injective}
 use Rattle.std.proofs.lemmas.Slice.Eq.{bytes_eq-Decides}
 use Rattle.param_rows.specs.Taken.{TakenTo}
-use Rattle.param_rows.specs.Ids.{Id, same_id, has_id, joint, numbered, candidates, first_free}
+use Rattle.param_rows.specs.Ids.{Id, same_id, has_id, joint, numbered, id_candidates, first_free}
 
 pub same_id-Decides : (one other : Id) → Decides (same_id one other) (one ≡ other)
 same_id-Decides one other = bytes_eq-Decides one other
@@ -118,4 +118,4 @@ first_of taken id _ short (There m before h) = record {
 }
 
 pub first_free_is : (taken : List Id) (id : Id) → length taken < 2 ^ 64 → First taken id (first_free taken id)
-first_free_is taken id short = first_of taken id (find (λ one. not (has_id one taken)) (candidates id taken)) short (found (λ one. not (has_id one taken)) (numbered id) 0 (suc (length taken)))
+first_free_is taken id short = first_of taken id (find (λ one. not (has_id one taken)) (id_candidates id taken)) short (found (λ one. not (has_id one taken)) (numbered id) 0 (suc (length taken)))

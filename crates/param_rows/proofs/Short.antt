@@ -5,11 +5,11 @@ use Rattle.std.specs.declared.alloc.Global.{Global}
 use Rattle.std.specs.declared.vec.Vec.{Vec}
 use Rattle.std.proofs.lemmas.List.Elements.{All-nil, All-cons, All-head, All-tail, All-weaker}
 use Rattle.param_rows.specs.Ids.{Id}
-use Rattle.param_rows.specs.Rows.{Choice, product, choice_lists, fixture_choices, mark_choices}
+use Rattle.param_rows.specs.Rows.{ParameterSet, product, choice_lists, fixture_choices, mark_choices}
 use Rattle.param_rows.specs.declared.param.ParamMark.{ParamMark}
 use Rattle.param_rows.proofs.Product.{product_bounds}
 
-all_front : {A : Type 0} (P : List Choice → Type 0) (f : A → List Choice) (xs : List A) (rest : List (List Choice)) → All P (map f xs ++ rest) → All (λ x. P (f x)) xs
+all_front : {A : Type 0} (P : List ParameterSet → Type 0) (f : A → List ParameterSet) (xs : List A) (rest : List (List ParameterSet)) → All P (map f xs ++ rest) → All (λ x. P (f x)) xs
 all_front P f [] rest h = All-nil (λ x. P (f x))
 all_front P f (x ∷ xs) rest h = All-cons (λ y. P (f y)) x xs (All-head P (f x) (map f xs ++ rest) h) (all_front P f xs rest (All-tail P (f x) (map f xs ++ rest) h))
 

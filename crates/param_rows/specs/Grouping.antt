@@ -62,13 +62,13 @@ same_node Module one other = one.file == other.file
 same_node Class one other = same_class one.class other.class
 same_node Function one other = false
 
-abbrev pub node_of : Scope → Option ItemKeys → Option ItemKeys → Bool
-node_of scope None other = false
-node_of scope (Some one) None = false
-node_of scope (Some one) (Some other) = same_node scope one other
+abbrev pub shares_node : Scope → Option ItemKeys → Option ItemKeys → Bool
+shares_node scope None other = false
+shares_node scope (Some one) None = false
+shares_node scope (Some one) (Some other) = same_node scope one other
 
 abbrev pub are_neighbours : Scope → List ItemKeys → ℕ → ℕ → Bool
-are_neighbours scope items one other = node_of scope (slice_get items one) (slice_get items other)
+are_neighbours scope items one other = shares_node scope (slice_get items one) (slice_get items other)
 
 -- one pass over the places of items: within each stretch at one node of a scope, they are grouped by what they need of it
 abbrev pub pass : Scope → List ItemKeys → List ℕ → List ℕ

@@ -37,12 +37,12 @@ unfoldable pub numbered : Id → ℕ → Id
 numbered id number = id ++ joint id ++ decimal number
 
 -- the id with each of the numbers from 0 on, one more than there are in a list
-abbrev pub candidates : Id → List Id → List Id
-candidates id taken = map (numbered id) (range_with_len 0 (suc (length taken)))
+abbrev pub id_candidates : Id → List Id → List Id
+id_candidates id taken = map (numbered id) (range_with_len 0 (suc (length taken)))
 
 -- the first of these that isn't taken; there is one
 abbrev pub first_free : List Id → Id → Id
-first_free taken id = unwrap_or (find (λ one. not (has_id one taken)) (candidates id taken)) id
+first_free taken id = unwrap_or (find (λ one. not (has_id one taken)) (id_candidates id taken)) id
 
 -- what an occurrence of an id becomes: itself where it stands among the given ids once, else the id with the first number whose
 -- result is neither among the ids given nor already made

@@ -10,29 +10,29 @@ use Rattle.param_rows.specs.declared.param.ParamRow.{ParamRow}
 use Rattle.param_rows.specs.Ids.{Id}
 
 -- one value of a list: the names that it binds, with their values; which parameter of which fixture it is; its id and its marks
-pub record Choice : Type 0 where
+pub record ParameterSet : Type 0 where
   pub bound : List (ℕ × ℕ)
   pub fixture_params : List (ℕ × ℕ)
   pub id : Option Id
   pub marks : List ℕ
 
 -- a parameter of a fixture, with its number
-abbrev pub param_choice : ℕ → ℕ × Id → Choice
+abbrev pub param_choice : ℕ → ℕ × Id → ParameterSet
 param_choice fixture param = record { bound = []; fixture_params = (fixture, param.0) ∷ []; id = Some param.1; marks = [] }
 
 -- a fixture's list: its parameters, numbered from 0
-abbrev pub fixture_choices : ℕ × Vec Id Global → List Choice
+abbrev pub fixture_choices : ℕ × Vec Id Global → List ParameterSet
 fixture_choices fixture = map (param_choice fixture.0) (enumerate_from 0 fixture.1.items)
 
 -- a set of a mark: each name with its value
-abbrev pub set_choice : List ℕ → ParamSet → Choice
+abbrev pub set_choice : List ℕ → ParamSet → ParameterSet
 set_choice names set = record { bound = zip names set.values; fixture_params = []; id = set.id; marks = set.marks }
 
-abbrev pub mark_choices : ParamMark → List Choice
+abbrev pub mark_choices : ParamMark → List ParameterSet
 mark_choices mark = map (set_choice mark.names) mark.sets
 
 -- the lists of a test: those of its fixtures, then those of its marks
-abbrev pub choice_lists : List (ℕ × Vec Id Global) → List ParamMark → List (List Choice)
+abbrev pub choice_lists : List (ℕ × Vec Id Global) → List ParamMark → List (List ParameterSet)
 choice_lists fixtures marks = map fixture_choices fixtures ++ map mark_choices marks
 
 -- one of each list, in every way, the first list outermost
@@ -41,18 +41,18 @@ product [] = [] ∷ []
 product (xs ∷ rest) = flat_map (λ x. map (λ ys. x ∷ ys) (product rest)) xs
 
 -- an id before what follows, with `-` between; what has no id adds nothing
-abbrev pub joined_with : Option Id → Option Id → Option Id
-joined_with None rest = rest
-joined_with (Some id) None = Some id
-joined_with (Some id) (Some rest) = Some (id ++ 45 ∷ rest)
+abbrev pub dash_joined : Option Id → Option Id → Option Id
+dash_joined None rest = rest
+dash_joined (Some id) None = Some id
+dash_joined (Some id) (Some rest) = Some (id ++ 45 ∷ rest)
 
 abbrev pub joined : List (Option Id) → Option Id
 joined [] = None
-joined (id ∷ ids) = joined_with id (joined ids)
+joined (id ∷ ids) = dash_joined id (joined ids)
 
 -- the row of what was chosen; without id where not all ids are made
-abbrev pub row_of : Bool → List Choice → ParamRow
-row_of named choices = record {
+abbrev pub chosen_row : Bool → List ParameterSet → ParamRow
+chosen_row named choices = record {
   bound = flat_map (λ choice. choice.bound) choices;
   fixture_params = flat_map (λ choice. choice.fixture_params) choices;
   id = if named then joined (map (λ choice. choice.id) choices) else None;
@@ -64,4 +64,4 @@ abbrev pub is_named : List ParamMark → Bool
 is_named marks = list_all (λ mark. list_all (λ set. is_some set.id) mark.sets) marks
 
 abbrev pub rows_of : List (ℕ × Vec Id Global) → List ParamMark → List ParamRow
-rows_of fixtures marks = map (row_of (is_named marks)) (product (choice_lists fixtures marks))
+rows_of fixtures marks = map (chosen_row (is_named marks)) (product (choice_lists fixtures marks))

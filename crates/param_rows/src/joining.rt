@@ -1,7 +1,7 @@
 ghost use Rattle.std.specs.Prelude.{◌≡◌, ◌++◌, ◌∷◌, None, Some, IfOk, OnOk, if◌then◌else◌};
 ghost use Rattle.std.specs.List.{zip};
 ghost use Rattle.std.specs.Option.{option_copied};
-ghost use Rattle.param_rows.specs.Rows.{joined_with, set_choice, param_choice};
+ghost use Rattle.param_rows.specs.Rows.{dash_joined, set_choice, param_choice};
 ghost use Rattle.param_rows.specs.Steps.{with_choice};
 
 use crate::id::PyId;
@@ -30,7 +30,7 @@ fn copied(alloc: Global, id: &Option<PyId>) -> Result<Option<PyId>, OutOfMemory>
 
 /// An id before what follows.
 fn id_before(alloc: Global, id: &PyId, rest: &Option<PyId>) -> Result<Option<PyId>, OutOfMemory>
-    ensures { IfOk result (λ new. new ≡ joined_with (Some id.now) rest.now) }
+    ensures { IfOk result (λ new. new ≡ dash_joined (Some id.now) rest.now) }
 {
     match rest {
         Some(rest) => Ok(Some(joined(alloc, id, rest)?)),
@@ -44,7 +44,7 @@ fn set_id_before(
     id: &Option<PyId>,
     rest: &Option<PyId>,
 ) -> Result<Option<PyId>, OutOfMemory>
-    ensures { IfOk result (λ new. new ≡ joined_with id.now rest.now) }
+    ensures { IfOk result (λ new. new ≡ dash_joined id.now rest.now) }
 {
     match id {
         Some(id) => id_before(alloc, id, rest),

@@ -1,7 +1,7 @@
 ghost use Rattle.std.specs.Prelude.{◌≡◌, ◌≤◌, ◌<◌, ◌+◌, ◌++◌, ◌⊎◌, ℕ, [], map, length, None, Some, All, IfOk, IfErr, OnOk, is_some};
 ghost use Rattle.std.specs.List.{flat_map, enumerate_from, list_all};
 ghost use Rattle.param_rows.specs.declared.fault.RowFault.TheVariants.{OutOfMemory as NoMemory};
-ghost use Rattle.param_rows.specs.Rows.{Choice, set_choice, param_choice, fixture_choices, mark_choices, choice_lists, product, is_named, rows_of};
+ghost use Rattle.param_rows.specs.Rows.{ParameterSet, set_choice, param_choice, fixture_choices, mark_choices, choice_lists, product, is_named, rows_of};
 ghost use Rattle.param_rows.specs.Steps.{with_choice, rows_in};
 ghost use Rattle.param_rows.specs.Faults.{first_fault};
 ghost use Rattle.param_rows.specs.Limits.{most_rows};

@@ -14,7 +14,7 @@ use py_kinds::builtins::{
     dict_method_named, list_method_named, text_method_named, tuple_method_named,
 };
 use py_values::OutOfMemory;
-use py_values::end::Made;
+use py_values::end::Effect;
 use py_values::heap::Heap;
 use py_values::names::Name;
 use py_values::object::{ExceptionObj, InstanceObj, Obj};
@@ -29,12 +29,12 @@ fn instance_attribute(
     name: &[char],
     key: &Name,
     x: &InstanceObj,
-) -> Result<Made, OutOfMemory>
+) -> Result<Effect, OutOfMemory>
     ensures { IfOk result (λ m. m ≡ attributes.own_or (find_name key.now x.now.names)
         (attributes.through_or_none heap.now v (attributes.no_attribute (kind_name heap.now v) name.now) (attributes.class_value heap.now key.now x.now.class))) }
 {
     match x.names.find(key) {
-        Some(own) => Ok(Made::Give(own, 0)),
+        Some(own) => Ok(Effect::Give(own, 0)),
         None => through_or_none(alloc, heap, v, name, class_value(heap, x.class, key)),
     }
 }
@@ -47,12 +47,12 @@ fn exception_attribute(
     name: &[char],
     key: &Name,
     x: &ExceptionObj,
-) -> Result<Made, OutOfMemory>
+) -> Result<Effect, OutOfMemory>
     ensures { IfOk result (λ m. m ≡ attributes.own_or (attributes.exception_value key.now x.now)
         (attributes.through_or_none heap.now v (attributes.no_attribute (kind_name heap.now v) name.now) (attributes.value_by_class heap.now key.now x.now.class))) }
 {
     match exception_value(x, key) {
-        Some(own) => Ok(Made::Give(own, 0)),
+        Some(own) => Ok(Effect::Give(own, 0)),
         None => through_or_none(alloc, heap, v, name, value_by_class(heap, x.class, key)),
     }
 }
@@ -63,7 +63,7 @@ fn object_attribute(
     heap: &Heap,
     id: ObjId,
     name: &[char],
-) -> Result<Made, OutOfMemory>
+) -> Result<Effect, OutOfMemory>
     ensures { IfOk result (λ m. m ≡ attributes.object_attribute heap.now (val.Ref id) id
         (attributes.no_attribute (kind_name heap.now (val.Ref id)) name.now) name.now (slice_get heap.now id.at)) }
 {
@@ -104,7 +104,7 @@ pub fn attribute_made(
     heap: &Heap,
     v: Value,
     name: &[char],
-) -> Result<Made, OutOfMemory>
+) -> Result<Effect, OutOfMemory>
     ensures { IfOk result (λ m. m ≡ attributes.attribute_of heap.now v name.now) }
 {
     match v {

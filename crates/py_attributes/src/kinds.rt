@@ -8,7 +8,7 @@ ghost use Rattle.py_values.specs.Names.{name_eq};
 use crate::missing::{given_or_none, no_attribute};
 use py_kinds::builtins::request_method_named;
 use py_values::builtin::Builtin;
-use py_values::end::Made;
+use py_values::end::Effect;
 use py_values::heap::Heap;
 use py_values::names::Names;
 use py_values::object::{BuiltinObj, InfoObj, ItemObj, MarkObj, Obj, RequestObj};
@@ -24,40 +24,40 @@ pub(crate) fn method_or(
     v: Value,
     name: &[char],
     method: Option<Builtin>,
-) -> Result<Made, OutOfMemory>
+) -> Result<Effect, OutOfMemory>
     ensures { IfOk result (λ m. m ≡ attributes.method_or (attributes.no_attribute (kind_name heap.now v) name.now) v method) }
 {
     match method {
-        Some(which) => Ok(Made::New(
+        Some(which) => Ok(Effect::New(
             Obj::Builtin(BuiltinObj {
                 which,
                 receiver: Some(v),
             }),
             0,
         )),
-        None => Ok(Made::Fail(no_attribute(alloc, heap, v, name)?, 0)),
+        None => Ok(Effect::Fail(no_attribute(alloc, heap, v, name)?, 0)),
     }
 }
 
-fn new_text(alloc: Global, text: &PyText) -> Result<Made, OutOfMemory>
+fn new_text(alloc: Global, text: &PyText) -> Result<Effect, OutOfMemory>
     ensures { IfOk result (λ m. m ≡ attributes.text_or_nothing (Some text.now)) }
 {
     let text = PyText::from_chars(alloc, text.chars())?;
-    Ok(Made::New(Obj::Text(text), 0))
+    Ok(Effect::New(Obj::Text(text), 0))
 }
 
 /// A new text, or None where there is none.
-fn text_or_nothing(alloc: Global, text: &Option<PyText>) -> Result<Made, OutOfMemory>
+fn text_or_nothing(alloc: Global, text: &Option<PyText>) -> Result<Effect, OutOfMemory>
     ensures { IfOk result (λ m. m ≡ attributes.text_or_nothing text.now) }
 {
     match text {
         Some(text) => new_text(alloc, text),
-        None => Ok(Made::Give(Value::None, 0)),
+        None => Ok(Effect::Give(Value::None, 0)),
     }
 }
 
 /// A mark of a name.
-pub(crate) fn mark_named(alloc: Global, name: &[char]) -> Result<Made, OutOfMemory>
+pub(crate) fn mark_named(alloc: Global, name: &[char]) -> Result<Effect, OutOfMemory>
     ensures { IfOk result (λ m. m ≡ attributes.mark_named name.now) }
 {
     let mark = MarkObj {
@@ -66,7 +66,7 @@ pub(crate) fn mark_named(alloc: Global, name: &[char]) -> Result<Made, OutOfMemo
         named: Names::new(alloc),
         called: false,
     };
-    Ok(Made::New(Obj::Mark(mark), 0))
+    Ok(Effect::New(Obj::Mark(mark), 0))
 }
 
 fn is_name(name: &[char], other: &[char]) -> bool
@@ -82,7 +82,7 @@ pub(crate) fn request_attribute(
     v: Value,
     name: &[char],
     x: &RequestObj,
-) -> Result<Made, OutOfMemory>
+) -> Result<Effect, OutOfMemory>
     ensures { IfOk result (λ m. m ≡ attributes.request_attribute (attributes.no_attribute (kind_name heap.now v) name.now) v name.now x.now) }
 {
     if is_name(name, &['p', 'a', 'r', 'a', 'm']) {
@@ -107,7 +107,7 @@ pub(crate) fn info_attribute(
     v: Value,
     name: &[char],
     x: &InfoObj,
-) -> Result<Made, OutOfMemory>
+) -> Result<Effect, OutOfMemory>
     ensures { IfOk result (λ m. m ≡ attributes.info_attribute (attributes.no_attribute (kind_name heap.now v) name.now) name.now x.now) }
 {
     if is_name(name, &['v', 'a', 'l', 'u', 'e']) {
@@ -123,7 +123,7 @@ pub(crate) fn item_attribute(
     v: Value,
     name: &[char],
     x: &ItemObj,
-) -> Result<Made, OutOfMemory>
+) -> Result<Effect, OutOfMemory>
     ensures { IfOk result (λ m. m ≡ attributes.item_attribute (attributes.no_attribute (kind_name heap.now v) name.now) name.now x.now) }
 {
     if is_name(name, &['n', 'a', 'm', 'e']) {

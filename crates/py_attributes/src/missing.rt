@@ -7,7 +7,7 @@ ghost use Rattle.py_kinds.specs.Kinds.{kind_name};
 use py_kinds::kinds::push_kind;
 use py_values::OutOfMemory;
 use py_values::class::ExcClass;
-use py_values::end::{Made, Raise, push_ascii};
+use py_values::end::{Effect, Raise, push_ascii};
 use py_values::heap::Heap;
 use py_values::object::{MethodObj, Obj};
 use py_values::value::Value;
@@ -51,31 +51,31 @@ pub(crate) fn given_or_none(
     v: Value,
     name: &[char],
     found: Option<Value>,
-) -> Result<Made, OutOfMemory>
+) -> Result<Effect, OutOfMemory>
     ensures { IfOk result (λ m. m ≡ attributes.given_or_none (attributes.no_attribute (kind_name heap.now v) name.now) found) }
 {
     match found {
-        Some(found) => Ok(Made::Give(found, 0)),
-        None => Ok(Made::Fail(no_attribute(alloc, heap, v, name)?, 0)),
+        Some(found) => Ok(Effect::Give(found, 0)),
+        None => Ok(Effect::Fail(no_attribute(alloc, heap, v, name)?, 0)),
     }
 }
 
 /// What a value of a class is through an instance of it: a function becomes a method.
-fn read_through(heap: &Heap, receiver: Value, v: Value) -> Made
+fn read_through(heap: &Heap, receiver: Value, v: Value) -> Effect
     ensures { result ≡ attributes.read_through heap.now receiver v }
 {
     let Value::Ref(id) = v else {
-        return Made::Give(v, 0);
+        return Effect::Give(v, 0);
     };
     match heap.get(id) {
-        Some(Obj::Function(_)) => Made::New(
+        Some(Obj::Function(_)) => Effect::New(
             Obj::Method(MethodObj {
                 function: id,
                 receiver,
             }),
             0,
         ),
-        _ => Made::Give(v, 0),
+        _ => Effect::Give(v, 0),
     }
 }
 
@@ -86,11 +86,11 @@ pub(crate) fn through_or_none(
     v: Value,
     name: &[char],
     found: Option<Value>,
-) -> Result<Made, OutOfMemory>
+) -> Result<Effect, OutOfMemory>
     ensures { IfOk result (λ m. m ≡ attributes.through_or_none heap.now v (attributes.no_attribute (kind_name heap.now v) name.now) found) }
 {
     match found {
         Some(found) => Ok(read_through(heap, v, found)),
-        None => Ok(Made::Fail(no_attribute(alloc, heap, v, name)?, 0)),
+        None => Ok(Effect::Fail(no_attribute(alloc, heap, v, name)?, 0)),
     }
 }

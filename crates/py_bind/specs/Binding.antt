@@ -5,8 +5,8 @@ use Rattle.py_values.specs.declared.value.Value.{Value}
 use Rattle.py_values.specs.Names.{name_eq}
 
 -- a parameter: its name, and its default where it has one
-abbrev pub Parameter : Type 0
-Parameter = List ℕ × Option Value
+abbrev pub Formal : Type 0
+Formal = List ℕ × Option Value
 
 -- an argument by name
 abbrev pub Named : Type 0
@@ -29,40 +29,40 @@ value_of default [] = default
 value_of default (v ∷ []) = Some v
 value_of default (v ∷ w ∷ more) = None
 
-abbrev pub with_first : Option Value → Option (List Value) → Option (List Value)
-with_first None values = None
-with_first (Some v) None = None
-with_first (Some v) (Some values) = Some (v ∷ values)
+abbrev pub prepend_value : Option Value → Option (List Value) → Option (List Value)
+prepend_value None values = None
+prepend_value (Some v) None = None
+prepend_value (Some v) (Some values) = Some (v ∷ values)
 
 -- the values of parameters in order, where each has one
-abbrev pub values_of : List Parameter → List Value → List Named → Option (List Value)
+abbrev pub values_of : List Formal → List Value → List Named → Option (List Value)
 values_of [] args named = Some []
-values_of (p ∷ params) args named = with_first (value_of p.1 (given p.0 (slice_get args 0) named)) (values_of params (drop 1 args) named)
+values_of (p ∷ params) args named = prepend_value (value_of p.1 (given p.0 (slice_get args 0) named)) (values_of params (drop 1 args) named)
 
-abbrev pub is_parameter : List Parameter → List ℕ → Bool
+abbrev pub is_parameter : List Formal → List ℕ → Bool
 is_parameter params name = list_any (λ p. name_eq p.0 name) params
 
 -- THE VALUES OF THE PARAMETERS, where the arguments fit them
-abbrev pub bound : List Parameter → List Value → List Named → Option (List Value)
+abbrev pub bound : List Formal → List Value → List Named → Option (List Value)
 bound params args named = if nat_lt (length params) (length args) || not (list_all (λ argument. is_parameter params argument.0) named) then None else values_of params args named
 
 -- The same by causes. A name is that of a parameter
-pub record IsParameter (params : List Parameter) (name : List ℕ) : Type 0 where
+pub record IsParameter (params : List Formal) (name : List ℕ) : Type 0 where
   pub at : ℕ
-  pub parameter : Parameter
+  pub parameter : Formal
   pub is : slice_get params at ≡ Some parameter
   pub name_is : parameter.0 ≡ name
 
 -- WHY ARGUMENTS ARE WRONG
-pub data IsWrong (params : List Parameter) (args : List Value) (named : List Named) : Type 0 where
+pub data IsWrong (params : List Formal) (args : List Value) (named : List Named) : Type 0 where
   TooMany : length params < length args → IsWrong params args named
   NoParameter : (at : ℕ) (argument : Named) → slice_get named at ≡ Some argument → ¬ IsParameter params argument.0 → IsWrong params args named
-  NoValue : (at : ℕ) (p : Parameter) → slice_get params at ≡ Some p → given p.0 (slice_get args at) named ≡ [] → p.1 ≡ None → IsWrong params args named
-  TwoValues : (at : ℕ) (p : Parameter) (v w : Value) (more : List Value) → slice_get params at ≡ Some p → given p.0 (slice_get args at) named ≡ v ∷ w ∷ more → IsWrong params args named
+  NoValue : (at : ℕ) (p : Formal) → slice_get params at ≡ Some p → given p.0 (slice_get args at) named ≡ [] → p.1 ≡ None → IsWrong params args named
+  TwoValues : (at : ℕ) (p : Formal) (v w : Value) (more : List Value) → slice_get params at ≡ Some p → given p.0 (slice_get args at) named ≡ v ∷ w ∷ more → IsWrong params args named
 
 -- ONE VALUE A PARAMETER
-pub record IsBound (params : List Parameter) (args : List Value) (named : List Named) (values : List Value) : Type 0 where
+pub record IsBound (params : List Formal) (args : List Value) (named : List Named) (values : List Value) : Type 0 where
   pub few : length args ≤ length params
   pub known : (at : ℕ) (argument : Named) → slice_get named at ≡ Some argument → IsParameter params argument.0
   pub count : length values ≡ length params
-  pub each : (at : ℕ) (p : Parameter) → slice_get params at ≡ Some p → slice_get values at ≡ value_of p.1 (given p.0 (slice_get args at) named)
+  pub each : (at : ℕ) (p : Formal) → slice_get params at ≡ Some p → slice_get values at ≡ value_of p.1 (given p.0 (slice_get args at) named)

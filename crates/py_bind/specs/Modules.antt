@@ -8,13 +8,13 @@ abbrev pub folder_of : List ℕ → List ℕ
 folder_of [] = []
 folder_of (c ∷ path) = if list_any (λ d. d == 47) (c ∷ path) then c ∷ folder_of path else []
 
-abbrev pub part : List ℕ → List ℕ
-part name = codes "/" ++ encode_utf8_all name
+abbrev pub path_part : List ℕ → List ℕ
+path_part name = codes "/" ++ encode_utf8_all name
 
 -- a dotted name, with `/` for its dots
 abbrev pub slashed : List (List ℕ) → List ℕ
 slashed [] = []
-slashed (name ∷ names) = encode_utf8_all name ++ flat_map part names
+slashed (name ∷ names) = encode_utf8_all name ++ flat_map path_part names
 
 abbrev pub module_path : List ℕ → List (List ℕ) → List ℕ → List ℕ
 module_path folder dotted end = folder ++ (slashed dotted ++ end)
@@ -60,7 +60,7 @@ abbrev pub NoneThere : List (List ℕ) → List (List ℕ) → Type 0
 NoneThere paths looked_for = (which : ℕ) (path : List ℕ) → slice_get looked_for which ≡ Some path → ¬ IsAmong paths path
 
 -- what stands behind a front, where a text begins with it
-abbrev pub behind : List ℕ → List ℕ → Option (List ℕ)
-behind [] text = Some text
-behind (c ∷ front) [] = None
-behind (c ∷ front) (d ∷ text) = if c == d then behind front text else None
+abbrev pub rest_after : List ℕ → List ℕ → Option (List ℕ)
+rest_after [] text = Some text
+rest_after (c ∷ front) [] = None
+rest_after (c ∷ front) (d ∷ text) = if c == d then rest_after front text else None

@@ -3,20 +3,20 @@
 ghost use Rattle.std.specs.Prelude.{◌≡◌, None, Some, map, string_bytes, bytes_eq, encode_utf8, encode_utf8_all, MatchOption, IfSome, IfNone, codes};
 ghost use Rattle.std.specs.List.{flat_map};
 ghost use Rattle.std.specs.Option.{option_or};
-ghost use Rattle.py_bind.specs.Modules.{behind, part, slashed, module_path, place_of, folder_of, candidates, module_place, IsNamed, NoneThere};
+ghost use Rattle.py_bind.specs.Modules.{rest_after, path_part, slashed, module_path, place_of, folder_of, candidates, module_place, IsNamed, NoneThere};
 
 use py_values::PyText;
 
 /// What stands behind other bytes, where the text begins with them.
 fn behind_bytes<'t>(text: &'t [u8], front: &[u8]) -> Option<&'t [u8]>
-    ensures { MatchOption result (behind front.now text.now ≡ None) (λ rest. behind front.now text.now ≡ Some rest.now) }
+    ensures { MatchOption result (rest_after front.now text.now ≡ None) (λ rest. rest_after front.now text.now ≡ Some rest.now) }
 {
     text.strip_prefix(front)
 }
 
 /// What stands behind a character, where the text begins with it.
 fn behind_char(text: &[u8], c: char) -> Option<&[u8]>
-    ensures { MatchOption result (behind (encode_utf8 c) text.now ≡ None) (λ rest. behind (encode_utf8 c) text.now ≡ Some rest.now) }
+    ensures { MatchOption result (rest_after (encode_utf8 c) text.now ≡ None) (λ rest. rest_after (encode_utf8 c) text.now ≡ Some rest.now) }
 {
     let mut buffer = [0u8; 4];
     let front = c.encode_utf8(&mut buffer);
@@ -25,7 +25,7 @@ fn behind_char(text: &[u8], c: char) -> Option<&[u8]>
 
 /// What stands behind a name, where the text begins with it.
 fn behind_name<'t>(text: &'t [u8], name: &PyText) -> Option<&'t [u8]>
-    ensures { MatchOption result (behind (encode_utf8_all name.now) text.now ≡ None) (λ rest. behind (encode_utf8_all name.now) text.now ≡ Some rest.now) }
+    ensures { MatchOption result (rest_after (encode_utf8_all name.now) text.now ≡ None) (λ rest. rest_after (encode_utf8_all name.now) text.now ≡ Some rest.now) }
 {
     let chars = name.chars();
     let mut rest = text;
@@ -37,14 +37,14 @@ fn behind_name<'t>(text: &'t [u8], name: &PyText) -> Option<&'t [u8]>
 
 /// What stands behind a `/` and a name, where the text begins with them.
 fn behind_part<'t>(text: &'t [u8], name: &PyText) -> Option<&'t [u8]>
-    ensures { MatchOption result (behind (part name.now) text.now ≡ None) (λ rest. behind (part name.now) text.now ≡ Some rest.now) }
+    ensures { MatchOption result (rest_after (path_part name.now) text.now ≡ None) (λ rest. rest_after (path_part name.now) text.now ≡ Some rest.now) }
 {
     behind_name(text.strip_prefix(b"/")?, name)
 }
 
 /// What stands behind names with a `/` before each, where the text begins with them.
 fn behind_parts<'t>(text: &'t [u8], names: &[PyText]) -> Option<&'t [u8]>
-    ensures { MatchOption result (behind (flat_map part names.now) text.now ≡ None) (λ rest. behind (flat_map part names.now) text.now ≡ Some rest.now) }
+    ensures { MatchOption result (rest_after (flat_map path_part names.now) text.now ≡ None) (λ rest. rest_after (flat_map path_part names.now) text.now ≡ Some rest.now) }
 {
     let mut rest = text;
     for name in names {
@@ -55,7 +55,7 @@ fn behind_parts<'t>(text: &'t [u8], names: &[PyText]) -> Option<&'t [u8]>
 
 /// What stands behind a dotted name with `/` for its dots, where the text begins with it.
 fn behind_dotted<'t>(text: &'t [u8], dotted: &[PyText]) -> Option<&'t [u8]>
-    ensures { MatchOption result (behind (slashed dotted.now) text.now ≡ None) (λ rest. behind (slashed dotted.now) text.now ≡ Some rest.now) }
+    ensures { MatchOption result (rest_after (slashed dotted.now) text.now ≡ None) (λ rest. rest_after (slashed dotted.now) text.now ≡ Some rest.now) }
 {
     match dotted {
         [first, others @ ..] => behind_parts(behind_name(text, first)?, others),

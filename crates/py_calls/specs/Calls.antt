@@ -12,7 +12,7 @@ use Rattle.py_calls.specs.declared.made.TextMade.TheVariants.{Text, Refused}
 use Rattle.py_values.specs.Ends.{cost_of}
 use Rattle.py_values.specs.declared.builtin.Builtin.{Builtin}
 use Rattle.py_values.specs.declared.builtin.Builtin.TheVariants as builtin
-use Rattle.py_values.specs.declared.end.Made.TheVariants.{Give, Fail}
+use Rattle.py_values.specs.declared.end.Effect.TheVariants.{Give, Fail}
 use Rattle.py_values.specs.declared.object.Obj.{Obj}
 use Rattle.py_values.specs.declared.value.Value.{Value}
 use Rattle.py_values.specs.declared.value.Value.TheVariants as val

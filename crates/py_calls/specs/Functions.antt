@@ -23,7 +23,7 @@ use Rattle.py_values.specs.declared.builtin.ObjectCall.{ObjectCall}
 use Rattle.py_values.specs.declared.builtin.ObjectCall.TheVariants as object
 use Rattle.py_values.specs.declared.builtin.SequenceCall.{SequenceCall}
 use Rattle.py_values.specs.declared.builtin.SequenceCall.TheVariants as sequence
-use Rattle.py_values.specs.declared.end.Made.TheVariants.{Give, New, Fail}
+use Rattle.py_values.specs.declared.end.Effect.TheVariants.{Give, New, Fail}
 use Rattle.py_values.specs.declared.object.Obj.{Obj}
 use Rattle.py_values.specs.declared.object.Obj.TheVariants as obj
 use Rattle.py_values.specs.declared.value.Value.{Value}

@@ -1,7 +1,7 @@
 -- What `print` writes (Python library reference, `print`).
 use Rattle.std.specs.Prelude.{ℕ, Bool, true, false, List, [], ◌∷◌, if◌then◌else◌, Option, Some, None, codes, slice_get, nat_eq}
 use Rattle.std.specs.Cmp.Lexicographic.{pointwise}
-use Rattle.py_calls.specs.Texts.{text_of, joined, wrong}
+use Rattle.py_calls.specs.Texts.{text_of, append_text, wrong}
 use Rattle.py_calls.specs.declared.made.TextMade.{TextMade}
 use Rattle.py_calls.specs.declared.made.TextMade.TheVariants.{Text, Refused}
 use Rattle.py_calls.specs.declared.style.Style.{Style}
@@ -18,7 +18,7 @@ gap first sep = Text (if first then [] else sep)
 -- the texts of values, a separator before each but the first, and an end
 abbrev pub line_of : List Obj → Bool → List ℕ → List ℕ → List Value → TextMade
 line_of heap first sep end [] = Text end
-line_of heap first sep end (v ∷ vs) = joined (gap first sep) (joined (text_of heap v) (line_of heap false sep end vs))
+line_of heap first sep end (v ∷ vs) = append_text (gap first sep) (append_text (text_of heap v) (line_of heap false sep end vs))
 
 -- the text of a named argument: `None` stands for another
 abbrev pub obj_option : Option Obj → Option (List ℕ)

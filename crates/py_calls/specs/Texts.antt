@@ -4,7 +4,7 @@ use Rattle.py_values.specs.Limits.{most_elements}
 use Rattle.py_calls.specs.declared.made.TextMade.{TextMade}
 use Rattle.py_calls.specs.declared.made.TextMade.TheVariants.{Text, Refused}
 use Rattle.object_calls.specs.py_kinds.Builtins.{builtin_name}
-use Rattle.py_values.specs.Raises.{raise}
+use Rattle.py_values.specs.Raises.{text_raise}
 use Rattle.object_calls.specs.py_repr.Repr.{str_of}
 use Rattle.object_calls.specs.py_repr.Symbols.{shown}
 use Rattle.py_values.specs.declared.builtin.Builtin.{Builtin}
@@ -15,13 +15,13 @@ use Rattle.object_calls.specs.py_repr.declared.shown.Shown.{Shown}
 use Rattle.py_values.specs.declared.value.Value.{Value}
 
 abbrev pub wrong : Builtin → Raise
-wrong b = raise TypeError (codes "wrong arguments for " ++ builtin_name b)
+wrong b = text_raise TypeError (codes "wrong arguments for " ++ builtin_name b)
 
 -- a text that lies too deep, or is longer than 65,536 characters, is refused
 abbrev pub text_by : Shown → TextMade
 text_by s =
-    if s.deep then Refused (raise RecursionError (codes "nesting too deep"))
-    else if s.cut then Refused (raise MemoryError (codes "sequence too long"))
+    if s.deep then Refused (text_raise RecursionError (codes "nesting too deep"))
+    else if s.cut then Refused (text_raise MemoryError (codes "sequence too long"))
     else Text s.text
 
 -- the text of a value
@@ -29,10 +29,10 @@ unfoldable pub text_of : List Obj → Value → TextMade
 text_of heap v = text_by (shown most_elements (str_of heap v))
 
 -- one text behind another; the first refusal where there is one
-abbrev pub joined : TextMade → TextMade → TextMade
-joined (Refused r) t = Refused r
-joined (Text a) (Refused r) = Refused r
-joined (Text a) (Text b) = Text (a ++ b)
+abbrev pub append_text : TextMade → TextMade → TextMade
+append_text (Refused r) t = Refused r
+append_text (Text a) (Refused r) = Refused r
+append_text (Text a) (Text b) = Text (a ++ b)
 
 -- what is told of a text that is being made
 abbrev pub told_text : Option Raise → List ℕ → TextMade

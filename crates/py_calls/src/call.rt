@@ -10,7 +10,7 @@ use crate::line::{print_text, push_bytes};
 use crate::made::TextMade;
 use crate::methods::{dict_call, list_call, text_call, tuple_call};
 use py_values::builtin::Builtin;
-use py_values::end::{Made, OpEnd};
+use py_values::end::{Effect, OpEnd};
 use py_values::heap::Heap;
 use py_values::value::Value;
 use py_values::{OutOfMemory, PyText};
@@ -36,9 +36,9 @@ fn print_by(
                 return Ok(None);
             }
             push_bytes(alloc, printed, text.chars())?;
-            Ok(Some(plain(alloc, Made::Give(Value::None, cost))))
+            Ok(Some(plain(alloc, Effect::Give(Value::None, cost))))
         }
-        TextMade::Refused(raise) => Ok(Some(plain(alloc, Made::Fail(raise, 0)))),
+        TextMade::Refused(raise) => Ok(Some(plain(alloc, Effect::Fail(raise, 0)))),
     }
 }
 

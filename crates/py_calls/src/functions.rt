@@ -19,7 +19,7 @@ use object_calls::reprs::repr;
 use py_attributes::attributes::attribute_made;
 use py_attributes::py_operands::faults::not_iterable;
 use py_values::builtin::{NumberCall, ObjectCall, SequenceCall};
-use py_values::end::Made;
+use py_values::end::Effect;
 use py_values::heap::Heap;
 use py_values::object::Obj;
 use py_values::value::Value;
@@ -44,9 +44,9 @@ pub(crate) fn str_made(
     match text_of(alloc, heap, v)? {
         TextMade::Text(text) => {
             let len = text.chars().len() as u64;
-            Ok(plain(alloc, Made::New(Obj::Text(text), len)))
+            Ok(plain(alloc, Effect::New(Obj::Text(text), len)))
         }
-        TextMade::Refused(raise) => Ok(plain(alloc, Made::Fail(raise, 0))),
+        TextMade::Refused(raise) => Ok(plain(alloc, Effect::Fail(raise, 0))),
     }
 }
 
@@ -62,10 +62,10 @@ pub(crate) fn len_made(
         return wrong(alloc, "len", 0);
     };
     match length_of(heap, v) {
-        Some(len) => Ok(plain(alloc, Made::Give(Value::Int(len as i128), 0))),
+        Some(len) => Ok(plain(alloc, Effect::Give(Value::Int(len as i128), 0))),
         None => {
             let raise = not_iterable(alloc, heap, v)?;
-            Ok(plain(alloc, Made::Fail(raise, 0)))
+            Ok(plain(alloc, Effect::Fail(raise, 0)))
         }
     }
 }

@@ -17,7 +17,7 @@
 //!
 //! # What tests alone show
 //!
-//! Worked calls, and that they succeed with ample memory (`value_tests`, `methods_tests`).
+//! Worked calls, and that they succeed with ample memory (`value_tests`).
 //!
 //! # What neither shows
 //!
@@ -28,7 +28,7 @@ pub use object_calls::{py_kinds, py_repr};
 pub use py_attributes;
 pub use py_attributes::{py_items, py_operands};
 pub use pytest_calls;
-pub use sequence_calls::{call_products, py_ops};
+pub use sequence_calls::call_products;
 
 pub mod call;
 mod functions;

@@ -16,7 +16,7 @@ use py_values::{OutOfMemory, PyText};
 use std::alloc::Global;
 
 fn push_gap(chars: &mut Vec<char>, first: bool, sep: &[char]) -> Result<(), OutOfMemory>
-    ensures { OnOk result (text.Text chars.new.items ≡ texts.joined (text.Text chars.old.items) (printing.gap first sep.now)) }
+    ensures { OnOk result (text.Text chars.new.items ≡ texts.append_text (text.Text chars.old.items) (printing.gap first sep.now)) }
 {
     if first {
         return Ok(());
@@ -32,7 +32,7 @@ fn push_value(
     chars: &mut Vec<char>,
     v: Value,
 ) -> Result<Option<Raise>, OutOfMemory>
-    ensures { IfOk result (λ r. texts.joined (text.Text chars.old.items) (texts.text_of heap.now v) ≡ texts.told_text r chars.new.items) }
+    ensures { IfOk result (λ r. texts.append_text (text.Text chars.old.items) (texts.text_of heap.now v) ≡ texts.told_text r chars.new.items) }
 {
     match text_of(alloc, heap, v)? {
         TextMade::Text(text) => {

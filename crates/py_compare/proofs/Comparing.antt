@@ -7,7 +7,7 @@ use Rattle.py_values.specs.declared.object.Obj.{Obj}
 use Rattle.py_values.specs.declared.value.ObjId.{ObjId}
 use Rattle.py_values.specs.declared.value.Value.{Value}
 use Rattle.py_values.specs.declared.value.Value.TheVariants.{Ref}
-use Rattle.py_compare.specs.Equal.{Found, found, Verdict, Holds, Fails, Deep, Unordered, after, also, told, shifted, holds_if, chars_equal, rows_equal, pair_equal, pairs_equal, equal_to, objs_equal}
+use Rattle.py_compare.specs.Equal.{Found, finding, Holding, Holds, Fails, Deep, Unordered, after, also, told, shifted, holds_if, chars_equal, rows_equal, pair_equal, pairs_equal, equal_to, objs_equal}
 use Rattle.py_compare.specs.declared.tested.Tested.{Tested}
 use Rattle.py_compare.specs.declared.tested.Tested.TheVariants.{Yes, No, TooDeep, NotOrdered, Exhausted}
 
@@ -53,8 +53,8 @@ is_yes (NotOrdered n) = false
 is_yes Exhausted = false
 
 -- a part that ends a comparison
-pub told_stop : (left used : ℕ) (w g : Found) (v : Verdict) (m : ℕ) (t : Tested)
-    → w ≡ after used (also (found v m) g) → used ≤ left → t ≡ told (left - used) (found v m) → is_yes t ≡ false
+pub told_stop : (left used : ℕ) (w g : Found) (v : Holding) (m : ℕ) (t : Tested)
+    → w ≡ after used (also (finding v m) g) → used ≤ left → t ≡ told (left - used) (finding v m) → is_yes t ≡ false
     → shifted used t ≡ told left w
 told_stop left used w g Holds m t e h k n = grind (arith, common_steps)
 told_stop left used w g Fails m t e h k n = grind (arith, common_steps)
@@ -62,8 +62,8 @@ told_stop left used w g Deep m t e h k n = grind (arith, common_steps)
 told_stop left used w g Unordered m t e h k n = grind (arith, common_steps)
 
 -- a part behind which a comparison goes on
-pub told_go : (left used : ℕ) (w g : Found) (v : Verdict) (m n : ℕ)
-    → w ≡ after used (also (found v m) g) → used ≤ left → Yes n ≡ told (left - used) (found v m)
+pub told_go : (left used : ℕ) (w g : Found) (v : Holding) (m n : ℕ)
+    → w ≡ after used (also (finding v m) g) → used ≤ left → Yes n ≡ told (left - used) (finding v m)
     → (w ≡ after (used + n) g) × (used + n ≤ left)
 told_go left used w g Holds m n e h k = (grind (arith, common_steps), grind (arith, common_steps))
 told_go left used w g Fails m n e h k = absurd (grind (arith, common_steps))

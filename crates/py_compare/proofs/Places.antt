@@ -4,12 +4,12 @@ use Rattle.std.proofs.lemmas.Grind.{common_steps}
 use Rattle.py_values.specs.declared.object.Obj.{Obj}
 use Rattle.py_values.specs.declared.value.ObjId.{ObjId}
 use Rattle.py_values.specs.declared.value.Value.{Value}
-use Rattle.py_values.specs.Numbers.{number_of}
-use Rattle.py_compare.specs.Equal.{Found, found, Verdict, Holds, Fails, told, objs_equal, equal_to, plain_equal}
+use Rattle.py_values.specs.Numbers.{int_value}
+use Rattle.py_compare.specs.Equal.{Found, finding, Holding, Holds, Fails, told, objs_equal, equal_to, plain_equal}
 use Rattle.py_compare.specs.Equal as equal
-use Rattle.py_compare.specs.Order.{Place, Less, Same, More, Deep, Unordered, Placed, placed, behind, next, place_within, place_shifted, chars_order, rows_order, unlike, unlike_told, less_by, less_told, order_to, objs_order, order_by, refs_of, numbers_order}
-use Rattle.py_compare.specs.declared.tested.Ordered.{Ordered}
-use Rattle.py_compare.specs.declared.tested.Ordered.TheVariants as ordered
+use Rattle.py_compare.specs.Order.{OrderVerdict, Less, Same, More, Deep, Unordered, Placed, placed, behind, next, place_within, place_shifted, chars_order, rows_order, unlike, unlike_told, less_by, less_told, order_to, objs_order, order_by, refs_of, numbers_order}
+use Rattle.py_compare.specs.declared.tested.Comparison.{Comparison}
+use Rattle.py_compare.specs.declared.tested.Comparison.TheVariants as ordered
 
 pub place_over : (budget : ℕ) (f : Placed) → budget < f.cost → ordered.Exhausted ≡ place_within budget f
 place_over budget f h = grind (arith, common_steps)
@@ -91,7 +91,7 @@ place_more budget used i f g e k j h = grind (arith, common_steps)
 pub place_same : (budget used i : ℕ) (f g : Placed) → f ≡ behind i g → g ≡ placed Same 0 → i ≡ used → i ≤ budget → ordered.Same used ≡ place_within budget f
 place_same budget used i f g e k j h = grind (arith, common_steps)
 
-unlike_case : (budget : ℕ) (v : Verdict) (n : ℕ) → unlike_told (told budget (found v n)) ≡ place_within budget (unlike (found v n))
+unlike_case : (budget : ℕ) (v : Holding) (n : ℕ) → unlike_told (told budget (finding v n)) ≡ place_within budget (unlike (finding v n))
 unlike_case budget Holds n = grind (arith, common_steps)
 unlike_case budget Fails n = grind (arith, common_steps)
 unlike_case budget equal.Deep n = grind (arith, common_steps)
@@ -100,7 +100,7 @@ unlike_case budget equal.Unordered n = grind (arith, common_steps)
 pub unlike_within : (budget : ℕ) (f : Found) → unlike_told (told budget f) ≡ place_within budget (unlike f)
 unlike_within budget f = unlike_case budget f.verdict f.cost
 
-less_case : (budget : ℕ) (p : Place) (n : ℕ) → less_told (place_within budget (placed p n)) ≡ told budget (less_by p n)
+less_case : (budget : ℕ) (p : OrderVerdict) (n : ℕ) → less_told (place_within budget (placed p n)) ≡ told budget (less_by p n)
 less_case budget Less n = grind (arith, common_steps)
 less_case budget Same n = grind (arith, common_steps)
 less_case budget More n = grind (arith, common_steps)
@@ -113,14 +113,14 @@ less_within budget f = less_case budget f.place f.cost
 pub order_step : (n : ℕ) (h : List Obj) (a b : Value) → 0 < n
     → order_to n h a b
     ≡ order_by (λ i j. objs_order (order_to (n - 1) h) (unlike (objs_equal (equal_to (n - 1) h) (eqb i.at j.at) (slice_get h i.at) (slice_get h j.at))) (slice_get h i.at) (slice_get h j.at))
-    (numbers_order (unlike (equal.holds_if (plain_equal a b))) (number_of a) (number_of b)) (refs_of a b)
+    (numbers_order (unlike (equal.holds_if (plain_equal a b))) (int_value a) (int_value b)) (refs_of a b)
 order_step zero h a b lt = absurd (omega arith)
 order_step (suc n) h a b lt =
     let e : suc n - 1 ≡ n = omega arith in
     ap (λ (m : ℕ). order_by (λ i j. objs_order (order_to m h) (unlike (objs_equal (equal_to m h) (eqb i.at j.at) (slice_get h i.at) (slice_get h j.at))) (slice_get h i.at) (slice_get h j.at))
-    (numbers_order (unlike (equal.holds_if (plain_equal a b))) (number_of a) (number_of b)) (refs_of a b)) (sym e)
+    (numbers_order (unlike (equal.holds_if (plain_equal a b))) (int_value a) (int_value b)) (refs_of a b)) (sym e)
 
-abbrev pub is_same : Ordered → Bool
+abbrev pub is_same : Comparison → Bool
 is_same (ordered.Less n) = false
 is_same (ordered.Same n) = true
 is_same (ordered.More n) = false
@@ -129,7 +129,7 @@ is_same (ordered.NotOrdered n) = false
 is_same ordered.Exhausted = false
 
 -- a pair that ends an order
-pub place_stop : (left used : ℕ) (w g : Placed) (p : Place) (m : ℕ) (t : Ordered)
+pub place_stop : (left used : ℕ) (w g : Placed) (p : OrderVerdict) (m : ℕ) (t : Comparison)
     → w ≡ behind used (behind 1 (next (placed p m) g)) → used < left → t ≡ place_within (left - used - 1) (placed p m) → is_same t ≡ false
     → place_shifted (used + 1) t ≡ place_within left w
 place_stop left used w g Less m t e h k n = grind (arith, common_steps)

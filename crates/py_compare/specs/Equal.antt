@@ -1,8 +1,8 @@
 -- Equality with its cost (Language Reference, value comparisons).
 use Rattle.std.specs.Prelude.{ℕ, zero, suc, ◌+◌, ◌-◌, Bool, true, false, ℤ, List, [], ◌∷◌, length, nat_lt, if◌then◌else◌, Option, Some, None, slice_get, eqb}
-use Rattle.py_values.specs.Limits.{most_levels}
+use Rattle.py_values.specs.Limits.{most_value_levels}
 use Rattle.std.specs.Ordering.{int_eq}
-use Rattle.py_values.specs.Numbers.{number_of}
+use Rattle.py_values.specs.Numbers.{int_value}
 use Rattle.py_values.specs.Pairs.{find_pair}
 use Rattle.py_values.specs.Ranges.{range_items}
 use Rattle.py_values.specs.declared.dict.Pair.{Pair}
@@ -15,33 +15,33 @@ use Rattle.py_values.specs.declared.value.Value.TheVariants as val
 use Rattle.py_compare.specs.declared.tested.Tested.{Tested}
 use Rattle.py_compare.specs.declared.tested.Tested.TheVariants as tested
 
-pub data Verdict : Type 0 where
-  Holds : Verdict
-  Fails : Verdict
-  Deep : Verdict
-  Unordered : Verdict
+pub data Holding : Type 0 where
+  Holds : Holding
+  Fails : Holding
+  Deep : Holding
+  Unordered : Holding
 
 -- what a comparison finds, and its cost in steps: one for each pair of elements that is compared
 pub record Found : Type 0 where
-  pub verdict : Verdict
+  pub verdict : Holding
   pub cost : ℕ
 
-abbrev pub found : Verdict → ℕ → Found
-found v n = record { verdict = v; cost = n }
+abbrev pub finding : Holding → ℕ → Found
+finding v n = record { verdict = v; cost = n }
 
 -- behind n steps
 abbrev pub after : ℕ → Found → Found
-after n f = found f.verdict (n + f.cost)
+after n f = finding f.verdict (n + f.cost)
 
 abbrev pub holds_if : Bool → Found
-holds_if b = found (if b then Holds else Fails) 0
+holds_if b = finding (if b then Holds else Fails) 0
 
 -- behind a verdict and its steps, the next comparison, where the verdict is that of equality
-abbrev pub also_by : Verdict → ℕ → Found → Found
+abbrev pub also_by : Holding → ℕ → Found → Found
 also_by Holds n g = after n g
-also_by Fails n g = found Fails n
-also_by Deep n g = found Deep n
-also_by Unordered n g = found Unordered n
+also_by Fails n g = finding Fails n
+also_by Deep n g = finding Deep n
+also_by Unordered n g = finding Unordered n
 
 abbrev pub also : Found → Found → Found
 also f g = also_by f.verdict f.cost g
@@ -84,32 +84,59 @@ of_length n m f = if eqb n m then f else holds_if false
 -- texts, lists, tuples and ranges are equal element by element, dicts as maps; all else is equal to itself alone
 abbrev pub objs_equal : (Value → Value → Found) → Bool → Option Obj → Option Obj → Found
 objs_equal f same (Some (obj.Text a)) (Some (obj.Text b)) = of_length (length a) (length b) (chars_equal a b)
+objs_equal f same (Some (obj.Text a)) other = holds_if same
 objs_equal f same (Some (obj.List a)) (Some (obj.List b)) = of_length (length a) (length b) (rows_equal f a b)
+objs_equal f same (Some (obj.List a)) other = holds_if same
 objs_equal f same (Some (obj.Tuple a)) (Some (obj.Tuple b)) = of_length (length a) (length b) (rows_equal f a b)
+objs_equal f same (Some (obj.Tuple a)) other = holds_if same
 objs_equal f same (Some (obj.Dict a)) (Some (obj.Dict b)) = of_length (length a) (length b) (pairs_equal f a b)
+objs_equal f same (Some (obj.Dict a)) other = holds_if same
 objs_equal f same (Some (obj.Range a)) (Some (obj.Range b)) = of_length a.length b.length (numbers_equal (range_items a) (range_items b))
-objs_equal f same _ _ = holds_if same
+objs_equal f same (Some (obj.Range a)) other = holds_if same
+objs_equal f same (Some (obj.Function a)) other = holds_if same
+objs_equal f same (Some (obj.Method a)) other = holds_if same
+objs_equal f same (Some (obj.Builtin a)) other = holds_if same
+objs_equal f same (Some (obj.Class a)) other = holds_if same
+objs_equal f same (Some (obj.Instance a)) other = holds_if same
+objs_equal f same (Some (obj.Exception a)) other = holds_if same
+objs_equal f same (Some (obj.Module a)) other = holds_if same
+objs_equal f same (Some (obj.Fixture a)) other = holds_if same
+objs_equal f same (Some obj.MarkMaker) other = holds_if same
+objs_equal f same (Some (obj.Mark a)) other = holds_if same
+objs_equal f same (Some (obj.Hook a)) other = holds_if same
+objs_equal f same (Some (obj.Param a)) other = holds_if same
+objs_equal f same (Some (obj.Request a)) other = holds_if same
+objs_equal f same (Some (obj.Raises a)) other = holds_if same
+objs_equal f same (Some (obj.Info a)) other = holds_if same
+objs_equal f same (Some (obj.Item a)) other = holds_if same
+objs_equal f same None other = holds_if same
 
 abbrev pub same_numbers : Option ℤ → Option ℤ → Bool
 same_numbers (Some x) (Some y) = int_eq x y
-same_numbers _ _ = false
+same_numbers (Some x) None = false
+same_numbers None other = false
 
 -- booleans are the numbers 0 and 1
 abbrev pub plain_equal : Value → Value → Bool
 plain_equal val.None val.None = true
-plain_equal a b = same_numbers (number_of a) (number_of b)
+plain_equal val.None (val.Bool y) = false
+plain_equal val.None (val.Int y) = false
+plain_equal val.None (val.Ref j) = false
+plain_equal (val.Bool x) b = same_numbers (int_value (val.Bool x)) (int_value b)
+plain_equal (val.Int x) b = same_numbers (int_value (val.Int x)) (int_value b)
+plain_equal (val.Ref i) b = same_numbers (int_value (val.Ref i)) (int_value b)
 
 -- values to a depth; one that lies deeper is compared with nothing
 abbrev pub equal_to : ℕ → List Obj → Value → Value → Found
-equal_to zero heap a b = found Deep 0
+equal_to zero heap a b = finding Deep 0
 equal_to (suc n) heap (val.Ref i) (val.Ref j) = objs_equal (equal_to n heap) (eqb i.at j.at) (slice_get heap i.at) (slice_get heap j.at)
 equal_to (suc n) heap a b = holds_if (plain_equal a b)
 
 -- EQUALITY, through 100 levels
 unfoldable pub equal_of : List Obj → Value → Value → Found
-equal_of heap a b = equal_to most_levels heap a b
+equal_of heap a b = equal_to most_value_levels heap a b
 
-abbrev pub verdict_told : Verdict → ℕ → Tested
+abbrev pub verdict_told : Holding → ℕ → Tested
 verdict_told Holds n = tested.Yes n
 verdict_told Fails n = tested.No n
 verdict_told Deep n = tested.TooDeep n

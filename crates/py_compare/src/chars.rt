@@ -4,7 +4,7 @@ ghost use Rattle.std.specs.Prelude.{◌≡◌, length};
 ghost use Rattle.py_compare.specs.Equal.{told, chars_equal, of_length};
 ghost use Rattle.py_compare.specs.Order.{place_within, chars_order};
 
-use crate::tested::{Ordered, Tested};
+use crate::tested::{Comparison, Tested};
 
 /// Compares characters pair by pair.
 fn equal_pairs(xs: &[char], ys: &[char], budget: u64) -> Tested
@@ -34,27 +34,27 @@ pub fn equal_chars(xs: &[char], ys: &[char], budget: u64) -> Tested
 }
 
 /// Compares characters by their first differing pair, else by length.
-pub fn order_chars(xs: &[char], ys: &[char], budget: u64) -> Ordered
+pub fn order_chars(xs: &[char], ys: &[char], budget: u64) -> Comparison
     ensures { result ≡ place_within budget (chars_order xs.now ys.now) }
 {
     for i in 0..xs.len() {
         let used = i as u64;
         if i >= ys.len() {
-            return Ordered::More(used);
+            return Comparison::More(used);
         }
         if used == budget {
-            return Ordered::Exhausted;
+            return Comparison::Exhausted;
         }
         if xs[i] < ys[i] {
-            return Ordered::Less(used + 1);
+            return Comparison::Less(used + 1);
         }
         if xs[i] != ys[i] {
-            return Ordered::More(used + 1);
+            return Comparison::More(used + 1);
         }
     }
     if xs.len() < ys.len() {
-        Ordered::Less(xs.len() as u64)
+        Comparison::Less(xs.len() as u64)
     } else {
-        Ordered::Same(xs.len() as u64)
+        Comparison::Same(xs.len() as u64)
     }
 }

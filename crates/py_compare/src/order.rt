@@ -1,56 +1,56 @@
 // Order, with its cost.
 
 ghost use Rattle.std.specs.Prelude.{◌≡◌, ◌+◌, ◌<◌, ◌^◌, slice_get, eqb};
-ghost use Rattle.py_values.specs.Numbers.{number_of};
+ghost use Rattle.py_values.specs.Numbers.{int_value};
 ghost use Rattle.py_compare.specs.Equal.{told, holds_if, plain_equal, objs_equal, equal_to};
 ghost use Rattle.py_compare.specs.Order as order;
 ghost use Rattle.py_compare.specs.Order.{place_within, place_shifted, ordered_steps, order_to, objs_order, rows_order, unlike, numbers_order, ints_order};
 
 use crate::chars::order_chars;
 use crate::equal::{equal_objs, is_plain_equal};
-use crate::tested::{Ordered, Tested};
+use crate::tested::{Comparison, Tested};
 use py_values::heap::Heap;
 use py_values::limits::MOST_LEVELS;
 use py_values::number::number;
 use py_values::object::Obj;
 use py_values::value::{ObjId, Value};
 
-fn behind(used: u64, t: Ordered) -> Ordered
+fn behind(used: u64, t: Comparison) -> Comparison
     requires { used + ordered_steps t < 2 ^ 64 }
     ensures { result ≡ place_shifted used t }
 {
     match t {
-        Ordered::Less(n) => Ordered::Less(used + n),
-        Ordered::Same(n) => Ordered::Same(used + n),
-        Ordered::More(n) => Ordered::More(used + n),
-        Ordered::TooDeep(n) => Ordered::TooDeep(used + n),
-        Ordered::NotOrdered(n) => Ordered::NotOrdered(used + n),
-        Ordered::Exhausted => Ordered::Exhausted,
+        Comparison::Less(n) => Comparison::Less(used + n),
+        Comparison::Same(n) => Comparison::Same(used + n),
+        Comparison::More(n) => Comparison::More(used + n),
+        Comparison::TooDeep(n) => Comparison::TooDeep(used + n),
+        Comparison::NotOrdered(n) => Comparison::NotOrdered(used + n),
+        Comparison::Exhausted => Comparison::Exhausted,
     }
 }
 
 /// What is told of a pair that has no order, which may be equal.
-fn unordered(t: Tested) -> Ordered
+fn unordered(t: Tested) -> Comparison
     ensures { result ≡ order.unlike_told t }
 {
     match t {
-        Tested::Yes(n) => Ordered::Same(n),
-        Tested::No(n) => Ordered::NotOrdered(n),
-        Tested::TooDeep(n) => Ordered::TooDeep(n),
-        Tested::NotOrdered(n) => Ordered::NotOrdered(n),
-        Tested::Exhausted => Ordered::Exhausted,
+        Tested::Yes(n) => Comparison::Same(n),
+        Tested::No(n) => Comparison::NotOrdered(n),
+        Tested::TooDeep(n) => Comparison::TooDeep(n),
+        Tested::NotOrdered(n) => Comparison::NotOrdered(n),
+        Tested::Exhausted => Comparison::Exhausted,
     }
 }
 
-fn order_ints(x: i128, y: i128, left: u64) -> Ordered
+fn order_ints(x: i128, y: i128, left: u64) -> Comparison
     ensures { result ≡ place_within left (ints_order x y) }
 {
     if x < y {
-        Ordered::Less(0)
+        Comparison::Less(0)
     } else if x == y {
-        Ordered::Same(0)
+        Comparison::Same(0)
     } else {
-        Ordered::More(0)
+        Comparison::More(0)
     }
 }
 
@@ -65,16 +65,16 @@ fn refs_of(a: Value, b: Value) -> Option<(ObjId, ObjId)>
 }
 
 /// Orders values of which one is no object.
-fn order_plain(a: Value, b: Value, left: u64) -> Ordered
-    ensures { result ≡ place_within left (numbers_order (unlike (holds_if (plain_equal a b))) (number_of a) (number_of b)) }
+fn order_plain(a: Value, b: Value, left: u64) -> Comparison
+    ensures { result ≡ place_within left (numbers_order (unlike (holds_if (plain_equal a b))) (int_value a) (int_value b)) }
 {
     match (number(a), number(b)) {
         (Some(x), Some(y)) => order_ints(x, y, left),
         _ => {
             if is_plain_equal(a, b) {
-                Ordered::Same(0)
+                Comparison::Same(0)
             } else {
-                Ordered::NotOrdered(0)
+                Comparison::NotOrdered(0)
             }
         }
     }
@@ -82,7 +82,7 @@ fn order_plain(a: Value, b: Value, left: u64) -> Ordered
 
 /// Orders objects that have no order.
 #[tactic(auto, using(crate::proofs::Places::unlike_within))]
-fn unlike_objs(heap: &Heap, i: ObjId, j: ObjId, left: u64, depth: usize) -> Ordered
+fn unlike_objs(heap: &Heap, i: ObjId, j: ObjId, left: u64, depth: usize) -> Comparison
     ensures { result ≡ place_within left (unlike (objs_equal (equal_to depth heap.now) (eqb i.at j.at) (slice_get heap.now i.at) (slice_get heap.now j.at))) }
 {
     unordered(equal_objs(heap, i, j, left, depth))
@@ -90,11 +90,11 @@ fn unlike_objs(heap: &Heap, i: ObjId, j: ObjId, left: u64, depth: usize) -> Orde
 
 /// Orders values within others, to a depth.
 #[cycle(order)]
-fn order_values(heap: &Heap, a: Value, b: Value, left: u64, depth: usize) -> Ordered
+fn order_values(heap: &Heap, a: Value, b: Value, left: u64, depth: usize) -> Comparison
     ensures { result ≡ place_within left (order_to depth heap.now a b) }
 {
     if depth == 0 {
-        return Ordered::TooDeep(0);
+        return Comparison::TooDeep(0);
     }
     match refs_of(a, b) {
         Some((i, j)) => order_objs(heap, i, j, left, depth - 1),
@@ -104,7 +104,7 @@ fn order_values(heap: &Heap, a: Value, b: Value, left: u64, depth: usize) -> Ord
 
 /// Orders objects; a value in them is compared to a depth.
 #[cycle(order)]
-fn order_objs(heap: &Heap, i: ObjId, j: ObjId, left: u64, depth: usize) -> Ordered
+fn order_objs(heap: &Heap, i: ObjId, j: ObjId, left: u64, depth: usize) -> Comparison
     ensures { result ≡ place_within left
         (objs_order (order_to depth heap.now) (unlike (objs_equal (equal_to depth heap.now) (eqb i.at j.at) (slice_get heap.now i.at) (slice_get heap.now j.at)))
         (slice_get heap.now i.at) (slice_get heap.now j.at)) }
@@ -123,27 +123,27 @@ fn order_objs(heap: &Heap, i: ObjId, j: ObjId, left: u64, depth: usize) -> Order
 
 /// Orders values by their first differing pair, else by length.
 #[cycle(order)]
-fn order_rows(heap: &Heap, xs: &[Value], ys: &[Value], left: u64, depth: usize) -> Ordered
+fn order_rows(heap: &Heap, xs: &[Value], ys: &[Value], left: u64, depth: usize) -> Comparison
     ensures { result ≡ place_within left (rows_order (order_to depth heap.now) xs.now ys.now) }
 {
     let mut used = 0u64;
     for i in 0..xs.len() {
         if i >= ys.len() {
-            return Ordered::More(used);
+            return Comparison::More(used);
         }
         if used == left {
-            return Ordered::Exhausted;
+            return Comparison::Exhausted;
         }
         let t = order_values(heap, xs[i], ys[i], left - used - 1, depth);
         match t {
-            Ordered::Same(n) => used = used + 1 + n,
+            Comparison::Same(n) => used = used + 1 + n,
             t => return behind(used + 1, t),
         }
     }
     if xs.len() < ys.len() {
-        Ordered::Less(used)
+        Comparison::Less(used)
     } else {
-        Ordered::Same(used)
+        Comparison::Same(used)
     }
 }
 
@@ -167,25 +167,25 @@ fn is_ordered(heap: &Heap, a: Value, b: Value) -> bool
 
 /// How two values are ordered (Language Reference, value comparisons), within a budget of steps.
 #[tactic(auto, unfolding(crate::specs::Order::order_of))]
-pub fn order(heap: &Heap, a: Value, b: Value, budget: u64) -> Ordered
+pub fn order(heap: &Heap, a: Value, b: Value, budget: u64) -> Comparison
     ensures { result ≡ place_within budget (order.order_of heap.now a b) }
 {
     if is_ordered(heap, a, b) {
         return order_values(heap, a, b, budget, MOST_LEVELS);
     }
-    Ordered::NotOrdered(0)
+    Comparison::NotOrdered(0)
 }
 
-fn less_told(t: Ordered) -> Tested
+fn less_told(t: Comparison) -> Tested
     ensures { result ≡ order.less_told t }
 {
     match t {
-        Ordered::Less(n) => Tested::Yes(n),
-        Ordered::Same(n) => Tested::No(n),
-        Ordered::More(n) => Tested::No(n),
-        Ordered::TooDeep(n) => Tested::TooDeep(n),
-        Ordered::NotOrdered(n) => Tested::NotOrdered(n),
-        Ordered::Exhausted => Tested::Exhausted,
+        Comparison::Less(n) => Tested::Yes(n),
+        Comparison::Same(n) => Tested::No(n),
+        Comparison::More(n) => Tested::No(n),
+        Comparison::TooDeep(n) => Tested::TooDeep(n),
+        Comparison::NotOrdered(n) => Tested::NotOrdered(n),
+        Comparison::Exhausted => Tested::Exhausted,
     }
 }
 

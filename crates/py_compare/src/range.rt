@@ -2,14 +2,14 @@
 
 ghost use Rattle.std.specs.Prelude.{◌≡◌, if◌then◌else◌};
 ghost use Rattle.py_values.specs.Ranges.{range_items};
-ghost use Rattle.py_compare.specs.Equal.{told, found, holds_if, numbers_equal, of_length, Holds, Fails};
+ghost use Rattle.py_compare.specs.Equal.{told, finding, holds_if, numbers_equal, of_length, Holds, Fails};
 
 use crate::tested::Tested;
 use py_values::range::RangeObj;
 
 /// What is told of a comparison that is decided.
 pub fn tell(budget: u64, holds: bool, cost: u64) -> Tested
-    ensures { result ≡ told budget (found (if holds then Holds else Fails) cost) }
+    ensures { result ≡ told budget (finding (if holds then Holds else Fails) cost) }
 {
     if budget < cost {
         Tested::Exhausted

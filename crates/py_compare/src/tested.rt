@@ -12,7 +12,7 @@ pub enum Tested {
 
 /// How two values are ordered, with the steps that this used.
 #[derive(Clone, Copy, PartialEq, Eq)]
-pub enum Ordered {
+pub enum Comparison {
     Less(u64),
     Same(u64),
     More(u64),

@@ -7,16 +7,16 @@ use Rattle.py_tree.specs.declared.expr.ArgName.{ArgName}
 use Rattle.py_tree.specs.declared.expr.Expr.{Expr}
 use Rattle.py_tree.specs.Trees.{tree}
 use Rattle.py_nodes.specs.py_expressions.Values.{at_of}
-use Rattle.py_grammar.specs.Context.{first_place, in_tree}
+use Rattle.py_grammar.specs.Context.{first_pos, in_tree}
 use Rattle.py_context.specs.declared.expressions.Part.{Part}
 use Rattle.py_context.specs.First.{sooner, wrong_name, with_name}
 
-abbrev pub part : Expr → Part
-part e = record { at = at_of (tree e); first = first_place (in_tree (tree e)) }
+abbrev pub expr_part : Expr → Part
+expr_part e = record { at = at_of (tree e); first = first_pos (in_tree (tree e)) }
 
-abbrev pub firsts : List (Rc Expr Global) → List Part
-firsts [] = []
-firsts (e ∷ es) = part e.value ∷ firsts es
+abbrev pub expr_parts : List (Rc Expr Global) → List Part
+expr_parts [] = []
+expr_parts (e ∷ es) = expr_part e.value ∷ expr_parts es
 
 abbrev pub first_of : List Part → Option Pos
 first_of [] = None

@@ -1,9 +1,9 @@
 ghost use Rattle.std.specs.Prelude.{◌≡◌, ◌++◌, ◌∷◌, [], List, IfOk, MatchOption};
 ghost use Rattle.py_tree.specs.Trees.{tree, trees, some_tree};
 ghost use Rattle.py_tree.specs.Names.{is_among};
-ghost use Rattle.py_grammar.specs.Context.{first_place, by_turns, wrong_arguments, each, in_tree, in_trees, in_maybe};
+ghost use Rattle.py_grammar.specs.Context.{first_pos, by_turns, wrong_arguments, each, in_tree, in_trees, in_maybe};
 ghost use Rattle.py_context.specs.First.{sooner, wrong_name, with_name};
-ghost use Rattle.py_context.specs.Parts.{firsts, first_of, first_by_turns, first_argument};
+ghost use Rattle.py_context.specs.Parts.{expr_parts, first_of, first_by_turns, first_argument};
 
 use py_source::{Pos, SrcText};
 use py_tree::{ArgName, Expr, ExprKind};
@@ -145,7 +145,7 @@ pub fn join(
     first: Result<Option<Pos>, OutOfMemory>,
     second: Result<Option<Pos>, OutOfMemory>,
 ) -> Result<Option<Pos>, OutOfMemory>
-    ensures { (xs ys : List Pos) → IfOk first (λ at. at ≡ first_place xs) → IfOk second (λ at. at ≡ first_place ys) → IfOk result (λ at. at ≡ first_place (xs ++ ys)) }
+    ensures { (xs ys : List Pos) → IfOk first (λ at. at ≡ first_pos xs) → IfOk second (λ at. at ≡ first_pos ys) → IfOk result (λ at. at ≡ first_pos (xs ++ ys)) }
 {
     match first {
         Ok(None) => second,
@@ -157,7 +157,7 @@ pub fn join(
 /// The first place in parts in a row.
 #[tactic(auto, using(crate::proofs::ExpressionPlaces::row_places))]
 fn in_row(parts: Result<Vec<Part>, OutOfMemory>) -> Result<Option<Pos>, OutOfMemory>
-    ensures { (es : List (Rc Expr Global)) → IfOk parts (λ all. all.items ≡ firsts es) → IfOk result (λ at. at ≡ first_place (in_trees (trees es))) }
+    ensures { (es : List (Rc Expr Global)) → IfOk parts (λ all. all.items ≡ expr_parts es) → IfOk result (λ at. at ≡ first_pos (in_trees (trees es))) }
 {
     match parts {
         Ok(parts) => Ok(first_of(&parts)),
@@ -171,7 +171,7 @@ fn in_turns(
     keys: Result<Vec<Part>, OutOfMemory>,
     values: Result<Vec<Part>, OutOfMemory>,
 ) -> Result<Option<Pos>, OutOfMemory>
-    ensures { (ks es : List (Rc Expr Global)) → IfOk keys (λ all. all.items ≡ firsts ks) → IfOk values (λ all. all.items ≡ firsts es) → IfOk result (λ at. at ≡ first_place (by_turns (each (trees ks)) (each (trees es)))) }
+    ensures { (ks es : List (Rc Expr Global)) → IfOk keys (λ all. all.items ≡ expr_parts ks) → IfOk values (λ all. all.items ≡ expr_parts es) → IfOk result (λ at. at ≡ first_pos (by_turns (each (trees ks)) (each (trees es)))) }
 {
     match (keys, values) {
         (Ok(keys), Ok(values)) => Ok(first_by_turns(&keys, &values)),
@@ -186,7 +186,7 @@ fn in_arguments(
     names: &Rc<Vec<Option<ArgName>>>,
     arguments: Result<Vec<Part>, OutOfMemory>,
 ) -> Result<Option<Pos>, OutOfMemory>
-    ensures { (es : List (Rc Expr Global)) → IfOk arguments (λ all. all.items ≡ firsts es) → IfOk result (λ at. at ≡ first_place (wrong_arguments [] names.now.value.items (each (trees es)))) }
+    ensures { (es : List (Rc Expr Global)) → IfOk arguments (λ all. all.items ≡ expr_parts es) → IfOk result (λ at. at ≡ first_pos (wrong_arguments [] names.now.value.items (each (trees es)))) }
 {
     match arguments {
         Ok(arguments) => first_argument(alloc, names, &arguments),
@@ -197,7 +197,7 @@ fn in_arguments(
 /// The first place in an expression where something may not stand.
 #[cycle(expression)]
 pub fn in_expr(alloc: Global, expr: &Expr) -> Result<Option<Pos>, OutOfMemory>
-    ensures { IfOk result (λ at. at ≡ first_place (in_tree (tree expr.now))) }
+    ensures { IfOk result (λ at. at ≡ first_pos (in_tree (tree expr.now))) }
 {
     match &expr.kind {
         ExprKind::Name(_)
@@ -239,14 +239,14 @@ pub fn in_expr(alloc: Global, expr: &Expr) -> Result<Option<Pos>, OutOfMemory>
 /// Each of some expressions, as a part.
 #[cycle(expression)]
 pub fn in_each(alloc: Global, items: &Rc<Vec<Rc<Expr>>>) -> Result<Vec<Part>, OutOfMemory>
-    ensures { IfOk result (λ all. all.items ≡ firsts items.now.value.items) }
+    ensures { IfOk result (λ all. all.items ≡ expr_parts items.now.value.items) }
 {
     parts_of(alloc, items)
 }
 
 #[cycle(expression)]
 fn parts_of(alloc: Global, items: &[Rc<Expr>]) -> Result<Vec<Part>, OutOfMemory>
-    ensures { IfOk result (λ all. all.items ≡ firsts items.now) }
+    ensures { IfOk result (λ all. all.items ≡ expr_parts items.now) }
 {
     let mut all = Vec::new(alloc);
     for item in items {
@@ -259,7 +259,7 @@ fn parts_of(alloc: Global, items: &[Rc<Expr>]) -> Result<Vec<Part>, OutOfMemory>
 /// The first in a part that may be absent.
 #[cycle(expression)]
 pub fn in_optional(alloc: Global, part: &Option<Rc<Expr>>) -> Result<Option<Pos>, OutOfMemory>
-    ensures { IfOk result (λ at. at ≡ first_place (in_maybe (some_tree part.now))) }
+    ensures { IfOk result (λ at. at ≡ first_pos (in_maybe (some_tree part.now))) }
 {
     match part {
         Some(part) => in_expr(alloc, part),
@@ -270,7 +270,7 @@ pub fn in_optional(alloc: Global, part: &Option<Rc<Expr>>) -> Result<Option<Pos>
 /// The first in a part of an expression.
 #[cycle(expression)]
 pub fn in_part(alloc: Global, part: &Rc<Expr>) -> Result<Option<Pos>, OutOfMemory>
-    ensures { IfOk result (λ at. at ≡ first_place (in_tree (tree part.now.value))) }
+    ensures { IfOk result (λ at. at ≡ first_pos (in_tree (tree part.now.value))) }
 {
     in_expr(alloc, part)
 }
@@ -278,7 +278,7 @@ pub fn in_part(alloc: Global, part: &Rc<Expr>) -> Result<Option<Pos>, OutOfMemor
 /// The first in parts of an expression.
 #[cycle(expression)]
 pub fn in_all(alloc: Global, parts: &Rc<Vec<Rc<Expr>>>) -> Result<Option<Pos>, OutOfMemory>
-    ensures { IfOk result (λ at. at ≡ first_place (in_trees (trees parts.now.value.items))) }
+    ensures { IfOk result (λ at. at ≡ first_pos (in_trees (trees parts.now.value.items))) }
 {
     in_row(in_each(alloc, parts))
 }

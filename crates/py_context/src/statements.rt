@@ -5,7 +5,7 @@ ghost use Rattle.py_tree.specs.Statements.{place, places, taker, takers, paramet
 ghost use Rattle.py_tree.specs.declared.stmt.Handler.{out-Handler};
 ghost use Rattle.py_tree.specs.declared.stmt.Function.{out-Function};
 ghost use Rattle.py_tree.specs.declared.stmt.Class.{out-Class};
-ghost use Rattle.py_grammar.specs.Context.{first_place, unless, is_function, is_module, is_present, is_bound, in_place, in_places, in_taker, in_takers, in_maybe, in_tree, in_trees, in_params, misplaced, misplaced_in, misplaced_branches, misplaced_handlers, in_module, in_function, in_class, in_loop_of, without_yield};
+ghost use Rattle.py_grammar.specs.Context.{first_pos, unless, is_function, is_module, is_present, is_bound, in_place, in_places, in_taker, in_takers, in_maybe, in_tree, in_trees, in_params, misplaced, misplaced_in, misplaced_branches, misplaced_handlers, in_module, in_function, in_class, in_loop_of, without_yield};
 ghost use Rattle.py_context.specs.First.{sooner};
 ghost use Rattle.py_context.specs.Standing.{where_of, scope_of};
 
@@ -13,7 +13,7 @@ use crate::expressions::{in_all, in_optional, in_part, is_one_of, join};
 use py_source::{Pos, SrcText};
 use py_tree::{
     Branch, Class, Expr, Function, Handler, Param, Single, SingleKind, Stmt, StmtKind, Target,
-    Yield, bindings_of,
+    Yield, globals_of,
 };
 use seq::OutOfMemory;
 use std::alloc::Global;
@@ -37,13 +37,13 @@ pub struct Where {
 
 /// This place, unless it is allowed.
 fn unless(allowed: bool, at: Pos) -> Result<Option<Pos>, OutOfMemory>
-    ensures { IfOk result (λ first. first ≡ first_place (unless allowed at)) }
+    ensures { IfOk result (λ first. first ≡ first_pos (unless allowed at)) }
 {
     if allowed { Ok(None) } else { Ok(Some(at)) }
 }
 
 fn in_single(alloc: Global, single: &Single) -> Result<Option<Pos>, OutOfMemory>
-    ensures { IfOk result (λ at. at ≡ first_place (in_place (place single.now))) }
+    ensures { IfOk result (λ at. at ≡ first_pos (in_place (place single.now))) }
 {
     match &single.kind {
         SingleKind::Name(_) => Ok(None),
@@ -54,7 +54,7 @@ fn in_single(alloc: Global, single: &Single) -> Result<Option<Pos>, OutOfMemory>
 
 #[tactic(auto, using(crate::proofs::StatementPlaces::statement_rules))]
 fn in_singles(alloc: Global, all: &[Single]) -> Result<Option<Pos>, OutOfMemory>
-    ensures { IfOk result (λ at. at ≡ first_place (in_places (places all.now))) }
+    ensures { IfOk result (λ at. at ≡ first_pos (in_places (places all.now))) }
 {
     for single in all {
         if let Some(at) = in_single(alloc, single)? {
@@ -65,7 +65,7 @@ fn in_singles(alloc: Global, all: &[Single]) -> Result<Option<Pos>, OutOfMemory>
 }
 
 fn in_target(alloc: Global, target: &Target) -> Result<Option<Pos>, OutOfMemory>
-    ensures { IfOk result (λ at. at ≡ first_place (in_taker (taker target.now))) }
+    ensures { IfOk result (λ at. at ≡ first_pos (in_taker (taker target.now))) }
 {
     match target {
         Target::Single(single) => in_single(alloc, single),
@@ -75,7 +75,7 @@ fn in_target(alloc: Global, target: &Target) -> Result<Option<Pos>, OutOfMemory>
 
 #[tactic(auto, using(crate::proofs::StatementPlaces::statement_rules))]
 fn in_targets(alloc: Global, all: &[Target]) -> Result<Option<Pos>, OutOfMemory>
-    ensures { IfOk result (λ at. at ≡ first_place (in_takers (takers all.now))) }
+    ensures { IfOk result (λ at. at ≡ first_pos (in_takers (takers all.now))) }
 {
     for target in all {
         if let Some(at) = in_target(alloc, target)? {
@@ -166,7 +166,7 @@ fn in_assign(
     targets: &Rc<Vec<Target>>,
     value: &Rc<Expr>,
 ) -> Result<Option<Pos>, OutOfMemory>
-    ensures { IfOk result (λ at. at ≡ first_place (in_takers (takers targets.now.value.items) ++ in_tree (tree value.now.value))) }
+    ensures { IfOk result (λ at. at ≡ first_pos (in_takers (takers targets.now.value.items) ++ in_tree (tree value.now.value))) }
 {
     join(in_targets(alloc, targets), in_part(alloc, value))
 }
@@ -174,7 +174,7 @@ fn in_assign(
 /// The first in a `yield`.
 #[tactic(auto, using(crate::proofs::ExpressionPlaces::join_rules))]
 fn in_yield(alloc: Global, w: Where, given: &Yield) -> Result<Option<Pos>, OutOfMemory>
-    ensures { IfOk result (λ at. at ≡ first_place (unless w.may_yield given.now.at ++ in_maybe (some_tree given.now.value))) }
+    ensures { IfOk result (λ at. at ≡ first_pos (unless w.may_yield given.now.at ++ in_maybe (some_tree given.now.value))) }
 {
     join(
         unless(w.may_yield, given.at),
@@ -189,7 +189,7 @@ fn in_assign_yield(
     targets: &Rc<Vec<Target>>,
     given: &Yield,
 ) -> Result<Option<Pos>, OutOfMemory>
-    ensures { IfOk result (λ at. at ≡ first_place (in_takers (takers targets.now.value.items) ++ (unless w.may_yield given.now.at ++ in_maybe (some_tree given.now.value)))) }
+    ensures { IfOk result (λ at. at ≡ first_pos (in_takers (takers targets.now.value.items) ++ (unless w.may_yield given.now.at ++ in_maybe (some_tree given.now.value)))) }
 {
     join(in_targets(alloc, targets), in_yield(alloc, w, given))
 }
@@ -200,7 +200,7 @@ fn in_aug_assign(
     single: &Single,
     value: &Rc<Expr>,
 ) -> Result<Option<Pos>, OutOfMemory>
-    ensures { IfOk result (λ at. at ≡ first_place (in_place (place single.now) ++ in_tree (tree value.now.value))) }
+    ensures { IfOk result (λ at. at ≡ first_pos (in_place (place single.now) ++ in_tree (tree value.now.value))) }
 {
     join(in_single(alloc, single), in_part(alloc, value))
 }
@@ -212,7 +212,7 @@ fn in_return(
     at: Pos,
     value: &Option<Rc<Expr>>,
 ) -> Result<Option<Pos>, OutOfMemory>
-    ensures { IfOk result (λ first. first ≡ first_place (unless (is_function (where_of w).scope) at ++ in_maybe (some_tree value.now))) }
+    ensures { IfOk result (λ first. first ≡ first_pos (unless (is_function (where_of w).scope) at ++ in_maybe (some_tree value.now))) }
 {
     join(unless(is_function(w), at), in_optional(alloc, value))
 }
@@ -224,7 +224,7 @@ fn in_return_yield(
     at: Pos,
     given: &Yield,
 ) -> Result<Option<Pos>, OutOfMemory>
-    ensures { IfOk result (λ first. first ≡ first_place (unless (is_function (where_of w).scope) at ++ (unless w.may_yield given.now.at ++ in_maybe (some_tree given.now.value)))) }
+    ensures { IfOk result (λ first. first ≡ first_pos (unless (is_function (where_of w).scope) at ++ (unless w.may_yield given.now.at ++ in_maybe (some_tree given.now.value)))) }
 {
     join(unless(is_function(w), at), in_yield(alloc, w, given))
 }
@@ -235,7 +235,7 @@ fn in_assert(
     condition: &Rc<Expr>,
     message: &Option<Rc<Expr>>,
 ) -> Result<Option<Pos>, OutOfMemory>
-    ensures { IfOk result (λ at. at ≡ first_place (in_tree (tree condition.now.value) ++ in_maybe (some_tree message.now))) }
+    ensures { IfOk result (λ at. at ≡ first_pos (in_tree (tree condition.now.value) ++ in_maybe (some_tree message.now))) }
 {
     join(in_part(alloc, condition), in_optional(alloc, message))
 }
@@ -258,7 +258,7 @@ fn in_param(
     defaulted: bool,
     param: &Param,
 ) -> Result<Option<Pos>, OutOfMemory>
-    ensures { IfOk result (λ at. at ≡ first_place (unless (not ((is_among before.now param.now.name || is_among globals.now param.now.name) || (defaulted && not (is_present (some_tree param.now.default))))) param.now.at ++ (in_maybe (some_tree param.now.annotation) ++ in_maybe (some_tree param.now.default)))) }
+    ensures { IfOk result (λ at. at ≡ first_pos (unless (not ((is_among before.now param.now.name || is_among globals.now param.now.name) || (defaulted && not (is_present (some_tree param.now.default))))) param.now.at ++ (in_maybe (some_tree param.now.annotation) ++ in_maybe (some_tree param.now.default)))) }
 {
     join(
         unless(may_follow(globals, before, defaulted, param), param.at),
@@ -276,7 +276,7 @@ fn in_params(
     globals: &[SrcText],
     params: &[Param],
 ) -> Result<Option<Pos>, OutOfMemory>
-    ensures { IfOk result (λ at. at ≡ first_place (in_params globals.now [] false (parameters params.now))) }
+    ensures { IfOk result (λ at. at ≡ first_pos (in_params globals.now [] false (parameters params.now))) }
 {
     let mut before = Vec::new(alloc);
     let mut defaulted = false;
@@ -292,17 +292,17 @@ fn in_params(
 
 /// The first in the parameters of a function.
 fn in_own_params(alloc: Global, function: &Function) -> Result<Option<Pos>, OutOfMemory>
-    ensures { IfOk result (λ first. first ≡ first_place (in_params (globals_of (block (out-Function function.now).body.value.items)) [] false (parameters (out-Function function.now).params.value.items))) }
+    ensures { IfOk result (λ first. first ≡ first_pos (in_params (globals_of (block (out-Function function.now).body.value.items)) [] false (parameters (out-Function function.now).params.value.items))) }
 {
-    let bindings = bindings_of(alloc, &function.params, &function.body)?;
-    in_params(alloc, bindings.globals.items(), &function.params)
+    let globals = globals_of(alloc, &function.body)?;
+    in_params(alloc, globals.items(), &function.params)
 }
 
 /// The first in statements.
 #[tactic(auto, using(crate::proofs::StatementPlaces::statement_rules))]
 #[cycle(context)]
 fn in_stmts(alloc: Global, w: Where, stmts: &[Stmt]) -> Result<Option<Pos>, OutOfMemory>
-    ensures { IfOk result (λ at. at ≡ first_place (misplaced (where_of w) (block stmts.now))) }
+    ensures { IfOk result (λ at. at ≡ first_pos (misplaced (where_of w) (block stmts.now))) }
 {
     for stmt in stmts {
         if let Some(at) = in_stmt(alloc, w, stmt)? {
@@ -314,7 +314,7 @@ fn in_stmts(alloc: Global, w: Where, stmts: &[Stmt]) -> Result<Option<Pos>, OutO
 
 #[cycle(context)]
 fn in_block(alloc: Global, w: Where, body: &Rc<Vec<Stmt>>) -> Result<Option<Pos>, OutOfMemory>
-    ensures { IfOk result (λ at. at ≡ first_place (misplaced (where_of w) (block body.now.value.items))) }
+    ensures { IfOk result (λ at. at ≡ first_pos (misplaced (where_of w) (block body.now.value.items))) }
 {
     in_stmts(alloc, w, body)
 }
@@ -322,7 +322,7 @@ fn in_block(alloc: Global, w: Where, body: &Rc<Vec<Stmt>>) -> Result<Option<Pos>
 #[tactic(auto, using(crate::proofs::StatementPlaces::statement_rules))]
 #[cycle(context)]
 fn in_branches(alloc: Global, w: Where, all: &[Branch]) -> Result<Option<Pos>, OutOfMemory>
-    ensures { IfOk result (λ at. at ≡ first_place (misplaced_branches (where_of w) (branches all.now))) }
+    ensures { IfOk result (λ at. at ≡ first_pos (misplaced_branches (where_of w) (branches all.now))) }
 {
     for branch in all {
         let head = in_part(alloc, &branch.condition);
@@ -349,7 +349,7 @@ fn in_handler(
     is_last: bool,
     handler: &Handler,
 ) -> Result<Option<Pos>, OutOfMemory>
-    ensures { IfOk result (λ at. at ≡ first_place (unless (is_last || is_present (some_tree (out-Handler handler.now).class)) (out-Handler handler.now).at ++ (in_maybe (some_tree (out-Handler handler.now).class) ++ misplaced (without_yield (where_of w)) (block (out-Handler handler.now).body.value.items)))) }
+    ensures { IfOk result (λ at. at ≡ first_pos (unless (is_last || is_present (some_tree (out-Handler handler.now).class)) (out-Handler handler.now).at ++ (in_maybe (some_tree (out-Handler handler.now).class) ++ misplaced (without_yield (where_of w)) (block (out-Handler handler.now).body.value.items)))) }
 {
     join(
         unless(may_catch(is_last, handler), handler.at),
@@ -363,7 +363,7 @@ fn in_handler(
 #[tactic(auto, using(crate::proofs::StatementPlaces::statement_rules))]
 #[cycle(context)]
 fn in_handlers(alloc: Global, w: Where, all: &[Handler]) -> Result<Option<Pos>, OutOfMemory>
-    ensures { IfOk result (λ at. at ≡ first_place (misplaced_handlers (where_of w) true (handlers all.now))) }
+    ensures { IfOk result (λ at. at ≡ first_pos (misplaced_handlers (where_of w) true (handlers all.now))) }
 {
     let mut further = all.len();
     for handler in all {
@@ -379,7 +379,7 @@ fn in_handlers(alloc: Global, w: Where, all: &[Handler]) -> Result<Option<Pos>, 
 #[tactic(auto, using(crate::proofs::ExpressionPlaces::join_rules))]
 #[cycle(context)]
 fn in_def(alloc: Global, w: Where, at: Pos, function: &Function) -> Result<Option<Pos>, OutOfMemory>
-    ensures { IfOk result (λ first. first ≡ first_place (unless (not (is_function (where_of w).scope)) at ++ (in_trees (trees (out-Function function.now).decorators.value.items) ++ (in_params (globals_of (block (out-Function function.now).body.value.items)) [] false (parameters (out-Function function.now).params.value.items) ++ (in_maybe (some_tree (out-Function function.now).returns) ++ misplaced in_function (block (out-Function function.now).body.value.items)))))) }
+    ensures { IfOk result (λ first. first ≡ first_pos (unless (not (is_function (where_of w).scope)) at ++ (in_trees (trees (out-Function function.now).decorators.value.items) ++ (in_params (globals_of (block (out-Function function.now).body.value.items)) [] false (parameters (out-Function function.now).params.value.items) ++ (in_maybe (some_tree (out-Function function.now).returns) ++ misplaced in_function (block (out-Function function.now).body.value.items)))))) }
 {
     join(
         unless(!is_function(w), at),
@@ -400,7 +400,7 @@ fn in_def(alloc: Global, w: Where, at: Pos, function: &Function) -> Result<Optio
 #[tactic(auto, using(crate::proofs::ExpressionPlaces::join_rules))]
 #[cycle(context)]
 fn in_class(alloc: Global, w: Where, at: Pos, class: &Class) -> Result<Option<Pos>, OutOfMemory>
-    ensures { IfOk result (λ first. first ≡ first_place (unless (is_module (where_of w).scope) at ++ (in_trees (trees (out-Class class.now).decorators.value.items) ++ (in_maybe (some_tree (out-Class class.now).base) ++ misplaced in_class (block (out-Class class.now).body.value.items))))) }
+    ensures { IfOk result (λ first. first ≡ first_pos (unless (is_module (where_of w).scope) at ++ (in_trees (trees (out-Class class.now).decorators.value.items) ++ (in_maybe (some_tree (out-Class class.now).base) ++ misplaced in_class (block (out-Class class.now).body.value.items))))) }
 {
     join(
         unless(is_module(w), at),
@@ -417,7 +417,7 @@ fn in_class(alloc: Global, w: Where, at: Pos, class: &Class) -> Result<Option<Po
 #[tactic(auto, using(crate::proofs::StatementPlaces::statement_rules))]
 #[cycle(context)]
 fn in_stmt(alloc: Global, w: Where, stmt: &Stmt) -> Result<Option<Pos>, OutOfMemory>
-    ensures { IfOk result (λ at. at ≡ first_place (misplaced_in (where_of w) (statement_at stmt.now.at stmt.now.kind))) }
+    ensures { IfOk result (λ at. at ≡ first_pos (misplaced_in (where_of w) (statement_at stmt.now.at stmt.now.kind))) }
 {
     match &stmt.kind {
         StmtKind::Expr(value) => in_part(alloc, value),
@@ -465,7 +465,7 @@ fn in_stmt(alloc: Global, w: Where, stmt: &Stmt) -> Result<Option<Pos>, OutOfMem
 
 /// The first place of what may not stand where it does, in order of the text.
 pub fn first_misplaced(alloc: Global, stmts: &[Stmt]) -> Result<Option<Pos>, OutOfMemory>
-    ensures { IfOk result (λ at. at ≡ first_place (misplaced in_module (block stmts.now))) }
+    ensures { IfOk result (λ at. at ≡ first_pos (misplaced in_module (block stmts.now))) }
 {
     in_stmts(
         alloc,

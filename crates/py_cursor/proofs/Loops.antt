@@ -3,7 +3,7 @@ use Rattle.std.proofs.Common.{◌≡◌, ℕ, ◌<◌, ◌≤◌, Bool, true, fa
 use Rattle.py_tokens.specs.declared.token.Token.{Token}
 use Rattle.parsing.specs.Reading.{Read, Found, Bad, Deep, ◌>>=◌, deep_at, has}
 use Rattle.grammar_code.specs.Walk.{first_if, with_meaning, first_of, first_meant, pick, starts_with, wanted}
-use Rattle.grammar.specs.Table.{meant}
+use Rattle.grammar.specs.Table.{lookup_key}
 use Rattle.py_expressions.specs.token_kinds.Kinds.{kind}
 use Rattle.py_cursor.specs.declared.stop.Stop.{Stop}
 use Rattle.py_cursor.specs.declared.stop.Stop.TheVariants as stops
@@ -47,7 +47,7 @@ meant_rest t ts (Some v) o after e = ap (λ x. x.1) (some_is ((t, v), ts) (o, af
 
 pub meant_takes : {V : Type 0} (rows : List (ℕ × V)) (ts : List Token) (o : Token × V) (after : List Token) → first_meant kind rows ts ≡ Some (o, after) → length after < length ts
 meant_takes rows [] o after e = absurd (cc)
-meant_takes rows (t ∷ ts) o after e = let d = ap length (meant_rest t ts (meant rows (kind t)) o after e) in omega arith
+meant_takes rows (t ∷ ts) o after e = let d = ap length (meant_rest t ts (lookup_key rows (kind t)) o after e) in omega arith
 
 -- A token, and what is read behind it, again and again
 module _ {S X B R : Type 0} (M : S → List Token → Read Token R) (look : List Token → Option (X × List Token)) (ok : S → Bool) (r : List Token → Read Token B) (join : S → X → B → S) (done : S → List Token → Read Token R)

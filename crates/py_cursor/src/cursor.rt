@@ -1,7 +1,7 @@
 ghost use Rattle.std.specs.Prelude.{◌≡◌, ◌∷◌, [], MatchOption, None, Some};
 ghost use Rattle.parsing.specs.Reading.{has};
 ghost use Rattle.grammar_code.specs.Walk.{first_of, first_meant, starts_with, wanted};
-ghost use Rattle.grammar.specs.Table.{meant};
+ghost use Rattle.grammar.specs.Table.{lookup_key};
 ghost use Rattle.py_expressions.specs.token_kinds.Kinds.{kind, op_number, text_of};
 ghost use Rattle.py_cursor.specs.Cursor.{number_on, kinds_of, rows_of, Gives, IsBlocked};
 
@@ -131,7 +131,7 @@ pub fn chars_of(token: &Token) -> &[char]
 
 /// What a token stands for in a table of operators.
 fn meaning_of<V: Copy>(token: &Token, rows: &[(Op, V)]) -> Option<V>
-    ensures { result ≡ meant (rows_of rows.now) (kind token.now) }
+    ensures { result ≡ lookup_key (rows_of rows.now) (kind token.now) }
 {
     for row in rows {
         if is_of(token, Sign::Op(row.0)) {

@@ -1,5 +1,7 @@
 //! Looking at the next tokens: sets of kinds of tokens as data, and where reading stopped.
 //!
+//! # What it is for
+//!
 //! A set of tokens is a slice of [`Sign`], a table of operators a slice of pairs. A [`Stop`] lends the tokens from the fault on.
 //!
 //! # What is proved

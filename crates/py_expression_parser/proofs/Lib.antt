@@ -1,4 +1,5 @@
 pub mod Lines
+pub mod Made
 pub mod Ladder
 pub mod Texts
 pub mod Shapes

@@ -8,17 +8,17 @@ use Rattle.grammar.proofs.Along.{reader_takes}
 use Rattle.grammar_code.specs.Walk.{Up, ground, up, walk, whole}
 use Rattle.grammar_code.proofs.Walk.{Eats, line_walk}
 use Rattle.py_cursor.specs.py_expressions.Sorts.{El, sort, Name}
-use Rattle.py_cursor.specs.py_expressions.Lines.{expressions, none, no_reader, body}
+use Rattle.py_cursor.specs.py_expressions.Lines.{expressions, no_fars, no_reader, body}
 use Rattle.py_cursor.proofs.py_expressions_lemmas.Good.{good_expressions}
 use Rattle.py_expression_parser.specs.Reads.{reads}
 
 -- A LINE, as code goes along it
-pub line : (m : ℕ) (r : Name) (ts : List Token) → 0 < m → reads m r ts ≡ walk expressions (m - 1) no_reader (readers expressions no_reader m) (readers expressions no_reader (m - 1)) true (body r) (tt, ground) ts whole None
+pub line : (m : ℕ) (r : Name) (ts : List Token) → 0 < m → reads m r ts ≡ walk expressions (m - 1) no_reader (readers expressions no_reader m) (readers expressions no_reader (m - 1)) true {B = sort r} (body r) (tt, ground) ts whole None
 line m r ts h = line_walk expressions good_expressions no_reader m r ts h
 
 -- what a line reads takes a token
 pub takes : (m : ℕ) (r : Name) (ts : List Token) (y : El (sort r) × ℕ) (rest : List Token) → reads m r ts ≡ Found y rest → length rest < length ts
-takes m r ts y rest e = reader_takes expressions good_expressions none none no_reader (λ q. absurd q) m r ts y rest e
+takes m r ts y rest e = reader_takes expressions good_expressions no_fars no_fars no_reader (λ q. absurd q) m r ts y rest e
 
 pub all_eat : (m : ℕ) (r : Name) → Eats (readers expressions no_reader m r)
 all_eat m r = takes m r

@@ -21,7 +21,7 @@ use Rattle.py_cursor.specs.py_expressions.Sorts.{other, atom, primary, power, un
 use Rattle.grammar.specs.Table.{when, give, ◌⨾◌, ◌∣◌}
 use Rattle.py_cursor.specs.py_expressions.Lines.{expressions, no_reader, prefixes, pair, key, mark, part, E1, A0}
 use Rattle.py_nodes.specs.Parts.{no_pairs}
-use Rattle.py_expression_parser.specs.Reads.{reads, reads_all, reads_part, listed}
+use Rattle.py_expression_parser.specs.Reads.{reads, reads_all, reads_part, operator_list}
 use Rattle.py_expression_parser.specs.Pieces.{constant_on, leaf_on, texts_on, texts_more, group_on, list_on, dict_on, items, pairs_more, pair_on}
 use Rattle.py_expression_parser.proofs.Lines.{line, all_eat, room_goes, room_stays, two_goes, two_stays}
 
@@ -59,10 +59,10 @@ pub not_shape : (m : ℕ) (ts : List Token) → 0 < m → reads m negation ts �
 not_shape m ts h = line m negation ts h ∙ ap (λ v. pick (first_of kind (k.not ∷ []) ts) (λ o. cond (nat_le 1 (m - 1)) (reads (m - 1) negation o.1 >>= λ y. Found (Not o.0.at y.0.0, 1 + y.0.1) y.1) (Deep ts)) v) (bind_found_same (reads m compare ts))
 
 -- unary = ( "-" | "+" | "~" ) unary | power
-pub unary_shape : (m : ℕ) (ts : List Token) → 0 < m → reads m unary ts ≡ pick (first_meant kind (listed prefixes) ts) (λ o. cond (nat_le 1 (m - 1)) (reads (m - 1) unary o.1 >>= λ y. Found (Unary o.0.0.at o.0.1 y.0.0, 1 + y.0.1) y.1) (Deep ts)) (reads m power ts)
+pub unary_shape : (m : ℕ) (ts : List Token) → 0 < m → reads m unary ts ≡ pick (first_meant kind (operator_list prefixes) ts) (λ o. cond (nat_le 1 (m - 1)) (reads (m - 1) unary o.1 >>= λ y. Found (Unary o.0.0.at o.0.1 y.0.0, 1 + y.0.1) y.1) (Deep ts)) (reads m power ts)
 unary_shape m ts h = line m unary ts h
     ∙ walk_one_of expressions (m - 1) no_reader (readers expressions no_reader m) (readers expressions no_reader (m - 1)) (nat_le 1 (m - 1)) {S = nothing} {A = prefix} {B = tree} (λ _ u o. (u.at, o)) prefixes.0 prefixes.1 (tt, ground) ts (λ y. reads (m - 1) unary y.1 >>= λ e. Found (Unary y.0.0.0 y.0.0.1 e.0.0, 1 + tall (above y.0.1 e.0.1)) e.1) (reads m power ts >>= λ y. Found y.0 y.1)
-    ∙ ap (λ v. pick (first_meant kind (listed prefixes) ts) (λ o. cond (nat_le 1 (m - 1)) (reads (m - 1) unary o.1 >>= λ y. Found (Unary o.0.0.at o.0.1 y.0.0, 1 + y.0.1) y.1) (Deep ts)) v) (bind_found_same (reads m power ts))
+    ∙ ap (λ v. pick (first_meant kind (operator_list prefixes) ts) (λ o. cond (nat_le 1 (m - 1)) (reads (m - 1) unary o.1 >>= λ y. Found (Unary o.0.0.at o.0.1 y.0.0, 1 + y.0.1) y.1) (Deep ts)) v) (bind_found_same (reads m power ts))
 
 -- atom = NAME | other
 pub atom_shape : (m : ℕ) (ts : List Token) → 0 < m → reads m atom ts ≡ pick (first_of kind (k.name ∷ []) ts) (λ o. Found (Name o.0.at (text_of o.0), 1) o.1) (reads m other ts)
@@ -73,7 +73,7 @@ pub exprs_shape : (m : ℕ) (ts : List Token) → 0 < m → reads m exprs ts ≡
     (items m (v.item (v.row (at_of y.0.0)) y.0.0, y.0.1) y.1 >>= λ r. Found (Tuple r.0.0.at r.0.0.all, 1 + r.0.1) r.1) (Deep y.1)) (Found y.0 y.1))
 exprs_shape m ts h = line m exprs ts h ∙ bind_eq (reads m expr ts) _ _ (λ y rest.
     pick_begins kind (k.comma ∷ []) rest (fits (m - 1) y.1) _ (Deep rest) (Found (Tuple (at_of y.0) (v.item (v.row (at_of y.0)) y.0).all, 1 + y.1) rest) (Found y rest)
-    ∙ ap (λ v. cond (starts_with kind (k.comma ∷ []) rest) (cond (fits (m - 1) y.1) v (Deep rest)) (Found y rest)) (sym (round_walk expressions (m - 1) no_reader (readers expressions no_reader m) (readers expressions no_reader (m - 1)) (all_eat m) (all_eat (m - 1)) (λ q. absurd q) {S = row} {B = tree} (when (λ r. not r.ended) (key k.comma ⨾ (part expr v.item ∣ give v.ended))) refl (v.item (v.row (at_of y.0)) y.0, y.1) rest (λ r. Found (Tuple r.0.0.at r.0.0.all, 1 + r.0.1) r.1))))
+    ∙ ap (λ v. cond (starts_with kind (k.comma ∷ []) rest) (cond (fits (m - 1) y.1) v (Deep rest)) (Found y rest)) (sym (round_walk expressions (m - 1) no_reader (readers expressions no_reader m) (readers expressions no_reader (m - 1)) (all_eat m) (all_eat (m - 1)) (λ q. absurd q) {S = row} {B = tree} (when (λ r. not r.ended) (key k.comma ⨾ (part expr v.item ∣ give v.close_row))) refl (v.item (v.row (at_of y.0)) y.0, y.1) rest (λ r. Found (Tuple r.0.0.at r.0.0.all, 1 + r.0.1) r.1))))
 
 -- other = NUMBER | "True" | "False" | "None" | TEXT { TEXT } | "(" ")" | "(" exprs ")" | "[" [ exprs ] "]" | "{" [ pair { "," pair } [ "," ] ] "}"
 abbrev brackets : ℕ → List Token → Read Token (Tree × ℕ)

@@ -2,9 +2,10 @@
 use Rattle.std.specs.Prelude.{◌≡◌, ℕ, ◌-◌, ◌+◌, max, cond, not, List, [], ◌∷◌, ◌++◌, Option, Some, None, Result, Ok, Err}
 use Rattle.py_source.specs.declared.pos.Pos.{Pos}
 use Rattle.py_tokens.specs.declared.token.Token.{Token}
+use Rattle.py_tree.specs.declared.expr.ArgName.{ArgName}
 use Rattle.py_tree.specs.declared.op.CmpOp.{CmpOp}
 use Rattle.py_tree.specs.declared.op.CmpOp.TheVariants as comparison
-use Rattle.py_tree.specs.Trees.{Tree, Maybe, Absent, Present, Number, Text, True, False, NoneTree, Paren, Tuple, Listed, Dict, Subscript, Compare, And, Or, Empty}
+use Rattle.py_tree.specs.Trees.{Tree, Maybe, Absent, Present, Name, Number, Text, True, False, NoneTree, Paren, Tuple, Listed, Dict, Attribute, Subscript, Compare, And, Or, Empty}
 use Rattle.parsing.specs.Reading.{Read, Found, Bad, Deep, ◌>>=◌}
 use Rattle.grammar.specs.Table.{give, ◌⨾◌, ◌∣◌, when, join}
 use Rattle.grammar_code.specs.Walk.{first_of, first_meant, starts_with, wanted, pick}
@@ -19,9 +20,12 @@ use Rattle.py_cursor.specs.declared.stop.Stop.{Stop}
 use Rattle.py_cursor.specs.declared.stop.Stop.TheVariants as stops
 use Rattle.py_expression_parser.specs.declared.links.Link.{Link}
 use Rattle.py_expression_parser.specs.declared.links.Link.TheVariants as link
-use Rattle.py_expression_parser.specs.Reads.{reads, reads_part, reads_all, listed}
+use Rattle.py_expression_parser.specs.Reads.{reads, reads_part, reads_all, operator_list}
 
 -- LEAVES
+abbrev pub name_on : Token → List Token → Read Token (Tree × ℕ)
+name_on t ts = Found (Name t.at (text_of t), 1) ts
+
 abbrev pub constant_on : List Token → Option (Tree × List Token)
 constant_on ts = pick (first_of kind (k.true ∷ []) ts) (λ o. Some (True o.0.at, o.1)) (pick (first_of kind (k.false ∷ []) ts) (λ o. Some (False o.0.at, o.1)) (pick (first_of kind (k.none ∷ []) ts) (λ o. Some (NoneTree o.0.at, o.1)) None))
 
@@ -47,9 +51,16 @@ GivesMaybe seen (Ok None) read = read ≡ None
 GivesMaybe seen (Ok (Some x)) read = read ≡ Some (Found (seen x).0 (seen x).1)
 GivesMaybe seen (Err e) read = FailsMaybe e read
 
+-- what was made, with the tokens behind it; or memory ran out
+abbrev pub Beside : {X E Y : Type 0} → (Y → X × List Token) → Result X E → List Token → Result Y Stop → Type 0
+Beside seen (Ok x) ts (Ok y) = seen y ≡ (x, ts)
+Beside seen (Ok x) ts (Err stop) = ⊥
+Beside seen (Err e) ts (Ok y) = ⊥
+Beside seen (Err e) ts (Err stop) = stop ≡ stops.Memory
+
 -- ITEMS with commas between them, behind the first
 abbrev pub items : ℕ → v.Row × ℕ → List Token → Read Token (v.Row × ℕ)
-items m s ts = reads_all m {S = row} (when (λ r. not r.ended) (key k.comma ⨾ (part expr v.item ∣ give v.ended))) s ts
+items m s ts = reads_all m {S = row} (when (λ r. not r.ended) (key k.comma ⨾ (part expr v.item ∣ give v.close_row))) s ts
 
 -- "(" and what stands behind it
 abbrev pub group_on : ℕ → Pos → List Token → Read Token (Tree × ℕ)
@@ -77,9 +88,21 @@ arg_on m s ts = reads_part m arg s ts
 abbrev pub args_more : ℕ → v.Args × ℕ → List Token → Read Token (v.Args × ℕ)
 args_more m s ts = reads_all m {S = args} (when (λ a. not a.ended) (key k.comma ⨾ (arg ∣ give v.end_args))) s ts
 
+-- the name that a value is, where "=" stands behind it
+abbrev pub assigned_on : Tree → List Token → Option (ArgName × List Token)
+assigned_on e ts = pick (first_of kind (k.equal ∷ []) ts) (λ o. pick (v.name_in e) (λ n. Some (n, o.1)) None) None
+
 -- what may stand behind the first ":" of a slice and a value there
 unfoldable pub slice_more : ℕ → Maybe × ℕ → List Token → Read Token ((Maybe × Maybe) × ℕ)
 slice_more m s ts = reads_part m {S = upto} (second (λ x. x)) s ts
+
+-- with which tokens more begins behind a value
+abbrev pub trailer_marks : List ℕ
+trailer_marks = k.dot ∷ k.left_paren ∷ k.left_bracket ∷ []
+
+-- a name behind "."
+abbrev pub attribute_on : Tree × ℕ → List Token → Read Token (Tree × ℕ)
+attribute_on s ts = wanted kind (k.name ∷ []) ts >>= λ u. Found (Attribute (at_of s.0) s.0 (text_of u.0), 1 + s.1) u.1
 
 -- ".", "(" or "[" behind a value
 abbrev pub trailer_on : ℕ → Tree × ℕ → List Token → Read Token (Tree × ℕ)
@@ -97,10 +120,10 @@ operand_of m link.Compare ts = reads m bitor ts
 operand_of m link.And ts = reads m negation ts
 operand_of m link.Or ts = reads m conjunct ts
 
-abbrev pub linked : ℕ → Link → List Token → Read Token (Tree × ℕ)
-linked m link.Compare ts = reads m compare ts
-linked m link.And ts = reads m conjunct ts
-linked m link.Or ts = reads m disjunct ts
+abbrev pub linkage : ℕ → Link → List Token → Read Token (Tree × ℕ)
+linkage m link.Compare ts = reads m compare ts
+linkage m link.And ts = reads m conjunct ts
+linkage m link.Or ts = reads m disjunct ts
 
 -- from the tightest
 abbrev pub links_place : Link → ℕ
@@ -110,13 +133,13 @@ links_place link.Or = 5
 
 -- with which tokens a link begins
 abbrev pub links_of : Link → List ℕ
-links_of link.Compare = k.equal_equal ∷ k.not_equal ∷ k.less ∷ k.less_equal ∷ k.greater ∷ k.greater_equal ∷ k.in_word ∷ k.not ∷ k.is ∷ []
+links_of link.Compare = k.equal_equal ∷ k.not_equal ∷ k.less_than ∷ k.less_equal ∷ k.greater ∷ k.greater_equal ∷ k.in_word ∷ k.not ∷ k.is ∷ []
 links_of link.And = k.and ∷ []
 links_of link.Or = k.or ∷ []
 
 -- a comparison of one or two words
 abbrev pub comparison_on : List Token → Read Token CmpOp
-comparison_on ts = pick (first_meant kind (listed comparisons) ts) (λ o. Found o.0.1 o.1)
+comparison_on ts = pick (first_meant kind (operator_list comparisons) ts) (λ o. Found o.0.1 o.1)
     (pick (first_of kind (k.not ∷ []) ts) (λ o. wanted kind (k.in_word ∷ []) o.1 >>= λ i. Found comparison.NotIn i.1)
     (wanted kind (k.is ∷ []) ts >>= λ o. pick (first_of kind (k.not ∷ []) o.1) (λ t. Found comparison.IsNot t.1) (Found comparison.Is o.1)))
 
@@ -126,17 +149,17 @@ link_on link.And ts = wanted kind (k.and ∷ []) ts >>= λ o. Found None o.1
 link_on link.Or ts = wanted kind (k.or ∷ []) ts >>= λ o. Found None o.1
 
 -- a link and an operand behind a chain
-abbrev pub link_step : ℕ → Link → v.Chain × ℕ → List Token → Read Token (v.Chain × ℕ)
+abbrev pub link_step : ℕ → Link → v.OperandChain × ℕ → List Token → Read Token (v.OperandChain × ℕ)
 link_step m l s ts = link_on l ts >>= λ o. operand_of (m - 1) l o.1 >>= λ y. Found (v.operand (with_op s.0 o.0) y.0.0, max s.1 y.0.1) y.1
 
 -- the tree of a chain
-abbrev pub chain_tree : Link → v.Chain → Tree
+abbrev pub chain_tree : Link → v.OperandChain → Tree
 chain_tree link.Compare c = Compare (at_of c.head) c.head c.ops c.more
 chain_tree link.And c = And (at_of c.head) c.head c.more
 chain_tree link.Or c = Or (at_of c.head) c.head c.more
 
 -- links and operands behind a chain
-abbrev pub links_more : ℕ → Link → v.Chain × ℕ → List Token → Read Token (v.Chain × ℕ)
+abbrev pub links_more : ℕ → Link → v.OperandChain × ℕ → List Token → Read Token (v.OperandChain × ℕ)
 links_more m link.Compare s ts = reads_all m {S = chain} (compared (λ c. c)) s ts
 links_more m link.And s ts = reads_all m {S = chain} (worded k.and (λ c. c) (part negation v.operand)) s ts
 links_more m link.Or s ts = reads_all m {S = chain} (worded k.or (λ c. c) (part conjunct v.operand)) s ts

@@ -51,14 +51,14 @@ place_of rank.And = 4
 place_of rank.Xor = 5
 place_of rank.Or = 6
 
-abbrev pub listed : {V : Type 0} → (ℕ × V) × List (ℕ × V) → List (ℕ × V)
-listed ops = ops.0 ∷ ops.1
+abbrev pub operator_list : {V : Type 0} → (ℕ × V) × List (ℕ × V) → List (ℕ × V)
+operator_list ops = ops.0 ∷ ops.1
 
 abbrev pub operators_of : Rank → List (ℕ × BinOp)
 operators_of rank.Unary = []
-operators_of rank.Product = listed products
-operators_of rank.Sum = listed sums
-operators_of rank.Shift = listed shifts
-operators_of rank.And = listed ands
-operators_of rank.Xor = listed xors
-operators_of rank.Or = listed ors
+operators_of rank.Product = operator_list products
+operators_of rank.Sum = operator_list sums
+operators_of rank.Shift = operator_list shifts
+operators_of rank.And = operator_list ands
+operators_of rank.Xor = operator_list xors
+operators_of rank.Or = operator_list ors

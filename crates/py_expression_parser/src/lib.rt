@@ -1,5 +1,10 @@
 //! Reading expressions: a function for each line of the grammar, which gives exactly what the table's reader of that line gives.
 //!
+//! # What it is for
+//!
+//! Sets of tokens and tables of operators are data. `binary` serves all ranks of operators with one loop, `chained` comparisons,
+//! `and` and `or`.
+//!
 //! # What is proved
 //!
 //! `expression` and `expressions` (clause `reads`): the tree, its height and the tokens behind it; or the tokens from the first
@@ -7,9 +12,6 @@
 //! reading with so many levels, or the first token at which there is none. The same of `arguments`, `slice` and `other_atom`,
 //! which targets are read with. No tree is higher than the levels that were left (`fits`), so a call goes no deeper into
 //! itself than so many levels, and what isn't counted is read by loops.
-//!
-//! Sets of tokens and tables of operators are data. `binary` serves all ranks of operators with one loop, `chained` comparisons,
-//! `and` and `or`.
 //!
 //! # What tests alone show
 //!

@@ -1,10 +1,13 @@
 ghost use Rattle.std.specs.Prelude.{◌≡◌, ◌<◌, ◌+◌, max, IfOk};
 ghost use Rattle.py_tree.specs.Trees.{tree};
+ghost use Rattle.grammar_code.specs.Walk.{starts_with};
 ghost use Rattle.py_nodes.specs.Parts.{chain_of};
+ghost use Rattle.py_cursor.specs.token_kinds.Kinds.{kind};
 ghost use Rattle.py_cursor.specs.Cursor.{kinds_of, Gives};
 ghost use Rattle.py_expression_parser.specs.Pieces.{comparison_on, link_on, links_of, chain_tree};
 
-use py_cursor::{Sign, Stop, expect, first_meant, first_of};
+use crate::marks::{expect_op, first_op};
+use py_cursor::{Sign, Stop, begins, first_meant};
 use py_nodes::{Chain, Node, and_node, compare_node, or_node};
 use py_tokens::{Op, Token};
 use py_tree::CmpOp;
@@ -19,7 +22,7 @@ pub enum Link {
 }
 
 /// With which tokens a link begins.
-pub fn link_signs(link: Link) -> &'static [Sign]
+fn link_signs(link: Link) -> &'static [Sign]
     ensures { kinds_of result.now ≡ links_of link }
 {
     match link {
@@ -39,6 +42,13 @@ pub fn link_signs(link: Link) -> &'static [Sign]
     }
 }
 
+/// Whether a link begins with the first token.
+pub fn begins_link(link: Link, tokens: &[Token]) -> bool
+    ensures { result ≡ starts_with kind (links_of link) tokens.now }
+{
+    begins(tokens, link_signs(link))
+}
+
 /// A comparison, of one word or two.
 fn comparison(tokens: &[Token]) -> Result<(CmpOp, &[Token]), Stop<'_>>
     ensures { Gives (λ x. (x.0, x.1.now)) result (comparison_on tokens.now) }
@@ -55,12 +65,12 @@ fn comparison(tokens: &[Token]) -> Result<(CmpOp, &[Token]), Stop<'_>>
     if let Some((_token, op, after)) = first_meant(tokens, &rows) {
         return Ok((op, after));
     }
-    if let Some((_not, after)) = first_of(tokens, &[Sign::Op(Op::Not)]) {
-        let (_in, after) = expect(after, &[Sign::Op(Op::In)])?;
+    if let Some((_not, after)) = first_op(tokens, Op::Not) {
+        let (_in, after) = expect_op(after, Op::In)?;
         return Ok((CmpOp::NotIn, after));
     }
-    let (_is, after) = expect(tokens, &[Sign::Op(Op::Is)])?;
-    match first_of(after, &[Sign::Op(Op::Not)]) {
+    let (_is, after) = expect_op(tokens, Op::Is)?;
+    match first_op(after, Op::Not) {
         Some((_not, after)) => Ok((CmpOp::IsNot, after)),
         None => Ok((CmpOp::Is, after)),
     }
@@ -78,7 +88,7 @@ pub fn link_at(link: Link, tokens: &[Token]) -> Result<(Option<CmpOp>, &[Token])
         Link::And => Op::And,
         Link::Or => Op::Or,
     };
-    let (_word, after) = expect(tokens, &[Sign::Op(word)])?;
+    let (_word, after) = expect_op(tokens, word)?;
     Ok((None, after))
 }
 

@@ -1,9 +1,13 @@
-ghost use Rattle.std.specs.Prelude.{◌≡◌, ◌∷◌};
+ghost use Rattle.std.specs.Prelude.{◌≡◌, ◌∷◌, MatchOption, None, Some};
+ghost use Rattle.grammar_code.specs.Walk.{first_meant};
+ghost use Rattle.py_cursor.specs.token_kinds.Kinds.{kind};
+ghost use Rattle.py_cursor.specs.py_expressions.Lines.{prefixes};
 ghost use Rattle.py_cursor.specs.Cursor.{rows_of};
-ghost use Rattle.py_expression_parser.specs.Reads.{lower_of, operators_of};
+ghost use Rattle.py_expression_parser.specs.Reads.{operator_list, lower_of, operators_of};
 
-use py_tokens::Op;
-use py_tree::BinOp;
+use py_cursor::first_meant;
+use py_tokens::{Op, Token};
+use py_tree::{BinOp, UnOp};
 
 /// A rank of binary operators, from the tightest; what stands below them all is unary.
 #[derive(Clone, Copy)]
@@ -31,7 +35,7 @@ pub fn lower(rank: Rank) -> Rank
 }
 
 /// The operators of a rank.
-pub fn operators(rank: Rank) -> &'static [(Op, BinOp)]
+fn operators(rank: Rank) -> &'static [(Op, BinOp)]
     ensures { rows_of result.now ≡ operators_of rank }
 {
     match rank {
@@ -50,4 +54,23 @@ pub fn operators(rank: Rank) -> &'static [(Op, BinOp)]
         Rank::Xor => &[(Op::Caret, BinOp::BitXor)],
         Rank::Or => &[(Op::Bar, BinOp::BitOr)],
     }
+}
+
+/// The first token, where it is an operator of the rank, the operator, and the tokens behind it.
+pub fn operator_at(rank: Rank, tokens: &[Token]) -> Option<(&Token, BinOp, &[Token])>
+    ensures { MatchOption result (first_meant kind (operators_of rank) tokens.now ≡ None) (λ x. first_meant kind (operators_of rank) tokens.now ≡ Some ((x.0.now, x.1), x.2.now)) }
+{
+    first_meant(tokens, operators(rank))
+}
+
+/// The first token, where it is a sign, the sign, and the tokens behind it.
+pub fn prefix_at(tokens: &[Token]) -> Option<(&Token, UnOp, &[Token])>
+    ensures { MatchOption result (first_meant kind (operator_list prefixes) tokens.now ≡ None) (λ x. first_meant kind (operator_list prefixes) tokens.now ≡ Some ((x.0.now, x.1), x.2.now)) }
+{
+    let signs = [
+        (Op::Minus, UnOp::Minus),
+        (Op::Plus, UnOp::Plus),
+        (Op::Tilde, UnOp::Invert),
+    ];
+    first_meant(tokens, &signs)
 }

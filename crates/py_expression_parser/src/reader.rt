@@ -5,22 +5,25 @@ ghost use Rattle.py_cursor.specs.py_expressions.Sorts.{other, atom, arguments, s
 ghost use Rattle.py_nodes.specs.Parts.{row_of, pairs_of, args_of, chain_of, maybe_of, high_of};
 ghost use Rattle.py_cursor.specs.Cursor.{Gives};
 ghost use Rattle.py_expression_parser.specs.Reads.{reads, ranked};
-ghost use Rattle.py_expression_parser.specs.Pieces.{linked, operand_of, links_more, trailer_on, index_on, slice_more, arg_on, args_more, group_on, list_on, items, pair_on, pairs_more, dict_on};
+ghost use Rattle.py_expression_parser.specs.Pieces.{linkage, operand_of, links_more, trailer_on, index_on, slice_more, arg_on, args_more, group_on, list_on, items, pair_on, pairs_more, dict_on};
 
-use crate::leaves::{leaf, name_of};
-use crate::links::{Link, chain_node, link_at, link_signs};
-use crate::marks::{BEGINS_EXPRESSION, BEGINS_OTHER, TRAILERS};
-use crate::ranks::{Rank, lower, operators};
-use py_cursor::{Sign, Stop, begins, blocked, expect, first_meant, first_of};
+use crate::leaves::{assigned, attribute, first_item, leaf, name_leaf, with_rest};
+use crate::links::{Link, begins_link, chain_node, link_at};
+use crate::marks::{
+    begins_expression, begins_op, begins_trailer, expect_op, first_op, lacks_bound, no_expression,
+    no_other,
+};
+use crate::ranks::{Rank, lower, operator_at, prefix_at};
+use py_cursor::{Sign, Stop, first_of};
 use py_nodes::{
     Arguments, Bounds, Chain, Node, Pairs, Row, add_argument, add_item, add_named, add_operand,
-    add_pair, attribute_node, binary_node, call_node, chain_of, dict_node, end_arguments,
-    end_pairs, end_row, if_else_node, leaf_node, list_node, name_in, no_arguments, no_pairs,
-    not_node, paren_node, row_at, slice_node, subscript_node, tuple_node, unary_node,
+    add_pair, binary_node, call_node, chain_of, dict_node, end_arguments, end_pairs, end_row,
+    if_else_node, list_node, no_arguments, no_pairs, not_node, paren_node, row_at, slice_node,
+    subscript_node, tuple_node, unary_node,
 };
 use py_source::Pos;
 use py_tokens::{Op, Token};
-use py_tree::{BinOp, ExprKind, UnOp};
+use py_tree::BinOp;
 use std::alloc::Global;
 
 /// Expressions with commas between them, or one.
@@ -36,18 +39,18 @@ pub fn expressions(
     ensures fits { IfOk result (λ x. x.0.height ≤ levels) }
 {
     if levels == 0 {
-        return Err(blocked(tokens, &BEGINS_EXPRESSION));
+        return Err(no_expression(tokens));
     }
     let (first, rest) = expression(alloc, levels, tokens)?;
-    if !begins(rest, &[Sign::Op(Op::Comma)]) {
+    if !begins_op(rest, Op::Comma) {
         return Ok((first, rest));
     }
     if first.height >= levels {
         return Err(Stop::Deep(rest));
     }
-    let row = add_item(row_at(alloc, first.expr.at), first)?;
+    let row = first_item(alloc, first)?;
     let (row, rest) = items(alloc, levels, row, rest)?;
-    Ok((tuple_node(alloc, row)?, rest))
+    with_rest(tuple_node(alloc, row), rest)
 }
 
 /// Items behind the first, with commas between them, and maybe one at the end.
@@ -68,8 +71,8 @@ fn items(
 {
     let mut row = row;
     let mut rest = tokens;
-    while let Some((_comma, after)) = first_of(rest, &[Sign::Op(Op::Comma)]) {
-        if !begins(after, &BEGINS_EXPRESSION) {
+    while let Some((_comma, after)) = first_op(rest, Op::Comma) {
+        if !begins_expression(after) {
             return Ok((end_row(row), after));
         }
         let (next, after) = expression(alloc, levels - 1, after)?;
@@ -92,19 +95,19 @@ pub fn expression(
     ensures fits { IfOk result (λ x. x.0.height ≤ levels) }
 {
     if levels == 0 {
-        return Err(blocked(tokens, &BEGINS_EXPRESSION));
+        return Err(no_expression(tokens));
     }
     let (value, rest) = chained(alloc, Link::Or, levels, tokens)?;
-    let Some((_if, after)) = first_of(rest, &[Sign::Op(Op::If)]) else {
+    let Some((_if, after)) = first_op(rest, Op::If) else {
         return Ok((value, rest));
     };
     if value.height >= levels {
         return Err(Stop::Deep(rest));
     }
     let (condition, after) = chained(alloc, Link::Or, levels - 1, after)?;
-    let (_else, after) = expect(after, &[Sign::Op(Op::Else)])?;
+    let (_else, after) = expect_op(after, Op::Else)?;
     let (other, after) = expression(alloc, levels - 1, after)?;
-    Ok((if_else_node(alloc, value, condition, other)?, after))
+    with_rest(if_else_node(alloc, value, condition, other), after)
 }
 
 /// Operands with links between them, or one.
@@ -118,18 +121,18 @@ fn chained(
 ) -> Result<(Node, &[Token]), Stop<'_>>
     requires some { 0 < levels }
     requires few { levels ≤ most_levels }
-    ensures reads { Gives (λ x. ((tree x.0.expr.value, x.0.height), x.1.now)) result (linked levels link tokens.now) }
+    ensures reads { Gives (λ x. ((tree x.0.expr.value, x.0.height), x.1.now)) result (linkage levels link tokens.now) }
     ensures fits { IfOk result (λ x. x.0.height ≤ levels) }
 {
     let (first, rest) = operand(alloc, link, levels, tokens)?;
-    if !begins(rest, link_signs(link)) {
+    if !begins_link(link, rest) {
         return Ok((first, rest));
     }
     if first.height >= levels {
         return Err(Stop::Deep(rest));
     }
     let (chain, rest) = further(alloc, link, levels, chain_of(alloc, first), rest)?;
-    Ok((chain_node(alloc, link, chain)?, rest))
+    with_rest(chain_node(alloc, link, chain), rest)
 }
 
 /// Links and operands behind a chain.
@@ -150,7 +153,7 @@ fn further(
 {
     let mut chain = chain;
     let mut rest = tokens;
-    while begins(rest, link_signs(link)) {
+    while begins_link(link, rest) {
         let (op, after) = link_at(link, rest)?;
         let (next, after) = operand(alloc, link, levels - 1, after)?;
         chain = add_operand(chain, op, next)?;
@@ -188,14 +191,14 @@ fn negation(alloc: Global, levels: u32, tokens: &[Token]) -> Result<(Node, &[Tok
     ensures reads { Gives (λ x. ((tree x.0.expr.value, x.0.height), x.1.now)) result (reads levels negation tokens.now) }
     ensures fits { IfOk result (λ x. x.0.height ≤ levels) }
 {
-    let Some((not, after)) = first_of(tokens, &[Sign::Op(Op::Not)]) else {
+    let Some((not, after)) = first_op(tokens, Op::Not) else {
         return chained(alloc, Link::Compare, levels, tokens);
     };
     if levels < 2 {
         return Err(Stop::Deep(tokens));
     }
     let (inner, after) = negation(alloc, levels - 1, after)?;
-    Ok((not_node(alloc, not.at, inner)?, after))
+    with_rest(not_node(alloc, not.at, inner), after)
 }
 
 /// Operands with the operators of a rank between them.
@@ -216,7 +219,7 @@ fn binary(
         return unary(alloc, levels, tokens);
     }
     let (mut left, mut rest) = binary(alloc, lower(rank), levels, tokens)?;
-    while let Some((_token, op, after)) = first_meant(rest, operators(rank)) {
+    while let Some((_token, op, after)) = operator_at(rank, rest) {
         if left.height >= levels {
             return Err(Stop::Deep(rest));
         }
@@ -236,19 +239,14 @@ fn unary(alloc: Global, levels: u32, tokens: &[Token]) -> Result<(Node, &[Token]
     ensures reads { Gives (λ x. ((tree x.0.expr.value, x.0.height), x.1.now)) result (reads levels unary tokens.now) }
     ensures fits { IfOk result (λ x. x.0.height ≤ levels) }
 {
-    let signs = [
-        (Op::Minus, UnOp::Minus),
-        (Op::Plus, UnOp::Plus),
-        (Op::Tilde, UnOp::Invert),
-    ];
-    let Some((sign, op, after)) = first_meant(tokens, &signs) else {
+    let Some((sign, op, after)) = prefix_at(tokens) else {
         return power(alloc, levels, tokens);
     };
     if levels < 2 {
         return Err(Stop::Deep(tokens));
     }
     let (inner, after) = unary(alloc, levels - 1, after)?;
-    Ok((unary_node(alloc, sign.at, op, inner)?, after))
+    with_rest(unary_node(alloc, sign.at, op, inner), after)
 }
 
 /// A primary, or its power.
@@ -261,14 +259,14 @@ fn power(alloc: Global, levels: u32, tokens: &[Token]) -> Result<(Node, &[Token]
     ensures fits { IfOk result (λ x. x.0.height ≤ levels) }
 {
     let (left, rest) = primary(alloc, levels, tokens)?;
-    let Some((_sign, after)) = first_of(rest, &[Sign::Op(Op::DoubleStar)]) else {
+    let Some((_sign, after)) = first_op(rest, Op::DoubleStar) else {
         return Ok((left, rest));
     };
     if left.height >= levels {
         return Err(Stop::Deep(rest));
     }
     let (right, after) = unary(alloc, levels - 1, after)?;
-    Ok((binary_node(alloc, left, BinOp::Pow, right)?, after))
+    with_rest(binary_node(alloc, left, BinOp::Pow, right), after)
 }
 
 /// An atom, and attributes, calls and subscripts of it.
@@ -281,7 +279,7 @@ fn primary(alloc: Global, levels: u32, tokens: &[Token]) -> Result<(Node, &[Toke
     ensures fits { IfOk result (λ x. x.0.height ≤ levels) }
 {
     let (mut left, mut rest) = atom(alloc, levels, tokens)?;
-    while begins(rest, &TRAILERS) {
+    while begins_trailer(rest) {
         if left.height >= levels {
             return Err(Stop::Deep(rest));
         }
@@ -306,15 +304,14 @@ fn trailer(
     ensures reads { Gives (λ x. ((tree x.0.expr.value, x.0.height), x.1.now)) result (trailer_on levels (tree of.expr.value, of.height) tokens.now) }
     ensures fits { IfOk result (λ x. x.0.height ≤ levels) }
 {
-    if let Some((_dot, after)) = first_of(tokens, &[Sign::Op(Op::Dot)]) {
-        let (name, after) = expect(after, &[Sign::Name])?;
-        return Ok((attribute_node(alloc, of, name_of(alloc, name)?)?, after));
+    if let Some((_dot, after)) = first_op(tokens, Op::Dot) {
+        return attribute(alloc, of, after);
     }
-    if begins(tokens, &[Sign::Op(Op::LeftParen)]) {
+    if begins_op(tokens, Op::LeftParen) {
         let (arguments, after) = arguments(alloc, levels, tokens)?;
-        return Ok((call_node(alloc, of, arguments)?, after));
+        return with_rest(call_node(alloc, of, arguments), after);
     }
-    let (_open, after) = expect(tokens, &[Sign::Op(Op::LeftBracket)])?;
+    let (_open, after) = expect_op(tokens, Op::LeftBracket)?;
     subscript(alloc, levels, of, after)
 }
 
@@ -331,16 +328,16 @@ fn subscript(
     ensures reads { Gives (λ x. ((tree x.0.expr.value, x.0.height), x.1.now)) result (index_on levels (tree of.expr.value, of.height) tokens.now) }
     ensures fits { IfOk result (λ x. x.0.height ≤ levels) }
 {
-    if begins(tokens, &[Sign::Op(Op::Colon)]) {
+    if begins_op(tokens, Op::Colon) {
         let (bounds, after) = slice(alloc, levels, tokens)?;
-        return Ok((slice_node(alloc, of, None, bounds)?, after));
+        return with_rest(slice_node(alloc, of, None, bounds), after);
     }
     let (index, after) = expression(alloc, levels - 1, tokens)?;
-    if let Some((_close, after)) = first_of(after, &[Sign::Op(Op::RightBracket)]) {
-        return Ok((subscript_node(alloc, of, index)?, after));
+    if let Some((_close, after)) = first_op(after, Op::RightBracket) {
+        return with_rest(subscript_node(alloc, of, index), after);
     }
     let (bounds, after) = slice(alloc, levels, after)?;
-    Ok((slice_node(alloc, of, Some(index), bounds)?, after))
+    with_rest(slice_node(alloc, of, Some(index), bounds), after)
 }
 
 /// What stands from the first `:` of a slice on.
@@ -352,8 +349,8 @@ pub fn slice(alloc: Global, levels: u32, tokens: &[Token]) -> Result<(Bounds, &[
     ensures reads { Gives (λ x. (((maybe_of x.0.to, maybe_of x.0.by), 1 + max (high_of x.0.to) (high_of x.0.by)), x.1.now)) result (reads levels slice tokens.now) }
     ensures fits { IfOk result (λ x. max (high_of x.0.to) (high_of x.0.by) < levels) }
 {
-    let (_colon, after) = expect(tokens, &[Sign::Op(Op::Colon)])?;
-    if begins(after, &[Sign::Op(Op::RightBracket), Sign::Op(Op::Colon)]) {
+    let (_colon, after) = expect_op(tokens, Op::Colon)?;
+    if lacks_bound(after) {
         return bounds(alloc, levels, None, after);
     }
     let (to, after) = expression(alloc, levels - 1, after)?;
@@ -375,15 +372,15 @@ fn bounds(
     ensures reads { Gives (λ x. (((maybe_of x.0.to, maybe_of x.0.by), 1 + max (high_of x.0.to) (high_of x.0.by)), x.1.now)) result (slice_more levels (maybe_of to, high_of to) tokens.now) }
     ensures fits { IfOk result (λ x. max (high_of x.0.to) (high_of x.0.by) < levels) }
 {
-    if let Some((_close, after)) = first_of(tokens, &[Sign::Op(Op::RightBracket)]) {
+    if let Some((_close, after)) = first_op(tokens, Op::RightBracket) {
         return Ok((Bounds { to, by: None }, after));
     }
-    let (_colon, after) = expect(tokens, &[Sign::Op(Op::Colon)])?;
-    if let Some((_close, after)) = first_of(after, &[Sign::Op(Op::RightBracket)]) {
+    let (_colon, after) = expect_op(tokens, Op::Colon)?;
+    if let Some((_close, after)) = first_op(after, Op::RightBracket) {
         return Ok((Bounds { to, by: None }, after));
     }
     let (by, after) = expression(alloc, levels - 1, after)?;
-    let (_close, after) = expect(after, &[Sign::Op(Op::RightBracket)])?;
+    let (_close, after) = expect_op(after, Op::RightBracket)?;
     Ok((Bounds { to, by: Some(by) }, after))
 }
 
@@ -400,14 +397,14 @@ pub fn arguments(
     ensures reads { Gives (λ x. ((args_of x.0, 1 + x.0.all.height), x.1.now)) result (reads levels arguments tokens.now) }
     ensures fits { IfOk result (λ x. x.0.all.height < levels) }
 {
-    let (_open, after) = expect(tokens, &[Sign::Op(Op::LeftParen)])?;
+    let (_open, after) = expect_op(tokens, Op::LeftParen)?;
     let none = no_arguments(alloc);
-    if let Some((_close, after)) = first_of(after, &[Sign::Op(Op::RightParen)]) {
+    if let Some((_close, after)) = first_op(after, Op::RightParen) {
         return Ok((none, after));
     }
     let (first, after) = argument(alloc, levels, none, after)?;
     let (all, after) = more_arguments(alloc, levels, first, after)?;
-    let (_close, after) = expect(after, &[Sign::Op(Op::RightParen)])?;
+    let (_close, after) = expect_op(after, Op::RightParen)?;
     Ok((all, after))
 }
 
@@ -429,8 +426,8 @@ fn more_arguments(
 {
     let mut all = first;
     let mut rest = tokens;
-    while let Some((_comma, after)) = first_of(rest, &[Sign::Op(Op::Comma)]) {
-        if !begins(after, &BEGINS_EXPRESSION) {
+    while let Some((_comma, after)) = first_op(rest, Op::Comma) {
+        if !begins_expression(after) {
             return Ok((end_arguments(all), after));
         }
         let (more, after) = argument(alloc, levels, all, after)?;
@@ -457,14 +454,13 @@ fn argument(
     ensures open { IfOk result (λ x. x.0.ended ≡ false) }
 {
     let (value, after) = expression(alloc, levels - 1, tokens)?;
-    let Some(name) = name_in(&value.expr)? else {
-        return Ok((add_argument(before, value)?, after));
-    };
-    let Some((_equal, after_equal)) = first_of(after, &[Sign::Op(Op::Equal)]) else {
-        return Ok((add_argument(before, value)?, after));
-    };
-    let (value, after) = expression(alloc, levels - 1, after_equal)?;
-    Ok((add_named(before, name, value)?, after))
+    match assigned(&value, after)? {
+        None => with_rest(add_argument(before, value), after),
+        Some((name, after)) => {
+            let (value, after) = expression(alloc, levels - 1, after)?;
+            with_rest(add_named(before, name, value), after)
+        }
+    }
 }
 
 /// A name, or another atom.
@@ -476,11 +472,10 @@ fn atom(alloc: Global, levels: u32, tokens: &[Token]) -> Result<(Node, &[Token])
     ensures reads { Gives (λ x. ((tree x.0.expr.value, x.0.height), x.1.now)) result (reads levels atom tokens.now) }
     ensures fits { IfOk result (λ x. x.0.height ≤ levels) }
 {
-    let Some((name, after)) = first_of(tokens, &[Sign::Name]) else {
-        return other_atom(alloc, levels, tokens);
-    };
-    let kind = ExprKind::Name(name_of(alloc, name)?);
-    Ok((leaf_node(alloc, name.at, kind)?, after))
+    match first_of(tokens, &[Sign::Name]) {
+        Some((name, after)) => name_leaf(alloc, name, after),
+        None => other_atom(alloc, levels, tokens),
+    }
 }
 
 /// An atom that is no name.
@@ -496,18 +491,18 @@ pub fn other_atom(
     ensures fits { IfOk result (λ x. x.0.height ≤ levels) }
 {
     if levels == 0 {
-        return Err(blocked(tokens, &BEGINS_OTHER));
+        return Err(no_other(tokens));
     }
     if let Some(found) = leaf(alloc, tokens)? {
         return Ok(found);
     }
-    if let Some((open, after)) = first_of(tokens, &[Sign::Op(Op::LeftParen)]) {
+    if let Some((open, after)) = first_op(tokens, Op::LeftParen) {
         return group(alloc, levels, open.at, after);
     }
-    if let Some((open, after)) = first_of(tokens, &[Sign::Op(Op::LeftBracket)]) {
+    if let Some((open, after)) = first_op(tokens, Op::LeftBracket) {
         return list(alloc, levels, open.at, after);
     }
-    let (open, after) = expect(tokens, &[Sign::Op(Op::LeftBrace)])?;
+    let (open, after) = expect_op(tokens, Op::LeftBrace)?;
     dict(alloc, levels, open.at, after)
 }
 
@@ -524,12 +519,12 @@ fn group(
     ensures reads { Gives (λ x. ((tree x.0.expr.value, x.0.height), x.1.now)) result (group_on levels at tokens.now) }
     ensures fits { IfOk result (λ x. x.0.height ≤ levels) }
 {
-    if let Some((_close, after)) = first_of(tokens, &[Sign::Op(Op::RightParen)]) {
-        return Ok((tuple_node(alloc, row_at(alloc, at))?, after));
+    if let Some((_close, after)) = first_op(tokens, Op::RightParen) {
+        return with_rest(tuple_node(alloc, row_at(alloc, at)), after);
     }
     let (inner, after) = expressions(alloc, levels - 1, tokens)?;
-    let (_close, after) = expect(after, &[Sign::Op(Op::RightParen)])?;
-    Ok((paren_node(alloc, at, inner)?, after))
+    let (_close, after) = expect_op(after, Op::RightParen)?;
+    with_rest(paren_node(alloc, at, inner), after)
 }
 
 /// What stands behind `[` of a list.
@@ -541,13 +536,13 @@ fn list(alloc: Global, levels: u32, at: Pos, tokens: &[Token]) -> Result<(Node, 
     ensures fits { IfOk result (λ x. x.0.height ≤ levels) }
 {
     let row = row_at(alloc, at);
-    if let Some((_close, after)) = first_of(tokens, &[Sign::Op(Op::RightBracket)]) {
-        return Ok((list_node(alloc, row)?, after));
+    if let Some((_close, after)) = first_op(tokens, Op::RightBracket) {
+        return with_rest(list_node(alloc, row), after);
     }
     let (first, after) = expression(alloc, levels - 1, tokens)?;
     let (row, after) = items(alloc, levels, add_item(row, first)?, after)?;
-    let (_close, after) = expect(after, &[Sign::Op(Op::RightBracket)])?;
-    Ok((list_node(alloc, row)?, after))
+    let (_close, after) = expect_op(after, Op::RightBracket)?;
+    with_rest(list_node(alloc, row), after)
 }
 
 /// What stands behind `{`.
@@ -559,13 +554,13 @@ fn dict(alloc: Global, levels: u32, at: Pos, tokens: &[Token]) -> Result<(Node, 
     ensures fits { IfOk result (λ x. x.0.height ≤ levels) }
 {
     let none = no_pairs(alloc, at);
-    if let Some((_close, after)) = first_of(tokens, &[Sign::Op(Op::RightBrace)]) {
-        return Ok((dict_node(alloc, none)?, after));
+    if let Some((_close, after)) = first_op(tokens, Op::RightBrace) {
+        return with_rest(dict_node(alloc, none), after);
     }
     let (first, after) = pair(alloc, levels, none, tokens)?;
     let (all, after) = more_pairs(alloc, levels, first, after)?;
-    let (_close, after) = expect(after, &[Sign::Op(Op::RightBrace)])?;
-    Ok((dict_node(alloc, all)?, after))
+    let (_close, after) = expect_op(after, Op::RightBrace)?;
+    with_rest(dict_node(alloc, all), after)
 }
 
 /// Pairs behind the first, with commas between them, and maybe one at the end.
@@ -586,8 +581,8 @@ fn more_pairs(
 {
     let mut all = first;
     let mut rest = tokens;
-    while let Some((_comma, after)) = first_of(rest, &[Sign::Op(Op::Comma)]) {
-        if !begins(after, &BEGINS_EXPRESSION) {
+    while let Some((_comma, after)) = first_op(rest, Op::Comma) {
+        if !begins_expression(after) {
             return Ok((end_pairs(all), after));
         }
         let (more, after) = pair(alloc, levels, all, after)?;
@@ -613,7 +608,7 @@ fn pair(
     ensures open { IfOk result (λ x. x.0.ended ≡ before.ended) }
 {
     let (name, after) = expression(alloc, levels - 1, tokens)?;
-    let (_colon, after) = expect(after, &[Sign::Op(Op::Colon)])?;
+    let (_colon, after) = expect_op(after, Op::Colon)?;
     let (value, after) = expression(alloc, levels - 1, after)?;
-    Ok((add_pair(before, name, value)?, after))
+    with_rest(add_pair(before, name, value), after)
 }

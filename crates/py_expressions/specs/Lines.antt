@@ -9,7 +9,6 @@ use Rattle.py_tree.specs.declared.op.UnOp.{UnOp}
 use Rattle.py_tree.specs.declared.op.UnOp.TheVariants as signs
 use Rattle.py_tree.specs.Statements.{NamePlace, AttributePlace, SubscriptPlace, One, Unpack}
 use Rattle.py_tree.specs.Trees as t
-use Rattle.py_tree.specs.Trees.{Tree, Empty, More, Absent, Present}
 use Rattle.std.proofs.Common.{refl}
 use Rattle.grammar.specs.Table.{Part, one_of, keys, token, give, node, line, inner, join, ◌⨾◌, ◌∣◌, many, when, room, lift, seen, until, Grammar, Fars}
 use Rattle.grammar.specs.Levels.{FarReaders}
@@ -17,8 +16,7 @@ use Rattle.parsing.specs.Reading.{Bad}
 use Rattle.token_kinds.specs.Kinds.{kind, text_of, sample}
 use Rattle.token_kinds.specs.Numbers as k
 use Rattle.py_expressions.specs.Values as v
-use Rattle.py_expressions.specs.Values.{at_of}
-use Rattle.py_expressions.specs.Sorts.{Sort, nothing, word, position, tree, quoted, left, operands, prefix, signed, held, chain, either, three, row, pairs, args, holding, naming, finished, upto, ends, sliced, named, indexed, opened, opened_index, aim, place, places, El, Name, other, atom, arguments, slice, primary, single, power, unary, prod, sum, shift, band, xor, bitor, compare, negation, conjunct, disjunct, expr, exprs, targets, sort, rank}
+use Rattle.py_expressions.specs.Sorts.{Sort, nothing, word, position, tree, quoted, left, operands, prefix, signed, held, chain, row, pairs, args, naming, finished, upto, sliced, named, aim, place, places, both, opened, El, Name, other, atom, arguments, slice, primary, single, power, unary, prod, sum, shift, band, xor, bitor, compare, negation, conjunct, disjunct, expr, exprs, targets, sort, rank}
 
 abbrev pub P : Sort → Sort → Type 0
 P S A = Part Token Sort Name ⊥ El sort (λ q. absurd q) S A
@@ -35,7 +33,7 @@ abbrev pub part : {S : Sort} (r : Name) → (El S → El (sort r) → El S) → 
 part r f = inner r f
 
 -- one token, kept for the node
-abbrev pub leaf : ℕ → (Token → Tree) → P nothing tree
+abbrev pub leaf : ℕ → (Token → t.Tree) → P nothing tree
 leaf c f = token {A = word} (c ∷ []) (λ _ u. u) ⨾ node f
 
 -- what a line below reads, and no more
@@ -50,7 +48,7 @@ abbrev pub operator : OpRow → P tree left
 operator ops = one_of (λ l _ o. (l, o)) ops.0 ops.1
 
 abbrev pub binary_node : P operands tree
-binary_node = node (λ x. t.Binary (at_of x.0.0) x.0.0 x.0.1 x.1)
+binary_node = node (λ x. t.Binary (v.at_of x.0.0) x.0.0 x.0.1 x.1)
 
 -- lower { operator lower }, grouped to the left
 abbrev pub grouped : OpRow → (lower : P nothing tree) → (right : P left operands) → P nothing tree
@@ -58,11 +56,11 @@ grouped ops lower right = lower ⨾ many (room (operator ops ⨾ right ⨾ binar
 
 -- one comma and what may stand behind it
 abbrev pub commas : P row row → P row row
-commas one = many (when (λ r. not r.ended) (key k.comma ⨾ (one ∣ give v.ended)))
+commas one = many (when (λ r. not r.ended) (key k.comma ⨾ (one ∣ give v.close_row)))
 
 -- "(" ")" | "(" exprs ")"
 abbrev pub group : P nothing tree
-group = token {A = position} (k.left_paren ∷ []) (λ _ u. u.at) ⨾ (key k.right_paren ⨾ node (λ at. t.Tuple at Empty) ∣ inner {A = held} exprs (λ at e. (at, e)) ⨾ key k.right_paren ⨾ node (λ x. t.Paren x.0 x.1))
+group = token {A = position} (k.left_paren ∷ []) (λ _ u. u.at) ⨾ (key k.right_paren ⨾ node (λ at. t.Tuple at t.Empty) ∣ inner {A = held} exprs (λ at e. (at, e)) ⨾ key k.right_paren ⨾ node (λ x. t.Paren x.0 x.1))
 
 -- "[" [ exprs ] "]"
 abbrev pub listed : P row tree
@@ -73,8 +71,8 @@ list = token {A = row} (k.left_bracket ∷ []) (λ _ u. v.row u.at) ⨾ (listed 
 
 -- "{" [ pair { "," pair } [ "," ] ] "}", pair = expr ":" expr
 abbrev pub pair : P pairs pairs
-pair = part expr (λ d e. record { at = d.at; names = More d.names e; values = d.values; ended = d.ended }) ⨾ key k.colon
-    ⨾ part expr (λ d e. record { at = d.at; names = d.names; values = More d.values e; ended = d.ended })
+pair = part expr (λ d e. record { at = d.at; names = t.More d.names e; values = d.values; ended = d.ended }) ⨾ key k.colon
+    ⨾ part expr (λ d e. record { at = d.at; names = d.names; values = t.More d.values e; ended = d.ended })
 
 abbrev pub dict_end : P pairs tree
 dict_end = key k.right_brace ⨾ node (λ d. t.Dict d.at d.names d.values)
@@ -83,37 +81,37 @@ abbrev pub no_more : v.Pairs → v.Pairs
 no_more d = record { at = d.at; names = d.names; values = d.values; ended = true }
 
 abbrev pub dict : P nothing tree
-dict = token {A = pairs} (k.left_brace ∷ []) (λ _ u. record { at = u.at; names = Empty; values = Empty; ended = false }) ⨾ (dict_end ∣ pair ⨾ many (when (λ d. not d.ended) (key k.comma ⨾ (pair ∣ give no_more))) ⨾ dict_end)
+dict = token {A = pairs} (k.left_brace ∷ []) (λ _ u. record { at = u.at; names = t.Empty; values = t.Empty; ended = false }) ⨾ (dict_end ∣ pair ⨾ many (when (λ d. not d.ended) (key k.comma ⨾ (pair ∣ give no_more))) ⨾ dict_end)
 
 abbrev pub texts : P nothing tree
 texts = token {A = quoted} (k.text ∷ []) (λ _ u. (u.at, text_of u)) ⨾ many (mark (k.text ∷ []) (λ s u. (s.0, s.1 ++ text_of u))) ⨾ node (λ s. t.Text s.0 s.1)
 
 -- "." NAME
 abbrev pub attribute : P tree tree
-attribute = key k.dot ⨾ token {A = named} (k.name ∷ []) (λ e u. (e, text_of u)) ⨾ node (λ x. t.Attribute (at_of x.0) x.0 x.1)
+attribute = key k.dot ⨾ token {A = named} (k.name ∷ []) (λ e u. (e, text_of u)) ⨾ node (λ x. t.Attribute (v.at_of x.0) x.0 x.1)
 
 -- arg = expr | NAME "=" expr
 abbrev pub arg : P args args
-arg = inner {A = holding} expr (λ a e. (a, e)) ⨾ (seen {B = naming} v.named_by (key k.equal ⨾ inner expr v.named_arg) ∣ give v.plain_arg)
+arg = inner {A = both args tree} expr (λ a e. (a, e)) ⨾ (seen {B = naming} v.named_by (key k.equal ⨾ inner expr v.named_arg) ∣ give v.plain_arg)
 
 abbrev pub args_end : P args finished
 args_end = key k.right_paren ⨾ node (λ a. a)
 
 -- what may stand behind the first ":" of a slice
-abbrev pub slice_end : P ends sliced
+abbrev pub slice_end : P (both upto upto) sliced
 slice_end = node (λ x. x)
 
 abbrev pub second : {S : Sort} → (El S → t.Maybe) → P S sliced
-second to = token {A = ends} (k.right_bracket ∷ []) (λ s _. (to s, Absent)) ⨾ slice_end
-    ∣ token {A = upto} (k.colon ∷ []) (λ s _. to s) ⨾ (token {A = ends} (k.right_bracket ∷ []) (λ m _. (m, Absent)) ⨾ slice_end ∣ inner {A = ends} expr (λ m e. (m, Present e)) ⨾ key k.right_bracket ⨾ slice_end)
+second to = token {A = both upto upto} (k.right_bracket ∷ []) (λ s _. (to s, t.Absent)) ⨾ slice_end
+    ∣ token {A = upto} (k.colon ∷ []) (λ s _. to s) ⨾ (token {A = both upto upto} (k.right_bracket ∷ []) (λ m _. (m, t.Absent)) ⨾ slice_end ∣ inner {A = both upto upto} expr (λ m e. (m, t.Present e)) ⨾ key k.right_bracket ⨾ slice_end)
 
-abbrev pub slice_of : Tree → t.Maybe → t.Maybe × t.Maybe → Tree
-slice_of e x s = t.Slice (at_of e) e x s.0 s.1
+abbrev pub slice_of : t.Tree → t.Maybe → t.Maybe × t.Maybe → t.Tree
+slice_of e x s = t.Slice (v.at_of e) e x s.0 s.1
 
 -- "[" index "]", index = expr | [ expr ] ":" [ expr ] [ ":" [ expr ] ]
 abbrev pub subscript : P tree tree
-subscript = key k.left_bracket ⨾ (join slice (λ e s. slice_of e Absent s)
-    ∣ inner {A = indexed} expr (λ e i. (e, i)) ⨾ (key k.right_bracket ⨾ node {A = tree} (λ x. t.Subscript (at_of x.0) x.0 x.1) ∣ join slice (λ x s. slice_of x.0 (Present x.1) s)))
+subscript = key k.left_bracket ⨾ (join slice (λ e s. slice_of e t.Absent s)
+    ∣ inner {A = both tree tree} expr (λ e i. (e, i)) ⨾ (key k.right_bracket ⨾ node {A = tree} (λ x. t.Subscript (v.at_of x.0) x.0 x.1) ∣ join slice (λ x s. slice_of x.0 (t.Present x.1) s)))
 
 -- WHERE ONLY A TARGET MAY STAND: what makes no target is counted with the node that it must become a part of, and must leave a level for it
 abbrev pub carrier : P tree aim
@@ -121,36 +119,36 @@ carrier = node v.Carrier
 
 -- "." NAME
 abbrev pub attribute_place : P tree place
-attribute_place = key k.dot ⨾ token {A = named} (k.name ∷ []) (λ e u. (e, text_of u)) ⨾ node (λ x. AttributePlace (at_of x.0) x.0 x.1)
+attribute_place = key k.dot ⨾ token {A = named} (k.name ∷ []) (λ e u. (e, text_of u)) ⨾ node (λ x. AttributePlace (v.at_of x.0) x.0 x.1)
 
 abbrev pub aim_step : P tree aim
-aim_step = room (key k.left_bracket ⨾ (lift {B = opened} (λ e. e) (inner {A = tree} slice (λ e s. slice_of e Absent s) ⨾ carrier)
-    ∣ inner {A = indexed} expr (λ e i. (e, i)) ⨾ (key k.right_bracket ⨾ node {A = aim} (λ x. v.Target (SubscriptPlace (at_of x.0) x.0 x.1)) ∣ lift {B = opened_index} (λ x. x) (inner {A = tree} slice (λ x s. slice_of x.0 (Present x.1) s) ⨾ carrier))))
-    ∣ lift {B = opened} (λ e. e) (inner {A = tree} arguments v.call ⨾ carrier)
+aim_step = room (key k.left_bracket ⨾ (lift {B = opened tree} (λ e. e) (inner {A = tree} slice (λ e s. slice_of e t.Absent s) ⨾ carrier)
+    ∣ inner {A = both tree tree} expr (λ e i. (e, i)) ⨾ (key k.right_bracket ⨾ node {A = aim} (λ x. v.Target (SubscriptPlace (v.at_of x.0) x.0 x.1)) ∣ lift {B = opened (both tree tree)} (λ x. x) (inner {A = tree} slice (λ x s. slice_of x.0 (t.Present x.1) s) ⨾ carrier))))
+    ∣ lift {B = opened tree} (λ e. e) (inner {A = tree} arguments v.call ⨾ carrier)
 
 -- comparisons
 abbrev pub comparisons : (ℕ × CmpOp) × List (ℕ × CmpOp)
-comparisons = ((k.equal_equal, comparison.Equal), (k.not_equal, comparison.NotEqual) ∷ (k.less, comparison.Less) ∷ (k.less_equal, comparison.LessEqual) ∷ (k.greater, comparison.Greater) ∷ (k.greater_equal, comparison.GreaterEqual) ∷ (k.in_word, comparison.In) ∷ [])
+comparisons = ((k.equal_equal, comparison.Equal), (k.not_equal, comparison.NotEqual) ∷ (k.less_than, comparison.Less) ∷ (k.less_equal, comparison.LessEqual) ∷ (k.greater, comparison.Greater) ∷ (k.greater_equal, comparison.GreaterEqual) ∷ (k.in_word, comparison.In) ∷ [])
 
 -- a step goes on from a chain, or begins one
-abbrev pub compared : {S : Sort} → (El S → v.Chain) → P S chain
+abbrev pub compared : {S : Sort} → (El S → v.OperandChain) → P S chain
 compared to = (one_of {A = chain} (λ c _ o. v.op_more (to c) o) comparisons.0 comparisons.1
     ∣ key k.not ⨾ token {A = chain} (k.in_word ∷ []) (λ c _. v.op_more (to c) comparison.NotIn)
     ∣ token {A = chain} (k.is ∷ []) (λ c _. to c) ⨾ (mark (k.not ∷ []) (λ c _. v.op_more c comparison.IsNot) ∣ give (λ c. v.op_more c comparison.Is)))
     ⨾ part bitor v.operand
 
-abbrev pub worded : {S : Sort} → ℕ → (El S → v.Chain) → P chain chain → P S chain
+abbrev pub worded : {S : Sort} → ℕ → (El S → v.OperandChain) → P chain chain → P S chain
 worded c to right = token {A = chain} (c ∷ []) (λ s _. to s) ⨾ right
 
 -- first { step step .. }, as one expression where there is a step
-abbrev pub linked : (lower : P nothing tree) → (first : P tree chain) → (step : P chain chain) → (v.Chain → Tree) → P nothing tree
+abbrev pub linked : (lower : P nothing tree) → (first : P tree chain) → (step : P chain chain) → (v.OperandChain → t.Tree) → P nothing tree
 linked lower first step f = lower ⨾ (room (first ⨾ many step ⨾ node {A = tree} f) ∣ give (λ e. e))
 
 abbrev pub prefixes : (ℕ × UnOp) × List (ℕ × UnOp)
 prefixes = ((k.minus, signs.Minus), (k.plus, signs.Plus) ∷ (k.tilde, signs.Invert) ∷ [])
 
 abbrev pub commaed : P row row → P tree tree
-commaed one = room (token {A = row} (k.comma ∷ []) (λ e _. v.item (v.row (at_of e)) e) ⨾ (one ∣ give v.ended) ⨾ commas one ⨾ node (λ r. t.Tuple r.at r.all)) ∣ give (λ e. e)
+commaed one = room (token {A = row} (k.comma ∷ []) (λ e _. v.item (v.row (v.at_of e)) e) ⨾ (one ∣ give v.close_row) ⨾ commas one ⨾ node (λ r. t.Tuple r.at r.all)) ∣ give (λ e. e)
 
 abbrev pub two_sides : t.Tree × BinOp → t.Tree → (t.Tree × BinOp) × t.Tree
 two_sides x e = (x, e)
@@ -185,7 +183,7 @@ body atom = leaf k.name (λ u. t.Name u.at (text_of u)) ∣ only other
 -- arguments = "(" [ arg { "," arg } [ "," ] ] ")"
 body arguments = token {A = args} (k.left_paren ∷ []) (λ _ _. v.no_args) ⨾ (args_end ∣ arg ⨾ many (when (λ a. not a.ended) (key k.comma ⨾ (arg ∣ give v.end_args))) ⨾ args_end)
 -- slice = ":" [ expr ] [ ":" [ expr ] ] "]"
-body slice = key k.colon ⨾ (second (λ _. Absent) ∣ inner {A = upto} expr (λ _ e. Present e) ⨾ second (λ m. m))
+body slice = key k.colon ⨾ (second (λ _. t.Absent) ∣ inner {A = upto} expr (λ _ e. t.Present e) ⨾ second (λ m. m))
 -- primary = atom { "." NAME | arguments | "[" index "]" }
 body primary = only atom ⨾ many (room (attribute ∣ join arguments v.call ∣ subscript))
 -- single = NAME | primary "." NAME | primary "[" expr "]"
@@ -207,19 +205,19 @@ body xor = grouped xors (only band) (inner band two_sides)
 -- bitor = xor { "|" xor }
 body bitor = grouped ors (only xor) (inner xor two_sides)
 -- compare = bitor { ( "==" | "!=" | "<" | "<=" | ">" | ">=" | "in" | "not" "in" | "is" | "is" "not" ) bitor }
-body compare = linked (only bitor) (compared v.chain) (compared (λ c. c)) (λ c. t.Compare (at_of c.head) c.head c.ops c.more)
+body compare = linked (only bitor) (compared v.operand_chain) (compared (λ c. c)) (λ c. t.Compare (v.at_of c.head) c.head c.ops c.more)
 -- not = "not" not | compare
 body negation = room (token {A = position} (k.not ∷ []) (λ _ u. u.at) ⨾ inner {A = held} negation (λ at e. (at, e)) ⨾ node (λ x. t.Not x.0 x.1)) ∣ only compare
 -- and = not { "and" not }
-body conjunct = linked (only negation) (worded k.and v.chain (part negation v.operand)) (worded k.and (λ c. c) (part negation v.operand)) (λ c. t.And (at_of c.head) c.head c.more)
+body conjunct = linked (only negation) (worded k.and v.operand_chain (part negation v.operand)) (worded k.and (λ c. c) (part negation v.operand)) (λ c. t.And (v.at_of c.head) c.head c.more)
 -- or = and { "or" and }
-body disjunct = linked (only conjunct) (worded k.or v.chain (part conjunct v.operand)) (worded k.or (λ c. c) (part conjunct v.operand)) (λ c. t.Or (at_of c.head) c.head c.more)
+body disjunct = linked (only conjunct) (worded k.or v.operand_chain (part conjunct v.operand)) (worded k.or (λ c. c) (part conjunct v.operand)) (λ c. t.Or (v.at_of c.head) c.head c.more)
 -- expr = or [ "if" or "else" expr ]
-body expr = only disjunct ⨾ (room (key k.if ⨾ inner {A = either} disjunct (λ a c. (a, c)) ⨾ key k.else ⨾ inner {A = three} expr (λ x b. (x, b)) ⨾ node (λ x. t.IfElse (at_of x.0.0) x.0.0 x.0.1 x.1)) ∣ give (λ e. e))
+body expr = only disjunct ⨾ (room (key k.if ⨾ inner {A = both tree tree} disjunct (λ a c. (a, c)) ⨾ key k.else ⨾ inner {A = both (both tree tree) tree} expr (λ x b. (x, b)) ⨾ node (λ x. t.IfElse (v.at_of x.0.0) x.0.0 x.0.1 x.1)) ∣ give (λ e. e))
 -- exprs = expr { "," expr } [ "," ]
 body exprs = only expr ⨾ commaed (part expr v.item)
 -- target = single { "," single } [ "," ]
-body targets = only single ⨾ (room (token {A = places} (k.comma ∷ []) (λ p _. v.first_place p) ⨾ (part single v.one_place ∣ give v.no_place) ⨾ many (when (λ r. not r.ended) (key k.comma ⨾ (part single v.one_place ∣ give v.no_place))) ⨾ node (λ r. Unpack r.all)) ∣ give One)
+body targets = only single ⨾ (room (token {A = places} (k.comma ∷ []) (λ p _. v.places_from p) ⨾ (part single v.one_place ∣ give v.no_place) ⨾ many (when (λ r. not r.ended) (key k.comma ⨾ (part single v.one_place ∣ give v.no_place))) ⨾ node (λ r. Unpack r.all)) ∣ give One)
 
 -- SETS: what a line begins with, and what goes on behind what it has read
 abbrev pub A0 : List ℕ
@@ -284,36 +282,36 @@ GE = k.if ∷ k.or ∷ k.and ∷ GC
 abbrev pub GR : List ℕ
 GR = k.comma ∷ GE ++ E1
 
-abbrev pub goes : Name → List ℕ
-goes other = k.text ∷ []
-goes atom = k.text ∷ []
-goes arguments = []
-goes slice = []
-goes single = GA
-goes targets = k.comma ∷ A1 ++ GA
-goes primary = GA
-goes power = GU
-goes unary = GU
-goes prod = GP
-goes sum = GS
-goes shift = k.left_shift ∷ k.right_shift ∷ GS
-goes band = GB
-goes xor = k.caret ∷ GB
-goes bitor = GX
-goes compare = GC
-goes negation = GC
-goes conjunct = k.and ∷ GC
-goes disjunct = k.or ∷ k.and ∷ GC
-goes expr = GE
-goes exprs = GR
+abbrev pub expr_goes : Name → List ℕ
+expr_goes other = k.text ∷ []
+expr_goes atom = k.text ∷ []
+expr_goes arguments = []
+expr_goes slice = []
+expr_goes single = GA
+expr_goes targets = k.comma ∷ A1 ++ GA
+expr_goes primary = GA
+expr_goes power = GU
+expr_goes unary = GU
+expr_goes prod = GP
+expr_goes sum = GS
+expr_goes shift = k.left_shift ∷ k.right_shift ∷ GS
+expr_goes band = GB
+expr_goes xor = k.caret ∷ GB
+expr_goes bitor = GX
+expr_goes compare = GC
+expr_goes negation = GC
+expr_goes conjunct = k.and ∷ GC
+expr_goes disjunct = k.or ∷ k.and ∷ GC
+expr_goes expr = GE
+expr_goes exprs = GR
 
 -- THE GRAMMAR OF EXPRESSIONS; it names no other
 abbrev pub expressions : Grammar
-expressions = record { Tok = Token; kind = kind; sample = sample; Sort = Sort; El = El; start = nothing; empty = tt; Name = Name; sort = sort; rank = rank; ranks = 21; Far = ⊥; far_sort = λ q. absurd q; far_begins = λ q. absurd q; far_goes = λ q. absurd q; forked = λ q. absurd q; begins = begins; goes = goes; body = body }
+expressions = record { Tok = Token; kind = kind; sample = sample; Sort = Sort; El = El; start = nothing; empty = tt; Name = Name; sort = sort; rank = rank; ranks = 21; Far = ⊥; far_sort = λ q. absurd q; far_begins = λ q. absurd q; far_goes = λ q. absurd q; forked = λ q. absurd q; begins = begins; goes = expr_goes; body = body }
 
 -- the lines of other grammars, which are none
-abbrev pub none : Fars expressions
-none = λ q w t. ⊥
+abbrev pub no_fars : Fars expressions
+no_fars = λ q w t. ⊥
 
 abbrev pub no_reader : FarReaders expressions
 no_reader = λ q ts. Bad ts

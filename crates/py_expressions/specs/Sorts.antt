@@ -7,8 +7,7 @@ use Rattle.py_tree.specs.declared.op.BinOp.{BinOp}
 use Rattle.py_tree.specs.declared.op.UnOp.{UnOp}
 use Rattle.py_tree.specs.Statements.{Place, Taker}
 use Rattle.py_tree.specs.Trees as t
-use Rattle.py_expressions.specs.Values as v
-use Rattle.py_expressions.specs.Values.{height, heights, high}
+use Rattle.py_expressions.specs.Values.{Aim, Args, OperandChain, Pairs, Places, Row, aim_height, place_height, places_height, taker_height, height, heights, high}
 
 pub data Sort : Type 0 where
   nothing : Sort
@@ -22,25 +21,21 @@ pub data Sort : Type 0 where
   signed : Sort
   held : Sort
   chain : Sort
-  either : Sort
-  three : Sort
   row : Sort
   pairs : Sort
   args : Sort
-  holding : Sort
   naming : Sort
   finished : Sort
   upto : Sort
-  ends : Sort
   sliced : Sort
   named : Sort
-  indexed : Sort
-  opened : Sort
-  opened_index : Sort
   aim : Sort
   place : Sort
   places : Sort
   taker : Sort
+  -- two values; and one that is counted with its node already
+  both : Sort → Sort → Sort
+  opened : Sort → Sort
 
 abbrev pub El : Sort → Type 0
 El nothing = Unit {0}
@@ -53,26 +48,21 @@ El operands = (t.Tree × BinOp) × t.Tree
 El prefix = Pos × UnOp
 El signed = (Pos × UnOp) × t.Tree
 El held = Pos × t.Tree
-El chain = v.Chain
-El either = t.Tree × t.Tree
-El three = (t.Tree × t.Tree) × t.Tree
-El row = v.Row
-El pairs = v.Pairs
-El args = v.Args
-El holding = v.Args × t.Tree
-El naming = v.Args × ArgName
-El finished = v.Args
+El chain = OperandChain
+El row = Row
+El pairs = Pairs
+El args = Args
+El naming = Args × ArgName
+El finished = Args
 El upto = t.Maybe
-El ends = t.Maybe × t.Maybe
 El sliced = t.Maybe × t.Maybe
 El named = t.Tree × List ℕ
-El indexed = t.Tree × t.Tree
-El opened = t.Tree
-El opened_index = t.Tree × t.Tree
-El aim = v.Aim
+El aim = Aim
 El place = Place
-El places = v.Places
+El places = Places
 El taker = Taker
+El (both S T) = El S × El T
+El (opened S) = El S
 
 -- how high a value is: a tree, or the parts of one
 abbrev pub size : (S : Sort) → El S → ℕ
@@ -87,25 +77,20 @@ size prefix x = 0
 size signed x = height x.1
 size held x = height x.1
 size chain x = max (height x.head) (heights x.more)
-size either x = max (height x.0) (height x.1)
-size three x = max (max (height x.0.0) (height x.0.1)) (height x.1)
 size row x = heights x.all
 size pairs x = max (heights x.names) (heights x.values)
 size args x = heights x.all
-size holding x = max (heights x.0.all) (height x.1)
 size naming x = max (heights x.0.all) 1
 size finished x = 1 + heights x.all
 size upto x = high x
-size ends x = max (high x.0) (high x.1)
 size sliced x = 1 + max (high x.0) (high x.1)
 size named x = height x.0
-size indexed x = max (height x.0) (height x.1)
-size opened x = 1 + height x
-size opened_index x = 1 + max (height x.0) (height x.1)
-size aim x = v.aim_height x
-size place x = v.place_height x
-size places x = v.places_height x.all
-size taker x = v.taker_height x
+size aim x = aim_height x
+size place x = place_height x
+size places x = places_height x.all
+size taker x = taker_height x
+size (both S T) x = max (size S x.0) (size T x.1)
+size (opened S) x = 1 + size S x
 
 pub data Name : Type 0 where
   other : Name

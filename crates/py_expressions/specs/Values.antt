@@ -77,18 +77,18 @@ abbrev mutual
   high (Present e) = height e
 
 -- operands with operators between them, the first apart
-pub record Chain : Type 0 where
+pub record OperandChain : Type 0 where
   pub head : Tree
   pub ops : List CmpOp
   pub more : Trees
 
-abbrev pub chain : Tree → Chain
-chain e = record { head = e; ops = []; more = Empty }
+abbrev pub operand_chain : Tree → OperandChain
+operand_chain e = record { head = e; ops = []; more = Empty }
 
-abbrev pub op_more : Chain → CmpOp → Chain
+abbrev pub op_more : OperandChain → CmpOp → OperandChain
 op_more c o = record { head = c.head; ops = c.ops ++ o ∷ []; more = c.more }
 
-abbrev pub operand : Chain → Tree → Chain
+abbrev pub operand : OperandChain → Tree → OperandChain
 operand c e = record { head = c.head; ops = c.ops; more = More c.more e }
 
 -- items with commas between them
@@ -103,8 +103,8 @@ row at = record { at = at; all = Empty; ended = false }
 abbrev pub item : Row → Tree → Row
 item r e = record { at = r.at; all = More r.all e; ended = false }
 
-abbrev pub ended : Row → Row
-ended r = record { at = r.at; all = r.all; ended = true }
+abbrev pub close_row : Row → Row
+close_row r = record { at = r.at; all = r.all; ended = true }
 
 -- pairs of a dictionary
 pub record Pairs : Type 0 where
@@ -128,7 +128,26 @@ plain_arg x = record { all = More x.0.all x.1; names = x.0.names ++ None ∷ [];
 -- what is a name, and so may name an argument
 abbrev pub name_in : Tree → Option ArgName
 name_in (Name at n) = Some (record { at = at; name = n })
-name_in _ = None
+name_in (Number at n) = None
+name_in (Text at t) = None
+name_in (True at) = None
+name_in (False at) = None
+name_in (NoneTree at) = None
+name_in (Paren at e) = None
+name_in (Tuple at es) = None
+name_in (Listed at es) = None
+name_in (Dict at ks es) = None
+name_in (Attribute at e n) = None
+name_in (Call at f es names) = None
+name_in (Subscript at e i) = None
+name_in (Slice at e x y z) = None
+name_in (Unary at op e) = None
+name_in (Binary at l op r) = None
+name_in (Compare at l ops es) = None
+name_in (Not at e) = None
+name_in (And at e es) = None
+name_in (Or at e es) = None
+name_in (IfElse at a c b) = None
 
 -- arguments before an expression, where that is a name
 abbrev pub with_name : Args → Option ArgName → Option (Args × ArgName)
@@ -189,8 +208,8 @@ pub record Places : Type 0 where
   pub all : List Place
   pub ended : Bool
 
-abbrev pub first_place : Place → Places
-first_place p = record { all = p ∷ []; ended = false }
+abbrev pub places_from : Place → Places
+places_from p = record { all = p ∷ []; ended = false }
 
 abbrev pub one_place : Places → Place → Places
 one_place r p = record { all = r.all ++ p ∷ []; ended = false }
@@ -203,7 +222,24 @@ abbrev pub place_in : Tree → Option Place
 place_in (Name at n) = Some (NamePlace at n)
 place_in (Attribute at e n) = Some (AttributePlace at e n)
 place_in (Subscript at e i) = Some (SubscriptPlace at e i)
-place_in _ = None
+place_in (Number at n) = None
+place_in (Text at t) = None
+place_in (True at) = None
+place_in (False at) = None
+place_in (NoneTree at) = None
+place_in (Paren at e) = None
+place_in (Tuple at es) = None
+place_in (Listed at es) = None
+place_in (Dict at ks es) = None
+place_in (Call at f es names) = None
+place_in (Slice at e x y z) = None
+place_in (Unary at op e) = None
+place_in (Binary at l op r) = None
+place_in (Compare at l ops es) = None
+place_in (Not at e) = None
+place_in (And at e es) = None
+place_in (Or at e es) = None
+place_in (IfElse at a c b) = None
 
 -- both, where both are there
 abbrev pub behind_places : Option (List Place) → Option Place → Option (List Place)

@@ -11,7 +11,7 @@ use Rattle.grammar.proofs.Tokens.{without}
 use Rattle.py_expressions.specs.token_kinds.Kinds.{kind, sample}
 use Rattle.py_expressions.specs.token_kinds.Numbers as k
 use Rattle.py_expressions.specs.Sorts.{El, sort, Name, other, unary, compare, exprs}
-use Rattle.py_expressions.specs.Lines.{expressions, none}
+use Rattle.py_expressions.specs.Lines.{expressions, no_fars}
 use Rattle.py_grammar.specs.Lines.{forked}
 use Rattle.py_grammar.specs.Sources.{limited, unlimited}
 use Rattle.py_expressions.proofs.Good.{inside, no_yield_within}
@@ -28,15 +28,15 @@ both_no true e f = no_false (sym e)
 both_no false e f = no_false f
 
 pub never_both : (q : Name) (c d : ℕ) → forked q c d ≡ true → (h i : Token) (z : List Token) (a : El (sort q) × ℕ) → unlimited q (h ∷ i ∷ z) a → has (kind h) (c ∷ []) ≡ true → has (kind i) (d ∷ []) ≡ true → ⊥
-never_both q c d e h i z a r eh ei = let o = only_exprs q c d e in let w = without expressions none k.yield inside no_yield_within (λ q. absurd q) q refl (h ∷ i ∷ z) a r in
+never_both q c d e h i z a r eh ei = let o = only_exprs q c d e in let w = without expressions no_fars k.yield inside no_yield_within (λ q. absurd q) q refl (h ∷ i ∷ z) a r in
     both_no (kind i == k.yield) w.1.0 (subst (λ v. has (kind i) (v ∷ []) ≡ true) o.2 ei)
 
 -- () is read whatever the level
-empty_read : (h : Token) → has (kind h) (k.left_paren ∷ []) ≡ true → Line expressions none exprs (h ∷ sample k.right_paren ∷ []) (Tuple h.at Empty, 1)
+empty_read : (h : Token) → has (kind h) (k.left_paren ∷ []) ≡ true → Line expressions no_fars exprs (h ∷ sample k.right_paren ∷ []) (Tuple h.at Empty, 1)
 empty_read h e =
-    let o : Line expressions none other (h ∷ sample k.right_paren ∷ []) (Tuple h.at Empty, 1) = right (right (right (right (right (left (both (by_token h e) (left (both (by_token (sample k.right_paren) refl) by_node)))))))) in
-    let u : Line expressions none unary (h ∷ sample k.right_paren ∷ []) (Tuple h.at Empty, 1) = right (by_line (both (by_line (both (by_line (right (by_line o))) done)) (right by_give))) in
-    let c : Line expressions none compare (h ∷ sample k.right_paren ∷ []) (Tuple h.at Empty, 1) = both (by_line (both (by_line (both (by_line (both (by_line (both (by_line (both (by_line (both (by_line u) done)) done)) done)) done)) done)) done)) (right by_give) in
+    let o : Line expressions no_fars other (h ∷ sample k.right_paren ∷ []) (Tuple h.at Empty, 1) = right (right (right (right (right (left (both (by_token h e) (left (both (by_token (sample k.right_paren) refl) by_node)))))))) in
+    let u : Line expressions no_fars unary (h ∷ sample k.right_paren ∷ []) (Tuple h.at Empty, 1) = right (by_line (both (by_line (both (by_line (right (by_line o))) done)) (right by_give))) in
+    let c : Line expressions no_fars compare (h ∷ sample k.right_paren ∷ []) (Tuple h.at Empty, 1) = both (by_line (both (by_line (both (by_line (both (by_line (both (by_line (both (by_line (both (by_line u) done)) done)) done)) done)) done)) done)) (right by_give) in
     both (by_line (both (by_line (both (by_line (both (by_line (right (by_line c))) (right by_give))) (right by_give))) (right by_give))) (right by_give)
 
 pub goes_on : (n : ℕ) (q : Name) (c d : ℕ) → forked q c d ≡ true → (h : Token) → has (kind h) (c ∷ []) ≡ true → CanGoOn (limited (suc n) q) [] h

@@ -13,12 +13,12 @@ use Rattle.grammar.specs.Table.{Reads as Reading, token, line, by_token, by_node
 use Rattle.grammar.specs.Answer.{Within, Without}
 use Rattle.py_expressions.specs.token_kinds.Kinds.{kind}
 use Rattle.py_expressions.specs.token_kinds.Numbers as k
-use Rattle.py_grammar.specs.Context.{misplaced, in_module, first_place}
+use Rattle.py_grammar.specs.Context.{misplaced, in_module, first_pos}
 use Rattle.py_grammar.specs.Lines.{statements}
 use Rattle.py_grammar.specs.Sorts as v
 use Rattle.py_grammar.specs.Sorts.{source, stmts}
-use Rattle.py_grammar.specs.Sources.{limited, unlimited, source_read, IsReading}
-use Rattle.py_grammar.specs.Verdict.{Source, Shallow, FirstFault, FirstTooDeep, is_unsupported, Verdict, Accepted, Unexpected, Unsupported, Context, Nesting, IsVerdict, verdict_on, fault_at, verdict_by}
+use Rattle.py_grammar.specs.Sources.{limited, unlimited, source_read, IsSourceReading}
+use Rattle.py_grammar.specs.Verdict.{Source, Shallow, UnexpectedToken, FirstTooDeep, is_unsupported, Verdict, Accepted, Unexpected, Unsupported, Context, Nesting, IsVerdict, verdict_on, fault_at, verdict_by}
 use Rattle.py_grammar.proofs.Heights.{reading_depth}
 use Rattle.py_grammar.proofs.Laws.{source_answer, source_only, no_end_inside}
 use Rattle.py_grammar.proofs.Levels.{limited_low, low_limited}
@@ -43,10 +43,10 @@ of_start : (w : List Token) → CanStart Shallow w → CanStart Low w
 of_start w s = let d = of_shallow (w ++ s.more) s.tree s.reads in record { more = s.more; tree = (s.tree, d.0); reads = d.1 }
 
 -- FAULTS, and what is too deep, of the one kind and of the other
-to_fault : (w : List Token) (t : Token) (rest : List Token) → Fault Low Any w (t ∷ rest) → FirstFault w t
+to_fault : (w : List Token) (t : Token) (rest : List Token) → Fault Low Any w (t ∷ rest) → UnexpectedToken w t
 to_fault w t rest f = record { front = f.front; behind = rest; whole = f.whole; start = to_start f.front f.start; stops = λ z b r. f.stops z (b, r.0) r.1 }
 
-of_fault : (w : List Token) (t : Token) (f : FirstFault w t) → Fault Low Any w (t ∷ f.behind)
+of_fault : (w : List Token) (t : Token) (f : UnexpectedToken w t) → Fault Low Any w (t ∷ f.behind)
 of_fault w t f = record { front = f.front; whole = f.whole; start = of_start f.front f.start; stops = λ z x r. f.stops z x.0 (x.1, r) }
 
 to_too_deep : (w : List Token) (t : Token) (rest : List Token) → FirstDeep Low Any w (t ∷ rest) → FirstTooDeep w t
@@ -74,7 +74,7 @@ of_too_deep w t f = record {
 -- THE READER'S VERDICT IS ONE
 on_block : (w : List Token) (b : Block) (ps : List Pos) → misplaced in_module b ≡ ps → Shallow w b → IsVerdict w (verdict_on b ps)
 on_block w b [] e r = (r, e)
-on_block w b (at ∷ rest) e r = record { block = b; reads = r; first = ap first_place e }
+on_block w b (at ∷ rest) e r = record { block = b; reads = r; first = ap first_pos e }
 
 on_fault : (w : List Token) (t : Token) (rest : List Token) → Fault Low Any w (t ∷ rest) → IsVerdict w (fault_at t)
 on_fault w t rest f = go (is_unsupported t) refl
@@ -83,7 +83,7 @@ on_fault w t rest f = go (is_unsupported t) refl
     go true e = (t, to_fault w t rest f, e, refl)
     go false e = (t, to_fault w t rest f, e, refl)
 
-by_reading : (w : List Token) (x : Read Token (Block × ℕ)) (v : Verdict) → IsReading most_levels w x → verdict_by x ≡ Some v → IsVerdict w v
+by_reading : (w : List Token) (x : Read Token (Block × ℕ)) (v : Verdict) → IsSourceReading most_levels w x → verdict_by x ≡ Some v → IsVerdict w v
 by_reading w (Found x rest) v s e = let d : verdict_on x.0 (misplaced in_module x.0) ≡ v = cc in subst (λ v. IsVerdict w v) d (on_block w x.0 (misplaced in_module x.0) refl (to_shallow w x s.1))
 by_reading w (Bad []) v s e = absurd (cc)
 by_reading w (Bad (t ∷ rest)) v s e = let d : fault_at t ≡ v = cc in subst (λ v. IsVerdict w v) d (on_fault w t rest s)
@@ -97,7 +97,7 @@ read_verdict w v e = by_reading w (source_read most_levels w) v (source_answer 9
 no_place : (b : Block) (ps : List Pos) → ps ≡ [] → verdict_on b ps ≡ Accepted b
 no_place b ps e = ap (λ v. verdict_on b v) e
 
-some_place : (b : Block) (at : Pos) (ps : List Pos) → first_place ps ≡ Some at → verdict_on b ps ≡ Context at
+some_place : (b : Block) (at : Pos) (ps : List Pos) → first_pos ps ≡ Some at → verdict_on b ps ≡ Context at
 some_place b at [] e = absurd (cc)
 some_place b at (p ∷ rest) e = let d : p ≡ at = cc in ap (λ v. Context v) d
 
@@ -127,10 +127,10 @@ record Ended (w : List Token) : Type 0 where
   whole : w ≡ front ++ last ∷ []
   plain : Without kind k.end front
 
-one_token : {S A : v.Sort} {F : List ℕ} {f : v.El S → Token → v.El A} {s : v.El S} {a : v.El A} {h i : ℕ} {w : List Token} → Reading statements unlimited S A (token F f) s h w a i → (t : Token) × (w ≡ t ∷ [])
+one_token : {S A : v.BlockSort} {F : List ℕ} {f : v.BlockValue S → Token → v.BlockValue A} {s : v.BlockValue S} {a : v.BlockValue A} {h i : ℕ} {w : List Token} → Reading statements unlimited S A (token F f) s h w a i → (t : Token) × (w ≡ t ∷ [])
 one_token (by_token t e) = (t, refl)
 
-plain_stmts : {S A : v.Sort} {f : v.El S → Block → v.El A} {s : v.El S} {a : v.El A} {h i : ℕ} {w : List Token} → Reading statements unlimited S A (line stmts f) s h w a i → Without kind k.end w
+plain_stmts : {S A : v.BlockSort} {f : v.BlockValue S → Block → v.BlockValue A} {s : v.BlockValue S} {a : v.BlockValue A} {h i : ℕ} {w : List Token} → Reading statements unlimited S A (line stmts f) s h w a i → Without kind k.end w
 plain_stmts (by_line {w = w} {t = b} {k = j} d) = no_end_inside stmts refl w (b, j) d
 
 source_ends : {w : List Token} {b : Block} {i : ℕ} → Reading statements unlimited statements.start (statements.sort source) (statements.body source) statements.empty 0 w b i → Ended w
@@ -157,7 +157,7 @@ no_run_out w q f = let front : List Token = q.0 in let s = f.start in
     let more : s.more ≡ [] = not_inside front e.front s.more _ e.last refl (sym (append_assoc front (_ ∷ []) s.more) ∙ ap (λ v. v ++ s.more) (sym j) ∙ e.whole) e.plain in
     f.stops (s.tree.0, a.0) (subst (λ v. Any v (s.tree.0, a.0)) (ap (λ v. f.front ++ v) more ∙ append-nil f.front) a.1)
 
-some_verdict : (w : List Token) → EndsText w → (x : Read Token (Block × ℕ)) → IsReading most_levels w x → (v : Verdict) × (verdict_by x ≡ Some v)
+some_verdict : (w : List Token) → EndsText w → (x : Read Token (Block × ℕ)) → IsSourceReading most_levels w x → (v : Verdict) × (verdict_by x ≡ Some v)
 some_verdict w q (Found x rest) s = (verdict_on x.0 (misplaced in_module x.0), refl)
 some_verdict w q (Bad []) s = absurd (no_run_out w q s)
 some_verdict w q (Bad (t ∷ rest)) s = (fault_at t, refl)

@@ -183,6 +183,6 @@ abbrev mutual
   misplaced_handlers w last (Handler before at class name body) = misplaced_handlers w false before ++ (unless (last || is_present class) at ++ (in_maybe class ++ misplaced (without_yield w) body))
 
 -- the first of some places
-abbrev pub first_place : List Pos → Option Pos
-first_place [] = None
-first_place (at ∷ rest) = Some at
+abbrev pub first_pos : List Pos → Option Pos
+first_pos [] = None
+first_pos (at ∷ rest) = Some at

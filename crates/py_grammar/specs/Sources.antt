@@ -7,23 +7,23 @@ use Rattle.parsing.specs.Reading.{Read}
 use Rattle.grammar.specs.Table.{Fars, Line}
 use Rattle.grammar.specs.Levels.{FarReaders, readers}
 use Rattle.grammar.specs.Answer.{Within, IsAnswer, answer}
-use Rattle.py_expressions.specs.Lines.{expressions, none, no_reader}
+use Rattle.py_expressions.specs.Lines.{expressions, no_fars, no_reader}
 use Rattle.py_grammar.specs.Sorts.{source}
 use Rattle.py_grammar.specs.Lines.{statements}
 
 -- expressions at most n levels high, and all
 abbrev pub limited : ℕ → Fars statements
-limited n = λ q. Within expressions none n q
+limited n = λ q. Within expressions no_fars n q
 
 abbrev pub unlimited : Fars statements
-unlimited = λ q. Line expressions none q
+unlimited = λ q. Line expressions no_fars q
 
 abbrev pub expression_readers : ℕ → FarReaders statements
 expression_readers n = λ q. readers expressions no_reader n q
 
 -- The reading with expressions and blocks at most n levels deep; or the first token with which no reading goes on; or the first with which readings go on, but none so.
-abbrev pub IsReading : ℕ → List Token → Read Token (Block × ℕ) → Type 0
-IsReading n ts x = IsAnswer statements (limited n) unlimited (suc n) source ts x
+abbrev pub IsSourceReading : ℕ → List Token → Read Token (Block × ℕ) → Type 0
+IsSourceReading n ts x = IsAnswer statements (limited n) unlimited (suc n) source ts x
 
 -- WHAT THE READER GIVES for a whole list
 abbrev pub source_read : ℕ → List Token → Read Token (Block × ℕ)

@@ -8,7 +8,7 @@ use Rattle.parsing.specs.Reading.{Read, Found, Bad, Deep, CanStart, CanGoOn, Can
 use Rattle.grammar.specs.Table.{Line}
 use Rattle.py_expressions.specs.token_kinds.Kinds.{kind}
 use Rattle.py_expressions.specs.token_kinds.Numbers as k
-use Rattle.py_grammar.specs.Context.{misplaced, in_module, first_place}
+use Rattle.py_grammar.specs.Context.{misplaced, in_module, first_pos}
 use Rattle.py_grammar.specs.Depth.{deepest}
 use Rattle.py_grammar.specs.Lines.{statements}
 use Rattle.py_grammar.specs.Sorts.{source}
@@ -23,17 +23,17 @@ abbrev pub Shallow : List Token → Block → Type 0
 Shallow tokens block = Source tokens block × (deepest block ≤ most_levels)
 
 -- THE TOKENS ARE THIS SOURCE: a reading in which all stands where it may. No list of tokens has two.
-abbrev pub Reads : List Token → Block → Type 0
-Reads tokens block = Shallow tokens block × (misplaced in_module block ≡ [])
+abbrev pub Parses : List Token → Block → Type 0
+Parses tokens block = Shallow tokens block × (misplaced in_module block ≡ [])
 
 -- The tokens have a reading, and here stands the first that may not stand there.
 pub record IsMisplaced (tokens : List Token) (at : Pos) : Type 0 where
   pub block : Block
   pub reads : Shallow tokens block
-  pub first : first_place (misplaced in_module block) ≡ Some at
+  pub first : first_pos (misplaced in_module block) ≡ Some at
 
 -- The first token at which no reading goes on: those before it are the beginning of a list with a reading.
-pub record FirstFault (tokens : List Token) (at : Token) : Type 0 where
+pub record UnexpectedToken (tokens : List Token) (at : Token) : Type 0 where
   pub front : List Token
   pub behind : List Token
   pub whole : tokens ≡ front ++ at ∷ behind
@@ -64,9 +64,9 @@ pub data Verdict : Type 0 where
   Nesting : Pos → Verdict
 
 abbrev pub IsVerdict : List Token → Verdict → Type 0
-IsVerdict tokens (Accepted block) = Reads tokens block
-IsVerdict tokens (Unexpected at) = (t : Token) × FirstFault tokens t × (is_unsupported t ≡ false) × (at ≡ t.at)
-IsVerdict tokens (Unsupported at) = (t : Token) × FirstFault tokens t × (is_unsupported t ≡ true) × (at ≡ t.at)
+IsVerdict tokens (Accepted block) = Parses tokens block
+IsVerdict tokens (Unexpected at) = (t : Token) × UnexpectedToken tokens t × (is_unsupported t ≡ false) × (at ≡ t.at)
+IsVerdict tokens (Unsupported at) = (t : Token) × UnexpectedToken tokens t × (is_unsupported t ≡ true) × (at ≡ t.at)
 IsVerdict tokens (Context at) = IsMisplaced tokens at
 IsVerdict tokens (Nesting at) = (t : Token) × FirstTooDeep tokens t × (at ≡ t.at)
 

@@ -6,7 +6,7 @@ ghost use Rattle.py_operands.specs.Ranges as ranges;
 
 use py_operands::faults::{no_index, out_of_range};
 use py_operands::ranges::range_number;
-use py_values::end::Made;
+use py_values::end::Effect;
 use py_values::object::Obj;
 use py_values::range::RangeObj;
 use py_values::value::Value;
@@ -15,7 +15,7 @@ use std::alloc::Global;
 
 /// The place of an element, counted from the end where the number is negative.
 pub fn place_of(len: usize, n: i128) -> Option<usize>
-    ensures { result ≡ items.place len n }
+    ensures { result ≡ items.element_place len n }
 {
     if n >= 0 {
         if n < len as i128 {
@@ -32,40 +32,40 @@ pub fn place_of(len: usize, n: i128) -> Option<usize>
 
 /// The place that an index names, or why it names none.
 #[derive(Clone, Copy)]
-pub enum Found {
+pub enum IndexPlace {
     Place(usize),
     Outside,
     NoNumber,
 }
 
-pub fn find_place(len: usize, index: Option<i128>) -> Found
+pub fn find_place(len: usize, index: Option<i128>) -> IndexPlace
     ensures { result ≡ items.find_place len index }
 {
     match index {
         Some(n) => match place_of(len, n) {
-            Some(at) => Found::Place(at),
-            None => Found::Outside,
+            Some(at) => IndexPlace::Place(at),
+            None => IndexPlace::Outside,
         },
-        None => Found::NoNumber,
+        None => IndexPlace::NoNumber,
     }
 }
 
-pub fn given(alloc: Global, v: Option<Value>) -> Result<Made, OutOfMemory>
+pub fn given(alloc: Global, v: Option<Value>) -> Result<Effect, OutOfMemory>
     ensures { IfOk result (λ m. m ≡ items.given v) }
 {
     match v {
-        Some(v) => Ok(Made::Give(v, 0)),
+        Some(v) => Ok(Effect::Give(v, 0)),
         None => out_of_range(alloc),
     }
 }
 
-pub fn char_given(alloc: Global, c: Option<&char>) -> Result<Made, OutOfMemory>
+pub fn char_given(alloc: Global, c: Option<&char>) -> Result<Effect, OutOfMemory>
     ensures { IfOk result (λ m. m ≡ items.char_given (option_copied c.entry)) }
 {
     match c {
         Some(c) => {
             let text = PyText::from_chars(alloc, &[*c])?;
-            Ok(Made::New(Obj::Text(text), 0))
+            Ok(Effect::New(Obj::Text(text), 0))
         }
         None => out_of_range(alloc),
     }
@@ -78,34 +78,38 @@ pub fn value_at(vs: &[Value], at: usize) -> Option<Value>
 }
 
 /// An element of a list or a tuple.
-pub fn value_item(alloc: Global, vs: &[Value], index: Option<i128>) -> Result<Made, OutOfMemory>
+pub fn value_item(alloc: Global, vs: &[Value], index: Option<i128>) -> Result<Effect, OutOfMemory>
     ensures { IfOk result (λ m. m ≡ items.at_index (λ n. items.given (slice_get vs.now n)) (length vs.now) index) }
 {
     match find_place(vs.len(), index) {
-        Found::Place(at) => given(alloc, value_at(vs, at)),
-        Found::Outside => out_of_range(alloc),
-        Found::NoNumber => no_index(alloc),
+        IndexPlace::Place(at) => given(alloc, value_at(vs, at)),
+        IndexPlace::Outside => out_of_range(alloc),
+        IndexPlace::NoNumber => no_index(alloc),
     }
 }
 
 /// A character of a text.
-pub fn char_item(alloc: Global, text: &[char], index: Option<i128>) -> Result<Made, OutOfMemory>
+pub fn char_item(alloc: Global, text: &[char], index: Option<i128>) -> Result<Effect, OutOfMemory>
     ensures { IfOk result (λ m. m ≡ items.at_index (λ n. items.char_given (slice_get text.now n)) (length text.now) index) }
 {
     match find_place(text.len(), index) {
-        Found::Place(at) => char_given(alloc, text.get(at)),
-        Found::Outside => out_of_range(alloc),
-        Found::NoNumber => no_index(alloc),
+        IndexPlace::Place(at) => char_given(alloc, text.get(at)),
+        IndexPlace::Outside => out_of_range(alloc),
+        IndexPlace::NoNumber => no_index(alloc),
     }
 }
 
 /// A number of a range.
-pub fn range_item(alloc: Global, range: &RangeObj, index: Option<i128>) -> Result<Made, OutOfMemory>
+pub fn range_item(
+    alloc: Global,
+    range: &RangeObj,
+    index: Option<i128>,
+) -> Result<Effect, OutOfMemory>
     ensures { IfOk result (λ m. m ≡ items.at_index (λ n. ranges.range_number range.now n) range.now.length index) }
 {
     match find_place(range.length, index) {
-        Found::Place(at) => range_number(alloc, range, at),
-        Found::Outside => out_of_range(alloc),
-        Found::NoNumber => no_index(alloc),
+        IndexPlace::Place(at) => range_number(alloc, range, at),
+        IndexPlace::Outside => out_of_range(alloc),
+        IndexPlace::NoNumber => no_index(alloc),
     }
 }

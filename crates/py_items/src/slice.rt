@@ -6,7 +6,7 @@ ghost use Rattle.py_items.specs.Items as items;
 
 use py_operands::faults::{failed, no_index};
 use py_values::class::ExcClass;
-use py_values::end::Made;
+use py_values::end::Effect;
 use py_values::number::number;
 use py_values::object::Obj;
 use py_values::rows::Values;
@@ -197,14 +197,14 @@ pub fn parts_of(start: Option<Value>, stop: Option<Value>, step: Option<Value>) 
     }
 }
 
-fn zero_step(alloc: Global) -> Result<Made, OutOfMemory>
+fn zero_step(alloc: Global) -> Result<Effect, OutOfMemory>
     ensures { IfOk result (λ m. m ≡ items.zero_step) }
 {
     failed(alloc, ExcClass::ValueError, "slice step is zero")
 }
 
 /// A slice of a text.
-pub fn text_slice(alloc: Global, xs: &[char], parts: Parts) -> Result<Made, OutOfMemory>
+pub fn text_slice(alloc: Global, xs: &[char], parts: Parts) -> Result<Effect, OutOfMemory>
     ensures { IfOk result (λ m. m ≡ items.slice_by obj.Text xs.now parts) }
 {
     match parts {
@@ -214,7 +214,7 @@ pub fn text_slice(alloc: Global, xs: &[char], parts: Parts) -> Result<Made, OutO
             }
             let items = sliced(alloc, xs, bounds.start, bounds.stop, bounds.step)?;
             let len = items.len() as u64;
-            Ok(Made::New(Obj::Text(PyText::from_chars(alloc, &items)?), len))
+            Ok(Effect::New(Obj::Text(PyText::from_chars(alloc, &items)?), len))
         }
         Parts::ZeroStep => zero_step(alloc),
         Parts::NoNumber => no_index(alloc),
@@ -222,7 +222,7 @@ pub fn text_slice(alloc: Global, xs: &[char], parts: Parts) -> Result<Made, OutO
 }
 
 /// A slice of a list.
-pub fn list_slice(alloc: Global, xs: &[Value], parts: Parts) -> Result<Made, OutOfMemory>
+pub fn list_slice(alloc: Global, xs: &[Value], parts: Parts) -> Result<Effect, OutOfMemory>
     ensures { IfOk result (λ m. m ≡ items.slice_by obj.List xs.now parts) }
 {
     match parts {
@@ -232,7 +232,7 @@ pub fn list_slice(alloc: Global, xs: &[Value], parts: Parts) -> Result<Made, Out
             }
             let items = sliced(alloc, xs, bounds.start, bounds.stop, bounds.step)?;
             let len = items.len() as u64;
-            Ok(Made::New(Obj::List(Values::from_vec(items)), len))
+            Ok(Effect::New(Obj::List(Values::from_vec(items)), len))
         }
         Parts::ZeroStep => zero_step(alloc),
         Parts::NoNumber => no_index(alloc),
@@ -240,7 +240,7 @@ pub fn list_slice(alloc: Global, xs: &[Value], parts: Parts) -> Result<Made, Out
 }
 
 /// A slice of a tuple.
-pub fn tuple_slice(alloc: Global, xs: &[Value], parts: Parts) -> Result<Made, OutOfMemory>
+pub fn tuple_slice(alloc: Global, xs: &[Value], parts: Parts) -> Result<Effect, OutOfMemory>
     ensures { IfOk result (λ m. m ≡ items.slice_by obj.Tuple xs.now parts) }
 {
     match parts {
@@ -250,7 +250,7 @@ pub fn tuple_slice(alloc: Global, xs: &[Value], parts: Parts) -> Result<Made, Ou
             }
             let items = sliced(alloc, xs, bounds.start, bounds.stop, bounds.step)?;
             let len = items.len() as u64;
-            Ok(Made::New(Obj::Tuple(Values::from_vec(items)), len))
+            Ok(Effect::New(Obj::Tuple(Values::from_vec(items)), len))
         }
         Parts::ZeroStep => zero_step(alloc),
         Parts::NoNumber => no_index(alloc),

@@ -1,22 +1,22 @@
 // Stores and deletions of items.
 
 ghost use Rattle.std.specs.Prelude.{◌≡◌, ◌≤◌, IfOk, length, slice_get};
-ghost use Rattle.py_values.specs.Ends.{finished, within, steps_of};
+ghost use Rattle.py_values.specs.Ends.{finished, payable, steps_of};
 ghost use Rattle.py_operands.specs.py_kinds.Keys.{key_of};
 ghost use Rattle.py_operands.specs.py_kinds.Kinds as kinds;
-ghost use Rattle.py_values.specs.Numbers.{number_of};
+ghost use Rattle.py_values.specs.Numbers.{int_value};
 ghost use Rattle.py_values.specs.Pairs.{find_pair};
 ghost use Rattle.py_values.specs.declared.value.Value.TheVariants as val;
 ghost use Rattle.py_operands.specs.Faults as faults;
 ghost use Rattle.py_items.specs.Items as items;
 
-use crate::index::{Found, find_place};
+use crate::index::{IndexPlace, find_place};
 use py_operands::faults::{key_fault, no_index, no_key, not_subscriptable, out_of_range, too_long};
-use py_operands::py_kinds::keys::{Keyed, key};
+use py_operands::py_kinds::keys::{KeyResult, key};
 use py_values::OutOfMemory;
 use py_values::change::Change;
 use py_values::dict::Dict;
-use py_values::end::{Made, OpEnd, finish, made_within};
+use py_values::end::{Effect, OpEnd, finish, made_within};
 use py_values::heap::Heap;
 use py_values::key::Key;
 use py_values::limits::MOST_ELEMENTS;
@@ -33,14 +33,14 @@ fn pair_put(
     k: Key,
     at: Value,
     v: Value,
-) -> Result<Made, OutOfMemory>
+) -> Result<Effect, OutOfMemory>
     ensures { IfOk result (λ m. m ≡ items.pair_put id dict.now k at v) }
 {
     let cost = k.cost();
     if dict.get(&k).is_none() && dict.len() >= MOST_ELEMENTS {
         return too_long(alloc, cost);
     }
-    Ok(Made::Put(id, Change::Pair(k, at, v), Value::None, cost))
+    Ok(Effect::Put(id, Change::Pair(k, at, v), Value::None, cost))
 }
 
 fn store_key(
@@ -50,14 +50,14 @@ fn store_key(
     dict: &Dict,
     at: Value,
     v: Value,
-) -> Result<Made, OutOfMemory>
+) -> Result<Effect, OutOfMemory>
     ensures { IfOk result (λ m. m ≡ items.store_key heap.now id dict.now at v (key_of heap.now at)) }
 {
     match key(alloc, heap, at)? {
-        Keyed::Key(k) => pair_put(alloc, id, dict, k, at, v),
-        Keyed::Fault(fault, cost) => {
+        KeyResult::Key(k) => pair_put(alloc, id, dict, k, at, v),
+        KeyResult::Fault(fault, cost) => {
             let raise = key_fault(alloc, heap, fault)?;
-            Ok(Made::Fail(raise, cost))
+            Ok(Effect::Fail(raise, cost))
         }
     }
 }
@@ -68,24 +68,30 @@ fn store_at(
     len: usize,
     index: Option<i128>,
     v: Value,
-) -> Result<Made, OutOfMemory>
+) -> Result<Effect, OutOfMemory>
     ensures { IfOk result (λ m. m ≡ items.store_at id len index v) }
 {
     match find_place(len, index) {
-        Found::Place(at) => Ok(Made::Put(id, Change::Item(at, v), Value::None, 0)),
-        Found::Outside => out_of_range(alloc),
-        Found::NoNumber => no_index(alloc),
+        IndexPlace::Place(at) => Ok(Effect::Put(id, Change::Item(at, v), Value::None, 0)),
+        IndexPlace::Outside => out_of_range(alloc),
+        IndexPlace::NoNumber => no_index(alloc),
     }
 }
 
-fn refused(alloc: Global, heap: &Heap, a: Value) -> Result<Made, OutOfMemory>
-    ensures { IfOk result (λ m. m ≡ Made.Fail (faults.not_subscriptable (kinds.kind_name heap.now a)) 0) }
+fn refused(alloc: Global, heap: &Heap, a: Value) -> Result<Effect, OutOfMemory>
+    ensures { IfOk result (λ m. m ≡ Effect.Fail (faults.not_subscriptable (kinds.kind_name heap.now a)) 0) }
 {
     let raise = not_subscriptable(alloc, heap, a)?;
-    Ok(Made::Fail(raise, 0))
+    Ok(Effect::Fail(raise, 0))
 }
 
-fn store_in(alloc: Global, heap: &Heap, id: ObjId, at: Value, v: Value) -> Result<Made, OutOfMemory>
+fn store_in(
+    alloc: Global,
+    heap: &Heap,
+    id: ObjId,
+    at: Value,
+    v: Value,
+) -> Result<Effect, OutOfMemory>
     ensures { IfOk result (λ m. m ≡ items.store_in heap.now (faults.not_subscriptable (kinds.kind_name heap.now (val.Ref id))) id (slice_get heap.now id.at) at v) }
 {
     match heap.get(id) {
@@ -103,7 +109,7 @@ pub fn store_made(
     a: Value,
     at: Value,
     v: Value,
-) -> Result<Made, OutOfMemory>
+) -> Result<Effect, OutOfMemory>
     ensures { IfOk result (λ m. m ≡ items.store_of heap.now a at v) }
 {
     match a {
@@ -122,7 +128,7 @@ pub fn store_item(
     v: Value,
     budget: u64,
 ) -> Result<OpEnd, OutOfMemory>
-    ensures end { IfOk result (λ e. (e, heap.new) ≡ finished heap.old (within budget (items.store_of heap.old a index v))) }
+    ensures end { IfOk result (λ e. (e, heap.new) ≡ finished heap.old (payable budget (items.store_of heap.old a index v))) }
     ensures cost { IfOk result (λ e. steps_of e ≤ budget) }
 {
     let made = store_made(alloc, heap, a, index, v)?;
@@ -130,15 +136,21 @@ pub fn store_item(
 }
 
 /// A pair taken from a dict.
-fn pair_taken(alloc: Global, id: ObjId, dict: &Dict, k: Key, at: Value) -> Result<Made, OutOfMemory>
+fn pair_taken(
+    alloc: Global,
+    id: ObjId,
+    dict: &Dict,
+    k: Key,
+    at: Value,
+) -> Result<Effect, OutOfMemory>
     ensures { IfOk result (λ m. m ≡ items.pair_taken id at k (find_pair k dict.now)) }
 {
     let cost = k.cost();
     if dict.get(&k).is_none() {
         let raise = no_key(alloc, at)?;
-        return Ok(Made::Fail(raise, cost));
+        return Ok(Effect::Fail(raise, cost));
     }
-    Ok(Made::Put(id, Change::WithoutPair(k), Value::None, cost))
+    Ok(Effect::Put(id, Change::WithoutPair(k), Value::None, cost))
 }
 
 fn delete_key(
@@ -147,29 +159,34 @@ fn delete_key(
     id: ObjId,
     dict: &Dict,
     at: Value,
-) -> Result<Made, OutOfMemory>
+) -> Result<Effect, OutOfMemory>
     ensures { IfOk result (λ m. m ≡ items.delete_key heap.now id dict.now at (key_of heap.now at)) }
 {
     match key(alloc, heap, at)? {
-        Keyed::Key(k) => pair_taken(alloc, id, dict, k, at),
-        Keyed::Fault(fault, cost) => {
+        KeyResult::Key(k) => pair_taken(alloc, id, dict, k, at),
+        KeyResult::Fault(fault, cost) => {
             let raise = key_fault(alloc, heap, fault)?;
-            Ok(Made::Fail(raise, cost))
+            Ok(Effect::Fail(raise, cost))
         }
     }
 }
 
-fn delete_at(alloc: Global, id: ObjId, len: usize, index: Option<i128>) -> Result<Made, OutOfMemory>
+fn delete_at(
+    alloc: Global,
+    id: ObjId,
+    len: usize,
+    index: Option<i128>,
+) -> Result<Effect, OutOfMemory>
     ensures { IfOk result (λ m. m ≡ items.delete_at id len index) }
 {
     match find_place(len, index) {
-        Found::Place(at) => Ok(Made::Put(id, Change::WithoutItem(at), Value::None, 0)),
-        Found::Outside => out_of_range(alloc),
-        Found::NoNumber => no_index(alloc),
+        IndexPlace::Place(at) => Ok(Effect::Put(id, Change::WithoutItem(at), Value::None, 0)),
+        IndexPlace::Outside => out_of_range(alloc),
+        IndexPlace::NoNumber => no_index(alloc),
     }
 }
 
-fn delete_in(alloc: Global, heap: &Heap, id: ObjId, at: Value) -> Result<Made, OutOfMemory>
+fn delete_in(alloc: Global, heap: &Heap, id: ObjId, at: Value) -> Result<Effect, OutOfMemory>
     ensures { IfOk result (λ m. m ≡ items.delete_in heap.now (faults.not_subscriptable (kinds.kind_name heap.now (val.Ref id))) id (slice_get heap.now id.at) at) }
 {
     match heap.get(id) {
@@ -181,7 +198,7 @@ fn delete_in(alloc: Global, heap: &Heap, id: ObjId, at: Value) -> Result<Made, O
 
 /// What the deletion of an item makes.
 #[tactic(auto, unfolding(crate::specs::Items::delete_of))]
-pub fn delete_made(alloc: Global, heap: &Heap, a: Value, at: Value) -> Result<Made, OutOfMemory>
+pub fn delete_made(alloc: Global, heap: &Heap, a: Value, at: Value) -> Result<Effect, OutOfMemory>
     ensures { IfOk result (λ m. m ≡ items.delete_of heap.now a at) }
 {
     match a {
@@ -199,7 +216,7 @@ pub fn delete_item(
     index: Value,
     budget: u64,
 ) -> Result<OpEnd, OutOfMemory>
-    ensures end { IfOk result (λ e. (e, heap.new) ≡ finished heap.old (within budget (items.delete_of heap.old a index))) }
+    ensures end { IfOk result (λ e. (e, heap.new) ≡ finished heap.old (payable budget (items.delete_of heap.old a index))) }
     ensures cost { IfOk result (λ e. steps_of e ≤ budget) }
 {
     let made = delete_made(alloc, heap, a, index)?;

@@ -1,20 +1,20 @@
 // Subscripts.
 
 ghost use Rattle.std.specs.Prelude.{◌≡◌, ◌≤◌, IfOk, option_copied};
-ghost use Rattle.py_values.specs.Ends.{finished, within, steps_of};
+ghost use Rattle.py_values.specs.Ends.{finished, payable, steps_of};
 ghost use Rattle.py_operands.specs.py_kinds.Keys.{key_of};
 ghost use Rattle.py_operands.specs.py_kinds.Kinds as kinds;
-ghost use Rattle.py_values.specs.Numbers.{number_of};
+ghost use Rattle.py_values.specs.Numbers.{int_value};
 ghost use Rattle.py_items.specs.Items as items;
 ghost use Rattle.py_operands.specs.Faults as faults;
 
 use crate::index::{char_item, range_item, value_item};
 use crate::slice::{list_slice, parts_of, text_slice, tuple_slice};
 use py_operands::faults::{key_fault, no_key, not_subscriptable};
-use py_operands::py_kinds::keys::{Keyed, key};
+use py_operands::py_kinds::keys::{KeyResult, key};
 use py_values::OutOfMemory;
 use py_values::dict::{Dict, Pair};
-use py_values::end::{Made, OpEnd, finish, made_within};
+use py_values::end::{Effect, OpEnd, finish, made_within};
 use py_values::heap::Heap;
 use py_values::index::Index;
 use py_values::number::number;
@@ -38,40 +38,40 @@ fn pair_given(
     key: Value,
     cost: u64,
     pair: Option<&Pair>,
-) -> Result<Made, OutOfMemory>
+) -> Result<Effect, OutOfMemory>
     ensures { IfOk result (λ m. m ≡ items.pair_given key cost (option_copied pair.entry)) }
 {
     match pair {
-        Some(pair) => Ok(Made::Give(pair.value, cost)),
+        Some(pair) => Ok(Effect::Give(pair.value, cost)),
         None => {
             let raise = no_key(alloc, key)?;
-            Ok(Made::Fail(raise, cost))
+            Ok(Effect::Fail(raise, cost))
         }
     }
 }
 
 /// What stands in a dict under a key.
-fn under_key(alloc: Global, heap: &Heap, dict: &Dict, at: Value) -> Result<Made, OutOfMemory>
+fn under_key(alloc: Global, heap: &Heap, dict: &Dict, at: Value) -> Result<Effect, OutOfMemory>
     ensures { IfOk result (λ m. m ≡ items.under_key heap.now dict.now at (key_of heap.now at)) }
 {
     match key(alloc, heap, at)? {
-        Keyed::Key(key) => pair_given(alloc, at, key.cost(), dict.get(&key)),
-        Keyed::Fault(fault, cost) => {
+        KeyResult::Key(key) => pair_given(alloc, at, key.cost(), dict.get(&key)),
+        KeyResult::Fault(fault, cost) => {
             let raise = key_fault(alloc, heap, fault)?;
-            Ok(Made::Fail(raise, cost))
+            Ok(Effect::Fail(raise, cost))
         }
     }
 }
 
-fn refused(alloc: Global, heap: &Heap, a: Value) -> Result<Made, OutOfMemory>
-    ensures { IfOk result (λ m. m ≡ Made.Fail (faults.not_subscriptable (kinds.kind_name heap.now a)) 0) }
+fn refused(alloc: Global, heap: &Heap, a: Value) -> Result<Effect, OutOfMemory>
+    ensures { IfOk result (λ m. m ≡ Effect.Fail (faults.not_subscriptable (kinds.kind_name heap.now a)) 0) }
 {
     let raise = not_subscriptable(alloc, heap, a)?;
-    Ok(Made::Fail(raise, 0))
+    Ok(Effect::Fail(raise, 0))
 }
 
 /// An element by its index, a value by its key.
-fn item_made(alloc: Global, heap: &Heap, a: Value, at: Value) -> Result<Made, OutOfMemory>
+fn item_made(alloc: Global, heap: &Heap, a: Value, at: Value) -> Result<Effect, OutOfMemory>
     ensures { IfOk result (λ m. m ≡ items.item_of heap.now (faults.not_subscriptable (kinds.kind_name heap.now a)) (items.object_at heap.now a) at) }
 {
     match object_at(heap, a) {
@@ -92,8 +92,8 @@ fn slice_made(
     start: Option<Value>,
     stop: Option<Value>,
     step: Option<Value>,
-) -> Result<Made, OutOfMemory>
-    ensures { IfOk result (λ m. m ≡ items.slice_of (faults.not_subscriptable (kinds.kind_name heap.now a)) (items.object_at heap.now a) (items.parts_of start stop step)) }
+) -> Result<Effect, OutOfMemory>
+    ensures { IfOk result (λ m. m ≡ items.object_slice (faults.not_subscriptable (kinds.kind_name heap.now a)) (items.object_at heap.now a) (items.parts_of start stop step)) }
 {
     match object_at(heap, a) {
         Some(Obj::Text(t)) => text_slice(alloc, t.chars(), parts_of(start, stop, step)),
@@ -110,7 +110,7 @@ pub fn subscript_made(
     heap: &Heap,
     a: Value,
     index: &Index,
-) -> Result<Made, OutOfMemory>
+) -> Result<Effect, OutOfMemory>
     ensures { IfOk result (λ m. m ≡ items.subscript_of heap.now a index.now) }
 {
     match index {
@@ -128,7 +128,7 @@ pub fn subscript(
     index: &Index,
     budget: u64,
 ) -> Result<OpEnd, OutOfMemory>
-    ensures end { IfOk result (λ e. (e, heap.new) ≡ finished heap.old (within budget (items.subscript_of heap.old a index.now))) }
+    ensures end { IfOk result (λ e. (e, heap.new) ≡ finished heap.old (payable budget (items.subscript_of heap.old a index.now))) }
     ensures cost { IfOk result (λ e. steps_of e ≤ budget) }
 {
     let made = subscript_made(alloc, heap, a, index)?;

@@ -14,7 +14,7 @@ use py_operands::ranges::range_number;
 use py_values::OutOfMemory;
 use py_values::class::ExcClass;
 use py_values::dict::Dict;
-use py_values::end::Made;
+use py_values::end::Effect;
 use py_values::heap::Heap;
 use py_values::object::Obj;
 use py_values::range::RangeObj;
@@ -34,11 +34,11 @@ pub fn iterate(heap: &Heap, of: Value) -> Option<IterAt>
 }
 
 /// The key at a place of a dict.
-fn key_given(alloc: Global, dict: &Dict, at: usize) -> Result<Made, OutOfMemory>
+fn key_given(alloc: Global, dict: &Dict, at: usize) -> Result<Effect, OutOfMemory>
     ensures { IfOk result (λ m. m ≡ turns.key_given (slice_get dict.now at)) }
 {
     match dict.entry(at) {
-        Some((_, pair)) => Ok(Made::Give(pair.key, 0)),
+        Some((_, pair)) => Ok(Effect::Give(pair.key, 0)),
         None => given(alloc, None),
     }
 }
@@ -49,7 +49,7 @@ fn turn_keys(
     dict: &Dict,
     next: usize,
     length: usize,
-) -> Result<Option<Made>, OutOfMemory>
+) -> Result<Option<Effect>, OutOfMemory>
     ensures made { IfOk result (λ m. m ≡ turns.turn_keys next length dict.now) }
     ensures room { IfOk result (turns.HasRoom next) }
 {
@@ -69,8 +69,8 @@ fn turn_keys(
 }
 
 /// The next character of a text.
-fn turn_chars(alloc: Global, text: &[char], next: usize) -> Result<Option<Made>, OutOfMemory>
-    ensures made { IfOk result (λ m. m ≡ turns.below next (length text.now) (items.char_given (slice_get text.now next))) }
+fn turn_chars(alloc: Global, text: &[char], next: usize) -> Result<Option<Effect>, OutOfMemory>
+    ensures made { IfOk result (λ m. m ≡ turns.if_below next (length text.now) (items.char_given (slice_get text.now next))) }
     ensures room { IfOk result (turns.HasRoom next) }
 {
     if next >= text.len() {
@@ -81,8 +81,8 @@ fn turn_chars(alloc: Global, text: &[char], next: usize) -> Result<Option<Made>,
 }
 
 /// The next element of a list or a tuple.
-fn turn_values(alloc: Global, vs: &[Value], next: usize) -> Result<Option<Made>, OutOfMemory>
-    ensures made { IfOk result (λ m. m ≡ turns.below next (length vs.now) (items.given (slice_get vs.now next))) }
+fn turn_values(alloc: Global, vs: &[Value], next: usize) -> Result<Option<Effect>, OutOfMemory>
+    ensures made { IfOk result (λ m. m ≡ turns.if_below next (length vs.now) (items.given (slice_get vs.now next))) }
     ensures room { IfOk result (turns.HasRoom next) }
 {
     if next >= vs.len() {
@@ -93,8 +93,8 @@ fn turn_values(alloc: Global, vs: &[Value], next: usize) -> Result<Option<Made>,
 }
 
 /// The next number of a range.
-fn turn_numbers(alloc: Global, range: &RangeObj, next: usize) -> Result<Option<Made>, OutOfMemory>
-    ensures made { IfOk result (λ m. m ≡ turns.below next range.now.length (ranges.range_number range.now next)) }
+fn turn_numbers(alloc: Global, range: &RangeObj, next: usize) -> Result<Option<Effect>, OutOfMemory>
+    ensures made { IfOk result (λ m. m ≡ turns.if_below next range.now.length (ranges.range_number range.now next)) }
     ensures room { IfOk result (turns.HasRoom next) }
 {
     if next >= range.length {
@@ -106,7 +106,7 @@ fn turn_numbers(alloc: Global, range: &RangeObj, next: usize) -> Result<Option<M
 
 /// The element at the next place, and nothing at the end.
 #[tactic(auto, unfolding(crate::specs::Turns::turn_of))]
-pub fn turn_made(alloc: Global, heap: &Heap, at: IterAt) -> Result<Option<Made>, OutOfMemory>
+pub fn turn_made(alloc: Global, heap: &Heap, at: IterAt) -> Result<Option<Effect>, OutOfMemory>
     ensures made { IfOk result (λ m. m ≡ turns.turn_of heap.now at) }
     ensures room { IfOk result (turns.HasRoom at.next) }
 {
@@ -118,19 +118,19 @@ pub fn turn_made(alloc: Global, heap: &Heap, at: IterAt) -> Result<Option<Made>,
         Some(Obj::Dict(d)) => turn_keys(alloc, d, at.next, at.length),
         _ => {
             let raise = not_iterable(alloc, heap, at.of)?;
-            Ok(Some(Made::Fail(raise, 0)))
+            Ok(Some(Effect::Fail(raise, 0)))
         }
     }
 }
 
 /// Where the turns are behind one: at the next place where it gave an element.
-fn next_turn(at: IterAt, made: &Option<Made>) -> IterAt
+fn next_turn(at: IterAt, made: &Option<Effect>) -> IterAt
     requires { turns.HasRoom at.next made.now }
     ensures { result ≡ turns.next_turn at made.now }
 {
     match made {
-        None | Some(Made::Fail(_, _)) => at,
-        Some(Made::Give(_, _) | Made::New(_, _) | Made::Put(_, _, _, _)) => IterAt {
+        None | Some(Effect::Fail(_, _)) => at,
+        Some(Effect::Give(_, _) | Effect::New(_, _) | Effect::Put(_, _, _, _)) => IterAt {
             of: at.of,
             next: at.next + 1,
             length: at.length,
@@ -139,21 +139,21 @@ fn next_turn(at: IterAt, made: &Option<Made>) -> IterAt
 }
 
 /// What a turn tells; a new object is put into the heap.
-fn turn_end(heap: &mut Heap, made: Option<Made>) -> Result<Turn, OutOfMemory>
+fn turn_end(heap: &mut Heap, made: Option<Effect>) -> Result<Turn, OutOfMemory>
     ensures { IfOk result (λ t. (t, heap.new) ≡ turns.turn_end heap.old made) }
 {
     match made {
         None => Ok(Turn::End),
-        Some(Made::Give(v, _)) => Ok(Turn::Item(v)),
-        Some(Made::New(obj, _)) => {
+        Some(Effect::Give(v, _)) => Ok(Turn::Item(v)),
+        Some(Effect::New(obj, _)) => {
             let id = heap.add(obj)?;
             Ok(Turn::Item(Value::Ref(id)))
         }
-        Some(Made::Put(id, change, v, _)) => {
+        Some(Effect::Put(id, change, v, _)) => {
             heap.change(id, change)?;
             Ok(Turn::Item(v))
         }
-        Some(Made::Fail(raise, _)) => Ok(Turn::Raised(raise)),
+        Some(Effect::Fail(raise, _)) => Ok(Turn::Raised(raise)),
     }
 }
 

@@ -5,8 +5,8 @@ use Rattle.py_kinds.specs.declared.keys.KeyFault.{KeyFault}
 use Rattle.std.proofs.Common.{ℕ, ◌+◌, ◌<◌, length, drop, get_or, Option, Some, None, add-one, List, [], ◌∷◌, ◌++◌, ◌≡◌, refl, append_assoc, append-nil, zero-add, length-append, add_assoc}
 use Rattle.py_values.specs.declared.key.Atom.{Atom}
 use Rattle.py_kinds.specs.Keys.{Parts, Atoms, Fault, joined_parts, row_parts, told_parts, keyed_by, parts_to}
-use Rattle.py_kinds.specs.declared.keys.Keyed.{Keyed}
-use Rattle.py_kinds.specs.declared.keys.Keyed.TheVariants as keyed
+use Rattle.py_kinds.specs.declared.keys.KeyResult.{KeyResult}
+use Rattle.py_kinds.specs.declared.keys.KeyResult.TheVariants as keyed
 
 pub joined_assoc : (x y z : Parts) → joined_parts x (joined_parts y z) ≡ joined_parts (joined_parts x y) z
 joined_assoc (Fault x n) y z = refl

@@ -127,11 +127,11 @@ builtin_name (builtin.Pytest c) = pytest_call_name c
 builtin_name builtin.AddFinalizer = codes "addfinalizer"
 
 -- what a name stands for, and whether it is a class
-abbrev pub Row : Type 0
-Row = Builtin × Bool
+abbrev pub BuiltinEntry : Type 0
+BuiltinEntry = Builtin × Bool
 
 -- THE TABLE of built-in functions and kinds
-unfoldable pub rows : List Row
+unfoldable pub rows : List BuiltinEntry
 rows = BUILTINS
 
 -- THE TABLE of the classes of exceptions that are bound to names
@@ -163,7 +163,7 @@ abbrev pub method_in : List ℕ → List Builtin → Option Builtin
 method_in name [] = None
 method_in name (b ∷ bs) = if name_eq name (builtin_name b) then Some b else method_in name bs
 
-abbrev pub names_from : ℕ → List Row → List (List ℕ × Value)
+abbrev pub names_from : ℕ → List BuiltinEntry → List (List ℕ × Value)
 names_from n [] = []
 names_from n (r ∷ rs) = (builtin_name r.0, Ref (id_at n)) ∷ names_from (suc n) rs
 
@@ -193,7 +193,7 @@ function_object b = obj.Builtin (record { which = b; receiver = None })
 abbrev pub object_by : Builtin → Bool → Obj
 object_by b class = if class then class_object (builtin_name b) (Kind b) None else function_object b
 
-abbrev pub row_object : Row → Obj
+abbrev pub row_object : BuiltinEntry → Obj
 row_object r = object_by r.0 r.1
 
 -- a class of exceptions, with the object of its base

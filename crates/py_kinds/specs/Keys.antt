@@ -1,6 +1,6 @@
 -- The key of a value as plain data (Language Reference, the standard type hierarchy: mappings), with its steps.
 use Rattle.std.specs.Prelude.{ℕ, zero, suc, ◌+◌, ◌-◌, pos, List, [], ◌∷◌, ◌++◌, Option, Some, None, length, slice_get, if◌then◌else◌}
-use Rattle.py_values.specs.Limits.{most_levels}
+use Rattle.py_values.specs.Limits.{most_value_levels}
 use Rattle.py_values.specs.declared.object.Obj.{Obj}
 use Rattle.py_values.specs.declared.object.Obj.TheVariants as obj
 use Rattle.py_values.specs.declared.value.Value.{Value}
@@ -10,8 +10,8 @@ use Rattle.py_values.specs.declared.key.Atom.{Atom}
 use Rattle.py_values.specs.declared.key.Atom.TheVariants as atom
 use Rattle.py_kinds.specs.declared.keys.KeyFault.{KeyFault}
 use Rattle.py_kinds.specs.declared.keys.KeyFault.TheVariants.{Unhashable, TooDeep}
-use Rattle.py_kinds.specs.declared.keys.Keyed.{Keyed}
-use Rattle.py_kinds.specs.declared.keys.Keyed.TheVariants as keyed
+use Rattle.py_kinds.specs.declared.keys.KeyResult.{KeyResult}
+use Rattle.py_kinds.specs.declared.keys.KeyResult.TheVariants as keyed
 
 -- the parts of keys one behind another, up to the first fault
 pub data Parts : Type 0 where
@@ -62,12 +62,12 @@ parts_to (suc n) heap (val.Int z) = Atoms (atom.Number z ∷ [])
 parts_to (suc n) heap (val.Ref id) = obj_parts (parts_to n heap) id (slice_get heap id.at)
 
 -- THE KEY OF A VALUE: its parts, or why it is none with the elements of tuples that were looked at, the faulty one too
-abbrev pub keyed_by : Parts → Keyed
+abbrev pub keyed_by : Parts → KeyResult
 keyed_by (Atoms a) = keyed.Key a
 keyed_by (Fault x n) = keyed.Fault x n
 
-unfoldable pub key_of : List Obj → Value → Keyed
-key_of heap v = keyed_by (parts_to most_levels heap v)
+unfoldable pub key_of : List Obj → Value → KeyResult
+key_of heap v = keyed_by (parts_to most_value_levels heap v)
 
 -- what is told of parts that are being made
 abbrev pub told_parts : Option KeyFault → List Atom → Parts
@@ -75,6 +75,6 @@ told_parts None a = Atoms a
 told_parts (Some x) a = Fault x (length a)
 
 -- the steps of a key, or of the way to its fault
-abbrev pub key_steps : Keyed → ℕ
+abbrev pub key_steps : KeyResult → ℕ
 key_steps (keyed.Key a) = length a - 1
 key_steps (keyed.Fault x n) = n

@@ -38,7 +38,27 @@ class_name class.ValueError = codes "ValueError"
 -- the name of a class object; there is no class at a place that has none
 abbrev pub class_name_at : Option Obj → List ℕ
 class_name_at (Some (obj.Class c)) = c.name
-class_name_at _ = codes "object"
+class_name_at (Some (obj.Text x)) = codes "object"
+class_name_at (Some (obj.List x)) = codes "object"
+class_name_at (Some (obj.Tuple x)) = codes "object"
+class_name_at (Some (obj.Dict x)) = codes "object"
+class_name_at (Some (obj.Range x)) = codes "object"
+class_name_at (Some (obj.Function x)) = codes "object"
+class_name_at (Some (obj.Method x)) = codes "object"
+class_name_at (Some (obj.Builtin x)) = codes "object"
+class_name_at (Some (obj.Instance x)) = codes "object"
+class_name_at (Some (obj.Exception x)) = codes "object"
+class_name_at (Some (obj.Module x)) = codes "object"
+class_name_at (Some (obj.Fixture x)) = codes "object"
+class_name_at (Some obj.MarkMaker) = codes "object"
+class_name_at (Some (obj.Mark x)) = codes "object"
+class_name_at (Some (obj.Hook x)) = codes "object"
+class_name_at (Some (obj.Param x)) = codes "object"
+class_name_at (Some (obj.Request x)) = codes "object"
+class_name_at (Some (obj.Raises x)) = codes "object"
+class_name_at (Some (obj.Info x)) = codes "object"
+class_name_at (Some (obj.Item x)) = codes "object"
+class_name_at None = codes "object"
 
 -- the name of an exception's class
 abbrev pub class_ref_name : List Obj → ClassRef → List ℕ

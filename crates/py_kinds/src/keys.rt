@@ -21,19 +21,19 @@ pub enum KeyFault {
 
 /// The key of a value, or why there is none, with the elements of tuples that were looked at, the faulty one too.
 #[derive(Drop)]
-pub enum Keyed {
+pub enum KeyResult {
     Key(Key),
     Fault(KeyFault, u64),
 }
 
-impl Keyed {
+impl KeyResult {
     /// The steps of a use of the key, or those up to the fault.
     pub fn cost(&self) -> u64
         ensures { result ≡ key_steps self.now }
     {
         match self {
-            Keyed::Key(key) => key.cost(),
-            Keyed::Fault(_, cost) => *cost,
+            KeyResult::Key(key) => key.cost(),
+            KeyResult::Fault(_, cost) => *cost,
         }
     }
 }
@@ -136,13 +136,13 @@ fn push_row(
 
 /// The key of a value (Language Reference, the standard type hierarchy: mappings).
 #[tactic(auto, unfolding(crate::specs::Keys::key_of))]
-pub fn key(alloc: Global, heap: &Heap, v: Value) -> Result<Keyed, OutOfMemory>
+pub fn key(alloc: Global, heap: &Heap, v: Value) -> Result<KeyResult, OutOfMemory>
     ensures { IfOk result (λ k. k ≡ key_of heap.now v) }
 {
     let mut atoms = Vec::new(alloc);
     let fault = push_parts(alloc, heap, &mut atoms, v, MOST_LEVELS)?;
     match fault {
-        Some(fault) => Ok(Keyed::Fault(fault, atoms.len() as u64)),
-        None => Ok(Keyed::Key(Key::from_vec(atoms))),
+        Some(fault) => Ok(KeyResult::Fault(fault, atoms.len() as u64)),
+        None => Ok(KeyResult::Key(Key::from_vec(atoms))),
     }
 }

@@ -1,6 +1,10 @@
 //! What the values of the interpreted language do by their kinds: truth, length, keys, the names of kinds, classes and what is an instance
 //! of which, and what follows from the tables of built-in names.
 //!
+//! # What it is for
+//!
+//! The crates of operators, attributes and calls, and the machine, ask here what a value is by its kind.
+//!
 //! # What is proved
 //!
 //! - `truth`, `kind_name`, `length_of`, `is_a`, `root_of`, `stands_on`, `is_exc_class`, `are_exc_classes` and `key` (with its steps, and why a value

@@ -31,12 +31,12 @@ abbrev pub is_zero_or_underscore : ℕ → Bool
 is_zero_or_underscore c = (c == 48) || is_underscore c
 
 -- the digits without underscores
-abbrev pub counted : List ℕ → List ℕ
-counted cs = filter (λ c. not (is_underscore c)) cs
+abbrev pub bare_digits : List ℕ → List ℕ
+bare_digits cs = filter (λ c. not (is_underscore c)) cs
 
 -- the number that the digits write; underscores do not count
 abbrev pub value_in : ℕ → List ℕ → ℕ
-value_in base cs = digits_value base (counted cs)
+value_in base cs = digits_value base (bare_digits cs)
 
 -- `decinteger`: digits, where a leading zero is followed by zeros alone
 abbrev pub decimal_value : List ℕ → Option ℕ

@@ -13,7 +13,7 @@ use Rattle.std.proofs.lemmas.Str.{encodes-chars, IsUtf8-string_bytes}
 use Rattle.std.proofs.Math.Utf8.{encodes}
 use Rattle.edge_io.specs.Files.{InOrder, files_of, paths_of}
 use Rattle.py_values.specs.Names.{name_eq}
-use Rattle.py_world.specs.World.{Source}
+use Rattle.py_world.specs.World.{CodedSource}
 use Rattle.py_world.specs.Runs.{source_at}
 use Rattle.assert_rewrite.specs.source_meaning.Requests.{Script}
 use Rattle.py_load.specs.Reading.{ReadFile, AreRead}
@@ -41,7 +41,7 @@ other_name : (b : Bool) (p q : List ℕ) → name_eq p q ≡ b → (p ≡ q → 
 other_name true p q e h = absurd (h ((bytes_eq-Decides p q).0 e))
 other_name false p q e h = refl
 
-passed : (b : Bool) (x : Source Script) (o : Option (Source Script)) → b ≡ false → o ≡ None → cond b (Some x) o ≡ None
+passed : (b : Bool) (x : CodedSource Script) (o : Option (CodedSource Script)) → b ≡ false → o ≡ None → cond b (Some x) o ≡ None
 passed b x o e h = rw (e, h) refl
 
 -- no file in front of a path has it

@@ -6,7 +6,7 @@ use Rattle.std.proofs.lemmas.List.{append-nil, map-append, take_more, take-appen
 use Rattle.std.proofs.lemmas.List.Folds.{list_all-append}
 use Rattle.std.proofs.lemmas.Str.{IsUtf8-string_bytes}
 use Rattle.edge_io.specs.Files.{File, InOrder, files_of, file_of, paths_of}
-use Rattle.py_world.specs.World.{Source}
+use Rattle.py_world.specs.World.{CodedSource}
 use Rattle.py_world.specs.Runs.{source_at}
 use Rattle.assert_rewrite.specs.source_meaning.Requests.{Script}
 use Rattle.assert_rewrite.specs.source_meaning.Meaning.{SourceWorld}
@@ -21,16 +21,16 @@ pub record Added (named : List (List ℕ)) (pairs : List Pair) (old new : Source
   pub read : AreRead (files_of pairs) reads
   pub world : new ≡ with_reads named reads old
 
-abbrev with : List (Source Script) → SourceWorld → SourceWorld
+abbrev with : List (CodedSource Script) → SourceWorld → SourceWorld
 with sources w = record { sources = sources; modules = w.modules; heap = w.heap; codes = w.codes; printed = w.printed; frozen = w.frozen; traces = w.traces }
 
 pub none_added : (named : List (List ℕ)) (w : SourceWorld) → Added named [] w w
-none_added named w = record { reads = []; read = tt; world = ap (λ (xs : List (Source Script)). with xs w) (sym (append-nil w.sources)) }
+none_added named w = record { reads = []; read = tt; world = ap (λ (xs : List (CodedSource Script)). with xs w) (sym (append-nil w.sources)) }
 
 behind_reads : (named : List (List ℕ)) (reads : List ReadFile) (r : ReadFile) (w : SourceWorld) → with_sources (source_of_read named r ∷ []) (with_reads named reads w) ≡ with_reads named (reads ++ r ∷ []) w
 behind_reads named reads r w =
-    ap (λ (xs : List (Source Script)). with xs w)
-    (append_assoc w.sources (map (source_of_read named) reads) (source_of_read named r ∷ []) ∙ ap (λ (xs : List (Source Script)). w.sources ++ xs) (sym (map-append (source_of_read named) reads (r ∷ []))))
+    ap (λ (xs : List (CodedSource Script)). with xs w)
+    (append_assoc w.sources (map (source_of_read named) reads) (source_of_read named r ∷ []) ∙ ap (λ (xs : List (CodedSource Script)). w.sources ++ xs) (sym (map-append (source_of_read named) reads (r ∷ []))))
 
 pub one_more : (named : List (List ℕ)) (pairs : List Pair) (pair : Pair) (old mid new : SourceWorld) → Added named pairs old mid → IsFileAdded (is_explained named (string_bytes pair.0)) (string_bytes pair.0) pair.1.items mid new → Added named (pairs ++ pair ∷ []) old new
 one_more named pairs pair old mid new before here =
@@ -62,7 +62,7 @@ split_paths [] rest pair = refl
 split_paths (p ∷ ps) rest pair = ap (λ (qs : List (List ℕ)). string_bytes p.0 ∷ qs) (split_paths ps rest pair)
 
 no_sources : (named : List (List ℕ)) (old new : SourceWorld) (reads : List ReadFile) → old.sources ≡ [] → new ≡ with_reads named reads old → new.sources ≡ map (source_of_read named) reads
-no_sources named old new reads e h = ap (λ (w : SourceWorld). w.sources) h ∙ ap (λ (xs : List (Source Script)). xs ++ map (source_of_read named) reads) e
+no_sources named old new reads e h = ap (λ (w : SourceWorld). w.sources) h ∙ ap (λ (xs : List (CodedSource Script)). xs ++ map (source_of_read named) reads) e
 
 -- the next file's path has no source
 pub next_absent : (named : List (List ℕ)) (pairs : List Pair) (k : ℕ) (pair : Pair) (old w : SourceWorld) → k < length pairs → pair ≡ get_or pairs k pair → InOrder (paths_of (files_of pairs)) → old.sources ≡ [] → Added named (take k pairs) old w

@@ -6,7 +6,7 @@ use Rattle.edge_io.specs.Files.{File}
 use Rattle.file_source.specs.Sources.{IsSource}
 use Rattle.py_source.specs.declared.fault.SourceFault.{SourceFault}
 use Rattle.py_tree.specs.Statements.{Block}
-use Rattle.py_world.specs.World.{Source, Coded, Code, Fault}
+use Rattle.py_world.specs.World.{CodedSource, Coded, Code, Fault}
 use Rattle.assert_rewrite.specs.source_meaning.Requests.{Script}
 use Rattle.assert_rewrite.specs.source_meaning.Statements.{script}
 use Rattle.assert_rewrite.specs.source_meaning.Meaning.{SourceWorld}
@@ -22,15 +22,15 @@ abbrev pub code_said : Bool → Result Block SourceFault → Coded Script
 code_said explains (Ok block) = Code (script explains block)
 code_said explains (Err fault) = Fault fault
 
-abbrev pub source_as : Bool → List ℕ → List ℕ → Result Block SourceFault → Source Script
+abbrev pub source_as : Bool → List ℕ → List ℕ → Result Block SourceFault → CodedSource Script
 source_as explains path bytes said = record { path = chars path; bytes = bytes; code = code_said explains said }
 
 -- named: the paths of files that a word names
-abbrev pub source_of_read : List (List ℕ) → ReadFile → Source Script
+abbrev pub source_of_read : List (List ℕ) → ReadFile → CodedSource Script
 source_of_read named r = source_as (is_explained named r.0) r.0 r.1.0 r.1.1
 
 -- a world with these sources behind its own
-abbrev pub with_sources : List (Source Script) → SourceWorld → SourceWorld
+abbrev pub with_sources : List (CodedSource Script) → SourceWorld → SourceWorld
 with_sources more w = record { sources = w.sources ++ more; modules = w.modules; heap = w.heap; codes = w.codes; printed = w.printed; frozen = w.frozen; traces = w.traces }
 
 abbrev pub with_reads : List (List ℕ) → List ReadFile → SourceWorld → SourceWorld

@@ -4,10 +4,10 @@ use Rattle.run_tree.specs.Todo.{Done}
 use Rattle.py_core.specs.declared.stmt.CoreFn.{CoreFn}
 use Rattle.py_values.specs.declared.value.Value.{Value}
 use Rattle.py_values.specs.declared.value.Value.TheVariants as val
-use Rattle.lower_law.specs.py_world.Arguments.{plain}
+use Rattle.lower_law.specs.py_world.Arguments.{positional_arguments}
 use Rattle.lower_law.specs.py_world.Calls.{entered, invoke}
 use Rattle.lower_law.specs.py_world.Outcome.{call_end, raised}
-use Rattle.lower_law.specs.py_world.Resuming.{Begun, Sent, begun_by, begun_over, opened_by_runner, resumed, sent_end}
+use Rattle.lower_law.specs.py_world.Resuming.{BegunBody, Sent, begun_by, begun_over, opened_by_runner, resumed, sent_end}
 use Rattle.lower_law.specs.py_world.Runs.{begun_by_runner, ended_by, ended_value, start}
 use Rattle.lower_law.specs.py_world.Site.{no_call}
 use Rattle.lower_law.specs.py_world.World.{Locals, Stored, state}
@@ -19,7 +19,7 @@ use Rattle.machine_state.specs.declared.place.Here.{Here}
 use Rattle.machine_state.specs.Places.{CoreEnding, CoreOutcome, CoreRest, CoreState, ends, outcome, site_of}
 use Rattle.machine_state.specs.declared.frame.End.{End}
 use Rattle.machine_state.specs.declared.machine.Machine.{Machine}
-use Rattle.machine_state.specs.Frames.{after, frozen_some, layers_of, outer_of, rest_of, state_of}
+use Rattle.machine_state.specs.Frames.{after_stack, frozen_some, layers_of, outer_of, machine_rest, state_of}
 use Rattle.machine_state.proofs.Costs.{ends_done}
 use Rattle.machine_frames.specs.Frozen.{FoundIn}
 use Rattle.machine_runner.specs.declared.misfit.Misfit.{Misfit}
@@ -29,7 +29,7 @@ use Rattle.machine_runner.specs.Openings.{opening_rest}
 use Rattle.py_machine.proofs.Beginning.{same_left}
 
 -- what is told of a run
-pub begun_tells : (budget n : ℕ) (t : CoreRest) (ending : CoreEnding) (b : Begun) (w : CoreWorld) → n ≡ budget → ends n t ≡ ending → begun_by budget ending ≡ (b, w)
+pub begun_tells : (budget n : ℕ) (t : CoreRest) (ending : CoreEnding) (b : BegunBody) (w : CoreWorld) → n ≡ budget → ends n t ≡ ending → begun_by budget ending ≡ (b, w)
     → begun_by budget (ends budget t) ≡ (b, w)
 begun_tells budget n t ending b w left run told = ap (λ (m : ℕ). begun_by budget (ends m t)) (sym left) ∙ ap (begun_by budget) run ∙ told
 
@@ -39,10 +39,10 @@ ended_told budget o = ap (begun_by budget) (ends_done budget o) ∙ ap (λ (n : 
 
 -- on an empty stack
 pub body_enters : (fs : List Frame) (h : Here) (n : ℕ) (s : CoreState) (code : Stored CoreFn) (names : Locals) → fs ≡ []
-    → ends n (entered entry code (Ok names) no_call s (λ (o : CoreOutcome). Done (call_end s o))) ≡ ends n (entered entry code (Ok names) (record { trace = outer_of fs; depth = 0; handling = None }) s (λ (o : CoreOutcome). after fs h (call_end s o)))
+    → ends n (entered entry code (Ok names) no_call s (λ (o : CoreOutcome). Done (call_end s o))) ≡ ends n (entered entry code (Ok names) (record { trace = outer_of fs; depth = 0; handling = None }) s (λ (o : CoreOutcome). after_stack fs h (call_end s o)))
 body_enters fs h n s code names e = rw e refl
 
-module _ (f : Value) (args : List Value) (budget : ℕ) (w w' : CoreWorld) (s : CoreState) (b : Begun) (is : s ≡ start w) where
+module _ (f : Value) (args : List Value) (budget : ℕ) (w w' : CoreWorld) (s : CoreState) (b : BegunBody) (is : s ≡ start w) where
   -- the body of a yield function
   pub body_begins : (code : Stored CoreFn) (names : Locals) → opened_by_runner core f args (start w) ≡ opening_rest (Body code names) f args (start w)
       → begun_by budget (ends budget (entered entry code (Ok names) no_call s (λ o. Done (call_end s o)))) ≡ (b, w') → core_begin f args budget w ≡ (b, w')
@@ -58,7 +58,7 @@ module _ (f : Value) (args : List Value) (budget : ℕ) (w w' : CoreWorld) (s : 
       → begun_by budget (ends budget (begun_by_runner core f args s)) ≡ (b, w') → core_begin f args budget w ≡ (b, w')
   call_begins opened told = ap (λ t. begun_by budget (ends budget t)) opened ∙ (rw is at told)
 
-  pub called_fits : Begins None f args (start w) → begun_by budget (ends budget (invoke entry f (plain args) no_call s (λ o. Done (call_end s o)))) ≡ (b, w')
+  pub called_fits : Begins None f args (start w) → begun_by budget (ends budget (invoke entry f (positional_arguments args) no_call s (λ o. Done (call_end s o)))) ≡ (b, w')
       → begun_by budget (ends budget (begun_by_runner core f args s)) ≡ (b, w')
   called_fits begins told = rw is (ap (λ t. begun_by budget (ends budget t)) begins ∙ (rw is at told))
 
@@ -68,16 +68,16 @@ module _ (f : Value) (args : List Value) (budget : ℕ) (w w' : CoreWorld) (s : 
 
 -- what remains of a body, in a machine
 pub wakes : (budget : ℕ) (m : Machine) (x : FrozenFrame) (e : End) (sent : Sent) (w : CoreWorld) (ending : CoreEnding) → m.left ≡ budget → state_of m ≡ state x.locals [] w
-    → ((o : CoreOutcome) → rest_of m o ≡ remains (layers_of x.stack) (site_of x.here [] None) o (λ o. Done (call_end (start w) o))) → ((s : CoreState) → outcome e s ≡ sent_end sent s)
-    → ends m.left (rest_of m (outcome e (state_of m))) ≡ ending → ends budget (resumed core (frozen_some x) sent w) ≡ ending
+    → ((o : CoreOutcome) → machine_rest m o ≡ remains (layers_of x.stack) (site_of x.here [] None) o (λ o. Done (call_end (start w) o))) → ((s : CoreState) → outcome e s ≡ sent_end sent s)
+    → ends m.left (machine_rest m (outcome e (state_of m))) ≡ ending → ends budget (resumed core (frozen_some x) sent w) ≡ ending
 wakes budget m x e sent w ending left is rest end run =
     ap (λ (n : ℕ). ends n (resumed core (frozen_some x) sent w)) (sym left)
     ∙ ap (ends m.left) (sym (rest (outcome e (state_of m)) ∙ ap (λ (o : CoreOutcome). remains (layers_of x.stack) (site_of x.here [] None) o (λ o. Done (call_end (start w) o))) (end (state_of m) ∙ ap (sent_end sent) is))) ∙ run
 
 -- a frame that is out, and a number under which none is
-pub frame_resumes : (n : ℕ) (sent : Sent) (budget : ℕ) (w w1 w' : CoreWorld) (x : FrozenFrame) (b : Begun) → FoundIn (Some x) n w w1
+pub frame_resumes : (n : ℕ) (sent : Sent) (budget : ℕ) (w w1 w' : CoreWorld) (x : FrozenFrame) (b : BegunBody) → FoundIn (Some x) n w w1
     → begun_by budget (ends budget (resumed core (frozen_some x) sent w1)) ≡ (b, w') → core_resume n sent budget w ≡ (b, w')
 frame_resumes n sent budget w w1 w' x b found told = rw (found.0, ← found.1) told
 
-pub nothing_resumes : (n : ℕ) (sent : Sent) (budget : ℕ) (w w1 : CoreWorld) (b : Begun) → FoundIn None n w w1 → b ≡ (begun_over (ended_value val.None 0 w)).0 → core_resume n sent budget w ≡ (b, w1)
+pub nothing_resumes : (n : ℕ) (sent : Sent) (budget : ℕ) (w w1 : CoreWorld) (b : BegunBody) → FoundIn None n w w1 → b ≡ (begun_over (ended_value val.None 0 w)).0 → core_resume n sent budget w ≡ (b, w1)
 nothing_resumes n sent budget w w1 b found told = rw (found.0, found.1, told) refl

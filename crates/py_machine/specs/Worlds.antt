@@ -7,7 +7,7 @@ use Rattle.py_core.specs.declared.stmt.Core.{Core}
 use Rattle.py_values.specs.declared.object.Obj.{Obj}
 use Rattle.py_values.specs.declared.object.Obj.TheVariants as obj
 use Rattle.py_values.specs.declared.value.Value.{Value}
-use Rattle.lower_law.specs.py_world.World.{Source, Coded, Code, Fault}
+use Rattle.lower_law.specs.py_world.World.{CodedSource, Coded, Code, Fault}
 use Rattle.py_kinds.specs.Builtins.{first_heap}
 use Rattle.lower_law.specs.source_meaning.Meaning.{SourceWorld}
 use Rattle.lower_law.specs.Sourced.{module_of}
@@ -17,9 +17,9 @@ abbrev pub empty : SourceWorld
 empty = record { sources = []; modules = []; heap = first_heap; codes = []; printed = []; frozen = []; traces = [] }
 
 -- the source that a core code carries, or why there is none
-abbrev pub given : Result Core SourceFault → Coded Script
-given (Ok core) = Code (module_of core)
-given (Err fault) = Fault fault
+abbrev pub carried_source : Result Core SourceFault → Coded Script
+carried_source (Ok core) = Code (module_of core)
+carried_source (Err fault) = Fault fault
 
 -- a core code that stands for the source that it carries
 abbrev pub IsLowered : Result Core SourceFault → Type 0
@@ -31,7 +31,7 @@ abbrev pub Stands : Coded Core → Type 0
 Stands (Code core) = LoweredModule (module_of core) core
 Stands (Fault fault) = Unit {0}
 
-abbrev pub with_source : Source Script → SourceWorld → SourceWorld
+abbrev pub with_source : CodedSource Script → SourceWorld → SourceWorld
 with_source x w = record { sources = w.sources ++ x ∷ []; modules = w.modules; heap = w.heap; codes = w.codes; printed = w.printed; frozen = w.frozen; traces = w.traces }
 
 module _ {M : Type 0} where
@@ -40,7 +40,7 @@ module _ {M : Type 0} where
   fault_in (Code code) = None
   fault_in (Fault fault) = Some fault
 
-  abbrev pub fault_of : Option (Source M) → Option SourceFault
+  abbrev pub fault_of : Option (CodedSource M) → Option SourceFault
   fault_of (Some x) = fault_in x.code
   fault_of None = None
 

@@ -11,7 +11,7 @@ abbrev pub told_out : BegunOut → world.BegunOut
 told_out (Yielded v n) = world.Yielded v n
 told_out (Over o) = world.Over o
 
-abbrev pub told_begun : Begun → world.Begun
+abbrev pub told_begun : Begun → world.BegunBody
 told_begun b = world.begun_with (told_out b.out) b.steps
 
 abbrev pub sent_of : Sent → world.Sent

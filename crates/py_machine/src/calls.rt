@@ -55,7 +55,7 @@ fn go_on(m: &mut Machine, turned: TurnEnd) -> Result<Stop, OutOfMemory>
 /// Runs a call where nothing is open.
 pub fn run_call(m: &mut Machine, f: Value, args: &[Value]) -> Result<Stop, OutOfMemory>
     requires { m.old.stack ≡ [] }
-    ensures { IfOk result (λ stop. ends m.old.left (calls.invoke entry f (plain args.now) no_call (state_of m.old) (λ o. Done (call_end (state_of m.old) o))) ≡ stopped stop m.new) }
+    ensures { IfOk result (λ stop. ends m.old.left (calls.invoke entry f (positional_arguments args.now) no_call (state_of m.old) (λ o. Done (call_end (state_of m.old) o))) ≡ stopped stop m.new) }
 {
     let args = plain_arguments(m.alloc, args)?;
     let turned = invoke(m, f, &args, Origin::Runner)?;
@@ -72,7 +72,7 @@ fn call_fitting(
 ) -> Result<Ended, OutOfMemory>
     requires stack { m.old.stack ≡ [] }
     requires left { m.old.left ≡ budget }
-    ensures { IfOk result (λ e. runs.told_by budget (ends budget (calls.invoke entry f (plain args.now) no_call (state_of m.old) (λ o. Done (call_end (state_of m.old) o)))) ≡ (e, world_of m.new)) }
+    ensures { IfOk result (λ e. runs.told_by budget (ends budget (calls.invoke entry f (positional_arguments args.now) no_call (state_of m.old) (λ o. Done (call_end (state_of m.old) o)))) ≡ (e, world_of m.new)) }
 {
     let stop = run_call(m, f, args)?;
     let ended = finish(m, stop, budget)?;
@@ -82,7 +82,7 @@ fn call_fitting(
 ghost use Rattle.run_tree.specs.Todo.{Done};
 ghost use Rattle.lower_law.specs.py_world.Calls as calls;
 ghost use Rattle.lower_law.specs.py_world.Outcome.{call_end};
-ghost use Rattle.lower_law.specs.py_world.Arguments.{plain};
+ghost use Rattle.lower_law.specs.py_world.Arguments.{positional_arguments};
 
 /// A call by the runner.
 pub fn call(m: &mut Machine, f: Value, args: &[Value], budget: u64) -> Result<Ended, OutOfMemory>

@@ -5,7 +5,7 @@ ghost use Rattle.lower_law.specs.py_world.Names.{names_in};
 ghost use Rattle.lower_law.specs.py_world.Runs.{source_at};
 ghost use Rattle.lower_law.specs.py_world.World as seen;
 ghost use Rattle.lower_law.specs.source_meaning.Meaning.{source_begin, source_call, source_module, source_resume};
-ghost use Rattle.py_machine.specs.Worlds.{empty, fault_in, fault_of, given, with_source, IsLowered};
+ghost use Rattle.py_machine.specs.Worlds.{empty, fault_in, fault_of, carried_source, with_source, IsLowered};
 
 use crate::resuming::{Begun, Frozen, Sent};
 use crate::{calls, load, yields};
@@ -101,7 +101,7 @@ pub fn add_source(
 ) -> Result<(), OutOfMemory>
     requires absent { source_at (chars path.now) world.old.sources ≡ None }
     requires lowered { IsLowered code }
-    ensures { OnOk result (world.new ≡ with_source (record { path = chars path.now; bytes = bytes.now; code = given code }) world.old) }
+    ensures { OnOk result (world.new ≡ with_source (record { path = chars path.now; bytes = bytes.now; code = carried_source code }) world.old) }
 {
     let alloc = world.machine.alloc;
     let path = text_of(alloc, path)?;
@@ -116,7 +116,7 @@ pub fn add_source(
 
 fn source_code(code: Result<Core, SourceFault>) -> SourceCode
     requires { IsLowered code }
-    ensures code { coded_view (coded_of result) ≡ given code }
+    ensures code { coded_view (coded_of result) ≡ carried_source code }
     ensures lowered { Stands (coded_of result) }
 {
     match code {

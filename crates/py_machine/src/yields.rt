@@ -26,7 +26,7 @@ use machine_state::code::Code;
 use machine_state::frame::End;
 use machine_state::frozen::FrozenFrame;
 use machine_state::locals::Locals;
-use machine_state::machine::{Doing, Machine, Origin};
+use machine_state::machine::{Machine, NextAction, Origin};
 use machine_stmt::call_fitting;
 use machine_stmt::run::{Stop, run};
 use py_text::OutOfMemory;
@@ -103,14 +103,14 @@ fn begin_body(m: &mut Machine, code: Code, names: Locals, budget: u64) -> Result
 fn begin_call(m: &mut Machine, f: Value, args: &[Value], budget: u64) -> Result<Begun, OutOfMemory>
     requires stack { m.old.stack ≡ [] }
     requires left { m.old.left ≡ budget }
-    ensures { IfOk result (λ b. resuming.begun_by budget (ends budget (calls.invoke entry f (plain args.now) no_call (state_of m.old) (λ o. Done (call_end (state_of m.old) o)))) ≡ (told_begun b, world_of m.new)) }
+    ensures { IfOk result (λ b. resuming.begun_by budget (ends budget (calls.invoke entry f (positional_arguments args.now) no_call (state_of m.old) (λ o. Done (call_end (state_of m.old) o)))) ≡ (told_begun b, world_of m.new)) }
 {
     let stop = run_call(m, f, args)?;
     let begun = tell(m, stop, budget)?;
     Ok(begun)
 }
 
-ghost use Rattle.lower_law.specs.py_world.Arguments.{plain};
+ghost use Rattle.lower_law.specs.py_world.Arguments.{positional_arguments};
 
 /// Refuses what the arguments don't fit.
 fn begin_refused(m: &mut Machine, misfit: Misfit) -> Result<Begun, OutOfMemory>
@@ -177,7 +177,7 @@ fn run_frame(
 {
     let end = end_of(sent);
     wake(m, frame, budget)?;
-    let stop = run(m, Doing::Back(end))?;
+    let stop = run(m, NextAction::Back(end))?;
     Ok(stop)
 }
 

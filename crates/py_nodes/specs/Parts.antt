@@ -19,7 +19,7 @@ pairs_of p = record { at = p.at; names = trees p.names.items.items; values = tre
 abbrev pub args_of : Arguments → v.Args
 args_of a = record { all = trees a.all.items.items; names = a.names.items; ended = a.ended }
 
-abbrev pub chain_of : Chain → v.Chain
+abbrev pub chain_of : Chain → v.OperandChain
 chain_of c = record { head = tree c.head.expr.value; ops = c.ops.items; more = trees c.more.items.items }
 
 abbrev pub maybe_of : Option Node → Maybe
@@ -40,6 +40,6 @@ abbrev pub end_pairs : v.Pairs → v.Pairs
 end_pairs p = record { at = p.at; names = p.names; values = p.values; ended = true }
 
 -- a chain with an operator behind it, if one is kept
-abbrev pub with_op : v.Chain → Option CmpOp → v.Chain
+abbrev pub with_op : v.OperandChain → Option CmpOp → v.OperandChain
 with_op c None = c
 with_op c (Some o) = v.op_more c o

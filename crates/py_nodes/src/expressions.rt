@@ -111,7 +111,26 @@ pub fn name_in(expr: &Expr) -> Result<Option<ArgName>, AllocError>
             at: expr.at,
             name: name.clone()?,
         })),
-        _ => Ok(None),
+        ExprKind::Number(_)
+        | ExprKind::Text(_)
+        | ExprKind::True
+        | ExprKind::False
+        | ExprKind::None
+        | ExprKind::Paren(_)
+        | ExprKind::Tuple(_)
+        | ExprKind::List(_)
+        | ExprKind::Dict(_, _)
+        | ExprKind::Attribute(_, _)
+        | ExprKind::Call(_, _, _)
+        | ExprKind::Subscript(_, _)
+        | ExprKind::Slice(_, _, _, _)
+        | ExprKind::Unary(_, _)
+        | ExprKind::Binary(_, _, _)
+        | ExprKind::Compare(_, _, _)
+        | ExprKind::Not(_)
+        | ExprKind::And(_, _)
+        | ExprKind::Or(_, _)
+        | ExprKind::IfElse(_, _, _) => Ok(None),
     }
 }
 

@@ -1,5 +1,9 @@
 //! Making the nodes of expressions: what each gives is said of plain trees, so no reader of a text meets how a tree lies in memory.
 //!
+//! # What it is for
+//!
+//! The parsers make the trees of expressions by these functions.
+//!
 //! # What is proved
 //!
 //! - Each node function gives the tree that it is named for, of the trees of its parts, at its first token (`tree`), one higher
@@ -28,4 +32,4 @@ pub use parts::{
     Arguments, Bounds, Chain, Pairs, Row, add_argument, add_item, add_named, add_operand, add_pair,
     chain_of, end_arguments, end_pairs, end_row, no_arguments, no_pairs, row_at,
 };
-pub use places::{Aimed, Taken, single_in};
+pub use places::{SingleNode, TargetNode, single_in};

@@ -1,6 +1,6 @@
 ghost use Rattle.std.specs.Prelude.{◌≡◌, max, IfOk};
 ghost use Rattle.py_tree.specs.Trees.{tree};
-ghost use Rattle.py_expressions.specs.Values.{row, item, ended, no_args, plain_arg, named_arg, end_args, chain, op_more, operand};
+ghost use Rattle.py_expressions.specs.Values.{row, item, close_row, no_args, plain_arg, named_arg, end_args, operand_chain, op_more, operand};
 ghost use Rattle.py_nodes.specs.Parts.{row_of, pairs_of, args_of, chain_of, no_pairs, more_pairs, end_pairs, with_op};
 
 use crate::node::{Node, Nodes, add_node, no_nodes};
@@ -72,7 +72,7 @@ pub fn add_item(row: Row, node: Node) -> Result<Row, AllocError>
 
 /// The row, with a comma at its end.
 pub fn end_row(row: Row) -> Row
-    ensures row { row_of result ≡ ended (row_of row) }
+    ensures row { row_of result ≡ close_row (row_of row) }
     ensures height { result.all.height ≡ row.all.height }
 {
     Row {
@@ -174,7 +174,7 @@ pub fn end_arguments(arguments: Arguments) -> Arguments
 }
 
 pub fn chain_of(alloc: Global, head: Node) -> Chain
-    ensures chain { chain_of result ≡ chain (tree head.expr.value) }
+    ensures chain { chain_of result ≡ operand_chain (tree head.expr.value) }
     ensures head { result.head.height ≡ head.height }
     ensures more { result.more.height ≡ 0 }
 {

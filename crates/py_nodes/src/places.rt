@@ -8,14 +8,14 @@ use std::alloc::AllocError;
 
 /// What takes one value, and how high the expression is that it stands for.
 #[derive(Drop)]
-pub struct Aimed {
+pub struct SingleNode {
     pub single: Single,
     pub height: u32,
 }
 
 /// What takes a value, and how high the expression is that it stands for.
 #[derive(Drop)]
-pub struct Taken {
+pub struct TargetNode {
     pub target: Target,
     pub height: u32,
 }
@@ -28,7 +28,24 @@ pub fn single_in(expr: &Expr) -> Result<Option<Single>, AllocError>
         ExprKind::Name(name) => SingleKind::Name(name.clone()?),
         ExprKind::Attribute(of, name) => SingleKind::Attribute(of.clone()?, name.clone()?),
         ExprKind::Subscript(of, index) => SingleKind::Subscript(of.clone()?, index.clone()?),
-        _ => return Ok(None),
+        ExprKind::Number(_)
+        | ExprKind::Text(_)
+        | ExprKind::True
+        | ExprKind::False
+        | ExprKind::None
+        | ExprKind::Paren(_)
+        | ExprKind::Tuple(_)
+        | ExprKind::List(_)
+        | ExprKind::Dict(_, _)
+        | ExprKind::Call(_, _, _)
+        | ExprKind::Slice(_, _, _, _)
+        | ExprKind::Unary(_, _)
+        | ExprKind::Binary(_, _, _)
+        | ExprKind::Compare(_, _, _)
+        | ExprKind::Not(_)
+        | ExprKind::And(_, _)
+        | ExprKind::Or(_, _)
+        | ExprKind::IfElse(_, _, _) => return Ok(None),
     };
     Ok(Some(Single { at: expr.at, kind }))
 }

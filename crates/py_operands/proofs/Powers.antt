@@ -7,9 +7,9 @@ use Rattle.std.proofs.lemmas.Int.{ints, unsigned_abs-mul}
 use Rattle.std.proofs.Math.Nat.{pow-le-pow_left, div-eq_of_lt, pow-suc, mul-zero, mul-one, zero-mul, mul_comm, mul_assoc}
 use Rattle.std.proofs.lemmas.Nat.{pow_pos}
 use Rattle.std.proofs.Math.Pow.{pow_mono}
-use Rattle.py_operands.specs.Numbers.{fits, fitting, quotient}
+use Rattle.py_operands.specs.Numbers.{fits_bits, fitting, quotient}
 
-pub fits_not : (z : ℤ) → 2 ^ 127 < unsigned_abs z → fits z ≡ false
+pub fits_not : (z : ℤ) → 2 ^ 127 < unsigned_abs z → fits_bits z ≡ false
 fits_not (pos n) h = grind (arith, common_steps)
 fits_not (negsuc n) h = grind (arith, common_steps)
 
@@ -66,11 +66,11 @@ more_times a m =
     let p : 0 < 2 ^ m = pow_pos m in
     grind (arith, p)
 
-fits_below : (x : ℕ) → 2 ^ 127 < x → fits (neg_ℤ (pos x)) ≡ false
+fits_below : (x : ℕ) → 2 ^ 127 < x → fits_bits (neg_ℤ (pos x)) ≡ false
 fits_below zero h = absurd (omega arith)
 fits_below (suc x) h = grind (arith, common_steps)
 
-by_fits : (z : ℤ) (m : ℕ) → fits z ≡ false → fits (z *ℤ pos (2 ^ m)) ≡ false
+by_fits : (z : ℤ) (m : ℕ) → fits_bits z ≡ false → fits_bits (z *ℤ pos (2 ^ m)) ≡ false
 by_fits (pos n) m h =
     let p : n ≤ n * 2 ^ m = more_times n m in
     grind (arith, common_steps)
@@ -79,7 +79,7 @@ by_fits (negsuc n) m h =
     let q : 2 ^ 127 ≤ n = grind (arith, common_steps) in
     fits_below (suc n * 2 ^ m) (omega arith)
 
-fits_none : (z : ℤ) → None ≡ fitting z → fits z ≡ false
+fits_none : (z : ℤ) → None ≡ fitting z → fits_bits z ≡ false
 fits_none z h = grind (arith, common_steps)
 
 -- what is out of range stays so when it is doubled

@@ -7,7 +7,7 @@ use Rattle.std.proofs.lemmas.Bool.Decides.{Decides-int_eq}
 use Rattle.std.proofs.lemmas.Grind.{common_steps}
 use Rattle.std.proofs.lemmas.Int.{ints}
 use Rattle.std.proofs.Math.Nat.{mul-zero}
-use Rattle.py_operands.specs.Numbers.{fits, fitting}
+use Rattle.py_operands.specs.Numbers.{fits_bits, fitting}
 
 le_pos : (b n : ℕ) → pos b ≤ℤ pos n → b ≤ n
 le_pos b n h = omega (arith, ints)
@@ -22,11 +22,11 @@ no_pos : (b n : ℕ) → pos n <ℤ neg_ℤ (pos b) → ⊥
 no_pos b n h = omega (arith, ints)
 
 -- numbers that have no 128 bits
-pub fits_above : (z : ℤ) → pos (2 ^ 127) ≤ℤ z → fits z ≡ false
+pub fits_above : (z : ℤ) → pos (2 ^ 127) ≤ℤ z → fits_bits z ≡ false
 fits_above (pos n) h = let k : 2 ^ 127 ≤ n = le_pos (2 ^ 127) n h in grind (arith, common_steps)
 fits_above (negsuc n) h = absurd (no_neg (2 ^ 127) n h)
 
-pub fits_below : (z : ℤ) → z <ℤ neg_ℤ (pos (2 ^ 127)) → fits z ≡ false
+pub fits_below : (z : ℤ) → z <ℤ neg_ℤ (pos (2 ^ 127)) → fits_bits z ≡ false
 fits_below (pos n) h = absurd (no_pos (2 ^ 127) n h)
 fits_below (negsuc n) h = let k : 2 ^ 127 ≤ n = lt_neg (2 ^ 127) n h in grind (arith, common_steps)
 

@@ -1,10 +1,10 @@
 -- The errors of operators.
 use Rattle.std.specs.Prelude.{ℕ, List, [], ◌++◌, Option, Some, None, codes}
 use Rattle.py_kinds.specs.Kinds.{kind_name}
-use Rattle.py_values.specs.Raises.{raise}
+use Rattle.py_values.specs.Raises.{text_raise}
 use Rattle.py_values.specs.declared.class.ExcClass.TheVariants.{TypeError, RecursionError, KeyError, IndexError}
-use Rattle.py_values.specs.declared.end.Made.{Made}
-use Rattle.py_values.specs.declared.end.Made.TheVariants.{Fail}
+use Rattle.py_values.specs.declared.end.Effect.{Effect}
+use Rattle.py_values.specs.declared.end.Effect.TheVariants.{Fail}
 use Rattle.py_values.specs.declared.end.Raise.{Raise}
 use Rattle.py_kinds.specs.declared.keys.KeyFault.{KeyFault}
 use Rattle.py_kinds.specs.declared.keys.KeyFault.TheVariants.{Unhashable, TooDeep}
@@ -12,11 +12,11 @@ use Rattle.py_values.specs.declared.object.Obj.{Obj}
 use Rattle.py_values.specs.declared.value.Value.{Value}
 
 abbrev pub too_deep : Raise
-too_deep = raise RecursionError (codes "nesting too deep")
+too_deep = text_raise RecursionError (codes "nesting too deep")
 
 -- a kind that isn't used so
 abbrev pub no_use : List ℕ → List ℕ → Raise
-no_use kind use_text = raise TypeError (codes "'" ++ (kind ++ use_text))
+no_use kind use_text = text_raise TypeError (codes "'" ++ (kind ++ use_text))
 
 abbrev pub not_iterable : List ℕ → Raise
 not_iterable kind = no_use kind (codes "' object is not iterable")
@@ -25,7 +25,7 @@ abbrev pub not_subscriptable : List ℕ → Raise
 not_subscriptable kind = no_use kind (codes "' object is not subscriptable")
 
 abbrev pub unhashable : List ℕ → Raise
-unhashable kind = raise TypeError (codes "unhashable type: '" ++ (kind ++ codes "'"))
+unhashable kind = text_raise TypeError (codes "unhashable type: '" ++ (kind ++ codes "'"))
 
 abbrev pub key_fault : List Obj → KeyFault → Raise
 key_fault heap (Unhashable v) = unhashable (kind_name heap v)
@@ -35,8 +35,13 @@ key_fault heap TooDeep = too_deep
 abbrev pub no_key : Value → Raise
 no_key key = record { class = KeyError; text = []; arg = Some key }
 
+-- two values that have no order
+abbrev pub not_supported : List ℕ → List ℕ → List ℕ → Raise
+not_supported o a b =
+    text_raise TypeError (codes "'" ++ (o ++ (codes "' not supported between instances of '" ++ (a ++ (codes "' and '" ++ (b ++ codes "'"))))))
+
 abbrev pub out_of_range : Raise
-out_of_range = raise IndexError (codes "index out of range")
+out_of_range = text_raise IndexError (codes "index out of range")
 
 abbrev pub no_index : Raise
-no_index = raise TypeError (codes "index must be a number")
+no_index = text_raise TypeError (codes "index must be a number")

@@ -4,3 +4,4 @@ pub mod Sequences
 pub mod Attempts
 pub mod Faults
 pub mod Ranges
+pub mod Texts

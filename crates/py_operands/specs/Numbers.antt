@@ -2,27 +2,27 @@
 use Rattle.std.specs.Prelude.{ℕ, suc, ◌-◌, ◌/◌, ◌%◌, ◌^◌, Bool, ℤ, pos, negsuc, neg_ℤ, ◌*ℤ◌, nat_lt, if◌then◌else◌, Option, Some, None, codes, bit_and, bit_or, bit_xor}
 use Rattle.std.specs.Int.{int_pow}
 use Rattle.std.specs.Ordering.{int_eq}
-use Rattle.py_values.specs.Raises.{raise}
+use Rattle.py_values.specs.Raises.{text_raise}
 use Rattle.py_values.specs.declared.class.ExcClass.TheVariants.{OverflowError, ValueError, ZeroDivisionError}
-use Rattle.py_values.specs.declared.end.Made.{Made}
-use Rattle.py_values.specs.declared.end.Made.TheVariants.{Give, Fail}
+use Rattle.py_values.specs.declared.end.Effect.{Effect}
+use Rattle.py_values.specs.declared.end.Effect.TheVariants.{Give, Fail}
 use Rattle.py_values.specs.declared.value.Value.TheVariants.{Int}
 
 -- whether a number has 128 bits, the sign among them
-abbrev pub fits : ℤ → Bool
-fits (pos n) = nat_lt n (2 ^ 127)
-fits (negsuc n) = nat_lt n (2 ^ 127)
+abbrev pub fits_bits : ℤ → Bool
+fits_bits (pos n) = nat_lt n (2 ^ 127)
+fits_bits (negsuc n) = nat_lt n (2 ^ 127)
 
 abbrev pub fitting : ℤ → Option ℤ
-fitting z = if fits z then Some z else None
+fitting z = if fits_bits z then Some z else None
 
-abbrev pub number_made : Option ℤ → Made
+abbrev pub number_made : Option ℤ → Effect
 number_made (Some z) = Give (Int z) 0
-number_made None = Fail (raise OverflowError (codes "whole number out of range")) 0
+number_made None = Fail (text_raise OverflowError (codes "whole number out of range")) 0
 
 -- a number, where it has its 128 bits
-abbrev pub number : ℤ → Made
-number z = number_made (fitting z)
+abbrev pub bounded_number : ℤ → Effect
+bounded_number z = number_made (fitting z)
 
 -- -(x+1)
 abbrev pub inverted : ℤ → ℤ
@@ -49,26 +49,26 @@ floor_mod z (pos n) = pos (remainder z n)
 floor_mod z (negsuc n) = neg_ℤ (pos (remainder (neg_ℤ z) (suc n)))
 
 -- a number that is got by dividing by another
-abbrev pub divided : ℤ → ℤ → Made
-divided by z = if int_eq by (pos 0) then Fail (raise ZeroDivisionError (codes "division by zero")) 0 else number z
+abbrev pub divided : ℤ → ℤ → Effect
+divided by z = if int_eq by (pos 0) then Fail (text_raise ZeroDivisionError (codes "division by zero")) 0 else bounded_number z
 
-abbrev pub negative_count : Made
-negative_count = Fail (raise ValueError (codes "negative count")) 0
+abbrev pub negative_count : Effect
+negative_count = Fail (text_raise ValueError (codes "negative count")) 0
 
 -- a count that isn't negative
-abbrev pub counted : (ℕ → Made) → ℤ → Made
-counted f (pos n) = f n
-counted f (negsuc n) = negative_count
+abbrev pub with_count : (ℕ → Effect) → ℤ → Effect
+with_count f (pos n) = f n
+with_count f (negsuc n) = negative_count
 
 -- x ** n; a shift to the left multiplies by a power of two, and one to the right divides by it, rounded down
-abbrev pub power : ℤ → ℤ → Made
-power x n = counted (λ k. number (int_pow x k)) n
+abbrev pub power : ℤ → ℤ → Effect
+power x n = with_count (λ k. bounded_number (int_pow x k)) n
 
-abbrev pub shift_left : ℤ → ℤ → Made
-shift_left x n = counted (λ k. number (x *ℤ pos (2 ^ k))) n
+abbrev pub shift_left : ℤ → ℤ → Effect
+shift_left x n = with_count (λ k. bounded_number (x *ℤ pos (2 ^ k))) n
 
-abbrev pub shift_right : ℤ → ℤ → Made
-shift_right x n = counted (λ k. number (quotient x (2 ^ k))) n
+abbrev pub shift_right : ℤ → ℤ → Effect
+shift_right x n = with_count (λ k. bounded_number (quotient x (2 ^ k))) n
 
 -- bit by bit, in two's complement without end: negsuc n has the bits that n hasn't
 abbrev pub bits_of : ℤ → ℕ

@@ -3,18 +3,18 @@
 ghost use Rattle.std.specs.Prelude.{◌≡◌};
 ghost use Rattle.py_operands.specs.Attempts.{attempted};
 
-use py_values::end::Made;
+use py_values::end::Effect;
 
 /// What comes of an operator on two kinds that may not have it, under a budget.
 #[derive(Drop)]
 pub enum Attempt {
-    Made(Made),
+    Made(Effect),
     Exhausted,
     Unsupported,
 }
 
 /// What is made, where the budget suffices.
-pub fn attempt_within(made: Option<Made>, budget: u64) -> Attempt
+pub fn attempt_within(made: Option<Effect>, budget: u64) -> Attempt
     ensures { result ≡ attempted budget made }
 {
     match made {

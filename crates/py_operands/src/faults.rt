@@ -2,25 +2,25 @@
 
 ghost use Rattle.std.specs.Prelude.{◌≡◌, ◌++◌, IfOk, codes};
 ghost use Rattle.py_kinds.specs.Kinds as kinds;
-ghost use Rattle.py_values.specs.Raises.{raise};
+ghost use Rattle.py_values.specs.Raises.{text_raise};
 ghost use Rattle.py_operands.specs.Faults as faults;
 ghost use Rattle.py_operands.specs.Sequences as sequences;
 
 use py_kinds::keys::KeyFault;
 use py_kinds::kinds::kind_name;
 use py_values::class::ExcClass;
-use py_values::end::{Made, Raise, push_ascii};
+use py_values::end::{Effect, Raise, push_ascii};
 use py_values::heap::Heap;
 use py_values::value::Value;
 use py_values::{OutOfMemory, PyText};
 use std::alloc::Global;
 
 /// What fails with a text of ASCII characters, at no cost.
-pub fn failed(alloc: Global, class: ExcClass, text: &str) -> Result<Made, OutOfMemory>
-    ensures { IfOk result (λ m. m ≡ Made.Fail (raise class text.now) 0) }
+pub fn failed(alloc: Global, class: ExcClass, text: &str) -> Result<Effect, OutOfMemory>
+    ensures { IfOk result (λ m. m ≡ Effect.Fail (text_raise class text.now) 0) }
 {
     let raise = Raise::from_ascii(alloc, class, text)?;
-    Ok(Made::Fail(raise, 0))
+    Ok(Effect::Fail(raise, 0))
 }
 
 /// A `TypeError` that names an operator and the kinds of its operands.
@@ -32,7 +32,7 @@ pub fn kinds_error(
     a: &[char],
     b: &[char],
 ) -> Result<Raise, OutOfMemory>
-    ensures { IfOk result (λ r. r ≡ raise ExcClass.TypeError
+    ensures { IfOk result (λ r. r ≡ text_raise ExcClass.TypeError
         (front.now ++ (op.now ++ (between.now ++ (a.now ++ (codes "' and '" ++ (b.now ++ codes "'"))))))) }
 {
     let mut text = Vec::new(alloc);
@@ -47,6 +47,28 @@ pub fn kinds_error(
     Ok(raise)
 }
 
+/// The error of two values that have no order.
+pub fn not_supported(
+    alloc: Global,
+    heap: &Heap,
+    op: &str,
+    a: Value,
+    b: Value,
+) -> Result<Raise, OutOfMemory>
+    ensures { IfOk result (λ r. r ≡ faults.not_supported op.now (kinds.kind_name heap.now a) (kinds.kind_name heap.now b)) }
+{
+    let left = kind_name(alloc, heap, a)?;
+    let right = kind_name(alloc, heap, b)?;
+    kinds_error(
+        alloc,
+        "'",
+        op,
+        "' not supported between instances of '",
+        left.chars(),
+        right.chars(),
+    )
+}
+
 /// A `TypeError` that names an operator and the kind of its operand.
 pub fn kind_error(
     alloc: Global,
@@ -55,7 +77,7 @@ pub fn kind_error(
     between: &str,
     a: &[char],
 ) -> Result<Raise, OutOfMemory>
-    ensures { IfOk result (λ r. r ≡ raise ExcClass.TypeError (front.now ++ (op.now ++ (between.now ++ (a.now ++ codes "'"))))) }
+    ensures { IfOk result (λ r. r ≡ text_raise ExcClass.TypeError (front.now ++ (op.now ++ (between.now ++ (a.now ++ codes "'"))))) }
 {
     let mut text = Vec::new(alloc);
     push_ascii(&mut text, front)?;
@@ -75,7 +97,7 @@ fn about_kind(
     v: Value,
     back: &str,
 ) -> Result<Raise, OutOfMemory>
-    ensures { IfOk result (λ r. r ≡ raise ExcClass.TypeError (front.now ++ (kinds.kind_name heap.now v ++ back.now))) }
+    ensures { IfOk result (λ r. r ≡ text_raise ExcClass.TypeError (front.now ++ (kinds.kind_name heap.now v ++ back.now))) }
 {
     let mut text = Vec::new(alloc);
     push_ascii(&mut text, front)?;
@@ -125,22 +147,22 @@ pub fn no_key(alloc: Global, key: Value) -> Result<Raise, OutOfMemory>
     })
 }
 
-pub fn out_of_range(alloc: Global) -> Result<Made, OutOfMemory>
-    ensures { IfOk result (λ m. m ≡ Made.Fail faults.out_of_range 0) }
+pub fn out_of_range(alloc: Global) -> Result<Effect, OutOfMemory>
+    ensures { IfOk result (λ m. m ≡ Effect.Fail faults.out_of_range 0) }
 {
     failed(alloc, ExcClass::IndexError, "index out of range")
 }
 
-pub fn no_index(alloc: Global) -> Result<Made, OutOfMemory>
-    ensures { IfOk result (λ m. m ≡ Made.Fail faults.no_index 0) }
+pub fn no_index(alloc: Global) -> Result<Effect, OutOfMemory>
+    ensures { IfOk result (λ m. m ≡ Effect.Fail faults.no_index 0) }
 {
     failed(alloc, ExcClass::TypeError, "index must be a number")
 }
 
 /// The error that a sequence would be too long, behind so many steps.
-pub fn too_long(alloc: Global, cost: u64) -> Result<Made, OutOfMemory>
+pub fn too_long(alloc: Global, cost: u64) -> Result<Effect, OutOfMemory>
     ensures { IfOk result (λ m. m ≡ sequences.too_long cost) }
 {
     let raise = Raise::from_ascii(alloc, ExcClass::MemoryError, "sequence too long")?;
-    Ok(Made::Fail(raise, cost))
+    Ok(Effect::Fail(raise, cost))
 }

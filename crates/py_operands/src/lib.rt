@@ -1,5 +1,9 @@
-//! What operators do with their operands: whole numbers of 128 bits, the numbers of ranges, sequences joined and repeated, and the errors
-//! of operators.
+//! What operators do with their operands: whole numbers of 128 bits, the numbers of ranges, sequences joined and repeated, the text that a
+//! value is, and the errors of operators.
+//!
+//! # What it is for
+//!
+//! The operators stand in py_ops; here stands what they do with numbers, ranges and sequences.
 //!
 //! # What is proved
 //!
@@ -8,6 +12,7 @@
 //!   (`rest`).
 //! - Sequences are joined and repeated as the definitions say, or are too long, before they are made; a number of a range is that of its
 //!   progression.
+//! - `text_of` gives the text that a value is, and nothing for any other value.
 //!
 //! # What tests alone show
 //!
@@ -26,3 +31,4 @@ pub mod laws;
 pub mod numbers;
 pub mod ranges;
 pub mod sequences;
+pub mod texts;

@@ -7,16 +7,16 @@ ghost use Rattle.py_operands.specs.Numbers as numbers;
 use crate::faults::failed;
 use py_values::OutOfMemory;
 use py_values::class::ExcClass;
-use py_values::end::Made;
+use py_values::end::Effect;
 use py_values::value::Value;
 use std::alloc::Global;
 
 /// A number, or the error that it is out of range.
-pub fn number_made(alloc: Global, n: Option<i128>) -> Result<Made, OutOfMemory>
+pub fn number_made(alloc: Global, n: Option<i128>) -> Result<Effect, OutOfMemory>
     ensures { IfOk result (λ m. m ≡ numbers.number_made n) }
 {
     match n {
-        Some(n) => Ok(Made::Give(Value::Int(n), 0)),
+        Some(n) => Ok(Effect::Give(Value::Int(n), 0)),
         None => failed(alloc, ExcClass::OverflowError, "whole number out of range"),
     }
 }

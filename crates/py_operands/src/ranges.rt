@@ -6,7 +6,7 @@ ghost use Rattle.py_operands.specs.Ranges as ranges;
 
 use crate::numbers::{itself, number_made};
 use py_values::OutOfMemory;
-use py_values::end::Made;
+use py_values::end::Effect;
 use py_values::range::RangeObj;
 use std::alloc::Global;
 
@@ -70,7 +70,7 @@ pub fn nth(start: i128, step: i128, at: usize) -> Option<i128>
 }
 
 /// The number of a range at a place.
-pub fn range_number(alloc: Global, range: &RangeObj, at: usize) -> Result<Made, OutOfMemory>
+pub fn range_number(alloc: Global, range: &RangeObj, at: usize) -> Result<Effect, OutOfMemory>
     ensures { IfOk result (λ m. m ≡ ranges.range_number range.now at) }
 {
     number_made(alloc, nth(range.start, range.step, at))

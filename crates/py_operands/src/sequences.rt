@@ -1,14 +1,14 @@
 // Sequences of limited length.
 
 ghost use Rattle.std.specs.Prelude.{◌≡◌, ◌*◌, ◌+◌, ◌++◌, ◌<◌, ◌^◌, IfOk, Some, length, slice_get};
-ghost use Rattle.py_values.specs.Numbers.{number_of};
+ghost use Rattle.py_values.specs.Numbers.{int_value};
 ghost use Rattle.py_values.specs.declared.object.Obj.TheVariants as obj;
 ghost use Rattle.py_operands.specs.Attempts.{attempted};
 ghost use Rattle.py_operands.specs.Sequences as sequences;
 
 use crate::attempt::Attempt;
 use crate::faults::too_long;
-use py_values::end::Made;
+use py_values::end::Effect;
 use py_values::heap::Heap;
 use py_values::limits::MOST_ELEMENTS;
 use py_values::number::number;
@@ -99,14 +99,17 @@ fn repeated_items<T: Copy>(
 }
 
 fn texts_joined(alloc: Global, a: &[char], b: &[char], budget: u64) -> Result<Attempt, OutOfMemory>
-    ensures { IfOk result (λ t. t ≡ attempted budget (Some (sequences.joined obj.Text a.now b.now))) }
+    ensures { IfOk result (λ t. t ≡ attempted budget (Some (sequences.concatenation obj.Text a.now b.now))) }
 {
     match room_for(a.len() as u128 + b.len() as u128, budget) {
         Room::TooLong => refused(alloc),
         Room::Short => Ok(Attempt::Exhausted),
         Room::Fits(len) => {
             let items = joined_items(alloc, a, b)?;
-            Ok(Attempt::Made(Made::New(Obj::Text(PyText::from_chars(alloc, &items)?), len as u64)))
+            Ok(Attempt::Made(Effect::New(
+                Obj::Text(PyText::from_chars(alloc, &items)?),
+                len as u64,
+            )))
         }
     }
 }
@@ -124,7 +127,10 @@ fn texts_repeated(
         Room::Short => Ok(Attempt::Exhausted),
         Room::Fits(len) => {
             let items = repeated_items(alloc, items, times_of(n), len)?;
-            Ok(Attempt::Made(Made::New(Obj::Text(PyText::from_chars(alloc, &items)?), len as u64)))
+            Ok(Attempt::Made(Effect::New(
+                Obj::Text(PyText::from_chars(alloc, &items)?),
+                len as u64,
+            )))
         }
     }
 }
@@ -135,14 +141,14 @@ fn lists_joined(
     b: &[Value],
     budget: u64,
 ) -> Result<Attempt, OutOfMemory>
-    ensures { IfOk result (λ t. t ≡ attempted budget (Some (sequences.joined obj.List a.now b.now))) }
+    ensures { IfOk result (λ t. t ≡ attempted budget (Some (sequences.concatenation obj.List a.now b.now))) }
 {
     match room_for(a.len() as u128 + b.len() as u128, budget) {
         Room::TooLong => refused(alloc),
         Room::Short => Ok(Attempt::Exhausted),
         Room::Fits(len) => {
             let items = joined_items(alloc, a, b)?;
-            Ok(Attempt::Made(Made::New(Obj::List(Values::from_vec(items)), len as u64)))
+            Ok(Attempt::Made(Effect::New(Obj::List(Values::from_vec(items)), len as u64)))
         }
     }
 }
@@ -160,7 +166,7 @@ fn lists_repeated(
         Room::Short => Ok(Attempt::Exhausted),
         Room::Fits(len) => {
             let items = repeated_items(alloc, items, times_of(n), len)?;
-            Ok(Attempt::Made(Made::New(Obj::List(Values::from_vec(items)), len as u64)))
+            Ok(Attempt::Made(Effect::New(Obj::List(Values::from_vec(items)), len as u64)))
         }
     }
 }
@@ -171,14 +177,14 @@ fn tuples_joined(
     b: &[Value],
     budget: u64,
 ) -> Result<Attempt, OutOfMemory>
-    ensures { IfOk result (λ t. t ≡ attempted budget (Some (sequences.joined obj.Tuple a.now b.now))) }
+    ensures { IfOk result (λ t. t ≡ attempted budget (Some (sequences.concatenation obj.Tuple a.now b.now))) }
 {
     match room_for(a.len() as u128 + b.len() as u128, budget) {
         Room::TooLong => refused(alloc),
         Room::Short => Ok(Attempt::Exhausted),
         Room::Fits(len) => {
             let items = joined_items(alloc, a, b)?;
-            Ok(Attempt::Made(Made::New(Obj::Tuple(Values::from_vec(items)), len as u64)))
+            Ok(Attempt::Made(Effect::New(Obj::Tuple(Values::from_vec(items)), len as u64)))
         }
     }
 }
@@ -196,7 +202,7 @@ fn tuples_repeated(
         Room::Short => Ok(Attempt::Exhausted),
         Room::Fits(len) => {
             let items = repeated_items(alloc, items, times_of(n), len)?;
-            Ok(Attempt::Made(Made::New(Obj::Tuple(Values::from_vec(items)), len as u64)))
+            Ok(Attempt::Made(Effect::New(Obj::Tuple(Values::from_vec(items)), len as u64)))
         }
     }
 }
@@ -233,7 +239,7 @@ pub fn obj_times(
     n: Value,
     budget: u64,
 ) -> Result<Attempt, OutOfMemory>
-    ensures { IfOk result (λ t. t ≡ attempted budget (sequences.obj_times (slice_get heap.now id.at) (number_of n))) }
+    ensures { IfOk result (λ t. t ≡ attempted budget (sequences.obj_times (slice_get heap.now id.at) (int_value n))) }
 {
     match (heap.get(id), number(n)) {
         (Some(Obj::Text(t)), Some(n)) => texts_repeated(alloc, t.chars(), n, budget),

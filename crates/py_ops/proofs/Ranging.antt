@@ -11,7 +11,7 @@ use Rattle.py_values.specs.Ranges.{progression, range_items}
 use Rattle.py_values.specs.declared.range.RangeObj.{RangeObj}
 use Rattle.py_ops.specs.Compare.{in_range, is_number}
 use Rattle.py_operands.specs.Ranges.{nth_of}
-use Rattle.py_operands.specs.Numbers.{fits, fitting}
+use Rattle.py_operands.specs.Numbers.{fits_bits, fitting}
 
 differs : (x y : ℤ) → x ≢ y → int_eq x y ≡ false
 differs x y h = false_from_ne_true (int_eq x y) (λ e. h ((Decides-int_eq x y).0 e))

@@ -2,7 +2,7 @@
 use Rattle.std.proofs.Common.{ℕ, zero, suc, ◌+◌, ◌-◌, ◌<◌, ◌≤◌, List, [], ◌∷◌, ◌≡◌, refl, arith, length, drop, get_or, add-one}
 use Rattle.std.proofs.lemmas.Grind.{common_steps}
 use Rattle.py_values.specs.declared.value.Value.{Value}
-use Rattle.py_compare.specs.Equal.{Found, found, Verdict, Holds, Fails, Deep, Unordered, after, told}
+use Rattle.py_compare.specs.Equal.{Found, finding, Holding, Holds, Fails, Deep, Unordered, after, told}
 use Rattle.py_compare.specs.declared.tested.Tested.TheVariants.{Yes, No, TooDeep, NotOrdered, Exhausted}
 use Rattle.py_ops.specs.Compare.{or_next, search_in}
 
@@ -21,36 +21,36 @@ pub search_spent : (left used : ℕ) (w g : Found) → w ≡ after used g → le
 search_spent left used w g e h k = grind (arith, common_steps)
 
 -- what is told of the element at hand
-pub search_yes : (left used n : ℕ) (w g : Found) (v : Verdict) (m : ℕ)
-    → w ≡ after used (after 1 (or_next v m g)) → used < left → Yes n ≡ told (left - used - 1) (found v m) → Yes (used + 1 + n) ≡ told left w
+pub search_yes : (left used n : ℕ) (w g : Found) (v : Holding) (m : ℕ)
+    → w ≡ after used (after 1 (or_next v m g)) → used < left → Yes n ≡ told (left - used - 1) (finding v m) → Yes (used + 1 + n) ≡ told left w
 search_yes left used n w g Holds m e h k = grind (arith, common_steps)
 search_yes left used n w g Fails m e h k = absurd (grind (arith, common_steps))
 search_yes left used n w g Deep m e h k = absurd (grind (arith, common_steps))
 search_yes left used n w g Unordered m e h k = absurd (grind (arith, common_steps))
 
-pub search_deep : (left used n : ℕ) (w g : Found) (v : Verdict) (m : ℕ)
-    → w ≡ after used (after 1 (or_next v m g)) → used < left → TooDeep n ≡ told (left - used - 1) (found v m) → TooDeep (used + 1 + n) ≡ told left w
+pub search_deep : (left used n : ℕ) (w g : Found) (v : Holding) (m : ℕ)
+    → w ≡ after used (after 1 (or_next v m g)) → used < left → TooDeep n ≡ told (left - used - 1) (finding v m) → TooDeep (used + 1 + n) ≡ told left w
 search_deep left used n w g Holds m e h k = absurd (grind (arith, common_steps))
 search_deep left used n w g Fails m e h k = absurd (grind (arith, common_steps))
 search_deep left used n w g Deep m e h k = grind (arith, common_steps)
 search_deep left used n w g Unordered m e h k = absurd (grind (arith, common_steps))
 
-pub search_unordered : (left used n : ℕ) (w g : Found) (v : Verdict) (m : ℕ)
-    → w ≡ after used (after 1 (or_next v m g)) → used < left → NotOrdered n ≡ told (left - used - 1) (found v m) → NotOrdered (used + 1 + n) ≡ told left w
+pub search_unordered : (left used n : ℕ) (w g : Found) (v : Holding) (m : ℕ)
+    → w ≡ after used (after 1 (or_next v m g)) → used < left → NotOrdered n ≡ told (left - used - 1) (finding v m) → NotOrdered (used + 1 + n) ≡ told left w
 search_unordered left used n w g Holds m e h k = absurd (grind (arith, common_steps))
 search_unordered left used n w g Fails m e h k = absurd (grind (arith, common_steps))
 search_unordered left used n w g Deep m e h k = absurd (grind (arith, common_steps))
 search_unordered left used n w g Unordered m e h k = grind (arith, common_steps)
 
-pub search_over : (left used : ℕ) (w g : Found) (v : Verdict) (m : ℕ)
-    → w ≡ after used (after 1 (or_next v m g)) → used < left → Exhausted ≡ told (left - used - 1) (found v m) → Exhausted ≡ told left w
+pub search_over : (left used : ℕ) (w g : Found) (v : Holding) (m : ℕ)
+    → w ≡ after used (after 1 (or_next v m g)) → used < left → Exhausted ≡ told (left - used - 1) (finding v m) → Exhausted ≡ told left w
 search_over left used w g Holds m e h k = grind (arith, common_steps)
 search_over left used w g Fails m e h k = grind (arith, common_steps)
 search_over left used w g Deep m e h k = grind (arith, common_steps)
 search_over left used w g Unordered m e h k = grind (arith, common_steps)
 
-pub search_go : (left used n : ℕ) (w g : Found) (v : Verdict) (m : ℕ)
-    → w ≡ after used (after 1 (or_next v m g)) → used < left → No n ≡ told (left - used - 1) (found v m)
+pub search_go : (left used n : ℕ) (w g : Found) (v : Holding) (m : ℕ)
+    → w ≡ after used (after 1 (or_next v m g)) → used < left → No n ≡ told (left - used - 1) (finding v m)
     → (w ≡ after (used + 1 + n) g) × (used + 1 + n ≤ left)
 search_go left used n w g Holds m e h k = absurd (grind (arith, common_steps))
 search_go left used n w g Fails m e h k = (grind (arith, common_steps), grind (arith, common_steps))

@@ -2,19 +2,19 @@
 use Rattle.std.specs.Prelude.{ℕ, ℤ, ◌+ℤ◌, ◌-ℤ◌, ◌*ℤ◌, Bool, true, false, ◌&&◌, ◌||◌, not, List, ◌++◌, Option, Some, None, codes, slice_get, if◌then◌else◌}
 use Rattle.py_tree.specs.declared.op.BinOp.{BinOp}
 use Rattle.py_tree.specs.declared.op.BinOp.TheVariants as op
-use Rattle.py_values.specs.Numbers.{number_of}
+use Rattle.py_values.specs.Numbers.{int_value}
 use Rattle.py_operands.specs.py_kinds.Kinds.{kind_name}
-use Rattle.py_values.specs.Raises.{raise}
+use Rattle.py_values.specs.Raises.{text_raise}
 use Rattle.py_values.specs.declared.change.Change.TheVariants.{Whole}
 use Rattle.py_values.specs.declared.class.ExcClass.TheVariants.{TypeError}
-use Rattle.py_values.specs.declared.end.Made.{Made}
-use Rattle.py_values.specs.declared.end.Made.TheVariants.{Give, New, Put, Fail}
+use Rattle.py_values.specs.declared.end.Effect.{Effect}
+use Rattle.py_values.specs.declared.end.Effect.TheVariants.{Give, New, Put, Fail}
 use Rattle.py_values.specs.declared.object.Obj.{Obj}
 use Rattle.py_values.specs.declared.object.Obj.TheVariants as obj
 use Rattle.py_values.specs.declared.value.ObjId.{ObjId}
 use Rattle.py_values.specs.declared.value.Value.{Value}
 use Rattle.py_values.specs.declared.value.Value.TheVariants as val
-use Rattle.py_operands.specs.Numbers.{number, floor_div, floor_mod, divided, power, shift_left, shift_right, int_and, int_or, int_xor}
+use Rattle.py_operands.specs.Numbers.{bounded_number, floor_div, floor_mod, divided, power, shift_left, shift_right, int_and, int_or, int_xor}
 use Rattle.py_operands.specs.Sequences.{objs_added, obj_times}
 
 abbrev pub binary_text : BinOp → List ℕ
@@ -31,25 +31,25 @@ binary_text op.BitOr = codes "|"
 binary_text op.BitXor = codes "^"
 
 -- an operator that two kinds don't have
-abbrev pub unsupported : List ℕ → List ℕ → List ℕ → Made
+abbrev pub unsupported : List ℕ → List ℕ → List ℕ → Effect
 unsupported o a b =
-    Fail (raise TypeError (codes "unsupported operand type(s) for " ++ (o ++ (codes ": '" ++ (a ++ (codes "' and '" ++ (b ++ codes "'"))))))) 0
+    Fail (text_raise TypeError (codes "unsupported operand type(s) for " ++ (o ++ (codes ": '" ++ (a ++ (codes "' and '" ++ (b ++ codes "'"))))))) 0
 
 -- two numbers
-abbrev pub numbers_by : BinOp → ℤ → ℤ → Made
-numbers_by op.Add x y = number (x +ℤ y)
-numbers_by op.Sub x y = number (x -ℤ y)
-numbers_by op.Mul x y = number (x *ℤ y)
+abbrev pub numbers_by : BinOp → ℤ → ℤ → Effect
+numbers_by op.Add x y = bounded_number (x +ℤ y)
+numbers_by op.Sub x y = bounded_number (x -ℤ y)
+numbers_by op.Mul x y = bounded_number (x *ℤ y)
 numbers_by op.FloorDiv x y = divided y (floor_div x y)
 numbers_by op.Mod x y = divided y (floor_mod x y)
 numbers_by op.Pow x y = power x y
 numbers_by op.LShift x y = shift_left x y
 numbers_by op.RShift x y = shift_right x y
-numbers_by op.BitAnd x y = number (int_and x y)
-numbers_by op.BitOr x y = number (int_or x y)
-numbers_by op.BitXor x y = number (int_xor x y)
+numbers_by op.BitAnd x y = bounded_number (int_and x y)
+numbers_by op.BitOr x y = bounded_number (int_or x y)
+numbers_by op.BitXor x y = bounded_number (int_xor x y)
 
-abbrev pub plain_by : BinOp → Option ℤ → Option ℤ → Option Made
+abbrev pub plain_by : BinOp → Option ℤ → Option ℤ → Option Effect
 plain_by o (Some x) (Some y) = Some (numbers_by o x y)
 plain_by o _ _ = None
 
@@ -67,7 +67,7 @@ bools_by op.Pow a b = None
 bools_by op.LShift a b = None
 bools_by op.RShift a b = None
 
-abbrev pub or_made : Option Bool → Option Made → Option Made
+abbrev pub or_made : Option Bool → Option Effect → Option Effect
 or_made (Some b) m = Some (Give (val.Bool b) 0)
 or_made None m = m
 
@@ -75,22 +75,22 @@ abbrev pub bool_by : BinOp → Value → Value → Option Bool
 bool_by o (val.Bool a) (val.Bool b) = bools_by o a b
 bool_by o _ _ = None
 
-abbrev pub values_by : BinOp → Value → Value → Option Made
-values_by o a b = or_made (bool_by o a b) (plain_by o (number_of a) (number_of b))
+abbrev pub values_by : BinOp → Value → Value → Option Effect
+values_by o a b = or_made (bool_by o a b) (plain_by o (int_value a) (int_value b))
 
 -- numbers are added, and texts, lists and tuples are joined
-abbrev pub added : List Obj → Value → Value → Option Made
+abbrev pub added : List Obj → Value → Value → Option Effect
 added heap (val.Ref i) (val.Ref j) = objs_added (slice_get heap i.at) (slice_get heap j.at)
-added heap a b = plain_by op.Add (number_of a) (number_of b)
+added heap a b = plain_by op.Add (int_value a) (int_value b)
 
 -- numbers are multiplied, and texts, lists and tuples are repeated, either way round
-abbrev pub multiplied : List Obj → Value → Value → Option Made
-multiplied heap (val.Ref i) b = obj_times (slice_get heap i.at) (number_of b)
-multiplied heap a (val.Ref j) = obj_times (slice_get heap j.at) (number_of a)
-multiplied heap a b = plain_by op.Mul (number_of a) (number_of b)
+abbrev pub multiplied : List Obj → Value → Value → Option Effect
+multiplied heap (val.Ref i) b = obj_times (slice_get heap i.at) (int_value b)
+multiplied heap a (val.Ref j) = obj_times (slice_get heap j.at) (int_value a)
+multiplied heap a b = plain_by op.Mul (int_value a) (int_value b)
 
 -- what an operator gives on kinds that have it
-abbrev pub supported : BinOp → List Obj → Value → Value → Option Made
+abbrev pub supported : BinOp → List Obj → Value → Value → Option Effect
 supported op.Add heap a b = added heap a b
 supported op.Mul heap a b = multiplied heap a b
 supported op.Sub heap a b = values_by op.Sub a b
@@ -103,22 +103,22 @@ supported op.BitAnd heap a b = values_by op.BitAnd a b
 supported op.BitOr heap a b = values_by op.BitOr a b
 supported op.BitXor heap a b = values_by op.BitXor a b
 
-abbrev pub or_fail : Made → Option Made → Made
+abbrev pub or_fail : Effect → Option Effect → Effect
 or_fail none (Some m) = m
 or_fail none None = none
 
 -- AN OPERATOR BETWEEN TWO VALUES
-unfoldable pub binary_of : BinOp → List Obj → Value → Value → Made
+unfoldable pub binary_of : BinOp → List Obj → Value → Value → Effect
 binary_of o heap a b = or_fail (unsupported (binary_text o) (kind_name heap a) (kind_name heap b)) (supported o heap a b)
 
 -- what `+=` and `*=` do to a list: the result becomes its content
-abbrev pub put_whole : ObjId → Made → Made
+abbrev pub put_whole : ObjId → Effect → Effect
 put_whole id (New o n) = Put id (Whole o) (val.Ref id) n
 put_whole id (Give v n) = Give v n
 put_whole id (Put i c v n) = Put i c v n
 put_whole id (Fail r n) = Fail r n
 
-abbrev pub put_some : ObjId → Option Made → Option Made
+abbrev pub put_some : ObjId → Option Effect → Option Effect
 put_some id (Some m) = Some (put_whole id m)
 put_some id None = None
 
@@ -127,11 +127,11 @@ changes_list op.Add (Some (obj.List vs)) = true
 changes_list op.Mul (Some (obj.List vs)) = true
 changes_list _ _ = false
 
-abbrev pub in_place_by : Bool → ObjId → Made → Made
+abbrev pub in_place_by : Bool → ObjId → Effect → Effect
 in_place_by true id m = put_whole id m
 in_place_by false id m = m
 
 -- AN OPERATOR OF AN AUGMENTED ASSIGNMENT (Language Reference, augmented assignment statements): a list is changed in place
-abbrev pub augmented_of : BinOp → List Obj → Value → Value → Made
+abbrev pub augmented_of : BinOp → List Obj → Value → Value → Effect
 augmented_of o heap (val.Ref id) b = in_place_by (changes_list o (slice_get heap id.at)) id (binary_of o heap (val.Ref id) b)
 augmented_of o heap a b = binary_of o heap a b

@@ -4,8 +4,8 @@ ghost use Rattle.std.specs.Prelude.{◌≡◌, ◌≤◌, IfOk, slice_get};
 ghost use Rattle.py_ops.specs.Binary as binary;
 ghost use Rattle.py_operands.specs.Numbers as numbers;
 ghost use Rattle.py_operands.specs.Attempts.{attempted};
-ghost use Rattle.py_values.specs.Numbers.{number_of};
-ghost use Rattle.py_values.specs.Ends.{finished, within, steps_of};
+ghost use Rattle.py_values.specs.Numbers.{int_value};
+ghost use Rattle.py_values.specs.Ends.{finished, payable, steps_of};
 ghost use Rattle.py_operands.specs.py_kinds.Kinds as kinds;
 ghost use Rattle.py_values.specs.declared.value.Value.TheVariants as val;
 
@@ -21,7 +21,7 @@ use py_tree::BinOp;
 use py_values::OutOfMemory;
 use py_values::change::Change;
 use py_values::class::ExcClass;
-use py_values::end::{Made, OpEnd, finish};
+use py_values::end::{Effect, OpEnd, finish};
 use py_values::heap::Heap;
 use py_values::number::number;
 use py_values::object::Obj;
@@ -53,7 +53,7 @@ fn unsupported(
     op: BinOp,
     a: Value,
     b: Value,
-) -> Result<Made, OutOfMemory>
+) -> Result<Effect, OutOfMemory>
     ensures { IfOk result (λ m. m ≡ binary.unsupported (binary.binary_text op) (kinds.kind_name heap.now a) (kinds.kind_name heap.now b)) }
 {
     let left = kind_name(alloc, heap, a)?;
@@ -66,10 +66,10 @@ fn unsupported(
         left.chars(),
         right.chars(),
     )?;
-    Ok(Made::Fail(raise, 0))
+    Ok(Effect::Fail(raise, 0))
 }
 
-fn whole_part(alloc: Global, x: i128, y: i128) -> Result<Made, OutOfMemory>
+fn whole_part(alloc: Global, x: i128, y: i128) -> Result<Effect, OutOfMemory>
     ensures { IfOk result (λ m. m ≡ numbers.divided y (numbers.floor_div x y)) }
 {
     if y == 0 {
@@ -78,7 +78,7 @@ fn whole_part(alloc: Global, x: i128, y: i128) -> Result<Made, OutOfMemory>
     number_made(alloc, floor_div(x, y))
 }
 
-fn rest(alloc: Global, x: i128, y: i128) -> Result<Made, OutOfMemory>
+fn rest(alloc: Global, x: i128, y: i128) -> Result<Effect, OutOfMemory>
     ensures { IfOk result (λ m. m ≡ numbers.divided y (numbers.floor_mod x y)) }
 {
     if y == 0 {
@@ -87,13 +87,13 @@ fn rest(alloc: Global, x: i128, y: i128) -> Result<Made, OutOfMemory>
     number_made(alloc, floor_mod(x, y))
 }
 
-fn negative_count(alloc: Global) -> Result<Made, OutOfMemory>
+fn negative_count(alloc: Global) -> Result<Effect, OutOfMemory>
     ensures { IfOk result (λ m. m ≡ numbers.negative_count) }
 {
     failed(alloc, ExcClass::ValueError, "negative count")
 }
 
-fn power_made(alloc: Global, x: i128, n: i128) -> Result<Made, OutOfMemory>
+fn power_made(alloc: Global, x: i128, n: i128) -> Result<Effect, OutOfMemory>
     ensures { IfOk result (λ m. m ≡ numbers.power x n) }
 {
     if n < 0 {
@@ -102,7 +102,7 @@ fn power_made(alloc: Global, x: i128, n: i128) -> Result<Made, OutOfMemory>
     number_made(alloc, power(x, n as u128))
 }
 
-fn left_made(alloc: Global, x: i128, n: i128) -> Result<Made, OutOfMemory>
+fn left_made(alloc: Global, x: i128, n: i128) -> Result<Effect, OutOfMemory>
     ensures { IfOk result (λ m. m ≡ numbers.shift_left x n) }
 {
     if n < 0 {
@@ -111,7 +111,7 @@ fn left_made(alloc: Global, x: i128, n: i128) -> Result<Made, OutOfMemory>
     number_made(alloc, shift_left(x, n as u128))
 }
 
-fn right_made(alloc: Global, x: i128, n: i128) -> Result<Made, OutOfMemory>
+fn right_made(alloc: Global, x: i128, n: i128) -> Result<Effect, OutOfMemory>
     ensures { IfOk result (λ m. m ≡ numbers.shift_right x n) }
 {
     if n < 0 {
@@ -121,7 +121,7 @@ fn right_made(alloc: Global, x: i128, n: i128) -> Result<Made, OutOfMemory>
 }
 
 /// An operator on two numbers.
-fn numbers_by(alloc: Global, op: BinOp, x: i128, y: i128) -> Result<Made, OutOfMemory>
+fn numbers_by(alloc: Global, op: BinOp, x: i128, y: i128) -> Result<Effect, OutOfMemory>
     ensures { IfOk result (λ m. m ≡ binary.numbers_by op x y) }
 {
     match op {
@@ -147,7 +147,7 @@ fn plain_by(
     b: Value,
     budget: u64,
 ) -> Result<Attempt, OutOfMemory>
-    ensures { IfOk result (λ t. t ≡ attempted budget (binary.plain_by op (number_of a) (number_of b))) }
+    ensures { IfOk result (λ t. t ≡ attempted budget (binary.plain_by op (int_value a) (int_value b))) }
 {
     match (number(a), number(b)) {
         (Some(x), Some(y)) => {
@@ -198,7 +198,7 @@ fn values_by(
     ensures { IfOk result (λ t. t ≡ attempted budget (binary.values_by op a b)) }
 {
     match bool_by(op, a, b) {
-        Some(b) => Ok(Attempt::Made(Made::Give(Value::Bool(b), 0))),
+        Some(b) => Ok(Attempt::Made(Effect::Give(Value::Bool(b), 0))),
         None => plain_by(alloc, op, a, b, budget),
     }
 }
@@ -269,8 +269,8 @@ pub fn binary_made(
     a: Value,
     b: Value,
     budget: u64,
-) -> Result<Option<Made>, OutOfMemory>
-    ensures { IfOk result (λ m. m ≡ within budget (binary.binary_of op heap.now a b)) }
+) -> Result<Option<Effect>, OutOfMemory>
+    ensures { IfOk result (λ m. m ≡ payable budget (binary.binary_of op heap.now a b)) }
 {
     match supported(alloc, heap, op, a, b, budget)? {
         Attempt::Made(made) => Ok(Some(made)),
@@ -292,7 +292,7 @@ pub fn binary(
     b: Value,
     budget: u64,
 ) -> Result<OpEnd, OutOfMemory>
-    ensures end { IfOk result (λ e. (e, heap.new) ≡ finished heap.old (within budget (binary.binary_of op heap.old a b))) }
+    ensures end { IfOk result (λ e. (e, heap.new) ≡ finished heap.old (payable budget (binary.binary_of op heap.old a b))) }
     ensures cost { IfOk result (λ e. steps_of e ≤ budget) }
 {
     let made = binary_made(alloc, heap, op, a, b, budget)?;
@@ -300,14 +300,14 @@ pub fn binary(
 }
 
 /// A new object as the content of one that is there.
-fn put_whole(id: ObjId, made: Made) -> Made
+fn put_whole(id: ObjId, made: Effect) -> Effect
     ensures { result ≡ binary.put_whole id made }
 {
     match made {
-        Made::New(obj, cost) => Made::Put(id, Change::Whole(obj), Value::Ref(id), cost),
-        Made::Give(v, cost) => Made::Give(v, cost),
-        Made::Put(at, change, v, cost) => Made::Put(at, change, v, cost),
-        Made::Fail(raise, cost) => Made::Fail(raise, cost),
+        Effect::New(obj, cost) => Effect::Put(id, Change::Whole(obj), Value::Ref(id), cost),
+        Effect::Give(v, cost) => Effect::Give(v, cost),
+        Effect::Put(at, change, v, cost) => Effect::Put(at, change, v, cost),
+        Effect::Fail(raise, cost) => Effect::Fail(raise, cost),
     }
 }
 
@@ -329,8 +329,8 @@ fn augmented_at(
     id: ObjId,
     b: Value,
     budget: u64,
-) -> Result<Option<Made>, OutOfMemory>
-    ensures { IfOk result (λ m. m ≡ within budget (binary.in_place_by (binary.changes_list op (slice_get heap.now id.at)) id (binary.binary_of op heap.now (val.Ref id) b))) }
+) -> Result<Option<Effect>, OutOfMemory>
+    ensures { IfOk result (λ m. m ≡ payable budget (binary.in_place_by (binary.changes_list op (slice_get heap.now id.at)) id (binary.binary_of op heap.now (val.Ref id) b))) }
 {
     let made = binary_made(alloc, heap, op, Value::Ref(id), b, budget)?;
     if !changes_list(heap, op, id) {
@@ -350,8 +350,8 @@ pub fn augmented_made(
     a: Value,
     b: Value,
     budget: u64,
-) -> Result<Option<Made>, OutOfMemory>
-    ensures { IfOk result (λ m. m ≡ within budget (binary.augmented_of op heap.now a b)) }
+) -> Result<Option<Effect>, OutOfMemory>
+    ensures { IfOk result (λ m. m ≡ payable budget (binary.augmented_of op heap.now a b)) }
 {
     match a {
         Value::Ref(id) => augmented_at(alloc, heap, op, id, b, budget),
@@ -371,7 +371,7 @@ pub fn augmented(
     b: Value,
     budget: u64,
 ) -> Result<OpEnd, OutOfMemory>
-    ensures end { IfOk result (λ e. (e, heap.new) ≡ finished heap.old (within budget (binary.augmented_of op heap.old a b))) }
+    ensures end { IfOk result (λ e. (e, heap.new) ≡ finished heap.old (payable budget (binary.augmented_of op heap.old a b))) }
     ensures cost { IfOk result (λ e. steps_of e ≤ budget) }
 {
     let made = augmented_made(alloc, heap, op, a, b, budget)?;

@@ -4,19 +4,19 @@ ghost use Rattle.std.specs.Prelude.{◌≡◌, ◌≤◌, IfOk, codes, true, fal
 ghost use Rattle.py_compare.specs.Equal.{told, equal_of};
 ghost use Rattle.py_compare.specs.Order.{place_within, order_of};
 ghost use Rattle.py_ops.specs.Compare as compare;
-ghost use Rattle.py_values.specs.Ends.{finished, within, steps_of};
+ghost use Rattle.py_operands.specs.Faults as faults;
+ghost use Rattle.py_values.specs.Ends.{finished, payable, steps_of};
 ghost use Rattle.py_operands.specs.py_kinds.Kinds as kinds;
 
 use crate::contains::{contains, judge};
 use py_compare::equal::equal;
 use py_compare::order::order;
 use py_compare::same::is_same;
-use py_compare::tested::Ordered;
-use py_operands::faults::{kinds_error, too_deep};
-use py_operands::py_kinds::kinds::kind_name;
+use py_compare::tested::Comparison;
+use py_operands::faults::{not_supported, too_deep};
 use py_tree::CmpOp;
 use py_values::OutOfMemory;
-use py_values::end::{Made, OpEnd, Raise, finish};
+use py_values::end::{Effect, OpEnd, finish};
 use py_values::heap::Heap;
 use py_values::value::Value;
 use std::alloc::Global;
@@ -37,27 +37,6 @@ pub fn compare_text(op: CmpOp) -> &'static str
         CmpOp::Is => "is",
         CmpOp::IsNot => "is not",
     }
-}
-
-fn not_supported(
-    alloc: Global,
-    heap: &Heap,
-    op: &str,
-    a: Value,
-    b: Value,
-) -> Result<Raise, OutOfMemory>
-    ensures { IfOk result (λ r. r ≡ compare.not_supported op.now (kinds.kind_name heap.now a) (kinds.kind_name heap.now b)) }
-{
-    let left = kind_name(alloc, heap, a)?;
-    let right = kind_name(alloc, heap, b)?;
-    kinds_error(
-        alloc,
-        "'",
-        op,
-        "' not supported between instances of '",
-        left.chars(),
-        right.chars(),
-    )
 }
 
 /// For which places an order holds.
@@ -100,23 +79,23 @@ fn place_made(
     a: Value,
     b: Value,
     holds: Places,
-    told: Ordered,
-) -> Result<Option<Made>, OutOfMemory>
-    ensures { IfOk result (λ m. m ≡ compare.placed_told (compare.not_supported op.now (kinds.kind_name heap.now a) (kinds.kind_name heap.now b)) holds told) }
+    told: Comparison,
+) -> Result<Option<Effect>, OutOfMemory>
+    ensures { IfOk result (λ m. m ≡ compare.placed_told (faults.not_supported op.now (kinds.kind_name heap.now a) (kinds.kind_name heap.now b)) holds told) }
 {
     match told {
-        Ordered::Less(cost) => Ok(Some(Made::Give(Value::Bool(holds.less), cost))),
-        Ordered::Same(cost) => Ok(Some(Made::Give(Value::Bool(holds.same), cost))),
-        Ordered::More(cost) => Ok(Some(Made::Give(Value::Bool(holds.more), cost))),
-        Ordered::TooDeep(cost) => {
+        Comparison::Less(cost) => Ok(Some(Effect::Give(Value::Bool(holds.less), cost))),
+        Comparison::Same(cost) => Ok(Some(Effect::Give(Value::Bool(holds.same), cost))),
+        Comparison::More(cost) => Ok(Some(Effect::Give(Value::Bool(holds.more), cost))),
+        Comparison::TooDeep(cost) => {
             let raise = too_deep(alloc)?;
-            Ok(Some(Made::Fail(raise, cost)))
+            Ok(Some(Effect::Fail(raise, cost)))
         }
-        Ordered::NotOrdered(cost) => {
+        Comparison::NotOrdered(cost) => {
             let raise = not_supported(alloc, heap, op, a, b)?;
-            Ok(Some(Made::Fail(raise, cost)))
+            Ok(Some(Effect::Fail(raise, cost)))
         }
-        Ordered::Exhausted => Ok(None),
+        Comparison::Exhausted => Ok(None),
     }
 }
 
@@ -129,8 +108,8 @@ fn order_made(
     a: Value,
     b: Value,
     budget: u64,
-) -> Result<Option<Made>, OutOfMemory>
-    ensures { IfOk result (λ m. m ≡ within budget (compare.ordered_by (compare.not_supported op.now (kinds.kind_name heap.now a) (kinds.kind_name heap.now b)) holds (order_of heap.now a b))) }
+) -> Result<Option<Effect>, OutOfMemory>
+    ensures { IfOk result (λ m. m ≡ payable budget (compare.ordered_by (faults.not_supported op.now (kinds.kind_name heap.now a) (kinds.kind_name heap.now b)) holds (order_of heap.now a b))) }
 {
     let told = order(heap, a, b, budget);
     place_made(alloc, heap, op, a, b, holds, told)
@@ -144,8 +123,8 @@ fn equal_made(
     a: Value,
     b: Value,
     budget: u64,
-) -> Result<Option<Made>, OutOfMemory>
-    ensures { IfOk result (λ m. m ≡ within budget (compare.judged_found wanted (equal_of heap.now a b))) }
+) -> Result<Option<Effect>, OutOfMemory>
+    ensures { IfOk result (λ m. m ≡ payable budget (compare.judged_found wanted (equal_of heap.now a b))) }
 {
     let told = equal(heap, a, b, budget);
     judge(alloc, wanted, told)
@@ -160,8 +139,8 @@ pub fn compare_made(
     a: Value,
     b: Value,
     budget: u64,
-) -> Result<Option<Made>, OutOfMemory>
-    ensures { IfOk result (λ m. m ≡ within budget (compare.compare_of op heap.now a b)) }
+) -> Result<Option<Effect>, OutOfMemory>
+    ensures { IfOk result (λ m. m ≡ payable budget (compare.compare_of op heap.now a b)) }
 {
     match op {
         CmpOp::Equal => equal_made(alloc, heap, true, a, b, budget),
@@ -172,8 +151,8 @@ pub fn compare_made(
         CmpOp::GreaterEqual => order_made(alloc, heap, ">=", AT_LEAST, a, b, budget),
         CmpOp::In => contains(alloc, heap, "in", true, a, b, budget),
         CmpOp::NotIn => contains(alloc, heap, "not in", false, a, b, budget),
-        CmpOp::Is => Ok(Some(Made::Give(Value::Bool(is_same(heap, a, b)), 0))),
-        CmpOp::IsNot => Ok(Some(Made::Give(Value::Bool(!is_same(heap, a, b)), 0))),
+        CmpOp::Is => Ok(Some(Effect::Give(Value::Bool(is_same(heap, a, b)), 0))),
+        CmpOp::IsNot => Ok(Some(Effect::Give(Value::Bool(!is_same(heap, a, b)), 0))),
     }
 }
 
@@ -187,7 +166,7 @@ pub fn compare(
     b: Value,
     budget: u64,
 ) -> Result<OpEnd, OutOfMemory>
-    ensures end { IfOk result (λ e. (e, heap.new) ≡ finished heap.old (within budget (compare.compare_of op heap.old a b))) }
+    ensures end { IfOk result (λ e. (e, heap.new) ≡ finished heap.old (payable budget (compare.compare_of op heap.old a b))) }
     ensures cost { IfOk result (λ e. steps_of e ≤ budget) }
 {
     let made = compare_made(alloc, heap, op, a, b, budget)?;

@@ -1,9 +1,9 @@
 // Membership.
 
-ghost use Rattle.std.specs.Prelude.{◌≡◌, ℕ, IfOk, slice_get, option_copied, codes, pos, ◌+ℤ◌, ◌*ℤ◌};
+ghost use Rattle.std.specs.Prelude.{◌≡◌, ℕ, IfOk, slice_get, codes, pos, ◌+ℤ◌, ◌*ℤ◌};
 ghost use Rattle.std.specs.Ordering.{int_eq};
 ghost use Rattle.py_compare.specs.Equal.{told, equal_of};
-ghost use Rattle.py_values.specs.Ends.{within};
+ghost use Rattle.py_values.specs.Ends.{payable};
 ghost use Rattle.py_operands.specs.py_kinds.Keys.{key_of};
 ghost use Rattle.py_operands.specs.py_kinds.Kinds as kinds;
 ghost use Rattle.py_values.specs.Ranges.{range_items};
@@ -12,21 +12,23 @@ ghost use Rattle.py_ops.specs.Binary as binary;
 ghost use Rattle.py_ops.specs.Compare as compare;
 ghost use Rattle.py_operands.specs.Faults as faults;
 ghost use Rattle.py_operands.specs.Ranges as ranges;
+ghost use Rattle.py_operands.specs.Texts as texts;
 
 use py_compare::equal::equal;
 use py_compare::tested::Tested;
 use py_operands::faults::{key_fault, kinds_error, not_iterable, too_deep};
-use py_operands::py_kinds::keys::{Keyed, key};
+use py_operands::py_kinds::keys::{KeyResult, key};
 use py_operands::py_kinds::kinds::kind_name;
 use py_operands::ranges::nth;
+use py_operands::texts::text_of;
+use py_values::OutOfMemory;
 use py_values::dict::Dict;
-use py_values::end::{Made, made_within};
+use py_values::end::{Effect, made_within};
 use py_values::heap::Heap;
 use py_values::number::number;
 use py_values::object::Obj;
 use py_values::range::RangeObj;
 use py_values::value::{ObjId, Value};
-use py_values::{OutOfMemory, PyText};
 use std::alloc::Global;
 
 /// Looks for the first equal element.
@@ -93,15 +95,15 @@ fn in_range(range: &RangeObj, n: Option<i128>) -> bool
 }
 
 /// What a verdict gives where no order is asked for.
-pub fn judge(alloc: Global, wanted: bool, told: Tested) -> Result<Option<Made>, OutOfMemory>
+pub fn judge(alloc: Global, wanted: bool, told: Tested) -> Result<Option<Effect>, OutOfMemory>
     ensures { IfOk result (λ m. m ≡ compare.judged_told wanted told) }
 {
     match told {
-        Tested::Yes(cost) => Ok(Some(Made::Give(Value::Bool(wanted), cost))),
-        Tested::No(cost) => Ok(Some(Made::Give(Value::Bool(!wanted), cost))),
+        Tested::Yes(cost) => Ok(Some(Effect::Give(Value::Bool(wanted), cost))),
+        Tested::No(cost) => Ok(Some(Effect::Give(Value::Bool(!wanted), cost))),
         Tested::TooDeep(cost) | Tested::NotOrdered(cost) => {
             let raise = too_deep(alloc)?;
-            Ok(Some(Made::Fail(raise, cost)))
+            Ok(Some(Effect::Fail(raise, cost)))
         }
         Tested::Exhausted => Ok(None),
     }
@@ -121,35 +123,22 @@ fn in_pairs(
     dict: &Dict,
     wanted: bool,
     a: Value,
-) -> Result<Made, OutOfMemory>
+) -> Result<Effect, OutOfMemory>
     ensures { IfOk result (λ m. m ≡ compare.in_pairs heap.now dict.now wanted (key_of heap.now a)) }
 {
     match key(alloc, heap, a)? {
-        Keyed::Key(k) => {
+        KeyResult::Key(k) => {
             let found = dict.get(&k).is_some();
-            Ok(Made::Give(Value::Bool(found_is(wanted, found)), k.cost()))
+            Ok(Effect::Give(Value::Bool(found_is(wanted, found)), k.cost()))
         }
-        Keyed::Fault(fault, cost) => {
+        KeyResult::Fault(fault, cost) => {
             let raise = key_fault(alloc, heap, fault)?;
-            Ok(Made::Fail(raise, cost))
+            Ok(Effect::Fail(raise, cost))
         }
     }
 }
 
-/// A part of a text, where it is a text.
-fn text_of(heap: &Heap, a: Value) -> Option<&PyText>
-    ensures { option_copied result ≡ compare.text_of heap.now a }
-{
-    let Value::Ref(id) = a else {
-        return None;
-    };
-    match heap.get(id) {
-        Some(Obj::Text(part)) => Some(part),
-        _ => None,
-    }
-}
-
-fn no_text(alloc: Global, heap: &Heap, op: &str, a: Value) -> Result<Made, OutOfMemory>
+fn no_text(alloc: Global, heap: &Heap, op: &str, a: Value) -> Result<Effect, OutOfMemory>
     ensures { IfOk result (λ m. m ≡ binary.unsupported op.now (kinds.kind_name heap.now a) (codes "str")) }
 {
     let left = kind_name(alloc, heap, a)?;
@@ -161,7 +150,7 @@ fn no_text(alloc: Global, heap: &Heap, op: &str, a: Value) -> Result<Made, OutOf
         left.chars(),
         &['s', 't', 'r'],
     )?;
-    Ok(Made::Fail(raise, 0))
+    Ok(Effect::Fail(raise, 0))
 }
 
 /// A part of a text.
@@ -172,13 +161,13 @@ fn in_text(
     wanted: bool,
     a: Value,
     text: &[char],
-) -> Result<Made, OutOfMemory>
-    ensures { IfOk result (λ m. m ≡ compare.in_text (binary.unsupported op.now (kinds.kind_name heap.now a) (codes "str")) wanted text.now (compare.text_of heap.now a)) }
+) -> Result<Effect, OutOfMemory>
+    ensures { IfOk result (λ m. m ≡ compare.in_text (binary.unsupported op.now (kinds.kind_name heap.now a) (codes "str")) wanted text.now (texts.text_of heap.now a)) }
 {
     match text_of(heap, a) {
         Some(part) => {
             let found = has_part(part.chars(), text);
-            Ok(Made::Give(Value::Bool(found_is(wanted, found)), text.len() as u64))
+            Ok(Effect::Give(Value::Bool(found_is(wanted, found)), text.len() as u64))
         }
         None => no_text(alloc, heap, op, a),
     }
@@ -192,18 +181,18 @@ fn in_values(
     a: Value,
     vs: &[Value],
     budget: u64,
-) -> Result<Option<Made>, OutOfMemory>
-    ensures { IfOk result (λ m. m ≡ within budget (compare.judged_found wanted (compare.search_in (equal_of heap.now a) vs.now))) }
+) -> Result<Option<Effect>, OutOfMemory>
+    ensures { IfOk result (λ m. m ≡ payable budget (compare.judged_found wanted (compare.search_in (equal_of heap.now a) vs.now))) }
 {
     let told = search_in(heap, a, vs, budget);
     judge(alloc, wanted, told)
 }
 
-fn refused(alloc: Global, heap: &Heap, b: Value) -> Result<Option<Made>, OutOfMemory>
-    ensures { IfOk result (λ m. (budget : ℕ) → m ≡ within budget (Made.Fail (faults.not_iterable (kinds.kind_name heap.now b)) 0)) }
+fn refused(alloc: Global, heap: &Heap, b: Value) -> Result<Option<Effect>, OutOfMemory>
+    ensures { IfOk result (λ m. (budget : ℕ) → m ≡ payable budget (Effect.Fail (faults.not_iterable (kinds.kind_name heap.now b)) 0)) }
 {
     let raise = not_iterable(alloc, heap, b)?;
-    Ok(Some(Made::Fail(raise, 0)))
+    Ok(Some(Effect::Fail(raise, 0)))
 }
 
 fn in_object(
@@ -214,8 +203,8 @@ fn in_object(
     a: Value,
     id: ObjId,
     budget: u64,
-) -> Result<Option<Made>, OutOfMemory>
-    ensures { IfOk result (λ m. m ≡ within budget (compare.in_object (binary.unsupported op.now (kinds.kind_name heap.now a) (codes "str"))
+) -> Result<Option<Effect>, OutOfMemory>
+    ensures { IfOk result (λ m. m ≡ payable budget (compare.in_object (binary.unsupported op.now (kinds.kind_name heap.now a) (codes "str"))
         (faults.not_iterable (kinds.kind_name heap.now (val.Ref id))) wanted heap.now a (slice_get heap.now id.at))) }
 {
     match heap.get(id) {
@@ -227,7 +216,7 @@ fn in_object(
         }
         Some(Obj::Range(r)) => {
             let found = in_range(r, number(a));
-            Ok(Some(Made::Give(Value::Bool(found_is(wanted, found)), 0)))
+            Ok(Some(Effect::Give(Value::Bool(found_is(wanted, found)), 0)))
         }
         Some(Obj::Text(t)) => {
             let made = in_text(alloc, heap, op, wanted, a, t.chars())?;
@@ -246,8 +235,8 @@ pub fn contains(
     a: Value,
     b: Value,
     budget: u64,
-) -> Result<Option<Made>, OutOfMemory>
-    ensures { IfOk result (λ m. m ≡ within budget (compare.contains_of op.now wanted heap.now a b)) }
+) -> Result<Option<Effect>, OutOfMemory>
+    ensures { IfOk result (λ m. m ≡ payable budget (compare.contains_of op.now wanted heap.now a b)) }
 {
     match b {
         Value::Ref(id) => in_object(alloc, heap, op, wanted, a, id, budget),

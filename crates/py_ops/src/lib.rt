@@ -4,7 +4,7 @@
 //!
 //! What an operator makes is a function of the heap and its operands that knows no budget (`binary_of`, `augmented_of`, `unary_of`,
 //! `compare_of`): a value, a new object or a change of an object with its cost, or a raise with its class, its text and its cost.
-//! `within` is the one word by which the budget enters.
+//! `payable` is the one word by which the budget enters.
 //!
 //! # What is proved
 //!

@@ -2,14 +2,14 @@
 
 ghost use Rattle.std.specs.Prelude.{◌≡◌, ◌≤◌, IfOk};
 ghost use Rattle.py_ops.specs.Unary as unary;
-ghost use Rattle.py_values.specs.Ends.{finished, within, steps_of};
+ghost use Rattle.py_values.specs.Ends.{finished, payable, steps_of};
 
 use py_operands::faults::kind_error;
 use py_operands::numbers::{inverted, itself, negative, number_made};
 use py_operands::py_kinds::kinds::kind_name;
 use py_tree::UnOp;
 use py_values::OutOfMemory;
-use py_values::end::{Made, OpEnd, finish, made_within};
+use py_values::end::{Effect, OpEnd, finish, made_within};
 use py_values::heap::Heap;
 use py_values::number::number;
 use py_values::value::Value;
@@ -26,7 +26,7 @@ pub fn unary_text(op: UnOp) -> &'static str
     }
 }
 
-fn number_unary(alloc: Global, op: UnOp, x: i128) -> Result<Made, OutOfMemory>
+fn number_unary(alloc: Global, op: UnOp, x: i128) -> Result<Effect, OutOfMemory>
     ensures { IfOk result (λ m. m ≡ unary.number_unary op x) }
 {
     match op {
@@ -37,7 +37,7 @@ fn number_unary(alloc: Global, op: UnOp, x: i128) -> Result<Made, OutOfMemory>
 }
 
 /// What an operator makes before a value.
-pub fn unary_made(alloc: Global, heap: &Heap, op: UnOp, a: Value) -> Result<Made, OutOfMemory>
+pub fn unary_made(alloc: Global, heap: &Heap, op: UnOp, a: Value) -> Result<Effect, OutOfMemory>
     ensures { IfOk result (λ m. m ≡ unary.unary_of op heap.now a) }
 {
     match number(a) {
@@ -51,7 +51,7 @@ pub fn unary_made(alloc: Global, heap: &Heap, op: UnOp, a: Value) -> Result<Made
                 ": '",
                 kind.chars(),
             )?;
-            Ok(Made::Fail(raise, 0))
+            Ok(Effect::Fail(raise, 0))
         }
     }
 }
@@ -65,7 +65,7 @@ pub fn unary(
     a: Value,
     budget: u64,
 ) -> Result<OpEnd, OutOfMemory>
-    ensures end { IfOk result (λ e. (e, heap.new) ≡ finished heap.old (within budget (unary.unary_of op heap.old a))) }
+    ensures end { IfOk result (λ e. (e, heap.new) ≡ finished heap.old (payable budget (unary.unary_of op heap.old a))) }
     ensures cost { IfOk result (λ e. steps_of e ≤ budget) }
 {
     let made = unary_made(alloc, heap, op, a)?;

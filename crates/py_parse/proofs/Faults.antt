@@ -6,7 +6,7 @@ use Rattle.py_tree.specs.Statements.{Block}
 use Rattle.parsing.specs.Reading.{Bad}
 use Rattle.grammar_code.specs.Walk.{starts_with}
 use Rattle.py_cursor.specs.token_kinds.Kinds.{kind}
-use Rattle.statement_readers.specs.py_grammar.Context.{first_place}
+use Rattle.statement_readers.specs.py_grammar.Context.{first_pos}
 use Rattle.statement_readers.specs.py_grammar.Verdict.{Accepted, Unexpected, Unsupported, Context, unsupported, verdict_on, verdict_by}
 
 pub unsupported_is : (t : Token) (ts : List Token) → starts_with kind unsupported (t ∷ ts) ≡ true → Some (Unsupported t.at) ≡ verdict_by (Bad (t ∷ ts))
@@ -19,11 +19,11 @@ pub unexpected_at : (ts : List Token) (t : Token) → 1 ≤ length ts → t ≡ 
 unexpected_at [] t h p e = absurd (omega (arith, h))
 unexpected_at (x ∷ ts) t h p e = ap (λ t. Some (Unexpected t.at)) p ∙ unexpected_is x ts (sym e)
 
-pub accepted_is : (b : Block) (ps : List Pos) → None ≡ first_place ps → Some (Accepted b) ≡ Some (verdict_on b ps)
+pub accepted_is : (b : Block) (ps : List Pos) → None ≡ first_pos ps → Some (Accepted b) ≡ Some (verdict_on b ps)
 accepted_is b [] e = refl
 accepted_is b (p ∷ ps) e = absurd (cc)
 
-pub context_is : (b : Block) (ps : List Pos) (at : Pos) → Some at ≡ first_place ps → Some (Context at) ≡ Some (verdict_on b ps)
+pub context_is : (b : Block) (ps : List Pos) (at : Pos) → Some at ≡ first_pos ps → Some (Context at) ≡ Some (verdict_on b ps)
 context_is b [] at e = absurd (cc)
 context_is b (p ∷ ps) at e = let i : at ≡ p = cc in ap (λ a. Some (Context a)) i
 

@@ -2,7 +2,7 @@ ghost use Rattle.std.specs.Prelude.{◌≡◌};
 ghost use Rattle.py_tree.specs.Trees.{tree, trees, some_tree};
 ghost use Rattle.py_tree.specs.Statements.{parameters};
 ghost use Rattle.py_cursor.specs.Cursor.{Gives};
-ghost use Rattle.statement_readers.specs.Words.{param, params_on, params, base, decorator, decorators_on, decorators, caught};
+ghost use Rattle.statement_readers.specs.Words.{param, params_on, params, base, decorator, decorators_on, decorators, handler_head};
 
 use crate::parts::{LEVELS, alias_behind, expression_behind, text_of};
 use py_cursor::{Sign, Stop, begins, expect, first_of};
@@ -125,12 +125,12 @@ pub fn decorators(alloc: Global, tokens: &[Token]) -> Result<(Vec<Rc<Expr>>, &[T
 }
 
 /// What a handler catches, and the name behind `as`.
-#[tactic(auto, unfolding(statement_readers::specs::Words::caught))]
+#[tactic(auto, unfolding(statement_readers::specs::Words::handler_head))]
 pub fn caught(
     alloc: Global,
     tokens: &[Token],
 ) -> Result<(Option<Rc<Expr>>, Option<SrcText>, &[Token]), Stop<'_>>
-    ensures { Gives (λ x. ((some_tree x.0, x.1), x.2.now)) result (caught tokens.now) }
+    ensures { Gives (λ x. ((some_tree x.0, x.1), x.2.now)) result (handler_head tokens.now) }
 {
     if !begins(tokens, &BEGINS_EXPRESSION) {
         return Ok((None, None, tokens));

@@ -2,7 +2,7 @@ ghost use Rattle.std.specs.Prelude.{◌≡◌, IfOk};
 ghost use Rattle.py_tree.specs.Trees.{some_tree};
 ghost use Rattle.py_cursor.specs.token_kinds.Kinds.{op_number, text_of};
 ghost use Rattle.py_cursor.specs.Cursor.{Gives};
-ghost use Rattle.statement_readers.specs.Words.{optional_expr, optional_exprs, expr_behind, name_at, names_on, names, alias_behind};
+ghost use Rattle.statement_readers.specs.Words.{optional_expr, optional_exprs, expr_behind, name_reader, names_on, names, alias_behind};
 
 use py_cursor::{Sign, Stop, begins, chars_of, expect, first_of};
 use py_expression_parser::{BEGINS_EXPRESSION, expression, expressions};
@@ -69,9 +69,9 @@ pub fn text_of(alloc: Global, token: &Token) -> Result<SrcText, AllocError>
 }
 
 /// A name.
-#[tactic(auto, unfolding(statement_readers::specs::Words::name_at))]
+#[tactic(auto, unfolding(statement_readers::specs::Words::name_reader))]
 pub fn name(alloc: Global, tokens: &[Token]) -> Result<(SrcText, &[Token]), Stop<'_>>
-    ensures { Gives (λ x. (x.0, x.1.now)) result (name_at tokens.now) }
+    ensures { Gives (λ x. (x.0, x.1.now)) result (name_reader tokens.now) }
 {
     let (name, rest) = expect(tokens, &[Sign::Name])?;
     Ok((text_of(alloc, name)?, rest))

@@ -3,7 +3,7 @@ ghost use Rattle.py_tree.specs.Trees.{tree};
 ghost use Rattle.py_tree.specs.Statements.{statement, block, takers};
 ghost use Rattle.py_cursor.specs.token_kinds.Numbers as k;
 ghost use Rattle.py_cursor.specs.Cursor.{Gives};
-ghost use Rattle.statement_readers.specs.Words.{two, return_behind, assert_behind, raise_behind, yield_behind, global_behind, del_behind, import_behind, from_behind, alias, aliases_on, listed_on, imported, assignment, yield_to, assigns, valued, worded, simple, simples_on, simples};
+ghost use Rattle.statement_readers.specs.Words.{two, return_behind, assert_behind, raise_behind, yield_behind, global_behind, del_behind, import_behind, from_behind, alias, aliases_on, listed_on, imported, assignment, yield_to, assigns, value_statement, word_statement, simple, simples_on, simples};
 
 use crate::parts::{
     LEVELS, alias_behind, expression_behind, names, optional_expression, optional_expressions,
@@ -291,9 +291,9 @@ fn assigning<'t>(
 }
 
 /// An expression, or an assignment.
-#[tactic(auto, using(py_nodes::proofs::Forms::place_is), unfolding(statement_readers::specs::Words::valued))]
+#[tactic(auto, using(py_nodes::proofs::Forms::place_is), unfolding(statement_readers::specs::Words::value_statement))]
 fn valued(alloc: Global, tokens: &[Token]) -> Result<(Stmt, &[Token]), Stop<'_>>
-    ensures { Gives (λ x. (statement x.0, x.1.now)) result (valued tokens.now) }
+    ensures { Gives (λ x. (statement x.0, x.1.now)) result (value_statement tokens.now) }
 {
     let (first, rest) = expressions(alloc, LEVELS, tokens)?;
     let at = first.expr.at;
@@ -308,9 +308,9 @@ fn valued(alloc: Global, tokens: &[Token]) -> Result<(Stmt, &[Token]), Stop<'_>>
 }
 
 /// A statement that begins with one of further words, or with an expression.
-#[tactic(auto, unfolding(statement_readers::specs::Words::worded))]
+#[tactic(auto, unfolding(statement_readers::specs::Words::word_statement))]
 fn worded(alloc: Global, tokens: &[Token]) -> Result<(Stmt, &[Token]), Stop<'_>>
-    ensures { Gives (λ x. (statement x.0, x.1.now)) result (worded tokens.now) }
+    ensures { Gives (λ x. (statement x.0, x.1.now)) result (word_statement tokens.now) }
 {
     if let Some((word, rest)) = first_of(tokens, &[Sign::Op(Op::Global)]) {
         return declaring(alloc, word.at, rest);

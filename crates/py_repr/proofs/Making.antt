@@ -4,7 +4,7 @@ use Rattle.std.specs.List.{fold}
 use Rattle.std.proofs.lemmas.List.Sums.{fold-append}
 use Rattle.std.proofs.lemmas.Grind.{common_steps}
 use Rattle.py_repr.specs.Showing.{Showing}
-use Rattle.py_repr.specs.Symbols.{Symbol, Char, Deep, plain}
+use Rattle.py_repr.specs.Symbols.{Symbol, Char, Deep, glyphs}
 use Rattle.py_repr.specs.Adding.{add}
 use Rattle.py_repr.specs.Repr.{obj_repr, repr_to, obj_str, str_to, is_around, pairs_row, pair_repr}
 use Rattle.py_values.specs.declared.dict.Pair.{Pair}
@@ -31,7 +31,7 @@ pub ruleset showing = (fold-append, plain_append, cut_stays)
 
 pub pairs_step : (f : Value → List Symbol) (first : Bool) (d : List (List Atom × Pair)) (i : ℕ) (p : Pair)
     → Some p ≡ option_map (λ e. e.1) (slice_get d i)
-    → pairs_row first f (drop i d) ≡ (if first then [] else plain (codes ", ")) ++ (pair_repr f p ++ pairs_row false f (drop (i + 1) d))
+    → pairs_row first f (drop i d) ≡ (if first then [] else glyphs (codes ", ")) ++ (pair_repr f p ++ pairs_row false f (drop (i + 1) d))
 pairs_step f first [] i p h = cc
 pairs_step f first (e ∷ es) zero p h = cc
 pairs_step f first (e ∷ es) (suc i) p h = rw (add-one (suc i)) (rw (add-one i) at (pairs_step f first es i p h))
@@ -39,7 +39,7 @@ pairs_step f first (e ∷ es) (suc i) p h = rw (add-one (suc i)) (rw (add-one i)
 -- a turn of the loop over pairs
 pub pairs_turn : (f : Value → List Symbol) (first : Bool) (d : List (List Atom × Pair)) (i : ℕ) (p : Pair) (s t u : Showing)
     → Some p ≡ option_map (λ e. e.1) (slice_get d i)
-    → t ≡ fold add s (if first then [] else plain (codes ", ")) → u ≡ fold add t (pair_repr f p)
+    → t ≡ fold add s (if first then [] else glyphs (codes ", ")) → u ≡ fold add t (pair_repr f p)
     → fold add s (pairs_row first f (drop i d)) ≡ fold add u (pairs_row false f (drop (i + 1) d))
 pairs_turn f first d i p s t u at a b = rw (pairs_step f first d i p at, fold-append, fold-append, ← a, ← b) refl
 

@@ -8,8 +8,8 @@ pub data Symbol : Type 0 where
   Char : ℕ → Symbol
   Deep : Symbol
 
-abbrev pub plain : List ℕ → List Symbol
-plain text = map Char text
+abbrev pub glyphs : List ℕ → List Symbol
+glyphs text = map Char text
 
 -- a value that lies too deep
 abbrev pub dots : List Symbol

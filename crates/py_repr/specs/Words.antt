@@ -32,11 +32,11 @@ has c text = list_any (λ d. eqb d c) text
 abbrev pub quote_of : List ℕ → ℕ
 quote_of text = if has 39 text && not (has 34 text) then 34 else 39
 
-abbrev pub body : ℕ → List ℕ → List ℕ
-body q text = flat_map (escaped q) text
+abbrev pub escaped_text : ℕ → List ℕ → List ℕ
+escaped_text q text = flat_map (escaped q) text
 
-abbrev pub quoted : List ℕ → List ℕ
-quoted text = quote_of text ∷ (body (quote_of text) text ++ quote_of text ∷ [])
+abbrev pub quoted_text : List ℕ → List ℕ
+quoted_text text = quote_of text ∷ (escaped_text (quote_of text) text ++ quote_of text ∷ [])
 
 -- the step is shown where it isn't 1
 unfoldable pub range_end_by : ℤ → List ℕ
@@ -67,4 +67,24 @@ method_text name = codes "<bound method " ++ (name ++ codes ">")
 -- the name of a function of the heap
 abbrev pub function_name_at : Option Obj → List ℕ
 function_name_at (Some (obj.Function x)) = x.name
-function_name_at _ = codes "object"
+function_name_at (Some (obj.Text x)) = codes "object"
+function_name_at (Some (obj.List x)) = codes "object"
+function_name_at (Some (obj.Tuple x)) = codes "object"
+function_name_at (Some (obj.Dict x)) = codes "object"
+function_name_at (Some (obj.Range x)) = codes "object"
+function_name_at (Some (obj.Method x)) = codes "object"
+function_name_at (Some (obj.Builtin x)) = codes "object"
+function_name_at (Some (obj.Class x)) = codes "object"
+function_name_at (Some (obj.Instance x)) = codes "object"
+function_name_at (Some (obj.Exception x)) = codes "object"
+function_name_at (Some (obj.Module x)) = codes "object"
+function_name_at (Some (obj.Fixture x)) = codes "object"
+function_name_at (Some obj.MarkMaker) = codes "object"
+function_name_at (Some (obj.Mark x)) = codes "object"
+function_name_at (Some (obj.Hook x)) = codes "object"
+function_name_at (Some (obj.Param x)) = codes "object"
+function_name_at (Some (obj.Request x)) = codes "object"
+function_name_at (Some (obj.Raises x)) = codes "object"
+function_name_at (Some (obj.Info x)) = codes "object"
+function_name_at (Some (obj.Item x)) = codes "object"
+function_name_at None = codes "object"

@@ -2,8 +2,8 @@
 
 ghost use Rattle.std.specs.Prelude.{◌≡◌, ◌++◌, ◌∷◌, [], ◌<◌, ◌-◌, OnOk, fold, true, if◌then◌else◌, codes, slice_get};
 ghost use Rattle.py_repr.specs.Adding.{add};
-ghost use Rattle.py_repr.specs.Symbols.{plain};
-ghost use Rattle.py_repr.specs.Repr.{row, pairs_row, pair_repr, obj_repr, repr_to, exception_repr, args_repr, list_repr, tuple_repr, tuple_end, dict_repr, is_around, message_by, obj_str, str_to};
+ghost use Rattle.py_repr.specs.Symbols.{glyphs};
+ghost use Rattle.py_repr.specs.Repr.{item_row, pairs_row, pair_repr, obj_repr, repr_to, exception_repr, args_repr, list_repr, tuple_repr, tuple_end, dict_repr, is_around, message_by, obj_str, str_to};
 ghost use Rattle.py_repr.specs.Repr as told;
 ghost use Rattle.py_values.specs.declared.value.Value.TheVariants as val;
 
@@ -36,7 +36,7 @@ fn is_key_error(class: Option<ExcClass>) -> bool
 #[tactic(auto, using(crate::proofs::Making::showing))]
 impl Shower {
     fn comma(&mut self, first: bool) -> Result<(), OutOfMemory>
-        ensures { OnOk result (self.new ≡ fold add self.old (if first then [] else plain (codes ", "))) }
+        ensures { OnOk result (self.new ≡ fold add self.old (if first then [] else glyphs (codes ", "))) }
     {
         if first {
             return Ok(());
@@ -46,7 +46,7 @@ impl Shower {
     }
 
     fn close_tuple(&mut self, vs: &[Value]) -> Result<(), OutOfMemory>
-        ensures { OnOk result (self.new ≡ fold add self.old (plain (tuple_end vs.now))) }
+        ensures { OnOk result (self.new ≡ fold add self.old (glyphs (tuple_end vs.now))) }
     {
         match vs {
             [_] => self.push_ascii(",)")?,
@@ -245,7 +245,7 @@ impl Shower {
         depth: usize,
     ) -> Result<(), OutOfMemory>
         ensures text { OnOk result (self.new ≡ fold add self.old
-            (row true (repr_to depth heap.now (around.old.items ++ id ∷ [])) vs.now)) }
+            (item_row true (repr_to depth heap.now (around.old.items ++ id ∷ [])) vs.now)) }
         ensures same { OnOk result (around.new.items ≡ around.old.items) }
     {
         around.push(id)?;
@@ -283,7 +283,7 @@ impl Shower {
         vs: &[Value],
         depth: usize,
     ) -> Result<(), OutOfMemory>
-        ensures text { OnOk result (self.new ≡ fold add self.old (row true (repr_to depth heap.now around.old.items) vs.now)) }
+        ensures text { OnOk result (self.new ≡ fold add self.old (item_row true (repr_to depth heap.now around.old.items) vs.now)) }
         ensures same { OnOk result (around.new.items ≡ around.old.items) }
     {
         let mut first = true;

@@ -3,7 +3,7 @@
 ghost use Rattle.std.specs.Prelude.{◌≡◌, IfOk, OnOk, fold};
 ghost use Rattle.std.specs.Fmt.{signed_decimal};
 ghost use Rattle.py_repr.specs.Adding.{add, start, shown_of};
-ghost use Rattle.py_repr.specs.Symbols.{Char, plain, dots};
+ghost use Rattle.py_repr.specs.Symbols.{Char, glyphs, dots};
 
 use crate::shown::Shown;
 use py_text::{OutOfMemory, PyText};
@@ -82,7 +82,7 @@ impl Shower {
     }
 
     pub fn push_ascii(&mut self, text: &str) -> Result<(), OutOfMemory>
-        ensures { OnOk result (self.new ≡ fold add self.old (plain text.now)) }
+        ensures { OnOk result (self.new ≡ fold add self.old (glyphs text.now)) }
     {
         for b in text.as_bytes() {
             self.push(char::from(*b))?;
@@ -91,7 +91,7 @@ impl Shower {
     }
 
     pub fn push_chars(&mut self, text: &[char]) -> Result<(), OutOfMemory>
-        ensures { OnOk result (self.new ≡ fold add self.old (plain text.now)) }
+        ensures { OnOk result (self.new ≡ fold add self.old (glyphs text.now)) }
     {
         for c in text {
             self.push(*c)?;
@@ -100,7 +100,7 @@ impl Shower {
     }
 
     pub fn push_number(&mut self, n: i128) -> Result<(), OutOfMemory>
-        ensures { OnOk result (self.new ≡ fold add self.old (plain (signed_decimal n))) }
+        ensures { OnOk result (self.new ≡ fold add self.old (glyphs (signed_decimal n))) }
     {
         let alloc = *self.out.allocator();
         let text = n.to_string(alloc)?;

@@ -3,7 +3,7 @@
 ghost use Rattle.std.specs.Prelude.{◌≡◌, ◌<◌, ◌++◌, OnOk, fold, slice_get, pos};
 ghost use Rattle.std.specs.Ordering.{int_eq};
 ghost use Rattle.py_repr.specs.Adding.{add};
-ghost use Rattle.py_repr.specs.Symbols.{plain};
+ghost use Rattle.py_repr.specs.Symbols.{glyphs};
 ghost use Rattle.py_repr.specs.Words as words;
 ghost use Rattle.py_kinds.specs.Builtins.{builtin_name};
 ghost use Rattle.py_kinds.specs.Kinds as kinds;
@@ -56,7 +56,7 @@ fn quote_of(text: &[char]) -> char
 #[tactic(auto, using(crate::proofs::Making::showing))]
 impl Shower {
     fn push_hex(&mut self, n: u8) -> Result<(), OutOfMemory>
-        ensures { OnOk result (self.new ≡ fold add self.old (plain (words.hex n))) }
+        ensures { OnOk result (self.new ≡ fold add self.old (glyphs (words.hex n))) }
     {
         self.push_ascii("\\x")?;
         self.push(hex_digit(n / 16))?;
@@ -66,7 +66,7 @@ impl Shower {
 
     /// Puts a character of a text within its quotes.
     fn push_escaped(&mut self, quote: char, c: char) -> Result<(), OutOfMemory>
-        ensures { OnOk result (self.new ≡ fold add self.old (plain (words.escaped quote c))) }
+        ensures { OnOk result (self.new ≡ fold add self.old (glyphs (words.escaped quote c))) }
     {
         if c == quote || c == '\\' {
             self.push('\\')?;
@@ -86,7 +86,7 @@ impl Shower {
     }
 
     fn push_body(&mut self, quote: char, text: &[char]) -> Result<(), OutOfMemory>
-        ensures { OnOk result (self.new ≡ fold add self.old (plain (words.body quote text.now))) }
+        ensures { OnOk result (self.new ≡ fold add self.old (glyphs (words.escaped_text quote text.now))) }
     {
         for c in text {
             self.push_escaped(quote, *c)?;
@@ -96,7 +96,7 @@ impl Shower {
 
     /// Puts a text within its quotes.
     pub fn push_quoted(&mut self, text: &[char]) -> Result<(), OutOfMemory>
-        ensures { OnOk result (self.new ≡ fold add self.old (plain (words.quoted text.now))) }
+        ensures { OnOk result (self.new ≡ fold add self.old (glyphs (words.quoted_text text.now))) }
     {
         let quote = quote_of(text);
         self.push(quote)?;
@@ -112,7 +112,7 @@ impl Shower {
         text: &[char],
         back: &str,
     ) -> Result<(), OutOfMemory>
-        ensures { OnOk result (self.new ≡ fold add self.old (plain (front.now ++ (text.now ++ back.now)))) }
+        ensures { OnOk result (self.new ≡ fold add self.old (glyphs (front.now ++ (text.now ++ back.now)))) }
     {
         self.push_ascii(front)?;
         self.push_chars(text)?;
@@ -122,7 +122,7 @@ impl Shower {
 
     #[tactic(auto, using(crate::proofs::Making::showing), unfolding(crate::specs::Words::range_end_by))]
     fn push_range_end(&mut self, step: i128) -> Result<(), OutOfMemory>
-        ensures { OnOk result (self.new ≡ fold add self.old (plain (words.range_end_by step))) }
+        ensures { OnOk result (self.new ≡ fold add self.old (glyphs (words.range_end_by step))) }
     {
         if is_one(step) {
             self.push_ascii(")")?;
@@ -136,7 +136,7 @@ impl Shower {
 
     #[tactic(auto, using(crate::proofs::Making::showing), unfolding(crate::specs::Words::number_behind))]
     fn push_number_behind(&mut self, front: &str, n: i128) -> Result<(), OutOfMemory>
-        ensures { OnOk result (self.new ≡ fold add self.old (plain (words.number_behind front.now n))) }
+        ensures { OnOk result (self.new ≡ fold add self.old (glyphs (words.number_behind front.now n))) }
     {
         self.push_ascii(front)?;
         self.push_number(n)?;
@@ -145,7 +145,7 @@ impl Shower {
 
     #[tactic(auto, using(crate::proofs::Making::showing), unfolding(crate::specs::Words::range_front))]
     fn push_range_front(&mut self, start: i128, stop: i128) -> Result<(), OutOfMemory>
-        ensures { OnOk result (self.new ≡ fold add self.old (plain (words.range_front start stop))) }
+        ensures { OnOk result (self.new ≡ fold add self.old (glyphs (words.range_front start stop))) }
     {
         self.push_number_behind("range(", start)?;
         self.push_number_behind(", ", stop)?;
@@ -154,7 +154,7 @@ impl Shower {
 
     /// Puts a range.
     pub fn push_range(&mut self, range: &RangeObj) -> Result<(), OutOfMemory>
-        ensures { OnOk result (self.new ≡ fold add self.old (plain (words.range_repr range.now))) }
+        ensures { OnOk result (self.new ≡ fold add self.old (glyphs (words.range_repr range.now))) }
     {
         self.push_range_front(range.start, range.stop)?;
         self.push_range_end(range.step)?;
@@ -163,7 +163,7 @@ impl Shower {
 
     #[tactic(auto, unfolding(crate::specs::Words::object_end))]
     fn push_object_end(&mut self) -> Result<(), OutOfMemory>
-        ensures { OnOk result (self.new ≡ fold add self.old (plain words.object_end)) }
+        ensures { OnOk result (self.new ≡ fold add self.old (glyphs words.object_end)) }
     {
         self.push_ascii(" object>")?;
         Ok(())
@@ -171,7 +171,7 @@ impl Shower {
 
     /// Puts an object of a kind.
     pub fn push_kind(&mut self, name: &str) -> Result<(), OutOfMemory>
-        ensures { OnOk result (self.new ≡ fold add self.old (plain (words.object_text name.now))) }
+        ensures { OnOk result (self.new ≡ fold add self.old (glyphs (words.object_text name.now))) }
     {
         self.push_ascii("<")?;
         self.push_ascii(name)?;
@@ -182,7 +182,7 @@ impl Shower {
     /// Puts a built-in function.
     #[tactic(auto, using(crate::proofs::Making::showing), unfolding(crate::specs::Words::builtin_text))]
     pub fn push_builtin(&mut self, which: Builtin) -> Result<(), OutOfMemory>
-        ensures { OnOk result (self.new ≡ fold add self.old (plain (words.builtin_text (builtin_name which)))) }
+        ensures { OnOk result (self.new ≡ fold add self.old (glyphs (words.builtin_text (builtin_name which)))) }
     {
         self.push_ascii("<built-in function ")?;
         self.push_ascii(builtin_name(which))?;
@@ -192,7 +192,7 @@ impl Shower {
 
     /// Puts the name of a class of the heap.
     fn push_class(&mut self, heap: &Heap, class: ObjId) -> Result<(), OutOfMemory>
-        ensures { OnOk result (self.new ≡ fold add self.old (plain (kinds.class_name_at (slice_get heap.now class.at)))) }
+        ensures { OnOk result (self.new ≡ fold add self.old (glyphs (kinds.class_name_at (slice_get heap.now class.at)))) }
     {
         match heap.get(class) {
             Some(Obj::Class(c)) => self.push_chars(c.name.chars())?,
@@ -203,7 +203,7 @@ impl Shower {
 
     /// Puts the name of an exception's class.
     pub fn push_class_ref(&mut self, heap: &Heap, class: ClassRef) -> Result<(), OutOfMemory>
-        ensures { OnOk result (self.new ≡ fold add self.old (plain (kinds.class_ref_name heap.now class))) }
+        ensures { OnOk result (self.new ≡ fold add self.old (glyphs (kinds.class_ref_name heap.now class))) }
     {
         match class {
             ClassRef::Builtin(c) => self.push_ascii(class_name(c))?,
@@ -214,7 +214,7 @@ impl Shower {
 
     /// Puts an instance of a class of the heap.
     pub fn push_instance(&mut self, heap: &Heap, class: ObjId) -> Result<(), OutOfMemory>
-        ensures { OnOk result (self.new ≡ fold add self.old (plain (words.object_text (kinds.class_name_at (slice_get heap.now class.at))))) }
+        ensures { OnOk result (self.new ≡ fold add self.old (glyphs (words.object_text (kinds.class_name_at (slice_get heap.now class.at))))) }
     {
         self.push_ascii("<")?;
         self.push_class(heap, class)?;
@@ -224,7 +224,7 @@ impl Shower {
 
     /// Puts the name of a function of the heap.
     fn push_function(&mut self, heap: &Heap, id: ObjId) -> Result<(), OutOfMemory>
-        ensures { OnOk result (self.new ≡ fold add self.old (plain (words.function_name_at (slice_get heap.now id.at)))) }
+        ensures { OnOk result (self.new ≡ fold add self.old (glyphs (words.function_name_at (slice_get heap.now id.at)))) }
     {
         match heap.get(id) {
             Some(Obj::Function(f)) => self.push_chars(f.name.chars())?,
@@ -237,7 +237,7 @@ impl Shower {
     #[tactic(auto, using(crate::proofs::Making::showing), unfolding(crate::specs::Words::method_text))]
     pub fn push_method(&mut self, heap: &Heap, function: ObjId) -> Result<(), OutOfMemory>
         ensures { OnOk result (self.new ≡ fold add self.old
-            (plain (words.method_text (words.function_name_at (slice_get heap.now function.at))))) }
+            (glyphs (words.method_text (words.function_name_at (slice_get heap.now function.at))))) }
     {
         self.push_ascii("<bound method ")?;
         self.push_function(heap, function)?;

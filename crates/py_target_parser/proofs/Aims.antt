@@ -189,10 +189,10 @@ pub places_next : (m : ℕ) (s : v.Places × ℕ) (ts : List Token) (o : Token) 
 places_next m s ts o after y rest p l whole h e i d a b w = items_next (places_more m) (k.comma ∷ []) A1 (place_step m) (λ s. (v.no_place s.0, s.1)) (λ s ts. Found s ts) (λ s. s.0.ended ≡ false) (places_line m) s ts o after (p, l) rest whole h e i (ap (λ r. r >>= λ y. Found (v.one_place s.0 y.0.0, max s.1 y.0.1) y.1) d ∙ rw (a, b) refl) w
 
 -- target = single { "," single } [ "," ]
-pub targets_shape : (m : ℕ) (ts : List Token) → 0 < m → reads m targets ts ≡ (reads m single ts >>= λ y. cond (starts_with kind (k.comma ∷ []) y.1) (cond (fits (m - 1) y.0.1) (places_more m (v.first_place y.0.0, y.0.1) y.1 >>= λ r. Found (Unpack r.0.0.all, 1 + r.0.1) r.1) (Deep y.1)) (Found (One y.0.0, y.0.1) y.1))
+pub targets_shape : (m : ℕ) (ts : List Token) → 0 < m → reads m targets ts ≡ (reads m single ts >>= λ y. cond (starts_with kind (k.comma ∷ []) y.1) (cond (fits (m - 1) y.0.1) (places_more m (v.places_from y.0.0, y.0.1) y.1 >>= λ r. Found (Unpack r.0.0.all, 1 + r.0.1) r.1) (Deep y.1)) (Found (One y.0.0, y.0.1) y.1))
 targets_shape m ts h = line m targets ts h ∙ bind_eq (reads m single ts) _ _ (λ y rest.
-    pick_begins kind (k.comma ∷ []) rest (fits (m - 1) y.1) _ (Deep rest) (Found (Unpack (v.first_place y.0).all, 1 + y.1) rest) (Found (One y.0, y.1) rest)
-    ∙ ap (λ z. cond (starts_with kind (k.comma ∷ []) rest) (cond (fits (m - 1) y.1) z (Deep rest)) (Found (One y.0, y.1) rest)) (sym (round_walk expressions (m - 1) no_reader (readers expressions no_reader m) (readers expressions no_reader (m - 1)) (all_eat m) (all_eat (m - 1)) (λ q. absurd q) {S = places} {B = taker} (when (λ r. not r.ended) (key k.comma ⨾ (part single v.one_place ∣ give v.no_place))) refl (v.first_place y.0, y.1) rest (λ r. Found (Unpack r.0.0.all, 1 + r.0.1) r.1))))
+    pick_begins kind (k.comma ∷ []) rest (fits (m - 1) y.1) _ (Deep rest) (Found (Unpack (v.places_from y.0).all, 1 + y.1) rest) (Found (One y.0, y.1) rest)
+    ∙ ap (λ z. cond (starts_with kind (k.comma ∷ []) rest) (cond (fits (m - 1) y.1) z (Deep rest)) (Found (One y.0, y.1) rest)) (sym (round_walk expressions (m - 1) no_reader (readers expressions no_reader m) (readers expressions no_reader (m - 1)) (all_eat m) (all_eat (m - 1)) (λ q. absurd q) {S = places} {B = taker} (when (λ r. not r.ended) (key k.comma ⨾ (part single v.one_place ∣ give v.no_place))) refl (v.places_from y.0, y.1) rest (λ r. Found (Unpack r.0.0.all, 1 + r.0.1) r.1))))
 
 pub places_more_of : (all : List Single) (s : Single) → singles (all ++ s ∷ []) ≡ singles all ++ place_of s ∷ []
 places_more_of [] s = refl
@@ -204,26 +204,26 @@ pair_of r l = (r, l)
 abbrev unpacked : (v.Places × ℕ) × List Token → Read Token (Taker × ℕ)
 unpacked r = Found (Unpack r.0.0.all, 1 + r.0.1) r.1
 
-targets_begun : (m : ℕ) (ts : List Token) (e : Place) (h : ℕ) (rest : List Token) → 0 < h → h < m → reads m single ts ≡ Found (e, h) rest → starts_with kind (k.comma ∷ []) rest ≡ true → reads m targets ts ≡ (places_more m (v.first_place e, h) rest >>= unpacked)
+targets_begun : (m : ℕ) (ts : List Token) (e : Place) (h : ℕ) (rest : List Token) → 0 < h → h < m → reads m single ts ≡ Found (e, h) rest → starts_with kind (k.comma ∷ []) rest ≡ true → reads m targets ts ≡ (places_more m (v.places_from e, h) rest >>= unpacked)
 targets_begun m ts e h rest i j d b = targets_shape m ts (omega arith)
-    ∙ ap (λ r. r >>= λ y. cond (starts_with kind (k.comma ∷ []) y.1) (cond (fits (m - 1) y.0.1) (places_more m (v.first_place y.0.0, y.0.1) y.1 >>= unpacked) (Deep y.1)) (Found (One y.0.0, y.0.1) y.1)) d
-    ∙ ap (λ w. cond w (cond (fits (m - 1) h) (places_more m (v.first_place e, h) rest >>= unpacked) (Deep rest)) (Found (One e, h) rest)) b
-    ∙ ap (λ w. cond w (places_more m (v.first_place e, h) rest >>= unpacked) (Deep rest)) (room_goes m h i j)
+    ∙ ap (λ r. r >>= λ y. cond (starts_with kind (k.comma ∷ []) y.1) (cond (fits (m - 1) y.0.1) (places_more m (v.places_from y.0.0, y.0.1) y.1 >>= unpacked) (Deep y.1)) (Found (One y.0.0, y.0.1) y.1)) d
+    ∙ ap (λ w. cond w (cond (fits (m - 1) h) (places_more m (v.places_from e, h) rest >>= unpacked) (Deep rest)) (Found (One e, h) rest)) b
+    ∙ ap (λ w. cond w (places_more m (v.places_from e, h) rest >>= unpacked) (Deep rest)) (room_goes m h i j)
 
-pub targets_stops : (m : ℕ) (ts : List Token) (e : Place) (h : ℕ) (rest : List Token) (r : v.Places) (l : ℕ) (stop : Stop) → 0 < h → h < m → reads m single ts ≡ Found (e, h) rest → starts_with kind (k.comma ∷ []) rest ≡ true → r ≡ v.first_place e → l ≡ h → FailsAs stop (places_more m (r, l) rest) → FailsAs stop (reads m targets ts)
-targets_stops m ts e h rest r l stop i j d b p q f = subst (λ x. FailsAs stop x) (sym (targets_begun m ts e h rest i j d b)) (fails_on stop (places_more m (r, l) rest) (places_more m (v.first_place e, h) rest >>= unpacked) unpacked f (ap (λ x. places_more m x rest >>= unpacked) (both p q)))
+pub targets_stops : (m : ℕ) (ts : List Token) (e : Place) (h : ℕ) (rest : List Token) (r : v.Places) (l : ℕ) (stop : Stop) → 0 < h → h < m → reads m single ts ≡ Found (e, h) rest → starts_with kind (k.comma ∷ []) rest ≡ true → r ≡ v.places_from e → l ≡ h → FailsAs stop (places_more m (r, l) rest) → FailsAs stop (reads m targets ts)
+targets_stops m ts e h rest r l stop i j d b p q f = subst (λ x. FailsAs stop x) (sym (targets_begun m ts e h rest i j d b)) (fails_on stop (places_more m (r, l) rest) (places_more m (v.places_from e, h) rest >>= unpacked) unpacked f (ap (λ x. places_more m x rest >>= unpacked) (both p q)))
   where
-    both : r ≡ v.first_place e → l ≡ h → pair_of r l ≡ pair_of (v.first_place e) h
+    both : r ≡ v.places_from e → l ≡ h → pair_of r l ≡ pair_of (v.places_from e) h
     both p q = rw (p, q) refl
 
-pub targets_whole : (m : ℕ) (ts : List Token) (e : Place) (h : ℕ) (rest : List Token) (r : v.Places) (l : ℕ) (z : v.Places) (j : ℕ) (after : List Token) (x : Taker) (y : ℕ) → 0 < h → h < m → reads m single ts ≡ Found (e, h) rest → starts_with kind (k.comma ∷ []) rest ≡ true → r ≡ v.first_place e → l ≡ h → places_more m (r, l) rest ≡ Found (z, j) after
+pub targets_whole : (m : ℕ) (ts : List Token) (e : Place) (h : ℕ) (rest : List Token) (r : v.Places) (l : ℕ) (z : v.Places) (j : ℕ) (after : List Token) (x : Taker) (y : ℕ) → 0 < h → h < m → reads m single ts ≡ Found (e, h) rest → starts_with kind (k.comma ∷ []) rest ≡ true → r ≡ v.places_from e → l ≡ h → places_more m (r, l) rest ≡ Found (z, j) after
     → x ≡ Unpack z.all → y ≡ 1 + j → reads m targets ts ≡ Found (x, y) after
 targets_whole m ts e h rest r l z j after x y i g d b p q f u w = targets_begun m ts e h rest i g d b
     ∙ ap (λ s. places_more m s rest >>= unpacked) (both p q)
     ∙ ap (λ s. s >>= unpacked) f
     ∙ rw (u, w) refl
   where
-    both : r ≡ v.first_place e → l ≡ h → pair_of (v.first_place e) h ≡ pair_of r l
+    both : r ≡ v.places_from e → l ≡ h → pair_of (v.places_from e) h ≡ pair_of r l
     both p q = rw (p, q) refl
 
 -- what each target is

@@ -1,5 +1,7 @@
 //! Reading targets: what takes one value, and what takes a value or unpacks it.
 //!
+//! # What it is for
+//!
 //! A target is the expression of its tokens. Where only a target may stand, what isn't one yet must become a part of one, and is
 //! counted with the node that it must become a part of.
 //!

@@ -2,7 +2,7 @@ ghost use Rattle.std.specs.Prelude.{◌≡◌, ◌≤◌, ◌<◌, ◌+◌, max,
 ghost use Rattle.py_source.specs.Limits.{most_levels};
 ghost use Rattle.py_tree.specs.Trees.{tree};
 ghost use Rattle.py_tree.specs.Statements.{place, taker};
-ghost use Rattle.py_cursor.specs.py_expressions.Values.{first_place, one_place};
+ghost use Rattle.py_cursor.specs.py_expressions.Values.{places_from, one_place};
 ghost use Rattle.py_cursor.specs.py_expressions.Sorts.{single as single_line, targets as targets_line};
 ghost use Rattle.py_cursor.specs.Cursor.{Gives};
 ghost use Rattle.py_expression_parser.specs.Reads.{reads};
@@ -11,7 +11,8 @@ ghost use Rattle.py_target_parser.specs.Aims.{aim_of, aim_tall, IsPlace, start_o
 use py_cursor::{Sign, Stop, begins, blocked, expect, first_of};
 use py_expression_parser::{BEGINS_TARGET, arguments, expression, name_of, other_atom, slice};
 use py_nodes::{
-    Aimed, Node, Taken, attribute_node, call_node, leaf_node, single_in, slice_node, subscript_node,
+    Node, SingleNode, TargetNode, attribute_node, call_node, leaf_node, single_in, slice_node,
+    subscript_node,
 };
 use py_tokens::{Op, Token};
 use py_tree::{ExprKind, Single, Target};
@@ -162,7 +163,11 @@ fn index(
 
 /// What takes one value: a name, an attribute or a subscript.
 #[tactic(auto, using(crate::proofs::Aims::single_rules))]
-pub fn single(alloc: Global, levels: u32, tokens: &[Token]) -> Result<(Aimed, &[Token]), Stop<'_>>
+pub fn single(
+    alloc: Global,
+    levels: u32,
+    tokens: &[Token],
+) -> Result<(SingleNode, &[Token]), Stop<'_>>
     requires { levels ≤ most_levels }
     ensures reads { Gives (λ x. ((place x.0.single, x.0.height), x.1.now)) result (reads levels single_line tokens.now) }
     ensures fits { IfOk result (λ x. x.0.height ≤ levels) }
@@ -185,7 +190,7 @@ pub fn single(alloc: Global, levels: u32, tokens: &[Token]) -> Result<(Aimed, &[
     }
     match single_in(&aim.node.expr)? {
         Some(single) => Ok((
-            Aimed {
+            SingleNode {
                 single,
                 height: aim.node.height,
             },
@@ -197,7 +202,11 @@ pub fn single(alloc: Global, levels: u32, tokens: &[Token]) -> Result<(Aimed, &[
 
 /// What takes a value, or several with commas between them, which unpack it.
 #[tactic(auto, using(crate::proofs::Aims::targets_rules))]
-pub fn targets(alloc: Global, levels: u32, tokens: &[Token]) -> Result<(Taken, &[Token]), Stop<'_>>
+pub fn targets(
+    alloc: Global,
+    levels: u32,
+    tokens: &[Token],
+) -> Result<(TargetNode, &[Token]), Stop<'_>>
     requires { levels ≤ most_levels }
     ensures reads { Gives (λ x. ((taker x.0.target, x.0.height), x.1.now)) result (reads levels targets_line tokens.now) }
     ensures fits { IfOk result (λ x. x.0.height ≤ levels) }
@@ -209,7 +218,7 @@ pub fn targets(alloc: Global, levels: u32, tokens: &[Token]) -> Result<(Taken, &
     if !begins(rest, &[Sign::Op(Op::Comma)]) {
         let target = Target::Single(first.single);
         return Ok((
-            Taken {
+            TargetNode {
                 target,
                 height: first.height,
             },
@@ -222,7 +231,7 @@ pub fn targets(alloc: Global, levels: u32, tokens: &[Token]) -> Result<(Taken, &
     let (places, rest) = further(alloc, levels, first_place(alloc, first)?, rest)?;
     let all = Rc::new(alloc, places.all)?;
     Ok((
-        Taken {
+        TargetNode {
             target: Target::Unpack(all),
             height: 1 + places.height,
         },
@@ -231,8 +240,8 @@ pub fn targets(alloc: Global, levels: u32, tokens: &[Token]) -> Result<(Taken, &
 }
 
 /// The first of several targets.
-fn first_place(alloc: Global, first: Aimed) -> Result<Places, AllocError>
-    ensures places { IfOk result (λ places. places_of places ≡ first_place (place first.single)) }
+fn first_place(alloc: Global, first: SingleNode) -> Result<Places, AllocError>
+    ensures places { IfOk result (λ places. places_of places ≡ places_from (place first.single)) }
     ensures height { IfOk result (λ places. places.height ≡ first.height) }
 {
     let mut all = Vec::new(alloc);
@@ -246,7 +255,7 @@ fn first_place(alloc: Global, first: Aimed) -> Result<Places, AllocError>
 
 /// The targets, and one more.
 #[tactic(auto, using(crate::proofs::Aims::places_more_of))]
-fn add_place(places: Places, next: Aimed) -> Result<Places, AllocError>
+fn add_place(places: Places, next: SingleNode) -> Result<Places, AllocError>
     ensures places { IfOk result (λ more. places_of more ≡ one_place (places_of places) (place next.single)) }
     ensures height { IfOk result (λ more. more.height ≡ max places.height next.height) }
 {

@@ -65,7 +65,82 @@ operator_role op.LeftBrace = Opens Curly
 operator_role op.RightParen = Closes Round
 operator_role op.RightBracket = Closes Square
 operator_role op.RightBrace = Closes Curly
-operator_role _ = Neither
+operator_role op.DoubleStarEqual = Neither
+operator_role op.DoubleSlashEqual = Neither
+operator_role op.RightShiftEqual = Neither
+operator_role op.LeftShiftEqual = Neither
+operator_role op.Ellipsis = Neither
+operator_role op.DoubleStar = Neither
+operator_role op.DoubleSlash = Neither
+operator_role op.RightShift = Neither
+operator_role op.LeftShift = Neither
+operator_role op.GreaterEqual = Neither
+operator_role op.LessEqual = Neither
+operator_role op.EqualEqual = Neither
+operator_role op.NotEqual = Neither
+operator_role op.Arrow = Neither
+operator_role op.PlusEqual = Neither
+operator_role op.MinusEqual = Neither
+operator_role op.StarEqual = Neither
+operator_role op.SlashEqual = Neither
+operator_role op.PercentEqual = Neither
+operator_role op.AmpersandEqual = Neither
+operator_role op.BarEqual = Neither
+operator_role op.CaretEqual = Neither
+operator_role op.ColonEqual = Neither
+operator_role op.AtEqual = Neither
+operator_role op.Plus = Neither
+operator_role op.Minus = Neither
+operator_role op.Star = Neither
+operator_role op.Slash = Neither
+operator_role op.Percent = Neither
+operator_role op.Ampersand = Neither
+operator_role op.Bar = Neither
+operator_role op.Caret = Neither
+operator_role op.Tilde = Neither
+operator_role op.Less = Neither
+operator_role op.Greater = Neither
+operator_role op.Comma = Neither
+operator_role op.Colon = Neither
+operator_role op.Dot = Neither
+operator_role op.Semicolon = Neither
+operator_role op.Equal = Neither
+operator_role op.At = Neither
+operator_role op.False = Neither
+operator_role op.None = Neither
+operator_role op.True = Neither
+operator_role op.And = Neither
+operator_role op.As = Neither
+operator_role op.Assert = Neither
+operator_role op.Async = Neither
+operator_role op.Await = Neither
+operator_role op.Break = Neither
+operator_role op.Class = Neither
+operator_role op.Continue = Neither
+operator_role op.Def = Neither
+operator_role op.Del = Neither
+operator_role op.Elif = Neither
+operator_role op.Else = Neither
+operator_role op.Except = Neither
+operator_role op.Finally = Neither
+operator_role op.For = Neither
+operator_role op.From = Neither
+operator_role op.Global = Neither
+operator_role op.If = Neither
+operator_role op.Import = Neither
+operator_role op.In = Neither
+operator_role op.Is = Neither
+operator_role op.Lambda = Neither
+operator_role op.Nonlocal = Neither
+operator_role op.Not = Neither
+operator_role op.Or = Neither
+operator_role op.Pass = Neither
+operator_role op.Raise = Neither
+operator_role op.Return = Neither
+operator_role op.Try = Neither
+operator_role op.While = Neither
+operator_role op.With = Neither
+operator_role op.Yield = Neither
 
 abbrev pub token_role : TokenKind → BracketRole
 token_role (kind.Op operator) = operator_role operator
@@ -137,20 +212,32 @@ abbrev pub tab_of : List Mark → Option Pos
 tab_of [] = None
 tab_of (Space ∷ marks) = tab_of marks
 tab_of (Tab pos ∷ marks) = Some pos
-tab_of (_ ∷ marks) = None
+tab_of (Gap ∷ marks) = None
+tab_of (LineEnd from to ∷ marks) = None
+tab_of (TextEnd at ∷ marks) = None
+tab_of (Spelled token from to ∷ marks) = None
+tab_of (Wrong at pos why ∷ marks) = None
 
 abbrev pub behind_gaps : List Mark → List Mark
 behind_gaps [] = []
 behind_gaps (Space ∷ marks) = behind_gaps marks
 behind_gaps (Tab pos ∷ marks) = behind_gaps marks
 behind_gaps (Gap ∷ marks) = behind_gaps marks
-behind_gaps (mark ∷ marks) = mark ∷ marks
+behind_gaps (LineEnd from to ∷ marks) = LineEnd from to ∷ marks
+behind_gaps (TextEnd at ∷ marks) = TextEnd at ∷ marks
+behind_gaps (Spelled token from to ∷ marks) = Spelled token from to ∷ marks
+behind_gaps (Wrong at pos why ∷ marks) = Wrong at pos why ∷ marks
 
 -- where a line has its first token; a line of blanks and a comment has none
 abbrev pub first_place : List Mark → Option Place
 first_place (Spelled token from to ∷ marks) = Some from
 first_place (Wrong at pos kind ∷ marks) = Some at
-first_place _ = None
+first_place [] = None
+first_place (Space ∷ marks) = None
+first_place (Tab pos ∷ marks) = None
+first_place (Gap ∷ marks) = None
+first_place (LineEnd from to ∷ marks) = None
+first_place (TextEnd at ∷ marks) = None
 
 -- the innermost of the open columns, which begin with 0
 abbrev pub top : List ℕ → ℕ
@@ -215,7 +302,9 @@ with_mark brackets (Spelled token from to) rest = with_token (token_at token fro
 with_mark brackets (Wrong at pos kind) rest = Err (Bad pos kind)
 with_mark brackets (LineEnd from to) rest = if length brackets == 0 then Ok (token_at kind.Newline from to ∷ []) else rest brackets
 with_mark brackets (TextEnd at) rest = text_ends at (innermost brackets)
-with_mark brackets _ rest = rest brackets
+with_mark brackets Space rest = rest brackets
+with_mark brackets (Tab pos) rest = rest brackets
+with_mark brackets Gap rest = rest brackets
 
 abbrev pub statement : List Bracket → List Mark → Result (List Token) LexFault
 statement brackets [] = Ok []

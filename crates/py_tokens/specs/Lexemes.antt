@@ -53,13 +53,13 @@ abbrev pub named : List ℕ → Result Lexeme Miss
 named word = if is_in_form Nfkc word then Ok (record { kind = kind_of_word word (keyword_of word); len = length word }) else wrong NotNfkc
 
 -- a name right before a quote
-abbrev pub quoted : Prefix → List ℕ → List ℕ → Result Lexeme Miss
-quoted Raw word behind = literal_lexeme (length word) (literal_at true behind)
-quoted Foreign word behind = wrong Unsupported
-quoted Missing word behind = named word
+abbrev pub prefixed_lexeme : Prefix → List ℕ → List ℕ → Result Lexeme Miss
+prefixed_lexeme Raw word behind = literal_lexeme (length word) (literal_at true behind)
+prefixed_lexeme Foreign word behind = wrong Unsupported
+prefixed_lexeme Missing word behind = named word
 
 abbrev pub name_or_quoted : List ℕ → List ℕ → Result Lexeme Miss
-name_or_quoted word behind = if begins_with is_quote behind then quoted (prefix_of word) word behind else named word
+name_or_quoted word behind = if begins_with is_quote behind then prefixed_lexeme (prefix_of word) word behind else named word
 
 -- the longest name that the text begins with
 abbrev pub name_len : List ℕ → ℕ

@@ -1,7 +1,7 @@
 ghost use Rattle.std.specs.Prelude.{◌≡◌, ◌≤◌, ◌+◌, ◌||◌, ◌==◌, ◌^◌, ◌<◌, length, Ok, IfOk};
 ghost use Rattle.unicode_normalization.specs.Forms.{is_in_form};
 ghost use Rattle.py_literals.specs.Literals.{IsReading};
-ghost use Rattle.py_tokens.specs.Lexemes.{prefix_of, kind_of_word, named, name_at, quoted, literal_lexeme, number_lexeme, operator_lexeme, lexeme_at, is_quote};
+ghost use Rattle.py_tokens.specs.Lexemes.{prefix_of, kind_of_word, named, name_at, prefixed_lexeme, literal_lexeme, number_lexeme, operator_lexeme, lexeme_at, is_quote};
 ghost use Rattle.py_literals.specs.Chars.{begins_with};
 ghost use Rattle.py_literals.specs.Numbers.{number_at, is_digit_of};
 ghost use Rattle.py_tokens.specs.Words.{operator_at, keyword_of};
@@ -97,7 +97,7 @@ fn literal_lexeme(prefix: usize, literal: Literal) -> Lexeme
 
 fn read_quoted(alloc: Global, word: &[char], rest: &[char]) -> Result<Lexeme, ReadFault>
     requires { 1 ≤ length word.now }
-    ensures value { IsReading (quoted (prefix_of word.now) word.now rest.now) result }
+    ensures value { IsReading (prefixed_lexeme (prefix_of word.now) word.now rest.now) result }
     ensures size { IfOk result (λ lexeme. 1 ≤ lexeme.len) }
 {
     match prefix_of(word) {

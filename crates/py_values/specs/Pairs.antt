@@ -9,8 +9,8 @@ use Rattle.py_values.specs.declared.dict.Pair.{Pair}
 use Rattle.py_values.specs.Atoms.{atom_eq}
 
 -- a dict's pairs by their keys as plain data
-abbrev pub Pairs : Type 0
-Pairs = List (List Atom × Pair)
+abbrev pub DictPairs : Type 0
+DictPairs = List (List Atom × Pair)
 
 abbrev pub key_eq : List Atom → List Atom → Bool
 key_eq = pointwise atom_eq

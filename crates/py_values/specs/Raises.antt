@@ -9,11 +9,12 @@ use Rattle.py_values.specs.declared.object.Obj.{Obj}
 use Rattle.py_values.specs.declared.object.Obj.TheVariants as obj
 use Rattle.py_values.specs.declared.value.ObjId.{ObjId}
 use Rattle.py_values.specs.declared.value.Value.{Value}
+use Rattle.py_values.specs.declared.value.Value.TheVariants as val
 use Rattle.py_values.specs.declared.value.Value.TheVariants.{Ref}
 
 -- a raise with a text
-abbrev pub raise : ExcClass → List ℕ → Raise
-raise class text = record { class = class; text = text; arg = None }
+abbrev pub text_raise : ExcClass → List ℕ → Raise
+text_raise class text = record { class = class; text = text; arg = None }
 
 -- an exception whose arguments are a tuple of the heap
 abbrev pub exception : ClassRef → ObjId → Obj
@@ -40,8 +41,31 @@ thrown r heap = thrown_by (Builtin r.class) r.text r.arg heap
 -- an exception's arguments: what `args` is bound to, where that is a tuple
 abbrev pub tuple_items : Option Obj → List Value
 tuple_items (Some (obj.Tuple vs)) = vs
-tuple_items _ = []
+tuple_items (Some (obj.Text x)) = []
+tuple_items (Some (obj.List x)) = []
+tuple_items (Some (obj.Dict x)) = []
+tuple_items (Some (obj.Range x)) = []
+tuple_items (Some (obj.Function x)) = []
+tuple_items (Some (obj.Method x)) = []
+tuple_items (Some (obj.Builtin x)) = []
+tuple_items (Some (obj.Class x)) = []
+tuple_items (Some (obj.Instance x)) = []
+tuple_items (Some (obj.Exception x)) = []
+tuple_items (Some (obj.Module x)) = []
+tuple_items (Some (obj.Fixture x)) = []
+tuple_items (Some obj.MarkMaker) = []
+tuple_items (Some (obj.Mark x)) = []
+tuple_items (Some (obj.Hook x)) = []
+tuple_items (Some (obj.Param x)) = []
+tuple_items (Some (obj.Request x)) = []
+tuple_items (Some (obj.Raises x)) = []
+tuple_items (Some (obj.Info x)) = []
+tuple_items (Some (obj.Item x)) = []
+tuple_items None = []
 
 abbrev pub args_in : List Obj → Option Value → List Value
 args_in heap (Some (Ref id)) = tuple_items (slice_get heap id.at)
-args_in heap _ = []
+args_in heap (Some val.None) = []
+args_in heap (Some (val.Bool b)) = []
+args_in heap (Some (val.Int n)) = []
+args_in heap None = []

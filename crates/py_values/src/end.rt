@@ -1,7 +1,7 @@
 // How an operator or a built-in call ends.
 
 ghost use Rattle.std.specs.Prelude.{◌≡◌, ◌++◌, IfOk, OnOk};
-ghost use Rattle.py_values.specs.Ends.{finished, steps_of, cost_of, made_cost, within};
+ghost use Rattle.py_values.specs.Ends.{finished, steps_of, cost_of, made_cost, payable};
 ghost use Rattle.py_values.specs.Raises as raises;
 
 use crate::change::Change;
@@ -24,7 +24,7 @@ pub struct Raise {
 impl Raise {
     /// A raise with a text.
     pub fn from_chars(alloc: Global, class: ExcClass, text: &[char]) -> Result<Self, OutOfMemory>
-        ensures { IfOk result (λ r. r ≡ raises.raise class text.now) }
+        ensures { IfOk result (λ r. r ≡ raises.text_raise class text.now) }
     {
         let text = PyText::from_chars(alloc, text)?;
         Ok(Raise {
@@ -36,7 +36,7 @@ impl Raise {
 
     /// A raise with a text of ASCII characters.
     pub fn from_ascii(alloc: Global, class: ExcClass, text: &str) -> Result<Self, OutOfMemory>
-        ensures { IfOk result (λ r. r ≡ raises.raise class text.now) }
+        ensures { IfOk result (λ r. r ≡ raises.text_raise class text.now) }
     {
         let mut chars = Vec::new(alloc);
         push_ascii(&mut chars, text)?;
@@ -66,7 +66,7 @@ pub enum OpEnd {
 /// What an operator or a built-in call makes, with its cost in steps, before the heap has it: a value, a new object, a change
 /// of an object, or a raise.
 #[derive(Drop)]
-pub enum Made {
+pub enum Effect {
     Give(Value, u64),
     New(Obj, u64),
     /// A change of the object at a place, and a value.
@@ -74,23 +74,23 @@ pub enum Made {
     Fail(Raise, u64),
 }
 
-impl Made {
+impl Effect {
     /// The steps of what is made.
     pub fn cost(&self) -> u64
         ensures { result ≡ cost_of self.now }
     {
         match self {
-            Made::Give(_, cost) => *cost,
-            Made::New(_, cost) => *cost,
-            Made::Put(_, _, _, cost) => *cost,
-            Made::Fail(_, cost) => *cost,
+            Effect::Give(_, cost) => *cost,
+            Effect::New(_, cost) => *cost,
+            Effect::Put(_, _, _, cost) => *cost,
+            Effect::Fail(_, cost) => *cost,
         }
     }
 }
 
 /// What is made under a budget, if anything.
-pub fn made_within(made: Made, budget: u64) -> Option<Made>
-    ensures { result ≡ within budget made }
+pub fn made_within(made: Effect, budget: u64) -> Option<Effect>
+    ensures { result ≡ payable budget made }
 {
     if budget < made.cost() {
         drop(made);
@@ -101,21 +101,21 @@ pub fn made_within(made: Made, budget: u64) -> Option<Made>
 }
 
 /// Puts what is made into the heap; nothing is made where the budget doesn't suffice.
-pub fn finish(heap: &mut Heap, made: Option<Made>) -> Result<OpEnd, OutOfMemory>
+pub fn finish(heap: &mut Heap, made: Option<Effect>) -> Result<OpEnd, OutOfMemory>
     ensures end { IfOk result (λ e. (e, heap.new) ≡ finished heap.old made) }
     ensures cost { IfOk result (λ e. steps_of e ≡ made_cost made) }
 {
     match made {
-        Some(Made::Give(v, cost)) => Ok(OpEnd::Value(v, cost)),
-        Some(Made::New(obj, cost)) => {
+        Some(Effect::Give(v, cost)) => Ok(OpEnd::Value(v, cost)),
+        Some(Effect::New(obj, cost)) => {
             let id = heap.add(obj)?;
             Ok(OpEnd::Value(Value::Ref(id), cost))
         }
-        Some(Made::Put(id, change, v, cost)) => {
+        Some(Effect::Put(id, change, v, cost)) => {
             heap.change(id, change)?;
             Ok(OpEnd::Value(v, cost))
         }
-        Some(Made::Fail(raise, cost)) => Ok(OpEnd::Raised(raise, cost)),
+        Some(Effect::Fail(raise, cost)) => Ok(OpEnd::Raised(raise, cost)),
         None => Ok(OpEnd::Exhausted),
     }
 }

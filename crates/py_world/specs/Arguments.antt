@@ -12,8 +12,8 @@ pub record Arguments : Type 0 where
   pub named : List (List ℕ × Value)
 
 -- arguments by position alone
-abbrev pub plain : List Value → Arguments
-plain vs = record { plain = vs; named = [] }
+abbrev pub positional_arguments : List Value → Arguments
+positional_arguments vs = record { plain = vs; named = [] }
 
 abbrev pub with_plain : Value → Arguments → Arguments
 with_plain v args = record { plain = v ∷ args.plain; named = args.named }
@@ -23,7 +23,7 @@ with_named name v args = record { plain = args.plain; named = (name, v) ∷ args
 
 -- the values of a call's arguments in the order of the text, and the name of each that has one
 abbrev pub arguments_of : List (Option ArgName) → List Value → Arguments
-arguments_of names [] = plain []
+arguments_of names [] = positional_arguments []
 arguments_of [] (v ∷ vs) = with_plain v (arguments_of [] vs)
 arguments_of (None ∷ names) (v ∷ vs) = with_plain v (arguments_of names vs)
 arguments_of (Some n ∷ names) (v ∷ vs) = with_named n.name v (arguments_of names vs)

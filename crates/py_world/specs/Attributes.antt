@@ -12,9 +12,9 @@ use Rattle.py_values.specs.declared.value.Value.{Value}
 use Rattle.py_values.specs.declared.value.Value.TheVariants as val
 use Rattle.py_calls.specs.py_items.Items.{object_at}
 use Rattle.py_calls.specs.py_attributes.Attributes.{no_attribute, is_args, own_value, attribute_of}
-use Rattle.py_world.specs.World.{Kinds, State, heap_of, with_heap}
+use Rattle.py_world.specs.World.{Kinds, CallState, heap_of, with_heap}
 use Rattle.py_world.specs.Site.{Site, trace_of}
-use Rattle.py_world.specs.Outcome.{Outcome, Next, Part, made, on_value, raised_at}
+use Rattle.py_world.specs.Outcome.{Outcome, Next, Denotation, made, on_value, raised_at}
 
 -- modules, classes, instances and exceptions take names
 abbrev pub takes_names : Option Obj → Bool
@@ -70,25 +70,25 @@ without_attribute name o = o
 
 module _ {K : Kinds} where
   -- an object is changed, where it may be
-  abbrev pub changed_or : Bool → (Obj → Obj) → Value → Raise → Site → State K → Outcome K
+  abbrev pub changed_or : Bool → (Obj → Obj) → Value → Raise → Site → CallState K → Outcome K
   changed_or true f (val.Ref id) none p s = Next (with_heap (changed f id.at (heap_of s) (slice_get (heap_of s) id.at)) s)
   changed_or true f val.None none p s = raised_at none p s
   changed_or true f (val.Bool b) none p s = raised_at none p s
   changed_or true f (val.Int n) none p s = raised_at none p s
   changed_or false f x none p s = raised_at none p s
 
-  abbrev pub attribute_end : Value → List ℕ → Site → State K → Outcome K
+  abbrev pub attribute_end : Value → List ℕ → Site → CallState K → Outcome K
   attribute_end x name p s = made (attribute_of (heap_of s) x name) (trace_of p) s
 
   -- AN ATTRIBUTE REFERENCE, which costs nothing
-  abbrev pub attribute_part : Part K → List ℕ → Part K
+  abbrev pub attribute_part : Denotation K → List ℕ → Denotation K
   attribute_part e name p s k = e p s (λ o. on_value o k (λ x s. k (attribute_end x name p s)))
 
   -- the store and the deletion of an attribute, which cost nothing
-  abbrev pub set_attribute : Value → List ℕ → Value → Part K
+  abbrev pub set_attribute : Value → List ℕ → Value → Denotation K
   set_attribute x name v p s k =
       k (changed_or (takes_names (object_at (heap_of s) x)) (with_attribute name v) x (no_attribute (kind_name (heap_of s) x) name) p s)
 
-  abbrev pub unset_attribute : Value → List ℕ → Part K
+  abbrev pub unset_attribute : Value → List ℕ → Denotation K
   unset_attribute x name p s k =
       k (changed_or (is_some (own_value name (object_at (heap_of s) x))) (without_attribute name) x (no_attribute (kind_name (heap_of s) x) name) p s)

@@ -3,7 +3,7 @@ use Rattle.std.specs.Prelude.{ℕ, Bool, true, false, List, length, Option, Some
 use Rattle.py_calls.specs.py_kinds.Classes.{is_a}
 use Rattle.py_values.specs.Changes.{heap_after}
 use Rattle.py_values.specs.Ends.{id_at}
-use Rattle.py_values.specs.Raises.{raise}
+use Rattle.py_values.specs.Raises.{text_raise}
 use Rattle.py_values.specs.declared.change.Change.TheVariants.{Whole}
 use Rattle.py_values.specs.declared.class.ExcClass.TheVariants.{TypeError}
 use Rattle.py_values.specs.declared.end.Raise.{Raise}
@@ -16,13 +16,13 @@ use Rattle.py_values.specs.declared.value.Value.TheVariants as val
 use Rattle.py_calls.specs.py_items.Items.{object_at}
 use Rattle.py_calls.specs.pytest_calls.Swallowing.{did_not_raise, pattern_end}
 use Rattle.py_world.specs.declared.trace.TraceFrame.{TraceFrame}
-use Rattle.py_world.specs.World.{Kinds, State, heap_of, with_heap, with_object, with_trace}
+use Rattle.py_world.specs.World.{Kinds, CallState, heap_of, with_heap, with_object, with_trace}
 use Rattle.py_world.specs.Site.{Scene, Site, trace_of}
 use Rattle.py_world.specs.Names.{bound}
-use Rattle.py_world.specs.Outcome.{Next, Raised, Then, Part, After, Body, Ways, route, on_value, costing, raised_at}
+use Rattle.py_world.specs.Outcome.{Next, Raised, Continuation, Denotation, After, Body, Ways, route, on_value, costing, raised_at}
 
 abbrev pub bad_context : Raise
-bad_context = raise TypeError (codes "bad context")
+bad_context = text_raise TypeError (codes "bad context")
 
 -- what `with` takes: an object of kind raises
 abbrev pub context_of : Option Obj → Option RaisesObj
@@ -51,34 +51,34 @@ context_of None = None
 
 module _ {K : Kinds} where
   -- the name behind `as` is a new info object
-  abbrev pub info_named : Option (List ℕ) → Value → Scene → State K → State K
+  abbrev pub info_named : Option (List ℕ) → Value → Scene → CallState K → CallState K
   info_named (Some name) v scene s = bound name v scene s
   info_named None v scene s = s
 
-  abbrev pub with_info : Option (List ℕ) → Scene → State K → State K
+  abbrev pub with_info : Option (List ℕ) → Scene → CallState K → CallState K
   with_info name scene s = info_named name (val.Ref (id_at (length (heap_of s)))) scene (with_object (obj.Info (record { value = None })) s)
 
   -- the info object has the exception that was taken
-  abbrev pub info_taken : ObjId → Value → State K → State K
+  abbrev pub info_taken : ObjId → Value → CallState K → CallState K
   info_taken info e s = with_heap (heap_after info (Whole (obj.Info (record { value = Some e }))) (heap_of s)) s
 
   -- what the search of the pattern makes, behind its cost
-  abbrev pub searched : Option (List ℕ) → Value → Part K
+  abbrev pub searched : Option (List ℕ) → Value → Denotation K
   searched pattern e p s k = costing (pattern_end (heap_of s) pattern e) (trace_of p) s (λ o. on_value o k (λ v s. k (Next s)))
 
   -- an exception that is taken, whose trace is kept; the pattern is searched behind that
-  abbrev pub swallowed : RaisesObj → ObjId → Value → List TraceFrame → Part K
+  abbrev pub swallowed : RaisesObj → ObjId → Value → List TraceFrame → Denotation K
   swallowed r info e trace p s k = searched r.pattern e p (info_taken info e (with_trace e trace s)) k
 
-  abbrev pub taken_or : Bool → RaisesObj → ObjId → Value → List TraceFrame → Part K
+  abbrev pub taken_or : Bool → RaisesObj → ObjId → Value → List TraceFrame → Denotation K
   taken_or true r info e trace p s k = swallowed r info e trace p s k
   taken_or false r info e trace p s k = k (Raised e trace s)
 
-  abbrev pub not_raised : RaisesObj → Part K
+  abbrev pub not_raised : RaisesObj → Denotation K
   not_raised r p s k = k (raised_at (did_not_raise (heap_of s) r.classes) p s)
 
   -- an exception that is not expected goes on; each way out without an exception is a failure
-  abbrev pub leaving_context : RaisesObj → ObjId → Site → Then K → Ways K
+  abbrev pub leaving_context : RaisesObj → ObjId → Site → Continuation K → Ways K
   leaving_context r info p k =
       record { gave = λ v s. not_raised r p s k; next = λ s. not_raised r p s k; returned = λ v s. not_raised r p s k; broke = λ s. not_raised r p s k; continued = λ s. not_raised r p s k; raised = λ e trace s. taken_or (is_a (heap_of s) e r.classes) r info e trace p s k }
 
@@ -86,10 +86,10 @@ module _ {K : Kinds} where
   abbrev pub context_left : RaisesObj → ObjId → After K
   context_left r info p o k = route (leaving_context r info p k) o
 
-  abbrev pub context_entered : Option RaisesObj → Option (List ℕ) → Body K → Part K
+  abbrev pub context_entered : Option RaisesObj → Option (List ℕ) → Body K → Denotation K
   context_entered (Some r) name body p s k = body p.scene (with_info name p.scene s) (λ o. context_left r (id_at (length (heap_of s))) p o k)
   context_entered None name body p s k = k (raised_at bad_context p s)
 
   -- THE `with` STATEMENT
-  abbrev pub with_statement : Part K → Option (List ℕ) → Body K → Part K
+  abbrev pub with_statement : Denotation K → Option (List ℕ) → Body K → Denotation K
   with_statement e name body p s k = e p s (λ o. on_value o k (λ v s. context_entered (context_of (object_at (heap_of s) v)) name body p s k))

@@ -4,7 +4,7 @@ use Rattle.std.specs.Prelude.{ℕ, Bool, true, false, ◌||◌, List, [], ◌∷
 use Rattle.py_values.specs.Changes.{changed}
 use Rattle.py_values.specs.Ends.{id_at}
 use Rattle.py_values.specs.Names.{name_eq}
-use Rattle.py_values.specs.Raises.{raise}
+use Rattle.py_values.specs.Raises.{text_raise}
 use Rattle.py_values.specs.declared.class.ClassForm.TheVariants.{Source}
 use Rattle.py_values.specs.declared.class.ExcClass.TheVariants.{TypeError}
 use Rattle.py_values.specs.declared.end.Raise.{Raise}
@@ -23,11 +23,11 @@ use Rattle.py_values.specs.declared.builtin.PytestCall.TheVariants as pytest
 use Rattle.py_values.specs.declared.object.FixtureScope.TheVariants as scope
 use Rattle.py_calls.specs.py_kinds.Classes.{is_exc_class}
 use Rattle.py_calls.specs.py_items.Items.{object_at}
-use Rattle.py_world.specs.World.{Kinds, State, Stored, heap_of, state, with_heap, with_object, with_world, world_with_code}
+use Rattle.py_world.specs.World.{Kinds, CallState, Stored, heap_of, state, with_heap, with_object, with_world, world_with_code}
 use Rattle.py_world.specs.Site.{Own, InModule, InFunction, InClass, Scene, Site, around_of}
 use Rattle.py_world.specs.Arguments.{required}
 use Rattle.py_world.specs.Names.{bound}
-use Rattle.py_world.specs.Outcome.{Outcome, Gave, Next, Rest, Then, Part, Body, on_value, raised_at, call_end}
+use Rattle.py_world.specs.Outcome.{Outcome, Gave, Next, Rest, Continuation, Denotation, Body, on_value, raised_at, call_end}
 use Rattle.py_world.specs.Expressions.{arguments}
 use Rattle.py_world.specs.Exceptions.{no_exception}
 
@@ -56,8 +56,8 @@ abbrev pub function_object : List ℕ → ℕ → List Param → Bool → ℕ �
 function_object name line params yields code scene =
     obj.Function (record { path = scene.path; name = name; line = line; params = params; yields = yields; marks = []; class = class_in scene.own; code = code })
 
-abbrev pub stored : {C : Type 0} → C → Scene → Stored C
-stored code scene = record { path = scene.path; home = scene.home; code = code }
+abbrev pub stored_code : {C : Type 0} → C → Scene → Stored C
+stored_code code scene = record { path = scene.path; home = scene.home; code = code }
 
 -- a class of the sources, without names
 abbrev pub source_class : List ℕ → ℕ → Option ObjId → Scene → Obj
@@ -68,7 +68,7 @@ abbrev pub class_scene : List ℕ → ℕ → Site → Scene
 class_scene name at p = record { around = around_of p; path = p.scene.path; name = name; home = p.scene.home; own = InClass at }
 
 abbrev pub bad_decorator : Raise
-bad_decorator = raise TypeError (codes "bad decorator")
+bad_decorator = text_raise TypeError (codes "bad decorator")
 
 -- WHAT A DECORATOR MAKES of a value: a new object, the same value with the decorator among its marks, the same value, or nothing
 pub data Decoration : Type 0 where
@@ -195,74 +195,74 @@ unfoldable pub decoration : List Obj → Value → Value → Decoration
 decoration heap d v = decoration_by (object_at heap d) v (decorable (object_at heap v))
 
 -- a function or a class with a mark more
-abbrev pub with_mark : Value → Obj → Obj
-with_mark d (obj.Function f) = obj.Function (record { path = f.path; name = f.name; line = f.line; params = f.params; yields = f.yields; marks = f.marks ++ d ∷ []; class = f.class; code = f.code })
-with_mark d (obj.Class c) = obj.Class (record { path = c.path; name = c.name; line = c.line; form = c.form; base = c.base; marks = c.marks ++ d ∷ []; names = c.names })
-with_mark d o = o
+abbrev pub with_added_mark : Value → Obj → Obj
+with_added_mark d (obj.Function f) = obj.Function (record { path = f.path; name = f.name; line = f.line; params = f.params; yields = f.yields; marks = f.marks ++ d ∷ []; class = f.class; code = f.code })
+with_added_mark d (obj.Class c) = obj.Class (record { path = c.path; name = c.name; line = c.line; form = c.form; base = c.base; marks = c.marks ++ d ∷ []; names = c.names })
+with_added_mark d o = o
 
 abbrev pub marked_at : Value → Value → List Obj → List Obj
-marked_at d (val.Ref id) heap = changed (with_mark d) id.at heap (slice_get heap id.at)
+marked_at d (val.Ref id) heap = changed (with_added_mark d) id.at heap (slice_get heap id.at)
 marked_at d val.None heap = heap
 marked_at d (val.Bool b) heap = heap
 marked_at d (val.Int n) heap = heap
 
 module _ {K : Kinds} where
   -- a state with a function more
-  abbrev pub with_function : List ℕ → ℕ → List Param → Bool → K.code → Scene → State K → State K
+  abbrev pub with_function : List ℕ → ℕ → List Param → Bool → K.code → Scene → CallState K → CallState K
   with_function name line params yields code scene s =
-      with_object (function_object name line params yields (length s.world.codes) scene) (with_world (world_with_code (stored code scene) s.world) s)
+      with_object (function_object name line params yields (length s.world.codes) scene) (with_world (world_with_code (stored_code code scene) s.world) s)
 
   -- a value is decorated
-  abbrev pub decorated_by : Decoration → Value → Value → Site → State K → Outcome K
+  abbrev pub decorated_by : Decoration → Value → Value → Site → CallState K → Outcome K
   decorated_by (Replaced o) d v p s = Gave (val.Ref (id_at (length (heap_of s)))) (with_object o s)
   decorated_by Marked d v p s = Gave v (with_heap (marked_at d v (heap_of s)) s)
   decorated_by Same d v p s = Gave v s
   decorated_by Refused d v p s = raised_at bad_decorator p s
 
   -- decorators are applied, the nearest one first
-  abbrev pub decorated : List Value → Value → Part K
+  abbrev pub decorated : List Value → Value → Denotation K
   decorated [] v p s k = k (Gave v s)
   decorated (d ∷ ds) v p s k = on_value (decorated_by (decoration (heap_of s) d v) d v p s) k (λ v s. decorated ds v p s k)
 
   -- what is defined is bound to its name behind its decorators, which apply from the bottom to the top
-  abbrev pub define_as : List Value → List ℕ → Value → Part K
+  abbrev pub define_as : List Value → List ℕ → Value → Denotation K
   define_as ds name v p s k = decorated (reverse ds) v p s (λ o. on_value o k (λ v s. k (Next (bound name v p.scene s))))
 
   -- a function is made
-  abbrev pub function_made : List ℕ → ℕ → Bool → K.code → List Value → List Param → Part K
+  abbrev pub function_made : List ℕ → ℕ → Bool → K.code → List Value → List Param → Denotation K
   function_made name line yields code ds params p s k =
       define_as ds name (val.Ref (id_at (length (heap_of s)))) p (with_function name line params yields code p.scene s) k
 
   -- behind the decorators: the defaults, which are evaluated once
-  abbrev pub define_behind : List (Part K) → List Written → List ℕ → ℕ → Bool → K.code → List Value → Part K
+  abbrev pub define_behind : List (Denotation K) → List Written → List ℕ → ℕ → Bool → K.code → List Value → Denotation K
   define_behind es written name line yields code ds p s k = arguments es [] p s k (λ vs s. function_made name line yields code ds (with_defaults written vs) p s k)
 
   -- A FUNCTION DEFINITION: the decorators from top to bottom come first
-  abbrev pub define : List (Part K) → List (Part K) → List Written → List ℕ → ℕ → Bool → K.code → Part K
+  abbrev pub define : List (Denotation K) → List (Denotation K) → List Written → List ℕ → ℕ → Bool → K.code → Denotation K
   define ds es written name line yields code p s k = arguments ds [] p s k (λ ds s. define_behind es written name line yields code ds p s k)
 
   -- the base of a class must be a class of exceptions
-  abbrev pub based_on : Bool → Value → Site → State K → Then K → (Option ObjId → State K → Rest K) → Rest K
+  abbrev pub based_on : Bool → Value → Site → CallState K → Continuation K → (Option ObjId → CallState K → Rest K) → Rest K
   based_on true (val.Ref id) p s k go = go (Some id) s
   based_on true val.None p s k go = k (raised_at no_exception p s)
   based_on true (val.Bool b) p s k go = k (raised_at no_exception p s)
   based_on true (val.Int n) p s k go = k (raised_at no_exception p s)
   based_on false v p s k go = k (raised_at no_exception p s)
 
-  abbrev pub class_base : Option (Part K) → Site → State K → Then K → (Option ObjId → State K → Rest K) → Rest K
+  abbrev pub class_base : Option (Denotation K) → Site → CallState K → Continuation K → (Option ObjId → CallState K → Rest K) → Rest K
   class_base None p s k go = go None s
   class_base (Some e) p s k go = e p s (λ o. on_value o k (λ v s. based_on (is_exc_class (heap_of s) v) v p s k go))
 
   -- a class is made, and its body runs, which binds the names of the class
-  abbrev pub class_made : List ℕ → ℕ → Body K → List Value → Option ObjId → Part K
+  abbrev pub class_made : List ℕ → ℕ → Body K → List Value → Option ObjId → Denotation K
   class_made name line body ds base p s k =
       body (class_scene name (length (heap_of s)) p) (state [] [] (with_object (source_class name line base p.scene) s).world)
       (λ o. on_value (call_end s o) k (λ w r. define_as ds name (val.Ref (id_at (length (heap_of s)))) p r k))
 
   -- behind the decorators: the base
-  abbrev pub class_behind : Option (Part K) → List ℕ → ℕ → Body K → List Value → Part K
+  abbrev pub class_behind : Option (Denotation K) → List ℕ → ℕ → Body K → List Value → Denotation K
   class_behind base name line body ds p s k = class_base base p s k (λ b s. class_made name line body ds b p s k)
 
   -- A CLASS DEFINITION: the decorators from top to bottom come first
-  abbrev pub class_statement : List (Part K) → Option (Part K) → List ℕ → ℕ → Body K → Part K
+  abbrev pub class_statement : List (Denotation K) → Option (Denotation K) → List ℕ → ℕ → Body K → Denotation K
   class_statement ds base name line body p s k = arguments ds [] p s k (λ ds s. class_behind base name line body ds p s k)

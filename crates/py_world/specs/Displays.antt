@@ -6,10 +6,10 @@ use Rattle.py_values.specs.Limits.{most_elements}
 use Rattle.py_values.specs.Pairs.{find_pair, put_pair}
 use Rattle.py_values.specs.declared.dict.Pair.{Pair}
 use Rattle.py_values.specs.declared.key.Atom.{Atom}
-use Rattle.py_calls.specs.py_kinds.declared.keys.Keyed.{Keyed}
-use Rattle.py_calls.specs.py_kinds.declared.keys.Keyed.TheVariants as keyed
-use Rattle.py_values.specs.declared.end.Made.{Made}
-use Rattle.py_values.specs.declared.end.Made.TheVariants.{New, Fail}
+use Rattle.py_calls.specs.py_kinds.declared.keys.KeyResult.{KeyResult}
+use Rattle.py_calls.specs.py_kinds.declared.keys.KeyResult.TheVariants as keyed
+use Rattle.py_values.specs.declared.end.Effect.{Effect}
+use Rattle.py_values.specs.declared.end.Effect.TheVariants.{New, Fail}
 use Rattle.py_values.specs.declared.index.Index.TheVariants.{At, Slice}
 use Rattle.py_values.specs.declared.object.Obj.{Obj}
 use Rattle.py_values.specs.declared.object.Obj.TheVariants as obj
@@ -18,23 +18,23 @@ use Rattle.py_values.specs.declared.value.Value.TheVariants as val
 use Rattle.py_calls.specs.py_operands.Faults.{key_fault}
 use Rattle.py_calls.specs.py_operands.Sequences.{too_long}
 use Rattle.py_calls.specs.py_items.Items.{subscript_of}
-use Rattle.py_world.specs.World.{Kinds, State, heap_of}
+use Rattle.py_world.specs.World.{Kinds, CallState, heap_of}
 use Rattle.py_world.specs.Site.{Site, trace_of}
-use Rattle.py_world.specs.Outcome.{Rest, Then, Part, on_value, costing, operated}
+use Rattle.py_world.specs.Outcome.{Rest, Continuation, Denotation, on_value, costing, operated}
 use Rattle.py_world.specs.Expressions.{arguments}
 
 -- a list or tuple of values, at a step for each of them
-abbrev pub displayed : (List Value → Obj) → List Value → Made
+abbrev pub displayed : (List Value → Obj) → List Value → Effect
 displayed f vs = if nat_lt most_elements (length vs) then too_long (length vs) else New (f vs) (length vs)
 
 -- a pair stored behind those so far, with the steps so far and those of its key; and then what follows
-abbrev pub pair_stored : List Obj → List (List Atom × Pair) → ℕ → Value → Value → Keyed → (List (List Atom × Pair) → ℕ → Made) → Made
+abbrev pub pair_stored : List Obj → List (List Atom × Pair) → ℕ → Value → Value → KeyResult → (List (List Atom × Pair) → ℕ → Effect) → Effect
 pair_stored heap es n key v (keyed.Key k) go =
     if not (is_some (find_pair k es)) && nat_le most_elements (length es) then too_long (n + (length k - 1)) else go (put_pair k key v es) (n + (length k - 1))
 pair_stored heap es n key v (keyed.Fault x m) go = Fail (key_fault heap x) (n + m)
 
 -- keys, each with its value behind it, stored in turn
-abbrev pub pairs_stored : List Obj → List (List Atom × Pair) → ℕ → List Value → Made
+abbrev pub pairs_stored : List Obj → List (List Atom × Pair) → ℕ → List Value → Effect
 pairs_stored heap es n (key ∷ (v ∷ rest)) = pair_stored heap es n key v (key_of heap key) (λ fs m. pairs_stored heap fs m rest)
 pairs_stored heap es n (key ∷ []) = New (obj.Dict es) n
 pairs_stored heap es n [] = New (obj.Dict es) n
@@ -45,7 +45,7 @@ pair_count (key ∷ []) = 0
 pair_count [] = 0
 
 -- a dict of keys and values, at a step for each pair beside the steps of the keys
-abbrev pub dict_displayed : List Obj → List Value → Made
+abbrev pub dict_displayed : List Obj → List Value → Effect
 dict_displayed heap vs = pairs_stored heap [] (pair_count vs) vs
 
 -- each key, and its value behind it
@@ -63,42 +63,42 @@ bound_given (val.Ref id) = Some (val.Ref id)
 
 module _ {K : Kinds} where
   -- the parts from left to right, and then what is made of their values, with its cost
-  abbrev pub collected : (List Obj → List Value → Made) → List (Part K) → Part K
+  abbrev pub collected : (List Obj → List Value → Effect) → List (Denotation K) → Denotation K
   collected make es p s k = arguments es [] p s k (λ vs s. costing (make (heap_of s) vs) (trace_of p) s k)
 
-  abbrev pub list_part : List (Part K) → Part K
+  abbrev pub list_part : List (Denotation K) → Denotation K
   list_part es = collected (λ heap vs. displayed obj.List vs) es
 
-  abbrev pub tuple_part : List (Part K) → Part K
+  abbrev pub tuple_part : List (Denotation K) → Denotation K
   tuple_part es = collected (λ heap vs. displayed obj.Tuple vs) es
 
-  abbrev pub dict_part : List (Part K) → List (Part K) → Part K
+  abbrev pub dict_part : List (Denotation K) → List (Denotation K) → Denotation K
   dict_part ks es = collected dict_displayed (in_pairs ks es)
 
   -- behind what is subscripted: its index or key
-  abbrev pub subscript_on : Value → Part K → Part K
+  abbrev pub subscript_on : Value → Denotation K → Denotation K
   subscript_on x i p s k = i p s (λ o. on_value o k (λ j s. operated (subscript_of (heap_of s) x (At j)) p s k))
 
-  abbrev pub subscript_part : Part K → Part K → Part K
+  abbrev pub subscript_part : Denotation K → Denotation K → Denotation K
   subscript_part a i p s k = a p s (λ o. on_value o k (λ x s. subscript_on x i p s k))
 
   -- a bound of a slice, where it is given, and then what follows
-  abbrev pub slice_bound : Option (Part K) → Site → State K → Then K → (Option Value → State K → Rest K) → Rest K
+  abbrev pub slice_bound : Option (Denotation K) → Site → CallState K → Continuation K → (Option Value → CallState K → Rest K) → Rest K
   slice_bound None p s k go = go None s
   slice_bound (Some e) p s k go = e p s (λ o. on_value o k (λ v s. go (bound_given v) s))
 
-  abbrev pub sliced_at : Value → Option Value → Option Value → Option Value → Part K
+  abbrev pub sliced_at : Value → Option Value → Option Value → Option Value → Denotation K
   sliced_at x a b c p s k = operated (subscript_of (heap_of s) x (Slice a b c)) p s k
 
   -- behind what is sliced: its bounds from left to right
-  abbrev pub slice_by : Value → Option Value → Option Value → Option (Part K) → Part K
+  abbrev pub slice_by : Value → Option Value → Option Value → Option (Denotation K) → Denotation K
   slice_by x a b by p s k = slice_bound by p s k (λ c s. sliced_at x a b c p s k)
 
-  abbrev pub slice_to : Value → Option Value → Option (Part K) → Option (Part K) → Part K
+  abbrev pub slice_to : Value → Option Value → Option (Denotation K) → Option (Denotation K) → Denotation K
   slice_to x a to by p s k = slice_bound to p s k (λ b s. slice_by x a b by p s k)
 
-  abbrev pub slice_on : Value → Option (Part K) → Option (Part K) → Option (Part K) → Part K
+  abbrev pub slice_on : Value → Option (Denotation K) → Option (Denotation K) → Option (Denotation K) → Denotation K
   slice_on x from to by p s k = slice_bound from p s k (λ a s. slice_to x a to by p s k)
 
-  abbrev pub slice_part : Part K → Option (Part K) → Option (Part K) → Option (Part K) → Part K
+  abbrev pub slice_part : Denotation K → Option (Denotation K) → Option (Denotation K) → Option (Denotation K) → Denotation K
   slice_part e from to by p s k = e p s (λ o. on_value o k (λ x s. slice_on x from to by p s k))

@@ -1,6 +1,6 @@
 -- The explanation of a failed assert (pytest, assertion introspection): the values of the parts of its condition, which are numbered
 -- in the order of the text.
-use Rattle.std.specs.Prelude.{ℕ, zero, suc, ◌+◌, List, [], ◌∷◌, ◌++◌, length, map, take, Bool, true, false, Option, Some, None, codes, is_some, nat_lt, if◌then◌else◌, slice_get}
+use Rattle.std.specs.Prelude.{ℕ, zero, suc, ◌+◌, ◌-◌, List, [], ◌∷◌, ◌++◌, length, map, take, Bool, true, false, Option, Some, None, codes, is_some, nat_lt, if◌then◌else◌, slice_get}
 use Rattle.py_tree.specs.declared.expr.ArgName.{ArgName}
 use Rattle.py_tree.specs.declared.op.CmpOp.{CmpOp}
 use Rattle.py_tree.specs.Trees as t
@@ -11,9 +11,9 @@ use Rattle.py_values.specs.declared.value.Value.{Value}
 use Rattle.py_values.specs.declared.value.Value.TheVariants as val
 use Rattle.py_calls.specs.py_repr.Symbols.{char_of}
 use Rattle.py_calls.specs.py_repr.Repr.{repr_of}
-use Rattle.py_calls.specs.py_ops.Binary.{binary_text}
-use Rattle.py_calls.specs.py_ops.Unary.{unary_text}
-use Rattle.py_calls.specs.py_ops.Compare.{compare_text}
+use Rattle.py_ops.specs.Binary.{binary_text}
+use Rattle.py_ops.specs.Unary.{unary_text}
+use Rattle.py_ops.specs.Compare.{compare_text}
 use Rattle.py_world.specs.World.{Temps, value_at}
 
 -- how many parts of a condition are kept; each has the number of those before it
@@ -45,9 +45,16 @@ abbrev mutual
   kept_count_all Empty = 0
   kept_count_all (More before e) = kept_count_all before + kept_count e
 
--- a value as it is shown: its repr, or the first 237 characters and three dots
+-- the most characters of a value that are shown, and those that are left where it is cut
+abbrev pub most_shown : ℕ
+most_shown = 240
+
+abbrev pub left_shown : ℕ
+left_shown = most_shown - 3
+
+-- a value as it is shown: its repr, or its first characters and three dots
 abbrev pub shortened : List ℕ → List ℕ
-shortened text = if nat_lt 240 (length text) then take 237 text ++ codes "..." else text
+shortened text = if nat_lt most_shown (length text) then take left_shown text ++ codes "..." else text
 
 abbrev pub value_text : List Obj → Value → List ℕ
 value_text heap v = shortened (map char_of (repr_of heap v))
@@ -80,11 +87,31 @@ is_shown_by_name (Some (obj.Function x)) = true
 is_shown_by_name (Some (obj.Class x)) = true
 is_shown_by_name (Some (obj.Module x)) = true
 is_shown_by_name (Some (obj.Builtin x)) = true
-is_shown_by_name _ = false
+is_shown_by_name (Some (obj.Text x)) = false
+is_shown_by_name (Some (obj.List x)) = false
+is_shown_by_name (Some (obj.Tuple x)) = false
+is_shown_by_name (Some (obj.Dict x)) = false
+is_shown_by_name (Some (obj.Range x)) = false
+is_shown_by_name (Some (obj.Method x)) = false
+is_shown_by_name (Some (obj.Instance x)) = false
+is_shown_by_name (Some (obj.Exception x)) = false
+is_shown_by_name (Some (obj.Fixture x)) = false
+is_shown_by_name (Some obj.MarkMaker) = false
+is_shown_by_name (Some (obj.Mark x)) = false
+is_shown_by_name (Some (obj.Hook x)) = false
+is_shown_by_name (Some (obj.Param x)) = false
+is_shown_by_name (Some (obj.Request x)) = false
+is_shown_by_name (Some (obj.Raises x)) = false
+is_shown_by_name (Some (obj.Info x)) = false
+is_shown_by_name (Some (obj.Item x)) = false
+is_shown_by_name None = false
 
 abbrev pub value_is_shown_by_name : List Obj → Option Value → Bool
 value_is_shown_by_name heap (Some (val.Ref id)) = is_shown_by_name (slice_get heap id.at)
-value_is_shown_by_name heap _ = false
+value_is_shown_by_name heap (Some val.None) = false
+value_is_shown_by_name heap (Some (val.Bool b)) = false
+value_is_shown_by_name heap (Some (val.Int n)) = false
+value_is_shown_by_name heap None = false
 
 -- the texts of those that were evaluated, with a word between them, and their facts
 abbrev pub joined_shows : List ℕ → List Shows → Shows
@@ -213,7 +240,27 @@ module _ (heap : List Obj) (kept : Temps) where
 -- the message in front: its own text where it is one
 abbrev pub text_or : List Obj → Value → Option Obj → List ℕ
 text_or heap v (Some (obj.Text x)) = x
-text_or heap v _ = value_text heap v
+text_or heap v (Some (obj.List x)) = value_text heap v
+text_or heap v (Some (obj.Tuple x)) = value_text heap v
+text_or heap v (Some (obj.Dict x)) = value_text heap v
+text_or heap v (Some (obj.Range x)) = value_text heap v
+text_or heap v (Some (obj.Function x)) = value_text heap v
+text_or heap v (Some (obj.Method x)) = value_text heap v
+text_or heap v (Some (obj.Builtin x)) = value_text heap v
+text_or heap v (Some (obj.Class x)) = value_text heap v
+text_or heap v (Some (obj.Instance x)) = value_text heap v
+text_or heap v (Some (obj.Exception x)) = value_text heap v
+text_or heap v (Some (obj.Module x)) = value_text heap v
+text_or heap v (Some (obj.Fixture x)) = value_text heap v
+text_or heap v (Some obj.MarkMaker) = value_text heap v
+text_or heap v (Some (obj.Mark x)) = value_text heap v
+text_or heap v (Some (obj.Hook x)) = value_text heap v
+text_or heap v (Some (obj.Param x)) = value_text heap v
+text_or heap v (Some (obj.Request x)) = value_text heap v
+text_or heap v (Some (obj.Raises x)) = value_text heap v
+text_or heap v (Some (obj.Info x)) = value_text heap v
+text_or heap v (Some (obj.Item x)) = value_text heap v
+text_or heap v None = value_text heap v
 
 abbrev pub message_shown : List Obj → Value → List ℕ
 message_shown heap (val.Ref id) = text_or heap (val.Ref id) (slice_get heap id.at)

@@ -4,7 +4,7 @@ pub use Rattle.py_calls.specs as py_calls
 pub use Rattle.py_calls.specs.py_items
 pub use Rattle.py_calls.specs.py_kinds
 pub use Rattle.py_calls.specs.py_operands
-pub use Rattle.py_calls.specs.py_ops
+pub use Rattle.py_ops.specs as py_ops
 pub use Rattle.py_calls.specs.pytest_calls
 pub mod Site
 pub mod World

@@ -11,7 +11,7 @@ use Rattle.py_values.specs.declared.value.Value.TheVariants as val
 use Rattle.py_world.specs.declared.ended.Outcome as ended
 use Rattle.py_world.specs.declared.ended.Thrown.{Thrown}
 use Rattle.py_world.specs.declared.trace.TraceFrame.{TraceFrame}
-use Rattle.py_world.specs.World.{Kinds, World, State, Locals, Stored, Frozen, state, world_with_frozen}
+use Rattle.py_world.specs.World.{Kinds, World, CallState, Locals, Stored, Frozen, state, world_with_frozen}
 use Rattle.py_world.specs.Site.{Scene, Site, no_call, site, frame}
 use Rattle.py_world.specs.Arguments.{fitted}
 use Rattle.py_world.specs.Outcome.{Outcome, Gave, Raised, Spent, Paused, Rest, Request, raised, call_end}
@@ -30,14 +30,14 @@ pub data BegunOut : Type 0 where
   Over : ended.Outcome → BegunOut
 
 -- with the steps that it took
-pub record Begun : Type 0 where
+pub record BegunBody : Type 0 where
   pub out : BegunOut
   pub steps : ℕ
 
 abbrev pub ToldBegun : (K : Kinds) → Type 0
-ToldBegun K = Begun × World K
+ToldBegun K = BegunBody × World K
 
-abbrev pub begun_with : BegunOut → ℕ → Begun
+abbrev pub begun_with : BegunOut → ℕ → BegunBody
 begun_with out steps = record { out = out; steps = steps }
 
 -- the frame that a place has, where it is out
@@ -85,7 +85,7 @@ module _ {K : Kinds} where
   begun_by budget (tree.Frozen f left) = begun_yielded f (budget - left)
 
   -- the end of the `yield` behind which a body goes on
-  abbrev pub sent_end : Sent → State K → Outcome K
+  abbrev pub sent_end : Sent → CallState K → Outcome K
   sent_end (SentValue v) s = Gave v s
   sent_end (SentThrow t) s = Raised t.exc t.trace s
 
@@ -98,21 +98,21 @@ module _ {K : Kinds} (meaning : Meaning K) where
   begun_of budget tree = begun_by budget (run (body_of meaning) budget tree).1
 
   -- the body of a yield function; an error that the runner makes has the one frame of the function, at its `def`, and takes no step
-  abbrev pub body_begun : Stored K.code → Result Locals Raise → List TraceFrame → State K → Rest K
+  abbrev pub body_begun : Stored K.code → Result Locals Raise → List TraceFrame → CallState K → Rest K
   body_begun st (Ok names) at s = entered meaning.entry st (Ok names) no_call s (λ o. Done (call_end s o))
   body_begun st (Err r) at s = Done (raised r at s)
 
   -- what is no yield function is called
-  abbrev pub function_opened : Option (Stored K.code) → FunctionObj → List Value → Value → List Value → State K → Rest K
+  abbrev pub function_opened : Option (Stored K.code) → FunctionObj → List Value → Value → List Value → CallState K → Rest K
   function_opened None x all f args s = begun_by_runner meaning f args s
   function_opened (Some st) x all f args s =
       if x.yields then body_begun st (begin_arguments x all) (frame x.path x.line x.name ∷ []) s else begun_by_runner meaning f args s
 
-  abbrev pub object_opened : Option (FunctionObj × List Value) → Value → List Value → State K → Rest K
+  abbrev pub object_opened : Option (FunctionObj × List Value) → Value → List Value → CallState K → Rest K
   object_opened (Some x) f args s = function_opened (slice_get s.world.codes x.0.code) x.0 x.1 f args s
   object_opened None f args s = begun_by_runner meaning f args s
 
-  abbrev pub opened_by_runner : Value → List Value → State K → Rest K
+  abbrev pub opened_by_runner : Value → List Value → CallState K → Rest K
   opened_by_runner (val.Ref id) args s = object_opened (function_and s.world.heap args (slice_get s.world.heap id.at)) (val.Ref id) args s
   opened_by_runner val.None args s = begun_by_runner meaning val.None args s
   opened_by_runner (val.Bool b) args s = begun_by_runner meaning (val.Bool b) args s

@@ -15,17 +15,17 @@ use Rattle.py_values.specs.declared.value.Value.{Value}
 use Rattle.py_values.specs.declared.value.Value.TheVariants as val
 use Rattle.py_values.specs.Ends.{id_at}
 use Rattle.py_values.specs.Names.{name_eq}
-use Rattle.py_values.specs.Raises.{raise, thrown}
+use Rattle.py_values.specs.Raises.{text_raise, thrown}
 use Rattle.py_world.specs.declared.ended.Ended.{Ended}
 use Rattle.py_world.specs.declared.ended.Outcome.TheVariants as out
 use Rattle.py_world.specs.declared.load.Load.{Load}
 use Rattle.py_world.specs.declared.load.Load.TheVariants.{Running, Loaded, Failed}
 use Rattle.py_world.specs.declared.trace.TraceFrame.{TraceFrame}
-use Rattle.py_world.specs.World.{Kinds, World, State, Locals, Source, Coded, Code, Fault, Stored, state, with_world, world_with_heap, world_with_modules}
+use Rattle.py_world.specs.World.{Kinds, World, CallState, Locals, CodedSource, Coded, Code, Fault, Stored, state, with_world, world_with_heap, world_with_modules}
 use Rattle.py_world.specs.Site.{Around, no_call, around_of, Scene, InModule, frame}
-use Rattle.py_world.specs.Arguments.{plain}
+use Rattle.py_world.specs.Arguments.{positional_arguments}
 use Rattle.py_world.specs.ModuleNames.{module_name, module_object}
-use Rattle.py_world.specs.Outcome.{Outcome, Gave, Next, Returned, Broke, Continued, Raised, Spent, Paused, Rest, Then, Part, Body, Request, raised, call_end}
+use Rattle.py_world.specs.Outcome.{Outcome, Gave, Next, Returned, Broke, Continued, Raised, Spent, Paused, Rest, Continuation, Denotation, Body, Request, raised, call_end}
 use Rattle.py_world.specs.Calls.{Meaning, arguments_for, function_of_object, invoke, body_of}
 
 -- what is told of an end, and the world behind it
@@ -65,11 +65,11 @@ module _ {M : Type 0} where
   code_of (Code m) = Some m
   code_of (Fault f) = None
 
-  abbrev pub source_at : List ℕ → List (Source M) → Option (Source M)
+  abbrev pub source_at : List ℕ → List (CodedSource M) → Option (CodedSource M)
   source_at path [] = None
   source_at path (x ∷ xs) = if name_eq path x.path then Some x else source_at path xs
 
-  abbrev pub coded : Option (Source M) → Option M
+  abbrev pub coded : Option (CodedSource M) → Option M
   coded (Some x) = code_of x.code
   coded None = None
 
@@ -87,7 +87,7 @@ module _ {K : Kinds} where
   abbrev pub out_of_steps : ℕ → List TraceFrame → World K → World K
   out_of_steps budget trace w =
       if list_any is_running w.modules
-      then fail_running (thrown (raise StepLimit (step_limit budget)) w.heap) trace w
+      then fail_running (thrown (text_raise StepLimit (step_limit budget)) w.heap) trace w
       else w
 
   abbrev pub ended_spent : ℕ → Spent K → Told K
@@ -107,7 +107,7 @@ module _ {K : Kinds} where
   told_by budget (tree.Spent x) = ended_spent budget x
   told_by budget (tree.Frozen f left) = ended_value f.value (budget - left) f.state.world
 
-  abbrev pub start : World K → State K
+  abbrev pub start : World K → CallState K
   start w = state [] [] w
 
   -- where the object of a module will stand
@@ -120,7 +120,7 @@ module _ {K : Kinds} where
       world_with_modules (with_load path (Running (id_at (module_place path w))) w.modules)
       (world_with_heap (naming_heap path w.heap ++ module_object path (length w.heap) ∷ []) w)
 
-  abbrev pub with_module_load : List ℕ → Load → State K → State K
+  abbrev pub with_module_load : List ℕ → Load → CallState K → CallState K
   with_module_load path load s = with_world (world_with_modules (with_load path load s.world.modules) s.world) s
 
   -- how a module's load ends
@@ -144,23 +144,23 @@ function_and heap args _ = None
 
 module _ {K : Kinds} (body : K.script → Body K) where
   -- a module is executed, in a state without names
-  abbrev pub executed : List ℕ → K.script → Around → World K → Then K → Rest K
+  abbrev pub executed : List ℕ → K.script → Around → World K → Continuation K → Rest K
   executed path code a w k =
       body code (module_scene path (module_place path w) a) (start (with_module path w)) (λ o. k (module_end path (module_place path w) o))
 
   -- A LOAD IN MID-RUN (Language Reference, the import system), which costs no step: one that runs is given as it is, one that has
   -- failed raises again; missing is what a path without code does
-  abbrev pub first_load : Option K.script → List ℕ → Part K → Part K
+  abbrev pub first_load : Option K.script → List ℕ → Denotation K → Denotation K
   first_load None path missing p s k = missing p s k
   first_load (Some code) path missing p s k = executed path code (around_of p) s.world (λ o. k (call_end s o))
 
-  abbrev pub load_by : Option Load → List ℕ → Part K → Part K
+  abbrev pub load_by : Option Load → List ℕ → Denotation K → Denotation K
   load_by (Some (Running id)) path missing p s k = k (Gave (val.Ref id) s)
   load_by (Some (Loaded id)) path missing p s k = k (Gave (val.Ref id) s)
   load_by (Some (Failed exc trace)) path missing p s k = k (Raised exc trace s)
   load_by None path missing p s k = first_load (coded (source_at path s.world.sources)) path missing p s k
 
-  abbrev pub load_part : List ℕ → Part K → Part K
+  abbrev pub load_part : List ℕ → Denotation K → Denotation K
   load_part path missing p s k = load_by (load_at path s.world.modules) path missing p s k
 
 module _ {K : Kinds} (meaning : Meaning K) where
@@ -168,23 +168,23 @@ module _ {K : Kinds} (meaning : Meaning K) where
   run_of budget tree = told_by budget (run (body_of meaning) budget tree).1
 
   -- the runner's own call: an error that it makes has the one frame of the function, at its `def`, and takes no step
-  abbrev pub fitting_begun : Result Locals Raise → List TraceFrame → Value → List Value → State K → Rest K
-  fitting_begun (Ok names) at f args s = invoke meaning.entry f (plain args) no_call s (λ o. Done (call_end s o))
+  abbrev pub fitting_begun : Result Locals Raise → List TraceFrame → Value → List Value → CallState K → Rest K
+  fitting_begun (Ok names) at f args s = invoke meaning.entry f (positional_arguments args) no_call s (λ o. Done (call_end s o))
   fitting_begun (Err r) at f args s = Done (raised r at s)
 
-  abbrev pub function_begun : Option (Stored K.code) → FunctionObj → List Value → Value → List Value → State K → Rest K
-  function_begun None x all f args s = invoke meaning.entry f (plain args) no_call s (λ o. Done (call_end s o))
-  function_begun (Some st) x all f args s = fitting_begun (arguments_for x (plain all)) (frame x.path x.line x.name ∷ []) f args s
+  abbrev pub function_begun : Option (Stored K.code) → FunctionObj → List Value → Value → List Value → CallState K → Rest K
+  function_begun None x all f args s = invoke meaning.entry f (positional_arguments args) no_call s (λ o. Done (call_end s o))
+  function_begun (Some st) x all f args s = fitting_begun (arguments_for x (positional_arguments all)) (frame x.path x.line x.name ∷ []) f args s
 
-  abbrev pub object_begun : Option (FunctionObj × List Value) → Value → List Value → State K → Rest K
+  abbrev pub object_begun : Option (FunctionObj × List Value) → Value → List Value → CallState K → Rest K
   object_begun (Some x) f args s = function_begun (slice_get s.world.codes x.0.code) x.0 x.1 f args s
-  object_begun None f args s = invoke meaning.entry f (plain args) no_call s (λ o. Done (call_end s o))
+  object_begun None f args s = invoke meaning.entry f (positional_arguments args) no_call s (λ o. Done (call_end s o))
 
-  abbrev pub begun_by_runner : Value → List Value → State K → Rest K
+  abbrev pub begun_by_runner : Value → List Value → CallState K → Rest K
   begun_by_runner (val.Ref id) args s = object_begun (function_and s.world.heap args (slice_get s.world.heap id.at)) (val.Ref id) args s
-  begun_by_runner val.None args s = invoke meaning.entry val.None (plain args) no_call s (λ o. Done (call_end s o))
-  begun_by_runner (val.Bool b) args s = invoke meaning.entry (val.Bool b) (plain args) no_call s (λ o. Done (call_end s o))
-  begun_by_runner (val.Int n) args s = invoke meaning.entry (val.Int n) (plain args) no_call s (λ o. Done (call_end s o))
+  begun_by_runner val.None args s = invoke meaning.entry val.None (positional_arguments args) no_call s (λ o. Done (call_end s o))
+  begun_by_runner (val.Bool b) args s = invoke meaning.entry (val.Bool b) (positional_arguments args) no_call s (λ o. Done (call_end s o))
+  begun_by_runner (val.Int n) args s = invoke meaning.entry (val.Int n) (positional_arguments args) no_call s (λ o. Done (call_end s o))
 
   -- A CALL BY THE RUNNER
   abbrev pub call_of : Value → List Value → ℕ → World K → Told K

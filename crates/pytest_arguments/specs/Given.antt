@@ -1,7 +1,7 @@
 -- Arguments by their kinds.
 use Rattle.std.specs.Prelude.{ℕ, Bool, true, false, List, [], map, Option, Some, None, option_map, is_some, slice_get}
 use Rattle.std.specs.List.{list_all}
-use Rattle.call_products.specs.py_ops.Compare.{text_of}
+use Rattle.call_products.specs.py_operands.Texts.{text_of}
 use Rattle.py_values.specs.declared.object.Obj.{Obj}
 use Rattle.py_values.specs.declared.object.Obj.TheVariants as obj
 use Rattle.py_values.specs.declared.value.Value.{Value}

@@ -7,7 +7,7 @@ ghost use Rattle.pytest_arguments.specs.Forms as forms;
 use call_products::product::{Product, plain};
 use py_values::builtin::PytestCall;
 use py_values::class::ExcClass;
-use py_values::end::{Made, Raise, push_ascii};
+use py_values::end::{Effect, Raise, push_ascii};
 use py_values::value::Value;
 use py_values::{OutOfMemory, PyText};
 use std::alloc::Global;
@@ -240,7 +240,7 @@ pub fn bad_named(alloc: Global, name: &[char]) -> Result<Product, OutOfMemory>
     text.extend_from_slice(name)?;
     push_ascii(&mut text, "'")?;
     let raise = Raise::from_chars(alloc, ExcClass::ValueError, &text)?;
-    Ok(plain(alloc, Made::Fail(raise, 0)))
+    Ok(plain(alloc, Effect::Fail(raise, 0)))
 }
 
 /// The error that an argument is of another kind than is wanted.

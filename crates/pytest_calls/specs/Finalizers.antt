@@ -4,7 +4,7 @@ use Rattle.pytest_arguments.specs.call_products.Products.{plain, failed, wrong}
 use Rattle.pytest_arguments.specs.call_products.declared.product.Product.{Product}
 use Rattle.py_values.specs.declared.change.Change.TheVariants.{Whole}
 use Rattle.py_values.specs.declared.class.ExcClass.TheVariants.{RuntimeError}
-use Rattle.py_values.specs.declared.end.Made.TheVariants.{Put}
+use Rattle.py_values.specs.declared.end.Effect.TheVariants.{Put}
 use Rattle.py_values.specs.declared.object.Obj.{Obj}
 use Rattle.py_values.specs.declared.object.Obj.TheVariants as obj
 use Rattle.py_values.specs.declared.object.RequestObj.{RequestObj}

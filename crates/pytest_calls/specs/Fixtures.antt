@@ -2,9 +2,9 @@
 use Rattle.std.specs.Prelude.{ℕ, Bool, List, codes, if◌then◌else◌, Option, Some, None, is_some}
 use Rattle.pytest_arguments.specs.call_products.Products.{plain}
 use Rattle.pytest_arguments.specs.call_products.declared.product.Product.{Product}
-use Rattle.pytest_arguments.specs.py_ops.Compare.{text_of}
+use Rattle.pytest_arguments.specs.py_operands.Texts.{text_of}
 use Rattle.py_values.specs.Names.{name_eq}
-use Rattle.py_values.specs.declared.end.Made.TheVariants.{New}
+use Rattle.py_values.specs.declared.end.Effect.TheVariants.{New}
 use Rattle.py_values.specs.declared.object.FixtureObj.{FixtureObj}
 use Rattle.py_values.specs.declared.object.FixtureScope.{FixtureScope}
 use Rattle.py_values.specs.declared.object.FixtureScope.TheVariants as scope

@@ -2,7 +2,7 @@
 use Rattle.std.specs.Prelude.{ℕ, List, [], ◌∷◌, if◌then◌else◌, Option, Some, None}
 use Rattle.pytest_arguments.specs.call_products.Products.{plain}
 use Rattle.pytest_arguments.specs.call_products.declared.product.Product.{Product}
-use Rattle.py_values.specs.declared.end.Made.TheVariants.{New}
+use Rattle.py_values.specs.declared.end.Effect.TheVariants.{New}
 use Rattle.py_values.specs.declared.object.HookObj.{HookObj}
 use Rattle.py_values.specs.declared.object.Obj.TheVariants as obj
 use Rattle.py_values.specs.declared.value.Value.{Value}

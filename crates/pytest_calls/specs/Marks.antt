@@ -4,9 +4,9 @@ use Rattle.std.specs.List.{list_any, list_all}
 use Rattle.pytest_arguments.specs.call_products.Products.{plain, wrong}
 use Rattle.pytest_arguments.specs.call_products.declared.product.Product.{Product}
 use Rattle.py_repr.specs.py_kinds.Classes.{are_exc_classes}
-use Rattle.pytest_arguments.specs.py_ops.Compare.{text_of}
+use Rattle.pytest_arguments.specs.py_operands.Texts.{text_of}
 use Rattle.py_values.specs.Names.{bind_name}
-use Rattle.py_values.specs.declared.end.Made.TheVariants.{New}
+use Rattle.py_values.specs.declared.end.Effect.TheVariants.{New}
 use Rattle.py_values.specs.declared.object.MarkObj.{MarkObj}
 use Rattle.py_values.specs.declared.object.Obj.{Obj}
 use Rattle.py_values.specs.declared.object.Obj.TheVariants as obj

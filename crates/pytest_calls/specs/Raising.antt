@@ -5,11 +5,11 @@ use Rattle.pytest_arguments.specs.call_products.declared.product.Product.{Produc
 use Rattle.match_pattern.specs.Reading.{pattern_of}
 use Rattle.match_pattern.specs.declared.pattern.Pattern.{Pattern}
 use Rattle.py_repr.specs.py_kinds.Classes.{are_exc_classes}
-use Rattle.pytest_arguments.specs.py_ops.Compare.{text_of}
+use Rattle.pytest_arguments.specs.py_operands.Texts.{text_of}
 use Rattle.py_values.specs.Ends.{id_at}
 use Rattle.py_values.specs.declared.class.ExcClass.{ExcClass}
 use Rattle.py_values.specs.declared.class.ExcClass.TheVariants.{TypeError, ValueError}
-use Rattle.py_values.specs.declared.end.Made.TheVariants.{New, Fail}
+use Rattle.py_values.specs.declared.end.Effect.TheVariants.{New, Fail}
 use Rattle.py_values.specs.declared.end.Raise.{Raise}
 use Rattle.py_values.specs.declared.object.Obj.{Obj}
 use Rattle.py_values.specs.declared.object.Obj.TheVariants as obj

@@ -12,7 +12,7 @@ use py_repr::py_kinds::builtins::builtin_name;
 use py_values::builtin::{Builtin, PytestCall};
 use py_values::change::Change;
 use py_values::class::ExcClass;
-use py_values::end::Made;
+use py_values::end::Effect;
 use py_values::heap::Heap;
 use py_values::object::{Obj, RequestObj};
 use py_values::value::{ObjId, Value};
@@ -93,7 +93,7 @@ fn finalizer_added(
     }
     let request = with_finalizer(alloc, request, v)?;
     let change = Change::Whole(Obj::Request(request));
-    Ok(plain(alloc, Made::Put(id, change, Value::None, 0)))
+    Ok(plain(alloc, Effect::Put(id, change, Value::None, 0)))
 }
 
 fn finalizer_of(alloc: Global, heap: &Heap, target: Value, v: Value) -> Result<Product, OutOfMemory>

@@ -3,7 +3,7 @@
 ghost use Rattle.std.specs.Prelude.{◌≡◌, IfOk, option_copied};
 ghost use Rattle.pytest_calls.specs.Hooks as hooks;
 
-use py_values::end::Made;
+use py_values::end::Effect;
 use py_values::object::{HookObj, Obj};
 use py_values::value::Value;
 use py_values::{OutOfMemory, PyText};
@@ -44,6 +44,6 @@ pub(crate) fn hookimpl_called(
 {
     match first_unflagged(named) {
         Some(name) => bad_named(alloc, name.chars()),
-        None => Ok(plain(alloc, Made::New(Obj::Hook(hook_object(named)), 0))),
+        None => Ok(plain(alloc, Effect::New(Obj::Hook(hook_object(named)), 0))),
     }
 }

@@ -8,15 +8,15 @@ ghost use Rattle.pytest_arguments.specs.Given as given;
 ghost use Rattle.pytest_calls.specs.Marks as marks;
 
 use py_repr::py_kinds::classes::are_exc_classes;
-use py_values::end::Made;
+use py_values::end::Effect;
 use py_values::heap::Heap;
 use py_values::names::{Name, Names};
 use py_values::object::{MarkObj, Obj};
 use py_values::rows::Values;
 use py_values::value::Value;
 use py_values::{OutOfMemory, PyText};
-use pytest_arguments::call_products::arguments::text_of;
 use pytest_arguments::call_products::product::{Product, plain, wrong};
+use pytest_arguments::call_products::py_operands::texts::text_of;
 use pytest_arguments::form::{
     Argument, OwnMark, bad, mark_fits, named_value, own_mark, own_mark_name,
 };
@@ -214,7 +214,7 @@ fn mark_made(
         named,
         called: true,
     };
-    Ok(plain(alloc, Made::New(Obj::Mark(mark), 0)))
+    Ok(plain(alloc, Effect::New(Obj::Mark(mark), 0)))
 }
 
 fn mark_unless(

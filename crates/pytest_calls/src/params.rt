@@ -5,7 +5,7 @@ ghost use Rattle.std.specs.List.{list_all};
 ghost use Rattle.pytest_arguments.specs.Given as given;
 ghost use Rattle.pytest_calls.specs.Params as params;
 
-use py_values::end::Made;
+use py_values::end::Effect;
 use py_values::heap::Heap;
 use py_values::object::{Obj, ParamObj};
 use py_values::rows::Values;
@@ -130,7 +130,7 @@ pub(crate) fn param_called(
         Some(argument) => bad(alloc, argument),
         None => {
             let param = param_object(alloc, heap, args, named)?;
-            Ok(plain(alloc, Made::New(Obj::Param(param), 0)))
+            Ok(plain(alloc, Effect::New(Obj::Param(param), 0)))
         }
     }
 }

@@ -65,7 +65,7 @@ fn push_escaped(chars: &mut Vec<char>, quote: char, c: char) -> Result<(), OutOf
 }
 
 fn push_body(chars: &mut Vec<char>, quote: char, text: &[char]) -> Result<(), OutOfMemory>
-    ensures { OnOk result (chars.new.items ≡ chars.old.items ++ words.body quote text.now) }
+    ensures { OnOk result (chars.new.items ≡ chars.old.items ++ words.escaped_text quote text.now) }
 {
     for c in text {
         push_escaped(chars, quote, *c)?;
@@ -75,7 +75,7 @@ fn push_body(chars: &mut Vec<char>, quote: char, text: &[char]) -> Result<(), Ou
 
 /// Puts a text within its quotes behind other characters.
 pub(crate) fn push_quoted(chars: &mut Vec<char>, text: &[char]) -> Result<(), OutOfMemory>
-    ensures { OnOk result (chars.new.items ≡ chars.old.items ++ words.quoted text.now) }
+    ensures { OnOk result (chars.new.items ≡ chars.old.items ++ words.quoted_text text.now) }
 {
     let quote = quote_of(text);
     chars.push(quote)?;

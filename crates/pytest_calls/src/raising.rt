@@ -7,13 +7,13 @@ ghost use Rattle.pytest_calls.specs.Raising as raising;
 use match_pattern::{Pattern, PatternFault, read_pattern};
 use py_repr::py_kinds::classes::are_exc_classes;
 use py_values::class::ExcClass;
-use py_values::end::{Made, Raise};
+use py_values::end::{Effect, Raise};
 use py_values::heap::Heap;
 use py_values::object::{Obj, RaisesObj};
 use py_values::value::{ObjId, Value};
 use py_values::{OutOfMemory, PyText};
-use pytest_arguments::call_products::arguments::text_of;
 use pytest_arguments::call_products::product::{Product, failed, plain, wrong};
+use pytest_arguments::call_products::py_operands::texts::text_of;
 use pytest_arguments::form::{Argument, bad, named_value};
 use pytest_arguments::given::is_text_value;
 use seq::Seq;
@@ -35,7 +35,7 @@ fn raises_made(alloc: Global, classes: Value, pattern: Option<PyText>) -> Produc
 {
     plain(
         alloc,
-        Made::New(Obj::Raises(RaisesObj { classes, pattern }), 0),
+        Effect::New(Obj::Raises(RaisesObj { classes, pattern }), 0),
     )
 }
 
@@ -128,7 +128,7 @@ fn unreasoned(alloc: Global, class: ExcClass, heap: &Heap) -> Result<Product, Ou
     let raise = raise_with(alloc, class, Value::Ref(ObjId { at: heap.len() }))?;
     Ok(Product {
         objects: Seq::from_vec(objects),
-        made: Made::Fail(raise, 0),
+        made: Effect::Fail(raise, 0),
     })
 }
 
@@ -146,7 +146,7 @@ pub(crate) fn outcome_called(
     };
     if is_text_value(heap, *v) {
         let raise = raise_with(alloc, class, *v)?;
-        Ok(plain(alloc, Made::Fail(raise, 0)))
+        Ok(plain(alloc, Effect::Fail(raise, 0)))
     } else {
         bad(alloc, Argument::Reason)
     }

@@ -2,7 +2,7 @@
 
 ghost use Rattle.std.specs.Prelude.{◌≡◌, IfOk, option_copied};
 ghost use Rattle.match_pattern.specs.Reading.{pattern_of};
-ghost use Rattle.py_values.specs.Ends.{within};
+ghost use Rattle.py_values.specs.Ends.{payable};
 ghost use Rattle.pytest_calls.specs.Swallowing as swallowing;
 
 use crate::quoting::push_quoted;
@@ -11,7 +11,7 @@ use match_pattern::{Pattern, SearchEnd, search};
 use py_repr::repr::{message, repr};
 use py_repr::shown::Shown;
 use py_values::class::ExcClass;
-use py_values::end::{Made, Raise, made_within, push_ascii};
+use py_values::end::{Effect, Raise, made_within, push_ascii};
 use py_values::heap::Heap;
 use py_values::limits::MOST_ELEMENTS;
 use py_values::value::Value;
@@ -73,14 +73,14 @@ fn search_ended(
     pattern: &[char],
     message: &[char],
     end: SearchEnd,
-) -> Result<Option<Made>, OutOfMemory>
+) -> Result<Option<Effect>, OutOfMemory>
     ensures { IfOk result (λ m. m ≡ swallowing.search_ended pattern.now message.now end) }
 {
     match end {
-        SearchEnd::Found(cost) => Ok(Some(Made::Give(Value::None, cost))),
+        SearchEnd::Found(cost) => Ok(Some(Effect::Give(Value::None, cost))),
         SearchEnd::NotFound(cost) => {
             let raise = pattern_missing(alloc, pattern, message)?;
-            Ok(Some(Made::Fail(raise, cost)))
+            Ok(Some(Effect::Fail(raise, cost)))
         }
         SearchEnd::Exhausted => Ok(None),
     }
@@ -93,8 +93,8 @@ fn searched_with(
     message: &[char],
     read: &Pattern,
     budget: u64,
-) -> Result<Option<Made>, OutOfMemory>
-    ensures { IfOk result (λ m. m ≡ within budget (swallowing.searched_with pattern.now message.now read.now)) }
+) -> Result<Option<Effect>, OutOfMemory>
+    ensures { IfOk result (λ m. m ≡ payable budget (swallowing.searched_with pattern.now message.now read.now)) }
 {
     let end = search(alloc, read, message, budget)?;
     search_ended(alloc, pattern, message, end)
@@ -105,14 +105,14 @@ fn searched_by(
     pattern: &[char],
     message: &[char],
     budget: u64,
-) -> Result<Option<Made>, OutOfMemory>
-    ensures { IfOk result (λ m. m ≡ within budget (swallowing.searched_by pattern.now message.now (pattern_of pattern.now))) }
+) -> Result<Option<Effect>, OutOfMemory>
+    ensures { IfOk result (λ m. m ≡ payable budget (swallowing.searched_by pattern.now message.now (pattern_of pattern.now))) }
 {
     match pattern_in(alloc, pattern)? {
         Some(read) => searched_with(alloc, pattern, message, &read, budget),
         None => {
             let raise = Raise::from_ascii(alloc, ExcClass::ValueError, "unsupported pattern")?;
-            Ok(made_within(Made::Fail(raise, 0), budget))
+            Ok(made_within(Effect::Fail(raise, 0), budget))
         }
     }
 }
@@ -122,11 +122,11 @@ fn searched_in(
     pattern: &[char],
     shown: &Shown,
     budget: u64,
-) -> Result<Option<Made>, OutOfMemory>
-    ensures { IfOk result (λ m. m ≡ within budget (swallowing.searched_in pattern.now shown.now)) }
+) -> Result<Option<Effect>, OutOfMemory>
+    ensures { IfOk result (λ m. m ≡ payable budget (swallowing.searched_in pattern.now shown.now)) }
 {
     match refused_shown(alloc, shown)? {
-        Some(raise) => Ok(made_within(Made::Fail(raise, 0), budget)),
+        Some(raise) => Ok(made_within(Effect::Fail(raise, 0), budget)),
         None => searched_by(alloc, pattern, shown.text.chars(), budget),
     }
 }
@@ -140,14 +140,14 @@ pub fn pattern_end(
     pattern: Option<&PyText>,
     exception: Value,
     budget: u64,
-) -> Result<Option<Made>, OutOfMemory>
-    ensures { IfOk result (λ m. m ≡ within budget (swallowing.pattern_end heap.now (option_copied pattern.entry) exception)) }
+) -> Result<Option<Effect>, OutOfMemory>
+    ensures { IfOk result (λ m. m ≡ payable budget (swallowing.pattern_end heap.now (option_copied pattern.entry) exception)) }
 {
     match pattern {
         Some(pattern) => {
             let shown = message(alloc, heap, exception, MOST_ELEMENTS)?;
             searched_in(alloc, pattern.chars(), &shown, budget)
         }
-        None => Ok(made_within(Made::Give(Value::None, 0), budget)),
+        None => Ok(made_within(Effect::Give(Value::None, 0), budget)),
     }
 }

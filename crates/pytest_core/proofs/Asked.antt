@@ -9,7 +9,7 @@ use Rattle.cli_words.specs.declared.info.Info.{Info}
 use Rattle.cli_words.specs.declared.options.Options.{Options}
 use Rattle.edge_io.specs.Files.{File}
 use Rattle.collect_tree.specs.file_source.Sources.{HoldsSource}
-use Rattle.run_items.specs.report_rules.Answer.{Answer, info_answer, refusal}
+use Rattle.run_items.specs.report_rules.Answer.{PrintedAnswer, info_answer, refusal}
 use Rattle.run_items.specs.report_rules.Report as rules
 use Rattle.selection.specs.Exprs.{AreExprs, IsRefused, refused_expression, selection_text}
 use Rattle.selection.specs.declared.fault.SelectionFault.{SelectionFault}
@@ -17,7 +17,7 @@ use Rattle.selection.specs.declared.fault.SelectionFault.TheVariants as faults
 use Rattle.selection.specs.Unbuilt.{asks_for_unbuilt}
 use Rattle.selection.specs.declared.exprs.Exprs.{Exprs}
 use Rattle.pytest_core.specs.Profile.{profile, refused_text}
-use Rattle.pytest_core.specs.Report.{AskForRun, IsReport, OfKept}
+use Rattle.pytest_core.specs.Report.{AskForRun, IsTreeReport, OfKept}
 use Rattle.pytest_core.specs.Request.{OptionsAsk, WordsAsk, is_expression_fault, is_usage_fault}
 use Rattle.pytest_core.specs.Written.{IsResponseBy, Response, response_of}
 use Rattle.pytest_core.specs.declared.request.Request.{Request}
@@ -53,11 +53,11 @@ refused_words said (usage.TakesNoValue option) h other = h
 refused_words said usage.Conflict h other = h
 
 -- WORDS
-pub info_said : (words : List (List ℕ)) (info : Info) (r : Response) → Some info ≡ info_of words → r ≡ response_of (info_answer info) → (tree : List File) → IsResponseBy (IsReport words tree) r
+pub info_said : (words : List (List ℕ)) (info : Info) (r : Response) → Some info ≡ info_of words → r ≡ response_of (info_answer info) → (tree : List File) → IsResponseBy (IsTreeReport words tree) r
 info_said words info r asked same tree = of_any (rules.IsReport HoldsSource profile words) tree (info_answer info) r (says_info words info (sym asked)) same
 
 pub fault_said : (fault : UsageFault) (r : Response) → is_usage_fault fault ≡ true → r ≡ response_of (refusal (usage_text fault))
-    → (words : List (List ℕ)) → info_of words ≡ None → Refuses (options_of words) fault → (tree : List File) → IsResponseBy (IsReport words tree) r
+    → (words : List (List ℕ)) → info_of words ≡ None → Refuses (options_of words) fault → (tree : List File) → IsResponseBy (IsTreeReport words tree) r
 fault_said fault r usage same words none refused tree =
     of_any (rules.IsReport HoldsSource profile words) tree (refusal (usage_text fault)) r (says_fault words fault none (refused_words (options_of words) fault refused usage)) same
 
@@ -69,7 +69,7 @@ words_ask words o (Said response) none read said =
 
 -- A RUN
 pub run_said : (words : List (List ℕ)) (options : Options) (exprs : Exprs) (tree : List File) (r : Response) → WordsAsk words (Run options exprs)
-    → IsResponseBy (OfKept (rules.SaysOfFiles HoldsSource profile options []) tree) r → IsResponseBy (IsReport words tree) r
+    → IsResponseBy (OfKept (rules.SaysOfFiles HoldsSource profile options []) tree) r → IsResponseBy (IsTreeReport words tree) r
 run_said words options exprs tree r (none, read, are, accepted) h =
     kept_as (rules.SaysOfFiles HoldsSource profile options []) (rules.IsReport HoldsSource profile words) tree r
     (λ files answer said. says_options words options none read files answer (says_run options accepted files answer said)) h

@@ -7,7 +7,7 @@ use Rattle.collect_tree.specs.collect_items.declared.found.FoundSuite.{FoundSuit
 use Rattle.collect_tree.specs.Collection.{item_numbered, item_or_none, selected_by}
 use Rattle.collect_tree.specs.Runnable.{IsAtHome, IsRunnable}
 use Rattle.collect_tree.specs.file_source.Sources.{HoldsSource}
-use Rattle.run_items.specs.fixture_world.Items.{item_of}
+use Rattle.run_items.specs.fixture_world.Items.{item_in_session}
 use Rattle.report_parts.specs.Limits.{most_items}
 use Rattle.report_parts.specs.Outcomes.{not_empty}
 use Rattle.report_parts.specs.declared.report.CollectReport.{CollectReport}
@@ -16,7 +16,7 @@ use Rattle.run_items.specs.report_rules.Collected.{SelectedItem}
 use Rattle.run_items.specs.report_rules.Fits.{chosen_item}
 use Rattle.run_items.specs.report_rules.Items.{item_report}
 use Rattle.run_items.specs.report_rules.Report as rules
-use Rattle.run_items.specs.report_rules.Rows.{ran, rows_of, task}
+use Rattle.run_items.specs.report_rules.Rows.{ran, session_rows, task}
 use Rattle.run_items.specs.Stands.{IsPlan, IsPlannedItem, planned}
 use Rattle.run_items.specs.Texts.{fixture_texts}
 use Rattle.run_items.specs.declared.plan.Plan.{Plan}
@@ -83,7 +83,7 @@ chosen_as plan (n ∷ ns) (l, h) =
 
 known_as : (options : Options) (found : FoundSuite) (ns : List ℕ) → map chosen_item (map (chosen_by (plan_by options found)) ns) ≡ items_known found ns
 known_as options found [] = refl
-known_as options found (n ∷ ns) = ap (λ (is : List SessionItem). item_of found.table (item_numbered found.suite n) ∷ is) (known_as options found ns)
+known_as options found (n ∷ ns) = ap (λ (is : List SessionItem). item_in_session found.table (item_numbered found.suite n) ∷ is) (known_as options found ns)
 
 unfiled_as : (options : Options) (found : FoundSuite) (places ns : List ℕ) → map (chosen_by (plan_by options found)) ns ≡ map unfiled (map (selected_by found places) ns)
 unfiled_as options found places [] = refl
@@ -95,7 +95,7 @@ module _ (options : Options) (found : FoundSuite) (ns : List ℕ) (w : SourceWor
   are_chosen = chosen_as (plan_by options found) ns (every _ ns within)
 
   abbrev Shown : List SelectedItem → List ItemReport
-  Shown cs = map (item_report options (tests options found.suite).scope (fixture_texts found.suite)) (rows_of (tests options found.suite) w options.maxfail (map (task None) cs))
+  Shown cs = map (item_report options (tests options found.suite).scope (fixture_texts found.suite)) (session_rows (tests options found.suite) w options.maxfail (map (task None) cs))
 
   abbrev Stopped : List SelectedItem → Bool
   Stopped cs = has_stopped options.maxfail (ran (tests options found.suite) w options.maxfail (map (task None) cs))

@@ -8,7 +8,7 @@ use Rattle.report_parts.specs.Outcomes.{not_empty}
 use Rattle.run_items.specs.report_rules.Collected.{Collected}
 use Rattle.run_items.specs.report_rules.Groups.{groups}
 use Rattle.run_items.specs.report_rules.Report as rules
-use Rattle.run_items.specs.report_rules.Rows.{Row, ran, row, rows_of}
+use Rattle.run_items.specs.report_rules.Rows.{ReportRow, ran, report_row, session_rows}
 use Rattle.run_items.specs.runtest_rules.Language.{python}
 use Rattle.run_items.specs.runtest_rules.Rules.{rules as tests}
 use Rattle.run_items.specs.test_suite.declared.suite.Suite.{Suite}
@@ -48,27 +48,27 @@ module _ (options : Options) (c : Collected python Suite) (built : asks_for_unbu
   only_none taken t = subst (λ n. MatchBool (eqb n 0) (taken ≡ []) (Share (length (groups c.selected)) n taken)) no_worker t
 
   -- WHAT IS REPORTED
-  pub rows_listed : options.collect_only ≡ true → rules.rows_told HoldsSource profile options c [] ≡ map (λ t. row t [] []) (rules.alone c)
+  pub rows_listed : options.collect_only ≡ true → rules.rows_told HoldsSource profile options c [] ≡ map (λ t. report_row t [] []) (rules.single_thread c)
   rows_listed e = picked options.collect_only _ _ e
 
   pub rows_failed : options.collect_only ≡ false → not_empty c.errors ≡ true → rules.rows_told HoldsSource profile options c [] ≡ []
   rows_failed e f = passed_over options.collect_only _ _ e ∙ picked (not_empty c.errors) _ _ f
 
-  pub rows_ran : options.collect_only ≡ false → not_empty c.errors ≡ false → rules.rows_told HoldsSource profile options c [] ≡ rows_of (tests options c.table) c.world options.maxfail (rules.alone c)
+  pub rows_ran : options.collect_only ≡ false → not_empty c.errors ≡ false → rules.rows_told HoldsSource profile options c [] ≡ session_rows (tests options c.table) c.world options.maxfail (rules.single_thread c)
   rows_ran e f =
       passed_over options.collect_only _ _ e ∙ (passed_over (not_empty c.errors) _ _ f ∙ picked (eqb (rules.workers_of options c) 0) _ _ (ap (λ n. eqb n 0) no_worker))
 
-  idle_run : rules.runs options c ≡ false → rules.stopped (tests options c.table) options c ≡ false
+  idle_run : rules.runs options c ≡ false → rules.reached_maxfail (tests options c.table) options c ≡ false
   idle_run e =
-      ap (λ (b : Bool). (b && eqb (rules.workers_of options c) 0) && has_stopped options.maxfail (ran (tests options c.table) c.world options.maxfail (rules.alone c))) e
+      ap (λ (b : Bool). (b && eqb (rules.workers_of options c) 0) && has_stopped options.maxfail (ran (tests options c.table) c.world options.maxfail (rules.single_thread c))) e
 
-  pub stopped_listed : options.collect_only ≡ true → rules.stopped (tests options c.table) options c ≡ false
+  pub stopped_listed : options.collect_only ≡ true → rules.reached_maxfail (tests options c.table) options c ≡ false
   stopped_listed e = idle_run (ap (λ (b : Bool). not (b || not_empty c.errors)) e)
 
-  pub stopped_failed : options.collect_only ≡ false → not_empty c.errors ≡ true → rules.stopped (tests options c.table) options c ≡ false
+  pub stopped_failed : options.collect_only ≡ false → not_empty c.errors ≡ true → rules.reached_maxfail (tests options c.table) options c ≡ false
   stopped_failed e f = idle_run (ap₂ (λ (a b : Bool). not (a || b)) e f)
 
-  pub stopped_ran : options.collect_only ≡ false → not_empty c.errors ≡ false → rules.stopped (tests options c.table) options c ≡ has_stopped options.maxfail (ran (tests options c.table) c.world options.maxfail (rules.alone c))
+  pub stopped_ran : options.collect_only ≡ false → not_empty c.errors ≡ false → rules.reached_maxfail (tests options c.table) options c ≡ has_stopped options.maxfail (ran (tests options c.table) c.world options.maxfail (rules.single_thread c))
   stopped_ran e f =
-      ap₂ (λ (a b : Bool). (a && b) && has_stopped options.maxfail (ran (tests options c.table) c.world options.maxfail (rules.alone c)))
+      ap₂ (λ (a b : Bool). (a && b) && has_stopped options.maxfail (ran (tests options c.table) c.world options.maxfail (rules.single_thread c)))
       (ap₂ (λ (a b : Bool). not (a || b)) e f) (ap (λ n. eqb n 0) no_worker)

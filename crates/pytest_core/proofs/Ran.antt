@@ -9,7 +9,7 @@ use Rattle.collect_tree.specs.Told.{collected_told}
 use Rattle.collect_tree.specs.declared.collected.Collected.{Collected}
 use Rattle.edge_io.specs.Files.{File, tree_limit}
 use Rattle.collect_tree.specs.file_source.Sources.{HoldsSource}
-use Rattle.run_items.specs.fixture_world.Items.{item_of, selected_item}
+use Rattle.run_items.specs.fixture_world.Items.{item_in_session, selected_item}
 use Rattle.collect_tree.specs.py_load.Reading.{AreRead, ReadFile}
 use Rattle.report_parts.specs.Outcomes.{not_empty}
 use Rattle.report_parts.specs.declared.report.CollectReport.{CollectReport}
@@ -19,7 +19,7 @@ use Rattle.run_items.specs.report_rules.Answer as answers
 use Rattle.run_items.specs.report_rules.Collected.{Collected as Found, Collection, ConftestFault, Refused, SelectedItem, Whole}
 use Rattle.run_items.specs.report_rules.Fits.{IsFit, chosen_item}
 use Rattle.run_items.specs.report_rules.Report as rules
-use Rattle.run_items.specs.report_rules.Rows.{row, task}
+use Rattle.run_items.specs.report_rules.Rows.{report_row, task}
 use Rattle.run_items.specs.NotRun.{AreNotRun, selected_items}
 use Rattle.run_items.specs.Texts.{fixture_texts}
 use Rattle.run_items.specs.runtest_rules.Language.{python}
@@ -46,7 +46,7 @@ use Rattle.pytest_core.proofs.Said.{response_as, says_collected}
 -- what a session knows of items does not depend on the places of their files
 pub apart_as : (found : FoundSuite) (places ns : List ℕ) → map chosen_item (map (selected_by found places) ns) ≡ items_known found ns
 apart_as found places [] = refl
-apart_as found places (n ∷ ns) = ap (λ (is : List SessionItem). item_of found.table (item_numbered found.suite n) ∷ is) (apart_as found places ns)
+apart_as found places (n ∷ ns) = ap (λ (is : List SessionItem). item_in_session found.table (item_numbered found.suite n) ∷ is) (apart_as found places ns)
 
 pub are_apart : (x : Collected) (w : SourceWorld) → AreDistinct (collected_told x w) → AreApart x.found x.selected
 are_apart x w d = subst (λ (is : List SessionItem). Distinct is) (apart_as x.found x.places.items x.selected) d
@@ -71,7 +71,7 @@ answer_listed options found ns errors w answer built listing within h quiet =
       reports = λ places deselected.
           let c = collected_of found places ns deselected errors w in
           sym (ap (map (rules.report_of HoldsSource profile options found.suite)) (rows_listed options c built listing)
-          ∙ (ap (λ cs. map (rules.report_of HoldsSource profile options found.suite) (map (λ t. row t [] []) (map (task None) cs))) (numbered_as found places ns (every _ ns within))
+          ∙ (ap (λ cs. map (rules.report_of HoldsSource profile options found.suite) (map (λ t. report_row t [] []) (map (task None) cs))) (numbered_as found places ns (every _ ns within))
           ∙ h found.table (λ n. slice_index_or places n 0) options (tests options found.suite).scope (fixture_texts found.suite)));
       stopped = λ places deselected. quiet ∙ sym (stopped_listed options (collected_of found places ns deselected errors w) built listing);
     }
@@ -96,9 +96,9 @@ response_of_run options x w answer built h bytes status count counted is said =
     let none : rules.workers_of options c ≡ 0 = no_worker options c built in
     let many : length c.selected ≡ length x.selected = length-map x.selected _ in
     let told : answer.reports.items ≡ rules.reports_told HoldsSource profile options c [] = h.reports x.places.items x.deselected in
-    let stops : answer.stopped ≡ rules.stopped (tests options c.table) options c = h.stopped x.places.items x.deselected in
+    let stops : answer.stopped ≡ rules.reached_maxfail (tests options c.table) options c = h.stopped x.places.items x.deselected in
     let places : rules.places_told HoldsSource profile options c [] ≡ [] = no_place HoldsSource profile options c [] none in
-    let all : answers.report_bytes options (length c.selected) c.deselected c.errors (rules.workers_of options c) (rules.reports_told HoldsSource profile options c []) (rules.places_told HoldsSource profile options c []) (rules.stopped (tests options c.table) options c) ≡ bytes = cc in
+    let all : answers.report_bytes options (length c.selected) c.deselected c.errors (rules.workers_of options c) (rules.reports_told HoldsSource profile options c []) (rules.places_told HoldsSource profile options c []) (rules.reached_maxfail (tests options c.table) options c) ≡ bytes = cc in
     let ends : status_seen (answers.status_of (length c.selected) c.errors (rules.reports_told HoldsSource profile options c [])) ≡ status = cc in
     sym (ap₂ (λ (b : List ℕ) (s : Status). (b, s)) all ends)
 

@@ -5,12 +5,12 @@ use Rattle.cli_words.specs.declared.options.Options.{Options}
 use Rattle.report_parts.specs.Outcomes.{outcome_of}
 use Rattle.report_parts.specs.declared.outcome.Outcome.{Outcome}
 use Rattle.report_parts.specs.declared.report.ItemReport.{ItemReport}
-use Rattle.run_items.specs.report_rules.Collected.{FixtureTexts, SelectedItem, spoken}
+use Rattle.run_items.specs.report_rules.Collected.{FixtureTexts, SelectedItem, report_language}
 use Rattle.run_items.specs.report_rules.Items.{item_report}
-use Rattle.run_items.specs.report_rules.Rows.{Arrival, Row, Task, arrival_of, arrivals_of, by_item, item_of, ran, row, rows_of, task, with_ends}
+use Rattle.run_items.specs.report_rules.Rows.{Arrival, ReportRow, Task, arrival_of, arrivals_of, by_item, task_item, ran, report_row, session_rows, task, with_ends}
 use Rattle.run_items.specs.report_rules.Shown.{arrival_with, event_lines, outcome_lines, phase_lines, shown_phase, teardown_lines}
 use Rattle.session_rules.specs.Reports.{events_of}
-use Rattle.session_rules.specs.Session.{session, start}
+use Rattle.session_rules.specs.Session.{session, initial_state}
 use Rattle.session_rules.specs.Teardown.{PhaseEnd}
 use Rattle.session_rules.specs.World.{Call, Phase, Rules, SetUp, Teardown}
 use Rattle.session_types.specs.declared.journal.Event.{Event}
@@ -40,7 +40,7 @@ many_arrivals : (c : SelectedItem) (es : List Event) → map arrived (flat_map (
 many_arrivals c [] = refl
 many_arrivals c (e ∷ es) = appended arrived (arrival_of c e) (flat_map (arrival_of c) es) ∙ ap₂ (λ (a b : List Arrival). a ++ b) (one_arrival c e) (many_arrivals c es)
 
-same_items : (cs : List SelectedItem) → map item_of (map (task None) (map unfiled cs)) ≡ map item_of (map (task None) cs)
+same_items : (cs : List SelectedItem) → map task_item (map (task None) (map unfiled cs)) ≡ map task_item (map (task None) cs)
 same_items [] = refl
 same_items (c ∷ cs) = ap (λ is. c.item ∷ is) (same_items cs)
 
@@ -77,28 +77,28 @@ shown_by : (b : Bool) (a o : List (List ℕ)) → a ≡ o → cond b a [] ≡ co
 shown_by b a o e = ap (λ (l : List (List ℕ)). cond b l []) e
 
 module _ {World Value Thrown Rest : Type 0} where
-  arrivals_as : (c : SelectedItem) (ends : List (PhaseEnd (spoken World Value Thrown Rest))) → map arrived (arrivals_of c ends) ≡ arrivals_of (unfiled c) ends
+  arrivals_as : (c : SelectedItem) (ends : List (PhaseEnd (report_language World Value Thrown Rest))) → map arrived (arrivals_of c ends) ≡ arrivals_of (unfiled c) ends
   arrivals_as c ends = many_arrivals c (events_of ends)
 
   module _ (options : Options) (scope : ℕ → Scope) (fixture : ℕ → FixtureTexts) where
-    phases_as : (arrivals : List Arrival) (c : SelectedItem) (ends : List (PhaseEnd (spoken World Value Thrown Rest)))
+    phases_as : (arrivals : List Arrival) (c : SelectedItem) (ends : List (PhaseEnd (report_language World Value Thrown Rest)))
         → flat_map (phase_lines scope fixture arrivals c) ends ≡ flat_map (phase_lines scope fixture (map arrived arrivals) (unfiled c)) ends
     phases_as arrivals c [] = refl
     phases_as arrivals c (e ∷ ends) =
         ap₂ (λ (a b : List (List ℕ)). (a ++ b)) (ap₂ (λ (a b : List (List ℕ)). a ++ b) (events_as scope fixture arrivals c e.events) (outcome_as scope fixture e.phase c (outcome_of (shown_phase scope fixture e.phase) e.told.end))) (phases_as arrivals c ends)
 
     -- a row
-    abbrev refiled : Row (spoken World Value Thrown Rest) → Row (spoken World Value Thrown Rest)
-    refiled r = row (task None (unfiled r.task.chosen)) r.ends (map arrived r.arrivals)
+    abbrev refiled : ReportRow (report_language World Value Thrown Rest) → ReportRow (report_language World Value Thrown Rest)
+    refiled r = report_row (task None (unfiled r.task.chosen)) r.ends (map arrived r.arrivals)
 
-    abbrev report_with : Row (spoken World Value Thrown Rest) → List (List ℕ) → ItemReport
+    abbrev report_with : ReportRow (report_language World Value Thrown Rest) → List (List ℕ) → ItemReport
     report_with r lines = record (item_report options scope fixture r) { shown_lines = lines }
 
-    row_as : (r : Row (spoken World Value Thrown Rest)) → item_report options scope fixture (refiled r) ≡ item_report options scope fixture r
+    row_as : (r : ReportRow (report_language World Value Thrown Rest)) → item_report options scope fixture (refiled r) ≡ item_report options scope fixture r
     row_as r = ap (report_with r) (shown_by options.setup_show _ _ (sym (phases_as r.arrivals r.task.chosen r.ends)))
 
     -- the rows of a session
-    rows_as : (arrivals : List Arrival) (cs : List SelectedItem) (ends : List (List (PhaseEnd (spoken World Value Thrown Rest))))
+    rows_as : (arrivals : List Arrival) (cs : List SelectedItem) (ends : List (List (PhaseEnd (report_language World Value Thrown Rest))))
         → map (item_report options scope fixture) (with_ends (map arrived arrivals) (map (task None) (map unfiled cs)) ends)
         ≡ map (item_report options scope fixture) (with_ends arrivals (map (task None) cs) ends)
     rows_as arrivals [] ends = refl
@@ -107,16 +107,16 @@ module _ {World Value Thrown Rest : Type 0} where
         let now : map arrived (arrivals ++ arrivals_of c mine) ≡ map arrived arrivals ++ arrivals_of (unfiled c) mine
         = appended arrived arrivals (arrivals_of c mine) ∙ ap (λ (a : List Arrival). map arrived arrivals ++ a) (arrivals_as c mine) in
         ap₂ (λ (x : ItemReport) xs. x ∷ xs)
-        (ap (λ (a : List Arrival). item_report options scope fixture (row (task None (unfiled c)) mine a)) (sym now) ∙ row_as (row (task None c) mine (arrivals ++ arrivals_of c mine)))
+        (ap (λ (a : List Arrival). item_report options scope fixture (report_row (task None (unfiled c)) mine a)) (sym now) ∙ row_as (report_row (task None c) mine (arrivals ++ arrivals_of c mine)))
         (ap (λ (a : List Arrival). map (item_report options scope fixture) (with_ends a (map (task None) (map unfiled cs)) more)) (sym now) ∙ rows_as (arrivals ++ arrivals_of c mine) cs more)
 
     -- WHAT IS REPORTED of items is what is reported of them without the numbers of their files
-    pub reports_as : (rules : Rules (spoken World Value Thrown Rest)) (w : World) (maxfail : ℕ) (cs : List SelectedItem)
-        → map (item_report options scope fixture) (rows_of rules w maxfail (map (task None) (map unfiled cs))) ≡ map (item_report options scope fixture) (rows_of rules w maxfail (map (task None) cs))
+    pub reports_as : (rules : Rules (report_language World Value Thrown Rest)) (w : World) (maxfail : ℕ) (cs : List SelectedItem)
+        → map (item_report options scope fixture) (session_rows rules w maxfail (map (task None) (map unfiled cs))) ≡ map (item_report options scope fixture) (session_rows rules w maxfail (map (task None) cs))
     reports_as rules w maxfail cs =
-        ap (λ items. map (item_report options scope fixture) (with_ends [] (map (task None) (map unfiled cs)) (by_item (session rules maxfail items (start w)).ends))) (same_items cs)
+        ap (λ items. map (item_report options scope fixture) (with_ends [] (map (task None) (map unfiled cs)) (by_item (session rules maxfail items (initial_state w)).ends))) (same_items cs)
         ∙ rows_as [] cs (by_item (ran rules w maxfail (map (task None) cs)).ends)
 
-  pub ran_as : (rules : Rules (spoken World Value Thrown Rest)) (w : World) (maxfail : ℕ) (cs : List SelectedItem)
+  pub ran_as : (rules : Rules (report_language World Value Thrown Rest)) (w : World) (maxfail : ℕ) (cs : List SelectedItem)
       → ran rules w maxfail (map (task None) (map unfiled cs)) ≡ ran rules w maxfail (map (task None) cs)
-  ran_as rules w maxfail cs = ap (λ items. session rules maxfail items (start w)) (same_items cs)
+  ran_as rules w maxfail cs = ap (λ items. session rules maxfail items (initial_state w)) (same_items cs)

@@ -14,14 +14,14 @@ use Rattle.collect_tree.specs.py_load.Reading.{ReadFile}
 use Rattle.run_items.proofs.report_rules_lemmas.Exists.{some_report}
 use Rattle.run_items.proofs.report_rules_lemmas.Headline.{headline}
 use Rattle.run_items.proofs.report_rules_lemmas.Unique.{report_one}
-use Rattle.run_items.specs.report_rules.Answer.{Answer, info_answer, limit_text, refusal}
+use Rattle.run_items.specs.report_rules.Answer.{PrintedAnswer, info_answer, limit_text, refusal}
 use Rattle.run_items.specs.report_rules.Collected.{Collection, ConftestFault, Refused, Whole}
 use Rattle.run_items.specs.report_rules.Headline.{Headline, IsSound}
 use Rattle.run_items.specs.report_rules.Report as rules
 use Rattle.run_items.specs.runtest_rules.Language.{python}
 use Rattle.run_items.specs.test_suite.declared.suite.Suite.{Suite}
 use Rattle.pytest_core.specs.Profile.{profile, refused_text}
-use Rattle.pytest_core.specs.Report.{IsReport}
+use Rattle.pytest_core.specs.Report.{IsTreeReport}
 use Rattle.pytest_core.proofs.Kept.{kept_files}
 use Rattle.pytest_core.proofs.NoWorkers.{only_none}
 use Rattle.pytest_core.proofs.Said.{built_by}
@@ -34,7 +34,7 @@ says_some : (bytes : List ℕ) → (source : ReadSource) × HoldsSource bytes so
 says_some bytes = let said = has_source bytes in ((bytes, said.0), (refl, said.1))
 
 -- NO GROUPS ARE SHARED
-module _ (taken : List (List ℕ)) (files : List File) (answer : Answer) where
+module _ (taken : List (List ℕ)) (files : List File) (answer : PrintedAnswer) where
   of_collection : (options : Options) (x : Collection python Suite) → refused_text options ≡ None → rules.SaysOfCollection HoldsSource profile options taken x answer → taken ≡ []
   of_collection options (Refused text) e said = said.0
   of_collection options (ConftestFault path told) e said = said.0
@@ -66,19 +66,19 @@ module _ (taken : List (List ℕ)) (files : List File) (answer : Answer) where
 abbrev OneTree : Type 0
 OneTree = (tree files others : List File) → IsKept tree files → IsKept tree others → files ≡ others
 
-pub one_answer : OneTree → (words : List (List ℕ)) (tree : List File) (a b : Answer) → IsReport words tree a → IsReport words tree b → a ≡ b
+pub one_answer : OneTree → (words : List (List ℕ)) (tree : List File) (a b : PrintedAnswer) → IsTreeReport words tree a → IsTreeReport words tree b → a ≡ b
 one_answer kept words tree a b (files, is, said) (others, js, told) =
     let s : rules.IsReportBy HoldsSource profile [] words files a = subst (λ t. rules.IsReportBy HoldsSource profile t words files a) (none_shared said.0 files a words said.1) said.1 in
     let t : rules.IsReportBy HoldsSource profile [] words others b = subst (λ t. rules.IsReportBy HoldsSource profile t words others b) (none_shared told.0 others b words told.1) told.1 in
     report_one HoldsSource profile says_one [] words files a b s (subst (λ fs. rules.IsReportBy HoldsSource profile [] words fs b) (sym (kept tree files others is js)) t)
 
-pub some_answer : (words : List (List ℕ)) (tree : List File) → (a : Answer) × IsReport words tree a
+pub some_answer : (words : List (List ℕ)) (tree : List File) → (a : PrintedAnswer) × IsTreeReport words tree a
 some_answer words tree =
     let kept = kept_files tree in
     let report = some_report HoldsSource profile says_some words kept.0 in
     (report.0, (kept.0, kept.1, report.1))
 
 -- WHAT THE REPORT TELLS
-pub tells : IsSound HoldsSource profile → (words : List (List ℕ)) (tree : List File) (answer : Answer) → IsReport words tree answer → Headline HoldsSource profile [] words answer
+pub tells : IsSound HoldsSource profile → (words : List (List ℕ)) (tree : List File) (answer : PrintedAnswer) → IsTreeReport words tree answer → Headline HoldsSource profile [] words answer
 tells sound words tree answer (files, is, said) =
     headline HoldsSource profile sound words [] files answer (subst (λ t. rules.IsReportBy HoldsSource profile t words files answer) (none_shared said.0 files answer words said.1) said.1)

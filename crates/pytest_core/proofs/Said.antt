@@ -11,7 +11,7 @@ use Rattle.collect_tree.specs.Collection.{collect}
 use Rattle.edge_io.specs.Files.{File, IsKept, TreeLimit, tree_limit}
 use Rattle.collect_tree.specs.file_source.Sources.{HoldsSource}
 use Rattle.collect_tree.specs.py_load.Reading.{AreRead, ReadFile}
-use Rattle.run_items.specs.report_rules.Answer.{Answer, info_answer, limit_text, refusal}
+use Rattle.run_items.specs.report_rules.Answer.{PrintedAnswer, info_answer, limit_text, refusal}
 use Rattle.run_items.specs.report_rules.Answer.{Status as Ended}
 use Rattle.run_items.specs.report_rules.Answer as ends
 use Rattle.run_items.specs.report_rules.Collected.{Collection}
@@ -21,7 +21,7 @@ use Rattle.run_items.specs.test_suite.declared.suite.Suite.{Suite}
 use Rattle.selection.specs.Exprs.{refused_expression}
 use Rattle.selection.specs.Unbuilt.{asks_for_unbuilt}
 use Rattle.pytest_core.specs.Profile.{first_text, profile, refused_text}
-use Rattle.pytest_core.specs.Report.{IsReport, OfKept}
+use Rattle.pytest_core.specs.Report.{IsTreeReport, OfKept}
 use Rattle.pytest_core.specs.Status.{is_said, status_seen}
 use Rattle.pytest_core.specs.Written.{IsResponseBy, Response, response_of}
 use Rattle.pytest_core.proofs.Kept.{kept_files}
@@ -31,20 +31,20 @@ abbrev NoGroups : List (List ℕ)
 NoGroups = []
 
 -- responses
-pub response : (P : Answer → Type 0) (answer : Answer) (r : Response) → P answer → r ≡ response_of answer → IsResponseBy P r
+pub response : (P : PrintedAnswer → Type 0) (answer : PrintedAnswer) (r : Response) → P answer → r ≡ response_of answer → IsResponseBy P r
 response P answer r is same = record { answer = answer; is = is; same = same }
 
-pub response_as : (P Q : Answer → Type 0) (r : Response) → ((answer : Answer) → P answer → Q answer) → IsResponseBy P r → IsResponseBy Q r
+pub response_as : (P Q : PrintedAnswer → Type 0) (r : Response) → ((answer : PrintedAnswer) → P answer → Q answer) → IsResponseBy P r → IsResponseBy Q r
 response_as P Q r f h = record { answer = h.answer; is = f h.answer h.is; same = h.same }
 
-pub of_kept : (Says : List File → Answer → Type 0) (tree files : List File) (r : Response) → IsKept tree files → IsResponseBy (Says files) r → IsResponseBy (OfKept Says tree) r
+pub of_kept : (Says : List File → PrintedAnswer → Type 0) (tree files : List File) (r : Response) → IsKept tree files → IsResponseBy (Says files) r → IsResponseBy (OfKept Says tree) r
 of_kept Says tree files r kept h = response_as (Says files) (OfKept Says tree) r (λ answer is. (files, kept, is)) h
 
-pub kept_as : (P Q : List File → Answer → Type 0) (tree : List File) (r : Response) → ((files : List File) (answer : Answer) → P files answer → Q files answer) → IsResponseBy (OfKept P tree) r → IsResponseBy (OfKept Q tree) r
+pub kept_as : (P Q : List File → PrintedAnswer → Type 0) (tree : List File) (r : Response) → ((files : List File) (answer : PrintedAnswer) → P files answer → Q files answer) → IsResponseBy (OfKept P tree) r → IsResponseBy (OfKept Q tree) r
 kept_as P Q tree r f h = response_as (OfKept P tree) (OfKept Q tree) r (λ answer is. (is.0, is.1, f is.0 answer is.2)) h
 
 -- what doesn't depend on the files
-pub of_any : (Says : List File → Answer → Type 0) (tree : List File) (answer : Answer) (r : Response) → ((files : List File) → Says files answer) → r ≡ response_of answer → IsResponseBy (OfKept Says tree) r
+pub of_any : (Says : List File → PrintedAnswer → Type 0) (tree : List File) (answer : PrintedAnswer) (r : Response) → ((files : List File) → Says files answer) → r ≡ response_of answer → IsResponseBy (OfKept Says tree) r
 of_any Says tree answer r is same = let kept = kept_files tree in record { answer = answer; is = (kept.0, kept.1, is kept.0); same = same }
 
 pub some_as : {X : Type 0} (o : Option X) (P Q : X → Type 0) → ((x : X) → P x → Q x) → IfSome o P → IfSome o Q
@@ -63,7 +63,7 @@ seen_said ends.Interrupted = refl
 seen_said ends.Usage = refl
 seen_said ends.NoTests = refl
 
-pub said_by : (P : Answer → Type 0) (r : Response) → IsResponseBy P r → is_said r.1 ≡ true
+pub said_by : (P : PrintedAnswer → Type 0) (r : Response) → IsResponseBy P r → is_said r.1 ≡ true
 said_by P r h = ap (λ (x : Response). is_said x.1) h.same ∙ seen_said h.answer.1
 
 -- READ FILES
@@ -74,7 +74,7 @@ are_sources (file ∷ files) [] h = absurd h
 are_sources (file ∷ files) (r ∷ reads) h = (h.0, h.1, are_sources files reads h.2)
 
 -- what is said of files that pass no limit
-pub says_collected : (options : Options) (files : List File) (reads : List ReadFile) (answer : Answer) → tree_limit files ≡ None → AreRead files reads
+pub says_collected : (options : Options) (files : List File) (reads : List ReadFile) (answer : PrintedAnswer) → tree_limit files ≡ None → AreRead files reads
     → rules.SaysOfCollection HoldsSource profile options [] (collect options reads) answer → rules.SaysOfFiles HoldsSource profile options [] files answer
 says_collected options files reads answer fits read said =
     let P : Option TreeLimit → Type 0 =
@@ -134,7 +134,7 @@ pub none_generated : (options : Options) → asks_for_unbuilt options ≡ false 
 unfolding asks_for_unbuilt
 none_generated options e = none_asked options.generated (none_in _ (is_some options.generated) e)
 
-pub says_run : (options : Options) → refused_text options ≡ None → (files : List File) (answer : Answer) → rules.SaysOfFiles HoldsSource profile options [] files answer → rules.SaysOfOptions HoldsSource profile options [] files answer
+pub says_run : (options : Options) → refused_text options ≡ None → (files : List File) (answer : PrintedAnswer) → rules.SaysOfFiles HoldsSource profile options [] files answer → rules.SaysOfOptions HoldsSource profile options [] files answer
 says_run options e files answer said =
     let given : rules.files_for HoldsSource profile options.generated files ≡ files = ap (λ x. rules.files_for HoldsSource profile x files) (none_generated options (built_by options e)) in
     let P : Option (List ℕ) → Type 0 =
@@ -142,17 +142,17 @@ says_run options e files answer said =
     subst P (sym e) (subst (λ fs. rules.SaysOfFiles HoldsSource profile options [] fs answer) (sym given) said)
 
 -- WORDS
-by_words : (words : List (List ℕ)) (files : List File) (answer : Answer) → info_of words ≡ None → rules.SaysOfWords HoldsSource profile [] words files answer → rules.IsReport HoldsSource profile words files answer
+by_words : (words : List (List ℕ)) (files : List File) (answer : PrintedAnswer) → info_of words ≡ None → rules.SaysOfWords HoldsSource profile [] words files answer → rules.IsReport HoldsSource profile words files answer
 by_words words files answer none said =
     let P : Option Info → Type 0 =
     λ x. MatchOption x (rules.SaysOfWords HoldsSource profile [] words files answer) (λ info. (NoGroups ≡ NoGroups) × (answer ≡ info_answer info)) in
     ([], subst P (sym none) said)
 
-abbrev SaysOfRead : List File → Answer → Result Options UsageFault → Type 0
+abbrev SaysOfRead : List File → PrintedAnswer → Result Options UsageFault → Type 0
 SaysOfRead files answer x = MatchResult x (λ options. rules.SaysOfOptions HoldsSource profile options [] files answer) (λ fault. (NoGroups ≡ NoGroups) × (answer ≡ refusal (usage_text fault)))
 
 pub says_options : (words : List (List ℕ)) (options : Options) → info_of words ≡ None → options_of words ≡ Ok options
-    → (files : List File) (answer : Answer) → rules.SaysOfOptions HoldsSource profile options [] files answer → rules.IsReport HoldsSource profile words files answer
+    → (files : List File) (answer : PrintedAnswer) → rules.SaysOfOptions HoldsSource profile options [] files answer → rules.IsReport HoldsSource profile words files answer
 says_options words options none read files answer said = by_words words files answer none (subst (SaysOfRead files answer) (sym read) said)
 
 pub says_fault : (words : List (List ℕ)) (fault : UsageFault) → info_of words ≡ None → options_of words ≡ Err fault

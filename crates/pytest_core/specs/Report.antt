@@ -5,7 +5,7 @@ use Rattle.cli_words.specs.Options.{options_of}
 use Rattle.cli_words.specs.declared.options.Options.{Options}
 use Rattle.edge_io.specs.Files.{File, IsKept}
 use Rattle.collect_tree.specs.file_source.Sources.{HoldsSource}
-use Rattle.run_items.specs.report_rules.Answer.{Answer, conftest_fault, refusal}
+use Rattle.run_items.specs.report_rules.Answer.{PrintedAnswer, conftest_fault, refusal}
 use Rattle.run_items.specs.report_rules.Collected.{Collected, Collection, ConftestFault, Refused, Whole}
 use Rattle.run_items.specs.report_rules.Fits.{chosen_item}
 use Rattle.run_items.specs.report_rules.Report as rules
@@ -15,15 +15,15 @@ use Rattle.run_items.specs.test_suite.declared.suite.Suite.{Suite}
 use Rattle.pytest_core.specs.Profile.{profile, refused_text}
 
 -- what is said of a tree: that of its kept files, in the order of their paths
-abbrev pub OfKept : (List File → Answer → Type 0) → List File → Answer → Type 0
+abbrev pub OfKept : (List File → PrintedAnswer → Type 0) → List File → PrintedAnswer → Type 0
 OfKept Says tree answer = (files : List File) × IsKept tree files × Says files answer
 
 -- THE REPORT of words over a tree
-abbrev pub IsReport : List (List ℕ) → List File → Answer → Type 0
-IsReport words tree answer = OfKept (rules.IsReport HoldsSource profile words) tree answer
+abbrev pub IsTreeReport : List (List ℕ) → List File → PrintedAnswer → Type 0
+IsTreeReport words tree answer = OfKept (rules.IsReport HoldsSource profile words) tree answer
 
 -- what is said where collection ended without items
-abbrev pub end_answer : Collection python Suite → Option Answer
+abbrev pub end_answer : Collection python Suite → Option PrintedAnswer
 end_answer (Refused text) = Some (refusal text)
 end_answer (ConftestFault path told) = Some (conftest_fault path told)
 end_answer (Whole c) = None

@@ -12,7 +12,7 @@ use Rattle.selection.specs.Exprs.{AreExprs}
 use Rattle.selection.specs.declared.fault.SelectionFault.{SelectionFault}
 use Rattle.selection.specs.declared.fault.SelectionFault.TheVariants as selection
 use Rattle.pytest_core.specs.Profile.{profile, refused_text}
-use Rattle.pytest_core.specs.Report.{IsReport, OfKept}
+use Rattle.pytest_core.specs.Report.{IsTreeReport, OfKept}
 use Rattle.pytest_core.specs.Written.{IsResponseBy}
 use Rattle.pytest_core.specs.declared.request.Request.{Request}
 use Rattle.pytest_core.specs.declared.request.Request.TheVariants.{Run, Said}
@@ -40,4 +40,4 @@ OptionsAsk o (Said response) = (tree : List File) → IsResponseBy (OfKept (rule
 -- words ask for a run, unless they ask for information or are refused
 abbrev pub WordsAsk : List (List ℕ) → Request → Type 0
 WordsAsk words (Run options exprs) = (info_of words ≡ None) × (options_of words ≡ Ok options) × AreExprs options exprs × (refused_text options ≡ None)
-WordsAsk words (Said response) = (tree : List File) → IsResponseBy (IsReport words tree) (response.0.items, response.1)
+WordsAsk words (Said response) = (tree : List File) → IsResponseBy (IsTreeReport words tree) (response.0.items, response.1)

@@ -4,13 +4,13 @@ use Rattle.cli_words.specs.declared.options.Options.{Options}
 use Rattle.collect_tree.specs.collect_items.declared.found.FoundSuite.{FoundSuite}
 use Rattle.collect_tree.specs.Collection.{item_numbered, selected_by}
 use Rattle.collect_tree.specs.file_source.Sources.{HoldsSource}
-use Rattle.run_items.specs.fixture_world.Items.{item_of}
+use Rattle.run_items.specs.fixture_world.Items.{item_in_session}
 use Rattle.report_parts.specs.declared.report.CollectReport.{CollectReport}
 use Rattle.run_items.specs.report_rules.Collected.{Collected, SelectedItem}
 use Rattle.run_items.specs.report_rules.Fits.{chosen_item}
 use Rattle.run_items.specs.report_rules.Items.{item_report}
 use Rattle.run_items.specs.report_rules.Report as rules
-use Rattle.run_items.specs.report_rules.Rows.{ran, rows_of, task}
+use Rattle.run_items.specs.report_rules.Rows.{ran, session_rows, task}
 use Rattle.run_items.specs.Stands.{plan_fixture, plan_rules, planned}
 use Rattle.run_items.specs.declared.plan.Plan.{Plan}
 use Rattle.runtest_loop.specs.Course.{chosen_in}
@@ -37,7 +37,7 @@ collected_of found places numbers deselected errors w = record {
 
 -- what a session knows of the items with these numbers
 abbrev pub items_known : FoundSuite → List ℕ → List Item
-items_known found numbers = map (λ n. item_of found.table (item_numbered found.suite n)) numbers
+items_known found numbers = map (λ n. item_in_session found.table (item_numbered found.suite n)) numbers
 
 -- no two of them are one
 abbrev pub AreApart : FoundSuite → List ℕ → Type 0
@@ -47,7 +47,7 @@ AreApart found numbers = Distinct (items_known found numbers)
 -- number of the items that are not run
 pub record IsRunAnswer (options : Options) (found : FoundSuite) (numbers : List ℕ) (errors : List CollectReport) (w : SourceWorld) (answer : RunAnswer) : Type 0 where
   pub reports : (places : List ℕ) (deselected : ℕ) → answer.reports.items ≡ rules.reports_told HoldsSource profile options (collected_of found places numbers deselected errors w) []
-  pub stopped : (places : List ℕ) (deselected : ℕ) → answer.stopped ≡ rules.stopped (tests options found.suite) options (collected_of found places numbers deselected errors w)
+  pub stopped : (places : List ℕ) (deselected : ℕ) → answer.stopped ≡ rules.reached_maxfail (tests options found.suite) options (collected_of found places numbers deselected errors w)
 
 -- what the run of found items depends on: their suite, its table and the limit of steps
 abbrev pub plan_by : Options → FoundSuite → Plan
@@ -55,7 +55,7 @@ plan_by options found = record { run = record { limit = options.step_limit; suit
 
 -- the answer of a run by a plan: the reports of its session, and whether that stopped early
 pub record IsRunOf (plan : Plan) (options : Options) (chosen : List SelectedItem) (w : SourceWorld) (answer : RunAnswer) : Type 0 where
-  pub reports : map (item_report options (plan_rules plan).scope (plan_fixture plan)) (rows_of (plan_rules plan) w options.maxfail (map (task None) chosen)) ≡ answer.reports.items
+  pub reports : map (item_report options (plan_rules plan).scope (plan_fixture plan)) (session_rows (plan_rules plan) w options.maxfail (map (task None) chosen)) ≡ answer.reports.items
   pub stopped : has_stopped options.maxfail (ran (plan_rules plan) w options.maxfail (map (task None) chosen)) ≡ answer.stopped
 
 -- the items of the first group

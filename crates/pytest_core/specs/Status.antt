@@ -4,15 +4,15 @@ use Rattle.pytest_core.specs.declared.status.Status.{Status}
 use Rattle.pytest_core.specs.declared.status.Status.TheVariants.{Passed, Failed, Interrupted, Usage, NoTests, OutOfMemory, TreeFault, SinkFault}
 
 -- the exit codes, pytest's from 0 to 5 (its reference, "Exit codes")
-abbrev pub number_of : Status → ℕ
-number_of Passed = 0
-number_of Failed = 1
-number_of Interrupted = 2
-number_of Usage = 4
-number_of NoTests = 5
-number_of OutOfMemory = 12
-number_of TreeFault = 13
-number_of SinkFault = 14
+abbrev pub exit_code : Status → ℕ
+exit_code Passed = 0
+exit_code Failed = 1
+exit_code Interrupted = 2
+exit_code Usage = 4
+exit_code NoTests = 5
+exit_code OutOfMemory = 12
+exit_code TreeFault = 13
+exit_code SinkFault = 14
 
 -- the status of a report
 abbrev pub status_seen : rules.Status → Status

@@ -5,7 +5,7 @@ ghost use Rattle.edge_io.specs.Causes.{HasCause};
 ghost use Rattle.edge_io.specs.Files.{InOrder, paths_of, tree_limit};
 ghost use Rattle.collect_tree.specs.file_source.Sources.{HoldsSource};
 ghost use Rattle.pytest_core.specs.Profile.{profile, refused_text};
-ghost use Rattle.pytest_core.specs.Report.{AskForRun, IsReport, OfKept};
+ghost use Rattle.pytest_core.specs.Report.{AskForRun, IsTreeReport, OfKept};
 ghost use Rattle.pytest_core.specs.Status.{is_said};
 ghost use Rattle.pytest_core.specs.Written.{IsResponseBy};
 ghost use Rattle.run_items.specs.report_rules.Report as rules;
@@ -68,7 +68,7 @@ fn run_answer<T: Tree>(
 
 /// The answer to words over a tree: their report.
 pub fn answer<T: Tree>(alloc: Global, words: &[String], tree: &mut T) -> Result<Response, RunFault>
-    ensures report { IfOk result (λ r. IfSome (T.files tree.old) (λ files. IsResponseBy (IsReport (map string_bytes words.now) files) (r.0.items, r.1))) }
+    ensures report { IfOk result (λ r. IfSome (T.files tree.old) (λ files. IsResponseBy (IsTreeReport (map string_bytes words.now) files) (r.0.items, r.1))) }
     ensures said { IfOk result (λ r. IsTrue (is_said r.1)) }
     ensures read { IsErrOf result RunFault.Tree → AskForRun (map string_bytes words.now) }
     ensures cause { HasCause RunFault.Tree (T.faults tree.old) (T.faults tree.new) result }

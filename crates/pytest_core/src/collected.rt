@@ -7,7 +7,7 @@ ghost use Rattle.report_parts.specs.Outcomes.{not_empty};
 ghost use Rattle.report_parts.specs.declared.report.CollectReport.{CollectReport as ReportOfFile};
 ghost use Rattle.collect_tree.specs.collect_items.declared.found.FoundSuite.{FoundSuite as Found};
 ghost use Rattle.collect_tree.specs.Runnable.{IsRunnable};
-ghost use Rattle.collect_tree.specs.Told.{IsWithin, collected_told, end_told};
+ghost use Rattle.collect_tree.specs.Told.{IsWithin, collected_told, collection_end};
 ghost use Rattle.collect_tree.specs.file_source.Sources.{HoldsSource};
 ghost use Rattle.pytest_core.specs.Profile.{profile};
 ghost use Rattle.pytest_core.specs.Report.{AreDistinct, end_answer};
@@ -131,7 +131,7 @@ pub fn collected_response(
 
 /// What is said where nothing was collected.
 pub fn fault_response(alloc: Global, fault: &CollectFault) -> Result<Response, OutOfMemory>
-    ensures response { IfOk result (λ r. (w : SourceWorld) → IsSomeAnd (end_told (Fails fault.now) w) (λ end. option_map response_of (end_answer end) ≡ Some (r.0.items, r.1))) }
+    ensures response { IfOk result (λ r. (w : SourceWorld) → IsSomeAnd (collection_end (Fails fault.now) w) (λ end. option_map response_of (end_answer end) ≡ Some (r.0.items, r.1))) }
     ensures said { IfOk result (λ r. IsTrue (is_said r.1)) }
 {
     match fault {

@@ -9,7 +9,7 @@
 //!
 //! - `report`: where the tree tells its files, the bytes that the sink tells grew by exactly the report's bytes, and the status is the
 //!   report's; where the status is `SinkFault` or `OutOfMemory`, by a prefix of them; where it is `TreeFault`, by nothing. The report
-//!   (`IsReport`) is that of `report_rules` for the language of this program (`profile`: the words that it refuses, the collection of
+//!   (`IsTreeReport`) is that of `report_rules` for the language of this program (`profile`: the words that it refuses, the collection of
 //!   `collect_tree`, what fixtures and tests do by the rules of `runtest_rules`, and the names of fixtures), over the tree's kept files in
 //!   the order of their paths.
 //! - [`one_report`], [`has_report`], laws: words and files have one report and no other. So the clause above names it.

@@ -1,6 +1,6 @@
 ghost use Rattle.std.specs.Prelude.{◌≡◌, IfSome, map, string_bytes};
 ghost use Rattle.edge_io.specs.Causes.{Rose};
-ghost use Rattle.pytest_core.specs.Report.{AskForRun, IsReport};
+ghost use Rattle.pytest_core.specs.Report.{AskForRun, IsTreeReport};
 ghost use Rattle.pytest_core.specs.Written.{Wrote};
 
 use crate::answer::answer;
@@ -23,7 +23,7 @@ pub fn pytest_main<R: Threads + Sync, T: Tree, S: Sink, G: Gate + Sync>(
     _gate: &G,
 ) -> Status
     // The bytes written and the status are the report's: all of them, or under a fault a prefix.
-    ensures report { IfSome (T.files tree.old) (λ files. Wrote (IsReport (map string_bytes words.now) files) (S.told out.old) (S.told out.new) result) }
+    ensures report { IfSome (T.files tree.old) (λ files. Wrote (IsTreeReport (map string_bytes words.now) files) (S.told out.old) (S.told out.new) result) }
     // The tree's fault comes only where its count rose, and the words ask for a run.
     ensures tree { result ≡ Status.TreeFault → Rose (T.faults tree.old) (T.faults tree.new) }
     // Nothing is written then, whatever the tree is.

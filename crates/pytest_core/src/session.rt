@@ -8,7 +8,7 @@ ghost use Rattle.report_parts.specs.Outcomes.{not_empty};
 ghost use Rattle.report_parts.specs.declared.report.CollectReport.{CollectReport};
 ghost use Rattle.selection.specs.Unbuilt.{asks_for_unbuilt};
 
-use crate::gathered::Gathered;
+use crate::gathered::ReportList;
 use crate::one_group::OneGroup;
 use cli_words::Options;
 use collect_tree::{FoundSuite, RunSetting, RunWorld};
@@ -111,11 +111,11 @@ fn run_in(
     ensures spent { AreSpent stand.new.stack.stack.live.live }
 {
     let mut feed = OneGroup::Waiting;
-    let mut to = Gathered {
+    let mut to = ReportList {
         reports: Vec::new(alloc),
     };
     let end = run(alloc, stand, plan, options, groups, &mut feed, &mut to);
-    let Gathered { reports } = to;
+    let ReportList { reports } = to;
     match end {
         Ok(end) => Ok(RunAnswer {
             reports,

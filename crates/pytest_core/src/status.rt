@@ -1,5 +1,5 @@
 ghost use Rattle.std.specs.Prelude.{◌≡◌};
-ghost use Rattle.pytest_core.specs.Status.{number_of};
+ghost use Rattle.pytest_core.specs.Status.{exit_code};
 
 /// How a run ended.
 #[derive(Clone, Copy, Debug, PartialEq, Eq)]
@@ -24,7 +24,7 @@ pub enum Status {
 impl Status {
     /// The number with which the program ends: pytest's exit code where it has one.
     pub fn number(self) -> u8
-        ensures { result ≡ number_of self }
+        ensures { result ≡ exit_code self }
     {
         match self {
             Status::Passed => 0,

@@ -15,7 +15,7 @@
 ghost use Rattle.std.specs.Prelude.{List};
 ghost use Rattle.py_grammar.specs.py_tokens.declared.token.Token.{Token};
 ghost use Rattle.py_tree.specs.Statements.{Block};
-ghost use Rattle.py_grammar.specs.Verdict.{Reads};
+ghost use Rattle.py_grammar.specs.Verdict.{Parses};
 ghost use Rattle.lower_law.specs.Built.{BuiltBlock};
 
 /// Each source has a meaning: none of its forms is missing there, and core code can stand for it.
@@ -25,5 +25,5 @@ pub fn every_tree_has_a_meaning()
 
 /// So has each source that the grammar reads.
 pub fn what_is_read_has_a_meaning()
-    ensures { (tokens : List Token) (block : Block) → Reads tokens block → BuiltBlock block }
+    ensures { (tokens : List Token) (block : Block) → Parses tokens block → BuiltBlock block }
 {}

@@ -10,8 +10,8 @@ abbrev pub is_line_feed : ℕ → Bool
 is_line_feed c = c == 10
 
 -- the first line of a text, as bytes
-unfoldable pub first_line : List ℕ → List ℕ
-first_line text = encode_utf8_all (before_first is_line_feed text)
+unfoldable pub first_line_bytes : List ℕ → List ℕ
+first_line_bytes text = encode_utf8_all (before_first is_line_feed text)
 
 -- each line of a text behind `E   `
 unfoldable pub error_line : List ℕ → List ℕ
@@ -50,7 +50,7 @@ at_some (Some frame) = at_frame frame
 
 -- an exception in one line: the last frame, and the first line of the text
 unfoldable pub short_told : Told → List ℕ
-short_told told = at_some (slice_get told.frames (length told.frames - 1)) ++ (first_line told.text ++ codes "\n")
+short_told told = at_some (slice_get told.frames (length told.frames - 1)) ++ (first_line_bytes told.text ++ codes "\n")
 
 -- what a test under a strict xfail mark says where it passes
 unfoldable pub reason_behind : List ℕ → List ℕ
@@ -61,7 +61,7 @@ strict_text reason = codes "[XPASS(strict)]" ++ reason_behind reason
 
 -- its first line
 unfoldable pub first_reason_behind : List ℕ → List ℕ
-first_reason_behind reason = if length reason == 0 then [] else codes " " ++ first_line reason
+first_reason_behind reason = if length reason == 0 then [] else codes " " ++ first_line_bytes reason
 
 unfoldable pub strict_first : List ℕ → List ℕ
 strict_first reason = codes "[XPASS(strict)]" ++ first_reason_behind reason

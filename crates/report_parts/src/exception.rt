@@ -1,6 +1,6 @@
 ghost use Rattle.std.specs.Prelude.{◌≡◌, ◌-◌, ◌++◌, length, slice_get, OnOk, string_bytes, encode_utf8_all, flat_map};
 ghost use Rattle.std.specs.List.{before_first};
-ghost use Rattle.report_parts.specs.Exceptions.{at_frame, at_some, error_char, error_lines, first_line, first_reason_behind, frame_lines, is_line_feed, place_line, reason_behind, short_told, shown_source, strict_first, strict_text, told_lines};
+ghost use Rattle.report_parts.specs.Exceptions.{at_frame, at_some, error_char, error_lines, first_line_bytes, first_reason_behind, frame_lines, is_line_feed, place_line, reason_behind, short_told, shown_source, strict_first, strict_text, told_lines};
 
 use crate::blanks::stripped;
 use crate::report::{Frame, Text, Told};
@@ -30,9 +30,9 @@ fn first_line_of(chars: &[char]) -> &[char]
 }
 
 /// Pushes the first line of a text.
-#[tactic(auto, unfolding(crate::specs::Exceptions::first_line))]
+#[tactic(auto, unfolding(crate::specs::Exceptions::first_line_bytes))]
 pub fn push_first_line(out: &mut String, chars: &[char]) -> Result<(), AllocError>
-    ensures { OnOk result (string_bytes out.new ≡ string_bytes out.old ++ first_line chars.now) }
+    ensures { OnOk result (string_bytes out.new ≡ string_bytes out.old ++ first_line_bytes chars.now) }
 {
     push_chars(out, first_line_of(chars))?;
     Ok(())

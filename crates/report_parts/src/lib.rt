@@ -16,7 +16,7 @@
 //! - `Phase::outcome` is what the end of a phase shows, `Outcome::letter` and `Outcome::word` how; `Outcome::once` counts it.
 //! - `is_raised`, `is_failed`, `any_error` and `any_failed` are true exactly where their definitions are.
 //!
-//! # What neither proofs nor tests show
+//! # What neither shows
 //!
 //! Time. Each text is gone through once.
 #![tactic(auto)]

@@ -8,8 +8,8 @@ use Rattle.cli_words.specs.declared.fault.UsageFault.{UsageFault}
 use Rattle.cli_words.specs.declared.info.Info.{Info}
 use Rattle.cli_words.specs.declared.options.Options.{Options}
 use Rattle.edge_io.specs.Files.{File, TreeLimit, tree_limit}
-use Rattle.report_rules.specs.Answer.{Answer, conftest_fault, info_answer, limit_text, refusal}
-use Rattle.report_rules.specs.Collected.{Collected, Collection, ConftestFault, Profile, Refused, Whole, spoken}
+use Rattle.report_rules.specs.Answer.{PrintedAnswer, conftest_fault, info_answer, limit_text, refusal}
+use Rattle.report_rules.specs.Collected.{Collected, Collection, ConftestFault, Profile, Refused, Whole, report_language}
 use Rattle.report_rules.specs.Groups.{groups}
 use Rattle.report_rules.specs.Report.{AreSources, IsReport, IsTaken, SaysOfCollection, SaysOfFiles, SaysOfOptions, SaysOfWords, files_for, report, runs, workers_of}
 use Rattle.session_rules.specs.World.{Language}
@@ -79,18 +79,18 @@ pub few_workers : (b : Bool) (workers most : ℕ) → cond b (min workers most) 
 few_workers true workers most = omega arith
 few_workers false workers most = omega arith
 
-module _ {World Value Thrown Rest Source Table : Type 0} (holds : List ℕ → Source → Type 0) (profile : Profile (spoken World Value Thrown Rest) Source Table) (some : (bytes : List ℕ) → (source : Source) × holds bytes source) where
+module _ {World Value Thrown Rest Source Table : Type 0} (holds : List ℕ → Source → Type 0) (profile : Profile (report_language World Value Thrown Rest) Source Table) (some : (bytes : List ℕ) → (source : Source) × holds bytes source) where
   sources : (files : List File) → (xs : List (List ℕ × Source)) × AreSources holds profile files xs
   sources [] = ([], tt)
   sources (f ∷ files) = (let r = sources files in let s = some f.1 in ((f.0, s.0) ∷ r.0, (refl, s.1, r.1)))
 
-  taken_of : (options : Options) (c : Collected (spoken World Value Thrown Rest) Table) → (taken : List (List ℕ)) × IsTaken options c taken
+  taken_of : (options : Options) (c : Collected (report_language World Value Thrown Rest) Table) → (taken : List (List ℕ)) × IsTaken options c taken
   taken_of options c = taken_by (length (groups c.selected)) (workers_of options c) (few_workers (asks_for_workers options && runs options c) options.workers (length (groups c.selected)))
 
-  abbrev Some_answer : (List (List ℕ) → Answer → Type 0) → Type 0
-  Some_answer P = (taken : List (List ℕ)) × (answer : Answer) × P taken answer
+  abbrev Some_answer : (List (List ℕ) → PrintedAnswer → Type 0) → Type 0
+  Some_answer P = (taken : List (List ℕ)) × (answer : PrintedAnswer) × P taken answer
 
-  of_collection : (options : Options) (x : Collection (spoken World Value Thrown Rest) Table) → Some_answer (λ taken answer. SaysOfCollection holds profile options taken x answer)
+  of_collection : (options : Options) (x : Collection (report_language World Value Thrown Rest) Table) → Some_answer (λ taken answer. SaysOfCollection holds profile options taken x answer)
   of_collection options (Refused text) = ([], refusal text, (refl, refl))
   of_collection options (ConftestFault path told) = ([], conftest_fault path told, (refl, refl))
   of_collection options (Whole c) = (let t = taken_of options c in (t.0, report holds profile options c t.0, (t.1, refl)))
@@ -111,5 +111,5 @@ module _ {World Value Thrown Rest Source Table : Type 0} (holds : List ℕ → S
   of_info words files (Some info) = ([], info_answer info, (refl, refl))
   of_info words files None = of_words files (options_of words)
 
-  pub some_report : (words : List (List ℕ)) (files : List File) → (answer : Answer) × IsReport holds profile words files answer
+  pub some_report : (words : List (List ℕ)) (files : List File) → (answer : PrintedAnswer) × IsReport holds profile words files answer
   some_report words files = (let r = of_info words files (info_of words) in (r.1, (r.0, r.2)))

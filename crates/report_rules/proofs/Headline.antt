@@ -13,14 +13,14 @@ use Rattle.report_rules.proofs.Placed.{are_placed}
 use Rattle.report_rules.proofs.Journals.{all_lawful, all_tidy}
 use Rattle.report_rules.proofs.Workers.{are_reported}
 use Rattle.report_rules.specs.Alone.{AreAsOneThread}
-use Rattle.report_rules.specs.Answer.{Answer, info_answer, limit_text, refusal}
-use Rattle.report_rules.specs.Collected.{Collected, Collection, ConftestFault, Profile, Refused, Whole, spoken}
+use Rattle.report_rules.specs.Answer.{PrintedAnswer, info_answer, limit_text, refusal}
+use Rattle.report_rules.specs.Collected.{Collected, Collection, ConftestFault, Profile, Refused, Whole, report_language}
 use Rattle.report_rules.specs.Fits.{IsFit}
 use Rattle.report_rules.specs.Groups.{groups}
 use Rattle.report_rules.specs.Headline.{Headline, Informs, IsSound, Raises, Refuses, Reports}
-use Rattle.report_rules.specs.Report.{AreSources, IsReportBy, IsTaken, SaysOfCollection, SaysOfFiles, SaysOfOptions, SaysOfWords, alone, files_for, rows, runs, workers_of}
+use Rattle.report_rules.specs.Report.{AreSources, IsReportBy, IsTaken, SaysOfCollection, SaysOfFiles, SaysOfOptions, SaysOfWords, single_thread, files_for, rows_reported, runs, workers_of}
 use Rattle.report_rules.specs.Placed.{ArePlaced}
-use Rattle.report_rules.specs.Rows.{Row, row, rows_of}
+use Rattle.report_rules.specs.Rows.{ReportRow, report_row, session_rows}
 use Rattle.report_rules.specs.Shares.{by_group, tasks_from, worked}
 use Rattle.session_types.proofs.Lists.{eqb_is}
 use Rattle.session_rules.specs.World.{Language, Rules}
@@ -36,26 +36,26 @@ module _ {L : Language} {T : Type 0} (rules : Rules L) (options : Options) (c : 
       let q : (asks_for_workers options && runs options c) ≡ false = ap (λ (b : Bool). asks_for_workers options && b) e ∙ and_false (asks_for_workers options) in
       ap (λ (b : Bool). cond b (min options.workers (length (groups c.selected))) 0) q
 
-  choose_rows : (P : List (Row L) → Type 0) → (Share (length (groups c.selected)) (workers_of options c) taken → P (by_group 0 (length (groups c.selected)) (worked rules c.world (tasks_from (groups c.selected) 0 taken))))
+  choose_rows : (P : List (ReportRow L) → Type 0) → (Share (length (groups c.selected)) (workers_of options c) taken → P (by_group 0 (length (groups c.selected)) (worked rules c.world (tasks_from (groups c.selected) 0 taken))))
       → (collect failed one : Bool) → options.collect_only ≡ collect → not_empty c.errors ≡ failed → (one ≡ true → workers_of options c ≡ 0)
       → MatchBool one (taken ≡ []) (Share (length (groups c.selected)) (workers_of options c) taken)
-      → P (cond collect (map (λ t. row t [] []) (alone c)) (cond failed [] (cond one (rows_of rules c.world options.maxfail (alone c)) (by_group 0 (length (groups c.selected)) (worked rules c.world (tasks_from (groups c.selected) 0 taken))))))
+      → P (cond collect (map (λ t. report_row t [] []) (single_thread c)) (cond failed [] (cond one (session_rows rules c.world options.maxfail (single_thread c)) (by_group 0 (length (groups c.selected)) (worked rules c.world (tasks_from (groups c.selected) 0 taken))))))
   choose_rows P law true failed one e f g t = absurd (some (idle (ap (λ (b : Bool). not (b || not_empty c.errors)) e)))
   choose_rows P law false true one e f g t = absurd (some (idle (ap₂ (λ (a b : Bool). not (a || b)) e f)))
   choose_rows P law false false true e f g t = absurd (some (g refl))
   choose_rows P law false false false e f g t = law t
 
-  chosen_rows : (P : List (Row L) → Type 0) → (Share (length (groups c.selected)) (workers_of options c) taken → P (by_group 0 (length (groups c.selected)) (worked rules c.world (tasks_from (groups c.selected) 0 taken)))) → IsTaken options c taken → P (rows rules options c taken)
+  chosen_rows : (P : List (ReportRow L) → Type 0) → (Share (length (groups c.selected)) (workers_of options c) taken → P (by_group 0 (length (groups c.selected)) (worked rules c.world (tasks_from (groups c.selected) 0 taken)))) → IsTaken options c taken → P (rows_reported rules options c taken)
   chosen_rows P law t = choose_rows P law options.collect_only (not_empty c.errors) (eqb (workers_of options c) 0) refl refl (λ e. eqb_is (workers_of options c) 0 e) t
 
-  pub workers_alone : IsTaken options c taken → AreAsOneThread rules c taken (rows rules options c taken)
-  workers_alone t = chosen_rows (λ (rs : List (Row L)). AreAsOneThread rules c taken rs) (λ share. as_one_thread rules c (workers_of options c) taken share) t
+  pub workers_alone : IsTaken options c taken → AreAsOneThread rules c taken (rows_reported rules options c taken)
+  workers_alone t = chosen_rows (λ (rs : List (ReportRow L)). AreAsOneThread rules c taken rs) (λ share. as_one_thread rules c (workers_of options c) taken share) t
 
-  pub workers_placed : IsTaken options c taken → ArePlaced c taken (rows rules options c taken)
-  workers_placed t = chosen_rows (λ (rs : List (Row L)). ArePlaced c taken rs) (λ share. are_placed rules c taken) t
+  pub workers_placed : IsTaken options c taken → ArePlaced c taken (rows_reported rules options c taken)
+  workers_placed t = chosen_rows (λ (rs : List (ReportRow L)). ArePlaced c taken rs) (λ share. are_placed rules c taken) t
 
-module _ {World Value Thrown Rest Source Table : Type 0} (holds : List ℕ → Source → Type 0) (profile : Profile (spoken World Value Thrown Rest) Source Table) (sound : IsSound holds profile) where
-  of_whole : (options : Options) (words taken : List (List ℕ)) (answer : Answer) (x : Collection (spoken World Value Thrown Rest) Table) → options_of words ≡ Ok options → ((c : Collected (spoken World Value Thrown Rest) Table) → x ≡ Whole c → IsFit (profile.rules options c.table) c.selected) → SaysOfCollection holds profile options taken x answer → Headline holds profile taken words answer
+module _ {World Value Thrown Rest Source Table : Type 0} (holds : List ℕ → Source → Type 0) (profile : Profile (report_language World Value Thrown Rest) Source Table) (sound : IsSound holds profile) where
+  of_whole : (options : Options) (words taken : List (List ℕ)) (answer : PrintedAnswer) (x : Collection (report_language World Value Thrown Rest) Table) → options_of words ≡ Ok options → ((c : Collected (report_language World Value Thrown Rest) Table) → x ≡ Whole c → IsFit (profile.rules options c.table) c.selected) → SaysOfCollection holds profile options taken x answer → Headline holds profile taken words answer
   of_whole options words taken answer (Refused text) e fit s = Refuses text s.1
   of_whole options words taken answer (ConftestFault path told) e fit s = Raises path told s.1
   of_whole options words taken answer (Whole c) e fit s =
@@ -71,29 +71,29 @@ module _ {World Value Thrown Rest Source Table : Type 0} (holds : List ℕ → S
         alone = λ some. workers_alone rules options c taken some s.0;
       })
 
-  of_limit : (options : Options) (words taken : List (List ℕ)) (files : List File) (answer : Answer) (limit : Option TreeLimit) → options_of words ≡ Ok options
+  of_limit : (options : Options) (words taken : List (List ℕ)) (files : List File) (answer : PrintedAnswer) (limit : Option TreeLimit) → options_of words ≡ Ok options
       → MatchOption limit ((sources : List (List ℕ × Source)) × AreSources holds profile files sources × SaysOfCollection holds profile options taken (profile.collect options sources) answer) (λ l. (taken ≡ []) × (answer ≡ refusal (limit_text l)))
       → Headline holds profile taken words answer
   of_limit options words taken files answer (Some limit) e s = Refuses (limit_text limit) s.1
   of_limit options words taken files answer None e s = of_whole options words taken answer (profile.collect options s.0) e (λ c q. sound options s.0 c q) s.2
 
-  of_wrong : (options : Options) (words taken : List (List ℕ)) (files : List File) (answer : Answer) (wrong : Option (List ℕ)) → options_of words ≡ Ok options
+  of_wrong : (options : Options) (words taken : List (List ℕ)) (files : List File) (answer : PrintedAnswer) (wrong : Option (List ℕ)) → options_of words ≡ Ok options
       → MatchOption wrong (SaysOfFiles holds profile options taken files answer) (λ text. (taken ≡ []) × (answer ≡ refusal text))
       → Headline holds profile taken words answer
   of_wrong options words taken files answer (Some text) e s = Refuses text s.1
   of_wrong options words taken files answer None e s = of_limit options words taken files answer (tree_limit files) e s
 
-  of_words : (words taken : List (List ℕ)) (files : List File) (answer : Answer) (r : Result Options UsageFault) → options_of words ≡ r
+  of_words : (words taken : List (List ℕ)) (files : List File) (answer : PrintedAnswer) (r : Result Options UsageFault) → options_of words ≡ r
       → MatchResult r (λ options. SaysOfOptions holds profile options taken files answer) (λ fault. (taken ≡ []) × (answer ≡ refusal (usage_text fault)))
       → Headline holds profile taken words answer
   of_words words taken files answer (Ok options) e s = of_wrong options words taken (files_for holds profile options.generated files) answer (profile.refused options) e s
   of_words words taken files answer (Err fault) e s = Refuses (usage_text fault) s.1
 
-  of_info : (words taken : List (List ℕ)) (files : List File) (answer : Answer) (asked : Option Info) → info_of words ≡ asked
+  of_info : (words taken : List (List ℕ)) (files : List File) (answer : PrintedAnswer) (asked : Option Info) → info_of words ≡ asked
       → MatchOption asked (SaysOfWords holds profile taken words files answer) (λ info. (taken ≡ []) × (answer ≡ info_answer info))
       → Headline holds profile taken words answer
   of_info words taken files answer (Some info) e s = Informs info e s.1
   of_info words taken files answer None e s = of_words words taken files answer (options_of words) refl s
 
-  pub headline : (words taken : List (List ℕ)) (files : List File) (answer : Answer) → IsReportBy holds profile taken words files answer → Headline holds profile taken words answer
+  pub headline : (words taken : List (List ℕ)) (files : List File) (answer : PrintedAnswer) → IsReportBy holds profile taken words files answer → Headline holds profile taken words answer
   headline words taken files answer s = of_info words taken files answer (info_of words) refl s

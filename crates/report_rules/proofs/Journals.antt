@@ -7,17 +7,17 @@ use Rattle.report_rules.proofs.Lists.{map_append, map_map}
 use Rattle.report_rules.specs.Collected.{SelectedItem, Collected}
 use Rattle.report_rules.specs.Fits.{IsFit, chosen_item}
 use Rattle.report_rules.specs.Groups.{files_in, group_at, groups, is_in, items_of, other_than}
-use Rattle.report_rules.specs.Report.{IsTaken, alone, maxfail_of, runs, sessions, workers_of}
-use Rattle.report_rules.specs.Rows.{Task, item_of, ran, task}
-use Rattle.report_rules.specs.Shares.{place, tasks_from, tasks_of}
+use Rattle.report_rules.specs.Report.{IsTaken, single_thread, maxfail_of, runs, sessions, workers_of}
+use Rattle.report_rules.specs.Rows.{Task, task_item, ran, task}
+use Rattle.report_rules.specs.Shares.{group_place, tasks_from, tasks_of}
 use Rattle.session_rules.proofs.Frames.{none_out}
 use Rattle.session_types.proofs.Lists.{In-append, In-filter, eqb_is}
 use Rattle.session_rules.proofs.Sessions.{lawful_session}
-use Rattle.session_types.specs.Members.{In}
+use Rattle.session_types.specs.Members.{IsMember}
 use Rattle.session_rules.specs.Events.{Lawful}
-use Rattle.session_rules.specs.Fits.{Distinct, Fits}
+use Rattle.session_rules.specs.Fits.{Distinct, HasFixtureClosure}
 use Rattle.session_rules.specs.Frames.{Tidy}
-use Rattle.session_rules.specs.Teardown.{State}
+use Rattle.session_rules.specs.Teardown.{SessionState}
 use Rattle.session_rules.specs.World.{Item, Language, Rules}
 use Rattle.share_files.specs.Deal.{Every, RisesFrom, Share}
 
@@ -25,18 +25,18 @@ use Rattle.share_files.specs.Deal.{Every, RisesFrom, Share}
 abbrev items : List SelectedItem → List Item
 items cs = map chosen_item cs
 
-In-items : (c : SelectedItem) (cs : List SelectedItem) → In c cs → In c.item (items cs)
+In-items : (c : SelectedItem) (cs : List SelectedItem) → IsMember c cs → IsMember c.item (items cs)
 In-items c [] m = absurd m
 In-items c (x ∷ cs) (inl e) = inl (ap (λ (d : SelectedItem). d.item) e)
 In-items c (x ∷ cs) (inr m) = inr (In-items c cs m)
 
-items-In : (i : Item) (cs : List SelectedItem) → In i (items cs) → (c : SelectedItem) × In c cs × (i ≡ c.item)
+items-In : (i : Item) (cs : List SelectedItem) → IsMember i (items cs) → (c : SelectedItem) × IsMember c cs × (i ≡ c.item)
 items-In i [] m = absurd m
 items-In i (x ∷ cs) (inl e) = (x, inl refl, e)
 items-In i (x ∷ cs) (inr m) = (let r = items-In i cs m in (r.0, inr r.1, r.2))
 
 -- of two with one node, each is the other
-same_node : (cs : List SelectedItem) → Distinct (items cs) → (c d : SelectedItem) → In c cs → In d cs → c.item.node ≡ d.item.node → c ≡ d
+same_node : (cs : List SelectedItem) → Distinct (items cs) → (c d : SelectedItem) → IsMember c cs → IsMember d cs → c.item.node ≡ d.item.node → c ≡ d
 same_node [] s c d m n e = absurd m
 same_node (x ∷ cs) s c d (inl p) (inl q) e = p ∙ sym q
 same_node (x ∷ cs) s c d (inl p) (inr q) e = absurd (s.0 d.item (In-items d cs q) (sym e ∙ ap (λ (y : SelectedItem). y.item.node) p))
@@ -47,15 +47,15 @@ filter_distinct : (p : SelectedItem → Bool) (cs : List SelectedItem) → Disti
 filter_distinct p [] s = tt
 filter_distinct p (x ∷ cs) s =
     elim (p x) as (λ b. Distinct (items (cond b (x ∷ filter p cs) (filter p cs)))) [
-      | true ↦ ((λ i m. (let r = items-In i (filter p cs) m in s.0 i (subst (λ (j : Item). In j (items cs)) (sym r.2) (In-items r.0 cs (In-filter p r.0 cs r.1).0)))), filter_distinct p cs s.1)
+      | true ↦ ((λ i m. (let r = items-In i (filter p cs) m in s.0 i (subst (λ (j : Item). IsMember j (items cs)) (sym r.2) (In-items r.0 cs (In-filter p r.0 cs r.1).0)))), filter_distinct p cs s.1)
       | false ↦ filter_distinct p cs s.1
     ]
 
-append_distinct : (cs ds : List SelectedItem) → Distinct (items cs) → Distinct (items ds) → ((c d : SelectedItem) → In c cs → In d ds → d.item.node ≡ c.item.node → ⊥) → Distinct (items (cs ++ ds))
+append_distinct : (cs ds : List SelectedItem) → Distinct (items cs) → Distinct (items ds) → ((c d : SelectedItem) → IsMember c cs → IsMember d ds → d.item.node ≡ c.item.node → ⊥) → Distinct (items (cs ++ ds))
 append_distinct [] ds s t apart = t
 append_distinct (x ∷ cs) ds s t apart = (
   (λ i m. (let r = items-In i (cs ++ ds) m in elim (In-append r.0 cs ds r.1) [
-    | inl l ↦ s.0 i (subst (λ (j : Item). In j (items cs)) (sym r.2) (In-items r.0 cs l))
+    | inl l ↦ s.0 i (subst (λ (j : Item). IsMember j (items cs)) (sym r.2) (In-items r.0 cs l))
     | inr k ↦ λ e. apart x r.0 (inl refl) k (ap (λ (j : Item). j.node) (sym r.2) ∙ e)
   ])),
   append_distinct cs ds s.1 t (λ c d m n. apart c d (inr m) n),
@@ -67,20 +67,20 @@ At [] g f = ⊥
 At (x ∷ xs) zero f = f ≡ x
 At (x ∷ xs) (suc g) f = At xs g f
 
-At-In : (fs : List ℕ) (g f : ℕ) → At fs g f → In f fs
+At-In : (fs : List ℕ) (g f : ℕ) → At fs g f → IsMember f fs
 At-In [] g f a = absurd a
 At-In (x ∷ xs) zero f a = inl a
 At-In (x ∷ xs) (suc g) f a = inr (At-In xs g f a)
 
 abbrev pub Single : List ℕ → Type 0
 Single [] = Unit {0}
-Single (x ∷ xs) = (In x xs → ⊥) × Single xs
+Single (x ∷ xs) = (IsMember x xs → ⊥) × Single xs
 
 pub one_place : (fs : List ℕ) → Single fs → (g h f : ℕ) → At fs g f → At fs h f → g ≡ h
 one_place [] s g h f a b = absurd a
 one_place (x ∷ xs) s zero zero f a b = refl
-one_place (x ∷ xs) s zero (suc h) f a b = absurd (s.0 (subst (λ (y : ℕ). In y xs) a (At-In xs h f b)))
-one_place (x ∷ xs) s (suc g) zero f a b = absurd (s.0 (subst (λ (y : ℕ). In y xs) b (At-In xs g f a)))
+one_place (x ∷ xs) s zero (suc h) f a b = absurd (s.0 (subst (λ (y : ℕ). IsMember y xs) a (At-In xs h f b)))
+one_place (x ∷ xs) s (suc g) zero f a b = absurd (s.0 (subst (λ (y : ℕ). IsMember y xs) b (At-In xs g f a)))
 one_place (x ∷ xs) s (suc g) (suc h) f a b = ap suc (one_place xs s.1 g h f a b)
 
 others_single : (f : ℕ) (fs : List ℕ) → Single fs → Single (filter (other_than f) fs)
@@ -99,7 +99,7 @@ files_single (c ∷ cs) = (
 )
 
 -- the items of a group are of its file
-pub in_group_at : (cs : List SelectedItem) (fs : List ℕ) (g : ℕ) (c : SelectedItem) → In c (group_at (map (items_of cs) fs) g) → In c cs × At fs g c.file
+pub in_group_at : (cs : List SelectedItem) (fs : List ℕ) (g : ℕ) (c : SelectedItem) → IsMember c (group_at (map (items_of cs) fs) g) → IsMember c cs × At fs g c.file
 in_group_at cs [] g c m = absurd m
 in_group_at cs (f ∷ fs) zero c m = (let r = In-filter (is_in f) c cs m in (r.0, eqb_is c.file f r.1))
 in_group_at cs (f ∷ fs) (suc g) c m = in_group_at cs fs g c m
@@ -113,7 +113,7 @@ abbrev chosen_by : List SelectedItem → List ℕ → List SelectedItem
 chosen_by cs l = flat_map (group_at (groups cs)) l
 
 -- which group an item is of
-chosen_group : (cs : List SelectedItem) (low : ℕ) (l : List ℕ) → RisesFrom low l → (c : SelectedItem) → In c (chosen_by cs l) → (g : ℕ) × (low ≤ g) × In c cs × At (files_in cs) g c.file
+chosen_group : (cs : List SelectedItem) (low : ℕ) (l : List ℕ) → RisesFrom low l → (c : SelectedItem) → IsMember c (chosen_by cs l) → (g : ℕ) × (low ≤ g) × IsMember c cs × At (files_in cs) g c.file
 chosen_group cs low [] r c m = absurd m
 chosen_group cs low (g ∷ gs) r c m =
     elim (In-append c (group_at (groups cs) g) (chosen_by cs gs) m) [
@@ -133,33 +133,33 @@ by_distinct cs low (g ∷ gs) r s =
     let le = q.1 in
     omega (arith, k, le)))
 
-task_items : (p : Option Place) (cs : List SelectedItem) → map item_of (map (task p) cs) ≡ items cs
-task_items p cs = map_map item_of (task p) cs
+task_items : (p : Option Place) (cs : List SelectedItem) → map task_item (map (task p) cs) ≡ items cs
+task_items p cs = map_map task_item (task p) cs
 
-worker_items : (cs : List SelectedItem) (k : ℕ) (l : List ℕ) → map item_of (tasks_of (groups cs) k l) ≡ items (chosen_by cs l)
+worker_items : (cs : List SelectedItem) (k : ℕ) (l : List ℕ) → map task_item (tasks_of (groups cs) k l) ≡ items (chosen_by cs l)
 worker_items cs k [] = refl
 worker_items cs k (g ∷ gs) =
-    map_append item_of (map (task (place g k)) (group_at (groups cs) g)) (tasks_of (groups cs) k gs)
-    ∙ (ap (λ (x : List Item). x ++ map item_of (tasks_of (groups cs) k gs)) (task_items (place g k) (group_at (groups cs) g))
+    map_append task_item (map (task (group_place g k)) (group_at (groups cs) g)) (tasks_of (groups cs) k gs)
+    ∙ (ap (λ (x : List Item). x ++ map task_item (tasks_of (groups cs) k gs)) (task_items (group_place g k) (group_at (groups cs) g))
     ∙ (ap (λ (x : List Item). items (group_at (groups cs) g) ++ x) (worker_items cs k gs) ∙ sym (map_append chosen_item (group_at (groups cs) g) (chosen_by cs gs))))
 
 -- tasks that a session may run
 pub record MayRun {L : Language} (rules : Rules L) (list : List Item) : Type 0 where
-  pub fits : (item : Item) → In item list → Fits rules item
+  pub fits : (item : Item) → IsMember item list → HasFixtureClosure rules item
   pub distinct : Distinct list
 
 may_run : {L : Language} (rules : Rules L) (cs : List SelectedItem) → IsFit rules cs → MayRun rules (items cs)
-may_run {L} rules cs fit = record { fits = λ i m. (let r = items-In i cs m in subst (λ (j : Item). Fits rules j) (sym r.2) (fit.fits r.0 r.1)); distinct = fit.distinct }
+may_run {L} rules cs fit = record { fits = λ i m. (let r = items-In i cs m in subst (λ (j : Item). HasFixtureClosure rules j) (sym r.2) (fit.fits r.0 r.1)); distinct = fit.distinct }
 
 worker_runs : {L : Language} (rules : Rules L) (cs : List SelectedItem) → IsFit rules cs → (l : List ℕ) → RisesFrom 0 l → MayRun rules (items (chosen_by cs l))
 worker_runs {L} rules cs fit l rises =
     record {
-      fits = λ i m. (let r = items-In i (chosen_by cs l) m in let q = chosen_group cs 0 l rises r.0 r.1 in subst (λ (j : Item). Fits rules j) (sym r.2) (fit.fits r.0 q.2));
+      fits = λ i m. (let r = items-In i (chosen_by cs l) m in let q = chosen_group cs 0 l rises r.0 r.1 in subst (λ (j : Item). HasFixtureClosure rules j) (sym r.2) (fit.fits r.0 q.2));
       distinct = by_distinct cs 0 l rises fit.distinct;
     }
 
-module _ {L : Language} {T : Type 0} (rules : Rules L) (options : Options) (c : Collected L T) (P : State L → Type 0) (law : (tasks : List Task) → MayRun rules (map item_of tasks) → P (ran rules c.world (maxfail_of options c) tasks)) where
-  abbrev run_all : List (List Task) → List (State L)
+module _ {L : Language} {T : Type 0} (rules : Rules L) (options : Options) (c : Collected L T) (P : SessionState L → Type 0) (law : (tasks : List Task) → MayRun rules (map task_item tasks) → P (ran rules c.world (maxfail_of options c) tasks)) where
+  abbrev run_all : List (List Task) → List (SessionState L)
   run_all lists = map (ran rules c.world (maxfail_of options c)) lists
 
   workers_law : IsFit rules c.selected → (k : ℕ) (ls : List (List ℕ)) → Every (RisesFrom 0) ls → Every P (run_all (tasks_from (groups c.selected) k ls))
@@ -169,16 +169,16 @@ module _ {L : Language} {T : Type 0} (rules : Rules L) (options : Options) (c : 
     workers_law fit (k + 1) ls rises.1,
   )
 
-  runs_law : (run one : Bool) (taken : List (List ℕ)) → IsFit rules c.selected → MatchBool one (taken ≡ []) (Share (length (groups c.selected)) (workers_of options c) taken) → Every P (run_all (cond (not run) [] (cond one (alone c ∷ []) (tasks_from (groups c.selected) 0 taken))))
+  runs_law : (run one : Bool) (taken : List (List ℕ)) → IsFit rules c.selected → MatchBool one (taken ≡ []) (Share (length (groups c.selected)) (workers_of options c) taken) → Every P (run_all (cond (not run) [] (cond one (single_thread c ∷ []) (tasks_from (groups c.selected) 0 taken))))
   runs_law false one taken fit t = tt
-  runs_law true true taken fit t = (law (alone c) (subst (λ (x : List Item). MayRun rules x) (sym (task_items None c.selected)) (may_run rules c.selected fit)), tt)
+  runs_law true true taken fit t = (law (single_thread c) (subst (λ (x : List Item). MayRun rules x) (sym (task_items None c.selected)) (may_run rules c.selected fit)), tt)
   runs_law true false taken fit t = workers_law fit 0 taken t.rising
 
   pub sessions_law : (taken : List (List ℕ)) → IsFit rules c.selected → IsTaken options c taken → Every P (sessions rules options c taken)
   sessions_law taken fit t = runs_law (runs options c) (eqb (workers_of options c) 0) taken fit t
 
-pub all_lawful : {L : Language} {T : Type 0} (rules : Rules L) (options : Options) (c : Collected L T) (taken : List (List ℕ)) → IsFit rules c.selected → IsTaken options c taken → Every (λ (s : State L). Lawful s.events) (sessions rules options c taken)
-all_lawful {L} rules options c taken fit t = sessions_law rules options c (λ (s : State L). Lawful s.events) (λ tasks m. lawful_session rules (maxfail_of options c) (map item_of tasks) c.world m.fits m.distinct) taken fit t
+pub all_lawful : {L : Language} {T : Type 0} (rules : Rules L) (options : Options) (c : Collected L T) (taken : List (List ℕ)) → IsFit rules c.selected → IsTaken options c taken → Every (λ (s : SessionState L). Lawful s.events) (sessions rules options c taken)
+all_lawful {L} rules options c taken fit t = sessions_law rules options c (λ (s : SessionState L). Lawful s.events) (λ tasks m. lawful_session rules (maxfail_of options c) (map task_item tasks) c.world m.fits m.distinct) taken fit t
 
-pub all_tidy : {L : Language} {T : Type 0} (rules : Rules L) (out : L.World → ℕ) → Tidy rules out → (options : Options) (c : Collected L T) (taken : List (List ℕ)) → IsFit rules c.selected → IsTaken options c taken → Every (λ (s : State L). out s.world ≡ out c.world) (sessions rules options c taken)
-all_tidy {L} rules out tidy options c taken fit t = sessions_law rules options c (λ (s : State L). out s.world ≡ out c.world) (λ tasks m. none_out rules out tidy (maxfail_of options c) (map item_of tasks) c.world m.fits) taken fit t
+pub all_tidy : {L : Language} {T : Type 0} (rules : Rules L) (out : L.World → ℕ) → Tidy rules out → (options : Options) (c : Collected L T) (taken : List (List ℕ)) → IsFit rules c.selected → IsTaken options c taken → Every (λ (s : SessionState L). out s.world ≡ out c.world) (sessions rules options c taken)
+all_tidy {L} rules out tidy options c taken fit t = sessions_law rules options c (λ (s : SessionState L). out s.world ≡ out c.world) (λ tasks m. none_out rules out tidy (maxfail_of options c) (map task_item tasks) c.world m.fits) taken fit t

@@ -3,10 +3,10 @@ use Rattle.std.specs.Prelude.{◌≡◌, ℕ, ◌==◌, ◌+◌, Bool, true, fal
 use Rattle.cli_words.specs.Options.{defaults}
 use Rattle.cli_words.specs.declared.options.Options.{Options}
 use Rattle.report_parts.specs.declared.report.Place.{Place}
-use Rattle.report_rules.specs.Collected.{Collected, FixtureTexts, ItemTexts, SelectedItem, spoken}
+use Rattle.report_rules.specs.Collected.{Collected, FixtureTexts, ItemTexts, SelectedItem, report_language}
 use Rattle.report_rules.specs.Groups.{groups}
-use Rattle.report_rules.specs.Report.{rows, sessions, stopped, workers_of}
-use Rattle.report_rules.specs.Rows.{Row, rows_of, task}
+use Rattle.report_rules.specs.Report.{rows_reported, sessions, reached_maxfail, workers_of}
+use Rattle.report_rules.specs.Rows.{ReportRow, session_rows, task}
 use Rattle.report_rules.specs.Shown.{shown_lines}
 use Rattle.report_parts.specs.declared.report.PhaseEnd.TheVariants as end
 use Rattle.session_rules.proofs.Small.{Log, blank, built_ins, plain, small, write}
@@ -43,11 +43,11 @@ groups_row : map (map node_of) (groups four.selected) ≡ (10 ∷ 12 ∷ []) ∷
 groups_row = refl
 
 -- a row: its item, its place, and how many phases it has
-abbrev brief : Row small → ℕ × Option Place × ℕ
+abbrev brief : ReportRow small → ℕ × Option Place × ℕ
 brief r = (r.task.chosen.item.node, r.task.place, length r.ends)
 
 abbrev briefs : Options → List (List ℕ) → List (ℕ × Option Place × ℕ)
-briefs options taken = map brief (rows failing options four taken)
+briefs options taken = map brief (rows_reported failing options four taken)
 
 abbrev at : ℕ → ℕ → Option Place
 at group worker = Some (record { group = group; worker = worker })
@@ -59,7 +59,7 @@ all_row = refl
 first_row : briefs (record defaults { maxfail = 1 }) [] ≡ (10, None, 3) ∷ (11, None, 3) ∷ []
 first_row = refl
 
-stop_row : stopped failing (record defaults { maxfail = 1 }) four ≡ true
+stop_row : reached_maxfail failing (record defaults { maxfail = 1 }) four ≡ true
 stop_row = refl
 
 -- nothing runs
@@ -88,7 +88,7 @@ four_fixtures d =
     else (if d == 2 then record { name = codes "c"; arguments = codes "m" ∷ [] }
     else record { name = codes "f"; arguments = codes "c" ∷ [] }))
 
-abbrev in_four : Rules (spoken Log ℕ ℕ ℕ)
+abbrev in_four : Rules (report_language Log ℕ ℕ ℕ)
 in_four =
     record {
       depth = 4;
@@ -147,7 +147,7 @@ abbrev three_tests : List SelectedItem
 three_tests = test_in 1 2 10 (codes "test_a.py::TestA::test_1") ∷ test_in 1 2 11 (codes "test_a.py::TestA::test_2") ∷ test_in 3 12 12 (codes "test_b.py::test_3") ∷ []
 
 abbrev shown_of : List SelectedItem → List (List ℕ)
-shown_of items = flat_map (shown_lines four_scopes four_fixtures) (rows_of in_four blank 0 (map (task None) items))
+shown_of items = flat_map (shown_lines four_scopes four_fixtures) (session_rows in_four blank 0 (map (task None) items))
 
 four_scopes_row : shown_of three_tests
     ≡ codes "SETUP    S s"

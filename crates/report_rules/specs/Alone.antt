@@ -4,19 +4,19 @@ use Rattle.std.specs.List.{filter}
 use Rattle.report_parts.specs.declared.report.Place.{Place}
 use Rattle.report_rules.specs.Collected.{SelectedItem, Collected}
 use Rattle.report_rules.specs.Groups.{group_at, groups}
-use Rattle.report_rules.specs.Rows.{Row, row, rows_of, task}
+use Rattle.report_rules.specs.Rows.{ReportRow, report_row, session_rows, task}
 use Rattle.session_rules.specs.World.{Language, Rules}
 
 abbrev pub is_by : ℕ → Option Place → Bool
 is_by worker None = false
 is_by worker (Some place) = place.worker == worker
 
-abbrev pub of_worker : {L : Language} → ℕ → Row L → Bool
-of_worker worker row = is_by worker row.task.place
+abbrev pub of_worker : {L : Language} → ℕ → ReportRow L → Bool
+of_worker worker report_row = is_by worker report_row.task.place
 
 -- a row without its place
-abbrev pub unplaced : {L : Language} → Row L → Row L
-unplaced r = row (task None r.task.chosen) r.ends r.arrivals
+abbrev pub unplaced : {L : Language} → ReportRow L → ReportRow L
+unplaced r = report_row (task None r.task.chosen) r.ends r.arrivals
 
 -- the groups that a worker took, and none behind the last worker
 abbrev pub taken_by : List (List ℕ) → ℕ → List ℕ
@@ -29,6 +29,6 @@ abbrev pub items_by : List SelectedItem → List (List ℕ) → ℕ → List Sel
 items_by selected taken worker = flat_map (group_at (groups selected)) (taken_by taken worker)
 
 -- of the rows that are reported, those of a worker are, but for their places, the rows of one thread on the items of its groups
-abbrev pub AreAsOneThread : {L : Language} {T : Type 0} → Rules L → Collected L T → List (List ℕ) → List (Row L) → Type 0
+abbrev pub AreAsOneThread : {L : Language} {T : Type 0} → Rules L → Collected L T → List (List ℕ) → List (ReportRow L) → Type 0
 AreAsOneThread rules c taken rows =
-    (worker : ℕ) → map unplaced (filter (of_worker worker) rows) ≡ rows_of rules c.world 0 (map (task None) (items_by c.selected taken worker))
+    (worker : ℕ) → map unplaced (filter (of_worker worker) rows) ≡ session_rows rules c.world 0 (map (task None) (items_by c.selected taken worker))

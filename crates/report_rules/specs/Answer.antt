@@ -26,15 +26,15 @@ pub data Status : Type 0 where
   NoTests : Status
 
 -- bytes and a status
-abbrev pub Answer : Type 0
-Answer = List ℕ × Status
+abbrev pub PrintedAnswer : Type 0
+PrintedAnswer = List ℕ × Status
 
 -- words or files that are refused
-abbrev pub refusal : List ℕ → Answer
+abbrev pub refusal : List ℕ → PrintedAnswer
 refusal text = (codes "ERROR: " ++ ended text, Usage)
 
 -- a text that words ask for
-abbrev pub info_answer : Info → Answer
+abbrev pub info_answer : Info → PrintedAnswer
 info_answer info = (info_text info, Passed)
 
 -- the usage text of a limit
@@ -44,7 +44,7 @@ limit_text (LargeFile path) = codes "file too large: " ++ path
 limit_text LargeTree = codes "tree too large"
 
 -- a conftest that raises
-abbrev pub conftest_fault : List ℕ → Told → Answer
+abbrev pub conftest_fault : List ℕ → Told → PrintedAnswer
 conftest_fault path told = (conftest_text path told, Usage)
 
 -- the parts of a report

@@ -9,19 +9,19 @@ use Rattle.report_parts.specs.declared.report.Told.{Told}
 use Rattle.session_rules.specs.World.{Call, Item, Language, Phase, Rules, SetUp, Teardown, language}
 
 -- what a phase tells a report: how it ended, and what was printed in it
-pub record Ending : Type 0 where
+pub record CapturedEnd : Type 0 where
   pub end : PhaseEnd
   pub captured : List ℕ
 
 -- a set-up or a teardown that raised is an error; a call that raised, or that passed under a strict xfail mark, is a failure
-abbrev pub ends_badly : Phase → Ending → Bool
+abbrev pub ends_badly : Phase → CapturedEnd → Bool
 ends_badly SetUp e = is_raised e.end
 ends_badly Call e = is_failed e.end
 ends_badly Teardown e = is_raised e.end
 
 -- a language whose phases tell that
-abbrev pub spoken : (World Value Thrown Rest : Type 0) → Language
-spoken World Value Thrown Rest = language World Value Thrown Rest Ending ends_badly
+abbrev pub report_language : (World Value Thrown Rest : Type 0) → Language
+report_language World Value Thrown Rest = language World Value Thrown Rest CapturedEnd ends_badly
 
 -- the names of an item: its node id, its title, and the path of its file
 pub record ItemTexts : Type 0 where

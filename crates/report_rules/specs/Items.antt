@@ -4,8 +4,8 @@ use Rattle.cli_words.specs.declared.options.Options.{Options}
 use Rattle.report_parts.specs.declared.report.ItemReport.{ItemReport}
 use Rattle.report_parts.specs.declared.report.PhaseEnd.{PhaseEnd as ShownEnd}
 use Rattle.report_parts.specs.declared.report.PhaseEnd.TheVariants.{NotRun}
-use Rattle.report_rules.specs.Collected.{FixtureTexts, spoken}
-use Rattle.report_rules.specs.Rows.{Row}
+use Rattle.report_rules.specs.Collected.{FixtureTexts, report_language}
+use Rattle.report_rules.specs.Rows.{ReportRow}
 use Rattle.report_rules.specs.Shown.{shown_lines}
 use Rattle.session_rules.specs.Teardown.{PhaseEnd}
 use Rattle.session_rules.specs.World.{Call, Phase, SetUp, Teardown}
@@ -24,17 +24,17 @@ is_phase Teardown Teardown = true
 
 module _ {World Value Thrown Rest : Type 0} where
   -- how a phase ended: one that isn't there did not run
-  abbrev pub end_in : Phase → List (PhaseEnd (spoken World Value Thrown Rest)) → ShownEnd
+  abbrev pub end_in : Phase → List (PhaseEnd (report_language World Value Thrown Rest)) → ShownEnd
   end_in phase [] = NotRun
   end_in phase (e ∷ ends) = if is_phase phase e.phase then e.told.end else end_in phase ends
 
   -- what was printed in a phase
-  abbrev pub captured_in : Phase → List (PhaseEnd (spoken World Value Thrown Rest)) → List ℕ
+  abbrev pub captured_in : Phase → List (PhaseEnd (report_language World Value Thrown Rest)) → List ℕ
   captured_in phase [] = []
   captured_in phase (e ∷ ends) = if is_phase phase e.phase then e.told.captured else captured_in phase ends
 
   -- its names, how its phases ended, what was printed in each, and with `--setup-show` its lines
-  abbrev pub item_report : Options → (ℕ → Scope) → (ℕ → FixtureTexts) → Row (spoken World Value Thrown Rest) → ItemReport
+  abbrev pub item_report : Options → (ℕ → Scope) → (ℕ → FixtureTexts) → ReportRow (report_language World Value Thrown Rest) → ItemReport
   item_report options scope fixture r =
       record {
         node_id = r.task.chosen.texts.node_id;

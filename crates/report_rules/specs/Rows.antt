@@ -3,8 +3,8 @@ use Rattle.std.specs.Prelude.{ℕ, Bool, true, false, List, [], ◌∷◌, ◌++
 use Rattle.report_parts.specs.declared.report.Place.{Place}
 use Rattle.report_rules.specs.Collected.{SelectedItem}
 use Rattle.session_rules.specs.Reports.{events_of}
-use Rattle.session_rules.specs.Session.{session, start}
-use Rattle.session_rules.specs.Teardown.{PhaseEnd, State}
+use Rattle.session_rules.specs.Session.{session, initial_state}
+use Rattle.session_rules.specs.Teardown.{PhaseEnd, SessionState}
 use Rattle.session_rules.specs.World.{Language, Rules, Item, Phase, SetUp, Call, Teardown}
 use Rattle.session_types.specs.declared.journal.Event.{Event}
 use Rattle.session_types.specs.declared.journal.Event.TheVariants.{Up, UpFailed, DownBegins, Down, CallBegins, CallEnds}
@@ -18,8 +18,8 @@ pub record Task : Type 0 where
 abbrev pub task : Option Place → SelectedItem → Task
 task place c = record { place = place; chosen = c }
 
-abbrev pub item_of : Task → Item
-item_of t = t.chosen.item
+abbrev pub task_item : Task → Item
+task_item t = t.chosen.item
 
 -- a set-up of a session that was completed, and the item that asked for it
 pub record Arrival : Type 0 where
@@ -27,13 +27,13 @@ pub record Arrival : Type 0 where
   pub item : SelectedItem
 
 -- a task; how the phases of its item ended, none where it did not run; and the completed set-ups of its session up to its end
-pub record Row (L : Language) : Type 0 where
+pub record ReportRow (L : Language) : Type 0 where
   pub task : Task
   pub ends : List (PhaseEnd L)
   pub arrivals : List Arrival
 
-abbrev pub row : {L : Language} → Task → List (PhaseEnd L) → List Arrival → Row L
-row t ends arrivals = record { task = t; ends = ends; arrivals = arrivals }
+abbrev pub report_row : {L : Language} → Task → List (PhaseEnd L) → List Arrival → ReportRow L
+report_row t ends arrivals = record { task = t; ends = ends; arrivals = arrivals }
 
 abbrev pub arrival_of : SelectedItem → Event → List Arrival
 arrival_of item (Up made) = record { made = made; item = item } ∷ []
@@ -52,24 +52,24 @@ is_last Call = false
 is_last Teardown = true
 
 -- a phase in front of those of its item
-abbrev pub onto : {L : Language} → PhaseEnd L → List (List (PhaseEnd L)) → List (List (PhaseEnd L))
-onto e [] = (e ∷ []) ∷ []
-onto e (mine ∷ more) = (e ∷ mine) ∷ more
+abbrev pub onto_phases : {L : Language} → PhaseEnd L → List (List (PhaseEnd L)) → List (List (PhaseEnd L))
+onto_phases e [] = (e ∷ []) ∷ []
+onto_phases e (mine ∷ more) = (e ∷ mine) ∷ more
 
 -- phases cut into those of each item: an item's last phase is its teardown
 abbrev pub by_item : {L : Language} → List (PhaseEnd L) → List (List (PhaseEnd L))
 by_item [] = []
-by_item (e ∷ ends) = if is_last e.phase then (e ∷ []) ∷ by_item ends else onto e (by_item ends)
+by_item (e ∷ ends) = if is_last e.phase then (e ∷ []) ∷ by_item ends else onto_phases e (by_item ends)
 
 -- the tasks whose items ran, in order, where these set-ups were completed before
-abbrev pub with_ends : {L : Language} → List Arrival → List Task → List (List (PhaseEnd L)) → List (Row L)
+abbrev pub with_ends : {L : Language} → List Arrival → List Task → List (List (PhaseEnd L)) → List (ReportRow L)
 with_ends arrivals [] ends = []
 with_ends arrivals (t ∷ ts) [] = []
-with_ends arrivals (t ∷ ts) (mine ∷ more) = row t mine (arrivals ++ arrivals_of t.chosen mine) ∷ with_ends (arrivals ++ arrivals_of t.chosen mine) ts more
+with_ends arrivals (t ∷ ts) (mine ∷ more) = report_row t mine (arrivals ++ arrivals_of t.chosen mine) ∷ with_ends (arrivals ++ arrivals_of t.chosen mine) ts more
 
 -- the session of one thread over tasks: from the collected world, with no live instance
-abbrev pub ran : {L : Language} → Rules L → L.World → ℕ → List Task → State L
-ran rules world maxfail tasks = session rules maxfail (map item_of tasks) (start world)
+abbrev pub ran : {L : Language} → Rules L → L.World → ℕ → List Task → SessionState L
+ran rules world maxfail tasks = session rules maxfail (map task_item tasks) (initial_state world)
 
-abbrev pub rows_of : {L : Language} → Rules L → L.World → ℕ → List Task → List (Row L)
-rows_of rules world maxfail tasks = with_ends [] tasks (by_item (ran rules world maxfail tasks).ends)
+abbrev pub session_rows : {L : Language} → Rules L → L.World → ℕ → List Task → List (ReportRow L)
+session_rows rules world maxfail tasks = with_ends [] tasks (by_item (ran rules world maxfail tasks).ends)

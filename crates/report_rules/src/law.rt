@@ -3,22 +3,22 @@ ghost use Rattle.std.specs.List.{list_any};
 ghost use Rattle.cli_words.specs.declared.options.Options.{Options};
 ghost use Rattle.edge_io.specs.Files.{File};
 ghost use Rattle.report_rules.specs.Alone.{AreAsOneThread};
-ghost use Rattle.report_rules.specs.Answer.{Answer, Failed, is_bad};
-ghost use Rattle.report_rules.specs.Collected.{Collected, FixtureTexts, Profile, SelectedItem, ends_badly, spoken};
+ghost use Rattle.report_rules.specs.Answer.{PrintedAnswer, Failed, is_bad};
+ghost use Rattle.report_rules.specs.Collected.{Collected, FixtureTexts, Profile, SelectedItem, ends_badly, report_language};
 ghost use Rattle.report_rules.specs.Fits.{IsFit};
 ghost use Rattle.report_rules.specs.Headline.{Headline, IsSound};
 ghost use Rattle.report_rules.specs.Groups.{files_in, group_at, groups, items_of};
 ghost use Rattle.report_rules.specs.Once.{AreReported, AreRows};
-ghost use Rattle.report_rules.specs.Report.{IsOfOneThread, IsReport, IsReportBy, IsTaken, places_told, report, reports_told, rows, sessions, stopped, workers_of};
-ghost use Rattle.report_rules.specs.Rows.{Row, Task, rows_of};
+ghost use Rattle.report_rules.specs.Report.{IsOfOneThread, IsReport, IsReportBy, IsTaken, places_told, report, reports_told, rows_reported, sessions, reached_maxfail, workers_of};
+ghost use Rattle.report_rules.specs.Rows.{ReportRow, Task, session_rows};
 ghost use Rattle.report_rules.specs.Items.{item_report};
 ghost use Rattle.report_rules.specs.Placed.{ArePlaced};
 ghost use Rattle.report_rules.specs.Shares.{by_group, tasks_from, worked};
-ghost use Rattle.session_types.specs.Members.{In};
+ghost use Rattle.session_types.specs.Members.{IsMember};
 ghost use Rattle.session_rules.specs.Events.{Lawful};
 ghost use Rattle.session_rules.specs.Frames.{Tidy};
 ghost use Rattle.session_rules.specs.World.{Rules};
-ghost use Rattle.session_rules.specs.Reports.{IsItem};
+ghost use Rattle.session_rules.specs.Reports.{IsTestProtocol};
 ghost use Rattle.session_types.specs.declared.scope.Scope.{Scope};
 ghost use Rattle.share_files.specs.Deal.{Every, Share, times};
 
@@ -43,28 +43,28 @@ pub trait Tests {
 /// workers each report has the place that the assignment gives it, and each worker's rows are those of one thread on the items of
 /// its groups.
 pub fn what_a_report_tells<W: Tests>()
-    ensures { (profile : Profile (spoken W W.Value W.Thrown W.Rest) W.Source W.Table) → IsSound W.holds profile → (taken words : List (List ℕ)) (files : List File) (answer : Answer)
+    ensures { (profile : Profile (report_language W W.Value W.Thrown W.Rest) W.Source W.Table) → IsSound W.holds profile → (taken words : List (List ℕ)) (files : List File) (answer : PrintedAnswer)
         → IsReportBy W.holds profile taken words files answer → Headline W.holds profile taken words answer }
 {}
 
 /// Where each file has a tree or a fault, all words and files have a report.
 pub fn every_run_has_a_report<W: Tests>()
     ensures { ((bytes : List ℕ) → (source : W.Source) × W.holds bytes source)
-        → (profile : Profile (spoken W W.Value W.Thrown W.Rest) W.Source W.Table) (words : List (List ℕ)) (files : List File)
-        → (answer : Answer) × IsReport W.holds profile words files answer }
+        → (profile : Profile (report_language W W.Value W.Thrown W.Rest) W.Source W.Table) (words : List (List ℕ)) (files : List File)
+        → (answer : PrintedAnswer) × IsReport W.holds profile words files answer }
 {}
 
 /// By the groups that workers took, words and files have one report.
 pub fn reports_are_one<W: Tests>()
     ensures { ((bytes : List ℕ) (a b : W.Source) → W.holds bytes a → W.holds bytes b → a ≡ b)
-        → (profile : Profile (spoken W W.Value W.Thrown W.Rest) W.Source W.Table) (taken words : List (List ℕ)) (files : List File) (a b : Answer)
+        → (profile : Profile (report_language W W.Value W.Thrown W.Rest) W.Source W.Table) (taken words : List (List ℕ)) (files : List File) (a b : PrintedAnswer)
         → IsReportBy W.holds profile taken words files a → IsReportBy W.holds profile taken words files b → a ≡ b }
 {}
 
 /// Words that ask for no workers have one report.
 pub fn one_thread_has_one_report<W: Tests>()
     ensures { ((bytes : List ℕ) (a b : W.Source) → W.holds bytes a → W.holds bytes b → a ≡ b)
-        → (profile : Profile (spoken W W.Value W.Thrown W.Rest) W.Source W.Table) (words : List (List ℕ)) (files : List File) (a b : Answer)
+        → (profile : Profile (report_language W W.Value W.Thrown W.Rest) W.Source W.Table) (words : List (List ℕ)) (files : List File) (a b : PrintedAnswer)
         → IsOfOneThread words → IsReport W.holds profile words files a → IsReport W.holds profile words files b → a ≡ b }
 {}
 
@@ -74,58 +74,58 @@ pub fn groups_part_the_items()
     ensures items { (chosen : List SelectedItem) (file : ℕ) → items_of (flat_map (λ group. group) (groups chosen)) file ≡ items_of chosen file }
     ensures files { (chosen : List SelectedItem) (file : ℕ) → (times file (files_in chosen) ≡ 1) ⊎ ((times file (files_in chosen) ≡ 0) × (items_of chosen file ≡ [])) }
     ensures filled { (chosen : List SelectedItem) (g : ℕ) → g < length (groups chosen) → group_at (groups chosen) g ≡ [] → ⊥ }
-    ensures one_file { (chosen : List SelectedItem) (g : ℕ) (c d : SelectedItem) → In c (group_at (groups chosen) g) → In d (group_at (groups chosen) g) → c.file ≡ d.file }
-    ensures one_group { (chosen : List SelectedItem) (g h : ℕ) (c d : SelectedItem) → In c (group_at (groups chosen) g) → In d (group_at (groups chosen) h) → c.file ≡ d.file → g ≡ h }
+    ensures one_file { (chosen : List SelectedItem) (g : ℕ) (c d : SelectedItem) → IsMember c (group_at (groups chosen) g) → IsMember d (group_at (groups chosen) g) → c.file ≡ d.file }
+    ensures one_group { (chosen : List SelectedItem) (g h : ℕ) (c d : SelectedItem) → IsMember c (group_at (groups chosen) g) → IsMember d (group_at (groups chosen) h) → c.file ≡ d.file → g ≡ h }
 {}
 
 /// The rows of a session: its tasks in order, each once, with the phases of its item; all, or up to where maxfail was reached.
 pub fn rows_are_of_items<W: Tests>()
-    ensures { (rules : Rules (spoken W W.Value W.Thrown W.Rest)) (world : W) (maxfail : ℕ) (tasks : List Task)
-        → AreRows maxfail 0 tasks (rows_of rules world maxfail tasks) }
+    ensures { (rules : Rules (report_language W W.Value W.Thrown W.Rest)) (world : W) (maxfail : ℕ) (tasks : List Task)
+        → AreRows maxfail 0 tasks (session_rows rules world maxfail tasks) }
 {}
 
 /// What a run reports: the items that collection selects, each once, in the stated order.
 pub fn items_are_reported_once<W: Tests>()
-    ensures { (rules : Rules (spoken W W.Value W.Thrown W.Rest)) (options : Options) (c : Collected (spoken W W.Value W.Thrown W.Rest) W.Table) (taken : List (List ℕ))
-        → IsTaken options c taken → AreReported rules options c (rows rules options c taken) }
+    ensures { (rules : Rules (report_language W W.Value W.Thrown W.Rest)) (options : Options) (c : Collected (report_language W W.Value W.Thrown W.Rest) W.Table) (taken : List (List ℕ))
+        → IsTaken options c taken → AreReported rules options c (rows_reported rules options c taken) }
 {}
 
 /// The journal of each session of a run is lawful.
 pub fn every_journal_is_lawful<W: Tests>()
-    ensures { (rules : Rules (spoken W W.Value W.Thrown W.Rest)) (options : Options) (c : Collected (spoken W W.Value W.Thrown W.Rest) W.Table) (taken : List (List ℕ))
+    ensures { (rules : Rules (report_language W W.Value W.Thrown W.Rest)) (options : Options) (c : Collected (report_language W W.Value W.Thrown W.Rest) W.Table) (taken : List (List ℕ))
         → IsFit rules c.selected → IsTaken options c taken → Every (λ s. Lawful s.events) (sessions rules options c taken) }
 {}
 
 /// At the end of each session of a run no frozen frame is out that wasn't out where collection ended.
 pub fn no_frame_is_left_out<W: Tests>()
-    ensures { (rules : Rules (spoken W W.Value W.Thrown W.Rest)) (out : W → ℕ) → Tidy rules out → (options : Options) (c : Collected (spoken W W.Value W.Thrown W.Rest) W.Table) (taken : List (List ℕ))
+    ensures { (rules : Rules (report_language W W.Value W.Thrown W.Rest)) (out : W → ℕ) → Tidy rules out → (options : Options) (c : Collected (report_language W W.Value W.Thrown W.Rest) W.Table) (taken : List (List ℕ))
         → IsFit rules c.selected → IsTaken options c taken → Every (λ s. out s.world ≡ out c.world) (sessions rules options c taken) }
 {}
 
 /// Of the rows that a run with workers reports, those of a worker are the rows of one thread on the items of its groups.
 pub fn workers_are_as_one_thread<W: Tests>()
-    ensures { (rules : Rules (spoken W W.Value W.Thrown W.Rest)) (c : Collected (spoken W W.Value W.Thrown W.Rest) W.Table) (workers : ℕ) (taken : List (List ℕ))
+    ensures { (rules : Rules (report_language W W.Value W.Thrown W.Rest)) (c : Collected (report_language W W.Value W.Thrown W.Rest) W.Table) (workers : ℕ) (taken : List (List ℕ))
         → Share (length (groups c.selected)) workers taken → AreAsOneThread rules c taken (by_group 0 (length (groups c.selected)) (worked rules c.world (tasks_from (groups c.selected) 0 taken))) }
 {}
 
 /// A report shows a failure or an error exactly where a phase of its item was counted as one.
 pub fn what_is_shown_is_what_was_counted<W: Tests>()
-    ensures { (options : Options) (scope : ℕ → Scope) (fixture : ℕ → FixtureTexts) (row : Row (spoken W W.Value W.Thrown W.Rest))
-        → IsItem row.task.chosen.item.node row.ends → is_bad (item_report options scope fixture row) ≡ list_any (λ e. ends_badly e.phase e.told) row.ends }
+    ensures { (options : Options) (scope : ℕ → Scope) (fixture : ℕ → FixtureTexts) (row : ReportRow (report_language W W.Value W.Thrown W.Rest))
+        → IsTestProtocol row.task.chosen.item.node row.ends → is_bad (item_report options scope fixture row) ≡ list_any (λ e. ends_badly e.phase e.told) row.ends }
 {}
 
 /// A run that stopped early has failed.
 pub fn a_stopped_run_fails<W: Tests>()
-    ensures { (profile : Profile (spoken W W.Value W.Thrown W.Rest) W.Source W.Table) (options : Options) (c : Collected (spoken W W.Value W.Thrown W.Rest) W.Table) (taken : List (List ℕ))
-        → stopped (profile.rules options c.table) options c ≡ true → (report W.holds profile options c taken).1 ≡ Failed }
+    ensures { (profile : Profile (report_language W W.Value W.Thrown W.Rest) W.Source W.Table) (options : Options) (c : Collected (report_language W W.Value W.Thrown W.Rest) W.Table) (taken : List (List ℕ))
+        → reached_maxfail (profile.rules options c.table) options c ≡ true → (report W.holds profile options c taken).1 ≡ Failed }
 {}
 
 /// With workers each report has one place: in a group that the worker took, its item one of that group. Without, there is none.
 pub fn places_agree<W: Tests>()
-    ensures placed { (rules : Rules (spoken W W.Value W.Thrown W.Rest)) (options : Options) (c : Collected (spoken W W.Value W.Thrown W.Rest) W.Table) (taken : List (List ℕ))
-        → (workers_of options c ≡ 0 → ⊥) → IsTaken options c taken → ArePlaced c taken (rows rules options c taken) }
-    ensures as_many { (profile : Profile (spoken W W.Value W.Thrown W.Rest) W.Source W.Table) (options : Options) (c : Collected (spoken W W.Value W.Thrown W.Rest) W.Table) (taken : List (List ℕ))
+    ensures placed { (rules : Rules (report_language W W.Value W.Thrown W.Rest)) (options : Options) (c : Collected (report_language W W.Value W.Thrown W.Rest) W.Table) (taken : List (List ℕ))
+        → (workers_of options c ≡ 0 → ⊥) → IsTaken options c taken → ArePlaced c taken (rows_reported rules options c taken) }
+    ensures as_many { (profile : Profile (report_language W W.Value W.Thrown W.Rest) W.Source W.Table) (options : Options) (c : Collected (report_language W W.Value W.Thrown W.Rest) W.Table) (taken : List (List ℕ))
         → (workers_of options c ≡ 0 → ⊥) → IsTaken options c taken → length (places_told W.holds profile options c taken) ≡ length (reports_told W.holds profile options c taken) }
-    ensures none { (profile : Profile (spoken W W.Value W.Thrown W.Rest) W.Source W.Table) (options : Options) (c : Collected (spoken W W.Value W.Thrown W.Rest) W.Table) (taken : List (List ℕ))
+    ensures none { (profile : Profile (report_language W W.Value W.Thrown W.Rest) W.Source W.Table) (options : Options) (c : Collected (report_language W W.Value W.Thrown W.Rest) W.Table) (taken : List (List ℕ))
         → workers_of options c ≡ 0 → places_told W.holds profile options c taken ≡ [] }
 {}

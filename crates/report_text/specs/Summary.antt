@@ -3,7 +3,7 @@ use Rattle.std.specs.Prelude.{ℕ, ◌+◌, List, [], ◌∷◌, ◌++◌, lengt
 use Rattle.std.specs.List.{list_any}
 use Rattle.texts.specs.Texts.{counted, joined, title}
 use Rattle.cli_words.specs.declared.options.Options.{Options}
-use Rattle.report_parts.specs.Exceptions.{first_line, strict_first}
+use Rattle.report_parts.specs.Exceptions.{first_line_bytes, strict_first}
 use Rattle.report_parts.specs.Outcomes.{has_error, has_failed, is_raised, not_empty, once, outcome_of}
 use Rattle.report_parts.specs.declared.outcome.Outcome.{Outcome}
 use Rattle.report_parts.specs.declared.outcome.Outcome.TheVariants.{Passed, Failed, Error, Skipped, Xfailed, Xpassed}
@@ -17,7 +17,7 @@ use Rattle.report_parts.specs.declared.report.Told.{Told}
 -- the first line of the first exception
 abbrev pub first_told : List Told → List ℕ
 first_told [] = []
-first_told (told ∷ tolds) = first_line told.text
+first_told (told ∷ tolds) = first_line_bytes told.text
 
 abbrev pub end_text : PhaseEnd → List ℕ
 end_text (end.StrictXpassed frame reason) = strict_first reason
@@ -36,7 +36,7 @@ unfoldable pub failed_line : ItemReport → List ℕ
 failed_line report = if has_failed report then summary_line (codes "FAILED") report.node_id (end_text report.call) else []
 
 unfoldable pub collect_line : CollectReport → List ℕ
-collect_line error = summary_line (codes "ERROR") error.file (first_line error.told.text)
+collect_line error = summary_line (codes "ERROR") error.file (first_line_bytes error.told.text)
 
 unfoldable pub setup_line : ItemReport → List ℕ
 setup_line report = if is_raised report.setup then summary_line (codes "ERROR") report.node_id (end_text report.setup) else []

@@ -1,7 +1,7 @@
 ghost use Rattle.std.specs.Prelude.{◌≡◌, [], ◌++◌, ◌&&◌, codes, drop, IfOk, OnOk, string_bytes, flat_map, if◌then◌else◌};
 ghost use Rattle.std.specs.Str.{bytes_eq};
 ghost use Rattle.report_parts.specs.Outcomes.{outcome_of};
-ghost use Rattle.report_text.specs.Progress.{after_letters, between, letter_of, letters_of, worker_end, node_line, plain_lines, progress_lines, progress_of, rows, same_group, same_line, shown_line, shown_lines_of, file_start, verbose_line, verbose_lines, with_gap};
+ghost use Rattle.report_text.specs.Progress.{after_letters, between, letter_of, letters_of, worker_end, node_line, plain_lines, progress_lines, progress_of, placed_reports, same_group, same_line, shown_line, shown_lines_of, file_start, verbose_line, verbose_lines, with_gap};
 
 use cli_words::Options;
 use report_parts::{ItemReport, Outcome, Phase, Place, Text};
@@ -147,7 +147,7 @@ fn push_all_verbose_lines(
     reports: &[ItemReport],
     places: &[Place],
 ) -> Result<(), AllocError>
-    ensures { OnOk result (string_bytes out.new ≡ string_bytes out.old ++ flat_map verbose_lines (rows reports.now places.now)) }
+    ensures { OnOk result (string_bytes out.new ≡ string_bytes out.old ++ flat_map verbose_lines (placed_reports reports.now places.now)) }
 {
     let mut left = places;
     for report in reports {
@@ -162,7 +162,7 @@ fn push_all_shown_lines(
     reports: &[ItemReport],
     places: &[Place],
 ) -> Result<(), AllocError>
-    ensures { OnOk result (string_bytes out.new ≡ string_bytes out.old ++ flat_map shown_lines_of (rows reports.now places.now)) }
+    ensures { OnOk result (string_bytes out.new ≡ string_bytes out.old ++ flat_map shown_lines_of (placed_reports reports.now places.now)) }
 {
     let mut left = places;
     for report in reports {
@@ -203,7 +203,7 @@ fn push_plain_lines(
     reports: &[ItemReport],
     places: &[Place],
 ) -> Result<(), AllocError>
-    ensures { OnOk result (string_bytes out.new ≡ string_bytes out.old ++ plain_lines (rows reports.now places.now)) }
+    ensures { OnOk result (string_bytes out.new ≡ string_bytes out.old ++ plain_lines (placed_reports reports.now places.now)) }
 {
     let Some((first, others)) = reports.split_first() else {
         return Ok(());
@@ -228,7 +228,7 @@ fn push_other_lines(
     others: &[ItemReport],
     places: &[Place],
 ) -> Result<(), AllocError>
-    ensures { OnOk result (string_bytes out.new ≡ string_bytes out.old ++ after_letters (first.now, first_place) (rows others.now places.now)) }
+    ensures { OnOk result (string_bytes out.new ≡ string_bytes out.old ++ after_letters (first.now, first_place) (placed_reports others.now places.now)) }
 {
     let mut last = first;
     let mut place = first_place;

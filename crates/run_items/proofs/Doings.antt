@@ -4,81 +4,81 @@ use Rattle.fixture_calls.specs.Asking.{test_request}
 use Rattle.fixture_calls.specs.Calls.{test_called}
 use Rattle.fixture_calls.specs.declared.failure.Failure.{Failure}
 use Rattle.runtest_reports.specs.fixture_sessions.FixtureSession.{fixture_set_up, object_stands, set_up_behind}
-use Rattle.fixture_world.specs.Items.{closure_of, item_of}
-use Rattle.item_stack.specs.Leaving.{IsNext, chain_for}
+use Rattle.fixture_world.specs.Items.{closure_of, item_in_session}
+use Rattle.item_stack.specs.Leaving.{IsNextItem, chain_for}
 use Rattle.py_values.specs.declared.value.Value.{Value}
 use Rattle.report_parts.specs.Outcomes.{is_raised}
 use Rattle.report_parts.specs.declared.outcome.Phase.{Phase as ShownPhase}
 use Rattle.report_parts.specs.declared.outcome.Phase.TheVariants as shown
-use Rattle.runtest_reports.specs.report_rules.Collected.{Ending, ends_badly}
+use Rattle.runtest_reports.specs.report_rules.Collected.{CapturedEnd, ends_badly}
 use Rattle.run_items.specs.Stands.{IsPlannedItem, node_of, plan_rules, planned, stand_state}
 use Rattle.run_items.specs.declared.plan.Plan.{Plan}
 use Rattle.run_items.specs.declared.stand.Stand.{Stand}
 use Rattle.runtest_reports.specs.Kept.{session_phase}
-use Rattle.runtest_reports.specs.Stages.{IsKnown, session_item}
+use Rattle.runtest_reports.specs.Stages.{IsKnownItem, session_item}
 use Rattle.fixture_world.specs.runtest_rules.Failures.{fixture_fault, skipped, wrong_arguments}
 use Rattle.fixture_world.specs.runtest_rules.Language.{python}
-use Rattle.fixture_world.specs.runtest_rules.Objects.{instance_made, object_made}
+use Rattle.fixture_world.specs.runtest_rules.Objects.{instance_made, item_object}
 use Rattle.fixture_world.specs.runtest_rules.Phases.{phase_ended, phase_of}
 use Rattle.fixture_world.specs.runtest_rules.Rules.{hook_answer, world_answer}
-use Rattle.session_rules.specs.Session.{chain_of, opened, set_up_by, set_up_item, telling, test_item, test_with}
+use Rattle.session_rules.specs.Session.{chain_of, with_new_instance, set_up_by, set_up_item, telling, pyfunc_call, test_with}
 use Rattle.session_rules.specs.Session as session
-use Rattle.session_rules.specs.Teardown.{State, Step, emit, in_world, step}
+use Rattle.session_rules.specs.Teardown.{SessionState, Step, emit, in_world, session_step}
 use Rattle.session_rules.specs.World.{Language, Rules, Teardown}
 use Rattle.session_rules.specs.World as world
 use Rattle.session_types.specs.declared.journal.Event.{Event}
 use Rattle.item_stack.specs.setup_stack.declared.stack.FixtureStack.{FixtureStack}
 use Rattle.fixture_calls.specs.source_meaning.Meaning.{SourceWorld}
-use Rattle.test_suite.specs.Suites.{item_at}
+use Rattle.test_suite.specs.Suites.{item_with_node}
 use Rattle.test_suite.specs.declared.item.Item.{Item}
 
 module _ (plan : Plan) (item : Item) (p : IsPlannedItem plan item) where
   -- THE OBJECTS
 
-  pub opened_same : (s : State python) (own : Option Value) (w : SourceWorld) → (own, w) ≡ instance_made item s.world → record s { world = w; instance = own } ≡ opened (plan_rules plan) (item_of plan.table item) s
+  pub opened_same : (s : SessionState python) (own : Option Value) (w : SourceWorld) → (own, w) ≡ instance_made item s.world → record s { world = w; instance = own } ≡ with_new_instance (plan_rules plan) (item_in_session plan.table item) s
   opened_same s own w e =
       ap (λ (x : Option Value × SourceWorld). record s { world = x.1; instance = x.0 }) (e ∙ ap (λ (i : Item). instance_made i s.world) (sym p.found))
 
-  pub object_same : (s : State python) (v : Value) (w : SourceWorld) → (v, w) ≡ object_made item s.world → in_world w s ≡ object_stands (plan_rules plan) (item_of plan.table item).node s
+  pub object_same : (s : SessionState python) (v : Value) (w : SourceWorld) → (v, w) ≡ item_object item s.world → in_world w s ≡ object_stands (plan_rules plan) (item_in_session plan.table item).node s
   object_same s v w e =
-      ap (λ (x : Value × SourceWorld). in_world x.1 s) (e ∙ ap (λ (i : Item). object_made i s.world) (sym p.found))
+      ap (λ (x : Value × SourceWorld). in_world x.1 s) (e ∙ ap (λ (i : Item). item_object i s.world) (sym p.found))
 
   -- THE SET-UP
 
-  pub fault_same : (s : State python) (f : Failure) (w : SourceWorld) → closure_of item.closure ≡ None → (f, w) ≡ fixture_fault item s.world → step (f ∷ []) (in_world w s) ≡ set_up_item (plan_rules plan) (item_of plan.table item) s
+  pub fault_same : (s : SessionState python) (f : Failure) (w : SourceWorld) → closure_of item.closure ≡ None → (f, w) ≡ fixture_fault item s.world → session_step (f ∷ []) (in_world w s) ≡ set_up_item (plan_rules plan) (item_in_session plan.table item) s
   fault_same s f w none e =
-      ap (λ (x : Failure × SourceWorld). step (x.0 ∷ []) (in_world x.1 s)) (e ∙ ap (λ (i : Item). fixture_fault i s.world) (sym p.found))
-      ∙ ap (λ (o : Option (List ℕ)). set_up_by (plan_rules plan) (item_of plan.table item) o s) (sym none)
+      ap (λ (x : Failure × SourceWorld). session_step (x.0 ∷ []) (in_world x.1 s)) (e ∙ ap (λ (i : Item). fixture_fault i s.world) (sym p.found))
+      ∙ ap (λ (o : Option (List ℕ)). set_up_by (plan_rules plan) (item_in_session plan.table item) o s) (sym none)
 
-  pub skip_same : (s : State python) (f : Option Failure) (w : SourceWorld) → (f, w) ≡ skipped item s.world
-      → set_up_behind (plan_rules plan) (item_of plan.table item) s (world_answer (hook_answer f, w)) ≡ fixture_set_up (plan_rules plan) (item_of plan.table item) s
+  pub skip_same : (s : SessionState python) (f : Option Failure) (w : SourceWorld) → (f, w) ≡ skipped item s.world
+      → set_up_behind (plan_rules plan) (item_in_session plan.table item) s (world_answer (hook_answer f, w)) ≡ fixture_set_up (plan_rules plan) (item_in_session plan.table item) s
   skip_same s f w e =
-      ap (λ (x : Option Failure × SourceWorld). set_up_behind (plan_rules plan) (item_of plan.table item) s (world_answer (hook_answer x.0, x.1))) (e ∙ ap (λ (i : Item). skipped i s.world) (sym p.found))
+      ap (λ (x : Option Failure × SourceWorld). set_up_behind (plan_rules plan) (item_in_session plan.table item) s (world_answer (hook_answer x.0, x.1))) (e ∙ ap (λ (i : Item). skipped i s.world) (sym p.found))
 
   -- an item that is skipped, and one that isn't
-  pub skipped_same : (s : State python) (o : Option Failure) (f : Failure) (w : SourceWorld) → (o, w) ≡ skipped item s.world → o ≡ Some f → step (f ∷ []) (in_world w s) ≡ fixture_set_up (plan_rules plan) (item_of plan.table item) s
+  pub skipped_same : (s : SessionState python) (o : Option Failure) (f : Failure) (w : SourceWorld) → (o, w) ≡ skipped item s.world → o ≡ Some f → session_step (f ∷ []) (in_world w s) ≡ fixture_set_up (plan_rules plan) (item_in_session plan.table item) s
   skipped_same s o f w e q =
-      ap (λ (x : Option Failure). set_up_behind (plan_rules plan) (item_of plan.table item) s (world_answer (hook_answer x, w))) (sym q) ∙ skip_same s o w e
+      ap (λ (x : Option Failure). set_up_behind (plan_rules plan) (item_in_session plan.table item) s (world_answer (hook_answer x, w))) (sym q) ∙ skip_same s o w e
 
-  pub unskipped_same : (s t : State python) (raised : List Failure) (o : Option Failure) (w : SourceWorld) → (o, w) ≡ skipped item s.world → o ≡ None → step raised t ≡ set_up_item (plan_rules plan) (item_of plan.table item) (in_world w s)
-      → step raised t ≡ fixture_set_up (plan_rules plan) (item_of plan.table item) s
+  pub unskipped_same : (s t : SessionState python) (raised : List Failure) (o : Option Failure) (w : SourceWorld) → (o, w) ≡ skipped item s.world → o ≡ None → session_step raised t ≡ set_up_item (plan_rules plan) (item_in_session plan.table item) (in_world w s)
+      → session_step raised t ≡ fixture_set_up (plan_rules plan) (item_in_session plan.table item) s
   unskipped_same s t raised o w e q r =
-      r ∙ (ap (λ (x : Option Failure). set_up_behind (plan_rules plan) (item_of plan.table item) s (world_answer (hook_answer x, w))) (sym q) ∙ skip_same s o w e)
+      r ∙ (ap (λ (x : Option Failure). set_up_behind (plan_rules plan) (item_in_session plan.table item) s (world_answer (hook_answer x, w))) (sym q) ∙ skip_same s o w e)
 
   -- THE CALL
 
-  pub called_same : (s : State python) (values : List Value) (request : Option Value) (w1 w2 : SourceWorld) (failure : Option Failure)
+  pub called_same : (s : SessionState python) (values : List Value) (request : Option Value) (w1 w2 : SourceWorld) (failure : Option Failure)
       → (request, w1) ≡ test_request item s.world → (failure, w2) ≡ test_called plan.run.limit item s.instance values request w1
-      → step (option_to_list failure) (record s { world = w2; request = request }) ≡ test_with (plan_rules plan) (item_of plan.table item) (Some values) s
+      → session_step (option_to_list failure) (record s { world = w2; request = request }) ≡ test_with (plan_rules plan) (item_in_session plan.table item) (Some values) s
   called_same s values request w1 w2 failure e f =
       let called : (Option Value × SourceWorld) → Item → (Option Failure × SourceWorld) = λ x i. test_called plan.run.limit i s.instance values x.0 x.1 in
-      ap (λ (y : Option Failure × SourceWorld). step (option_to_list y.0) (record s { world = y.1; request = request })) (f ∙ ap (λ (i : Item). called (request, w1) i) (sym p.found))
-      ∙ ap (λ (x : Option Value × SourceWorld). step (option_to_list (called x (item_at plan.run.suite item.node)).0) (record s { world = (called x (item_at plan.run.suite item.node)).1; request = x.0 }))
+      ap (λ (y : Option Failure × SourceWorld). session_step (option_to_list y.0) (record s { world = y.1; request = request })) (f ∙ ap (λ (i : Item). called (request, w1) i) (sym p.found))
+      ∙ ap (λ (x : Option Value × SourceWorld). session_step (option_to_list (called x (item_with_node plan.run.suite item.node)).0) (record s { world = (called x (item_with_node plan.run.suite item.node)).1; request = x.0 }))
       (e ∙ ap (λ (i : Item). test_request i s.world) (sym p.found))
 
-  pub wrong_same : (s : State python) (f : Failure) (w : SourceWorld) → (f, w) ≡ wrong_arguments item s.world → step (option_to_list (Some f)) (in_world w s) ≡ test_with (plan_rules plan) (item_of plan.table item) None s
+  pub wrong_same : (s : SessionState python) (f : Failure) (w : SourceWorld) → (f, w) ≡ wrong_arguments item s.world → session_step (option_to_list (Some f)) (in_world w s) ≡ test_with (plan_rules plan) (item_in_session plan.table item) None s
   wrong_same s f w e =
-      ap (λ (x : Failure × SourceWorld). step (x.0 ∷ []) (in_world x.1 s)) (e ∙ ap (λ (i : Item). wrong_arguments i s.world) (sym p.found))
+      ap (λ (x : Failure × SourceWorld). session_step (x.0 ∷ []) (in_world x.1 s)) (e ∙ ap (λ (i : Item). wrong_arguments i s.world) (sym p.found))
 
   -- THE END OF A PHASE
 
@@ -87,14 +87,14 @@ module _ (plan : Plan) (item : Item) (p : IsPlannedItem plan item) where
   phase_same shown.Call = refl
   phase_same shown.Teardown = refl
 
-  pub ended_by : (phase : ShownPhase) (raised : List Failure) (s : State python) (x : Ending × SourceWorld) → x ≡ phase_ended (phase_of phase) item raised s.world
-      → x ≡ phase_ended (session_phase phase) (item_at plan.run.suite item.node) raised s.world
+  pub ended_by : (phase : ShownPhase) (raised : List Failure) (s : SessionState python) (x : CapturedEnd × SourceWorld) → x ≡ phase_ended (phase_of phase) item raised s.world
+      → x ≡ phase_ended (session_phase phase) (item_with_node plan.run.suite item.node) raised s.world
   ended_by phase raised s x e =
       e ∙ (ap (λ (q : world.Phase). phase_ended q item raised s.world) (phase_same phase) ∙ ap (λ (i : Item). phase_ended (session_phase phase) i raised s.world) (sym p.found))
 
   -- whether a teardown that raised these is an error
-  pub fails_same : (raised : List Failure) (s : State python) (error : Bool) → error ≡ ends_badly Teardown (phase_ended Teardown item raised s.world).0
-      → error ≡ is_raised (telling (plan_rules plan) Teardown (item_of plan.table item) (step raised s)).told.end
+  pub fails_same : (raised : List Failure) (s : SessionState python) (error : Bool) → error ≡ ends_badly Teardown (phase_ended Teardown item raised s.world).0
+      → error ≡ is_raised (telling (plan_rules plan) Teardown (item_in_session plan.table item) (session_step raised s)).told.end
   fails_same raised s error e = e ∙ ap (λ (i : Item). ends_badly Teardown (phase_ended Teardown i raised s.world).0) (sym p.found)
 
 -- an event is noted
@@ -106,14 +106,14 @@ noted_same s k e f same more q =
     ∙ ap (λ (x : Event). emit x (stand_state s)) q)
 
 -- the events around a call
-pub call_same : {L : Language} (rules : Rules L) (item : world.Item) (b e : Event) (s t u v : State L) (raised : List L.Thrown) → t ≡ emit b s → step raised u ≡ test_item rules item t → v ≡ emit e u
-    → step raised v ≡ session.emitted e (test_item rules item (emit b s))
+pub call_same : {L : Language} (rules : Rules L) (item : world.Item) (b e : Event) (s t u v : SessionState L) (raised : List L.Thrown) → t ≡ emit b s → session_step raised u ≡ pyfunc_call rules item t → v ≡ emit e u
+    → session_step raised v ≡ session.emitted e (pyfunc_call rules item (emit b s))
 call_same {L} rules item b e s t u v raised h k l =
-    ap (λ (x : State L). step raised x) l ∙ ap (λ (r : Step L). session.emitted e r) (k ∙ ap (λ (x : State L). test_item rules item x) h)
+    ap (λ (x : SessionState L). session_step raised x) l ∙ ap (λ (r : Step L). session.emitted e r) (k ∙ ap (λ (x : SessionState L). pyfunc_call rules item x) h)
 
 -- THE NEXT ITEM
 
-pub next_stands : (plan : Plan) (next : Option Item) → IsKnown (IsPlannedItem plan) next → IsNext plan.table (node_of next)
+pub next_stands : (plan : Plan) (next : Option Item) → IsKnownItem (IsPlannedItem plan) next → IsNextItem plan.table (node_of next)
 next_stands plan None k = tt
 next_stands plan (Some item) k = k.node
 

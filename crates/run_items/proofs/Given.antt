@@ -4,7 +4,7 @@ use Rattle.std.specs.Prelude.{slice_get}
 use Rattle.cli_words.specs.declared.options.Options.{Options}
 use Rattle.fixture_calls.specs.declared.failure.Failure.{Failure}
 use Rattle.item_stack.specs.fixture_instances.Resting.{AreSpent}
-use Rattle.item_stack.specs.fixture_instances.declared.ends.Held.{Held}
+use Rattle.item_stack.specs.fixture_instances.declared.ends.CachedResult.{CachedResult}
 use Rattle.runtest_reports.specs.fixture_sessions.BuiltIn.{HasBuiltInHooks, built_in_impls}
 use Rattle.item_stack.specs.States.{IsNew, instance_kept}
 use Rattle.py_values.specs.declared.value.Value.{Value}
@@ -20,23 +20,23 @@ use Rattle.runtest_loop.specs.Run.{Runs}
 use Rattle.runtest_loop.specs.declared.run_end.RunEnd.{RunEnd}
 use Rattle.fixture_world.specs.runtest_rules.Language.{python}
 use Rattle.fixture_world.specs.runtest_rules.Rules.{hooks_of}
-use Rattle.session_rules.specs.Fits.{Fits}
-use Rattle.session_rules.specs.Session.{start}
+use Rattle.session_rules.specs.Fits.{HasFixtureClosure}
+use Rattle.session_rules.specs.Session.{initial_state}
 use Rattle.session_rules.specs.World.{Call, Language, Phase, SetUp, Teardown}
 use Rattle.session_types.proofs.Lists.{In-append}
-use Rattle.session_types.specs.Members.{In}
+use Rattle.session_types.specs.Members.{IsMember}
 use Rattle.session_types.specs.declared.instance.Instance.{Instance}
 use Rattle.item_stack.specs.setup_stack.declared.stack.FixtureStack.{FixtureStack}
 use Rattle.fixture_calls.specs.source_meaning.Meaning.{SourceWorld}
 use Rattle.test_suite.specs.declared.item.Item.{Item}
 
 -- where nothing is set up, a session begins
-pub starts : (s : Stand) → IsNew s.stack → stand_state s ≡ start s.world
+pub starts : (s : Stand) → IsNew s.stack → stand_state s ≡ initial_state s.world
 starts s n =
     ap₂ (λ (k : FixtureStack Value Failure ℕ) (r : Option Value). stand_state (record s { stack = record { stack = k; request = r } })) n.stack n.request
 
 -- where none lives, none is frozen
-none_spent : (L : Language) (is : List (Instance (Held L.Value L.Thrown L.Rest))) → map (instance_kept L) is ≡ [] → AreSpent is
+none_spent : (L : Language) (is : List (Instance (CachedResult L.Value L.Thrown L.Rest))) → map (instance_kept L) is ≡ [] → AreSpent is
 none_spent L [] e = tt
 none_spent L (i ∷ is) e = cc
 
@@ -52,12 +52,12 @@ pub built_in : (plan : Plan) → HasBuiltInHooks (plan_rules plan)
 built_in plan = record { hooks = λ phase n. hooks_same phase; unread = λ n arguments w. refl }
 
 module _ (plan : Plan) (items : List Item) (known : AreKnown (IsPlannedItem plan) items) where
-  one_fits : (n : ℕ) (o : Option Item) → slice_get items n ≡ o → (c : SelectedItem) → In c (option_to_list (option_map (planned plan) o)) → Fits (plan_rules plan) c.item
+  one_fits : (n : ℕ) (o : Option Item) → slice_get items n ≡ o → (c : SelectedItem) → IsMember c (option_to_list (option_map (planned plan) o)) → HasFixtureClosure (plan_rules plan) c.item
   one_fits n None e c m = absurd m
-  one_fits n (Some x) e c (inl q) = subst (λ (s : SelectedItem). Fits (plan_rules plan) s.item) (sym q) (known n x e).fits
+  one_fits n (Some x) e c (inl q) = subst (λ (s : SelectedItem). HasFixtureClosure (plan_rules plan) s.item) (sym q) (known n x e).fits
   one_fits n (Some x) e c (inr m) = absurd m
 
-  all_fit : (numbers : List ℕ) (c : SelectedItem) → In c (chosen_in (planned plan) items numbers) → Fits (plan_rules plan) c.item
+  all_fit : (numbers : List ℕ) (c : SelectedItem) → IsMember c (chosen_in (planned plan) items numbers) → HasFixtureClosure (plan_rules plan) c.item
   all_fit [] c m = absurd m
   all_fit (n ∷ numbers) c m =
       elim (In-append c (chosen_at (planned plan) items n) (chosen_in (planned plan) items numbers) m) [

@@ -6,7 +6,7 @@ use Rattle.fixture_world.specs.Items.{selected_item}
 use Rattle.report_parts.specs.declared.report.ItemReport.{ItemReport}
 use Rattle.runtest_reports.specs.report_rules.Collected.{FixtureTexts}
 use Rattle.runtest_reports.specs.report_rules.Items.{item_report}
-use Rattle.runtest_reports.specs.report_rules.Rows.{row, task}
+use Rattle.runtest_reports.specs.report_rules.Rows.{report_row, task}
 use Rattle.run_items.specs.NotRun.{AreNotRun, selected_items, unrun_report}
 use Rattle.fixture_world.specs.runtest_rules.Language.{python}
 use Rattle.session_types.specs.declared.scope.Scope.{Scope}
@@ -14,7 +14,7 @@ use Rattle.test_suite.specs.Suites.{numbered_item}
 use Rattle.test_suite.specs.declared.item.Item.{Item}
 
 module _ (table : TableValue) (files : ℕ → ℕ) (options : Options) (scope : ℕ → Scope) (fixture : ℕ → FixtureTexts) where
-  one_unrun : (file : ℕ) (i : Item) → item_report options scope fixture (row {L = python} (task None (selected_item table file i)) [] []) ≡ unrun_report i
+  one_unrun : (file : ℕ) (i : Item) → item_report options scope fixture (report_row {L = python} (task None (selected_item table file i)) [] []) ≡ unrun_report i
   one_unrun file i =
       elim options.setup_show as (λ b. record (unrun_report i) { shown_lines = cond b [] [] } ≡ unrun_report i) [
         | true ↦ refl
@@ -22,7 +22,7 @@ module _ (table : TableValue) (files : ℕ → ℕ) (options : Options) (scope :
       ]
 
   all_unrun : (items : List Item) (numbers : List ℕ)
-      → map (item_report options scope fixture) (map (λ t. row {L = python} t [] []) (map (task None) (selected_items table files items numbers))) ≡ map (λ n. unrun_report (numbered_item items n)) numbers
+      → map (item_report options scope fixture) (map (λ t. report_row {L = python} t [] []) (map (task None) (selected_items table files items numbers))) ≡ map (λ n. unrun_report (numbered_item items n)) numbers
   all_unrun items [] = refl
   all_unrun items (n ∷ numbers) = ap₂ (λ (r : ItemReport) (rs : List ItemReport). r ∷ rs) (one_unrun (files n) (numbered_item items n)) (all_unrun items numbers)
 

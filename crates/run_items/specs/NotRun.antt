@@ -7,7 +7,7 @@ use Rattle.report_parts.specs.declared.report.ItemReport.{ItemReport}
 use Rattle.report_parts.specs.declared.report.PhaseEnd.TheVariants.{NotRun}
 use Rattle.runtest_reports.specs.report_rules.Collected.{FixtureTexts, SelectedItem}
 use Rattle.runtest_reports.specs.report_rules.Items.{item_report}
-use Rattle.runtest_reports.specs.report_rules.Rows.{row, task}
+use Rattle.runtest_reports.specs.report_rules.Rows.{report_row, task}
 use Rattle.fixture_world.specs.runtest_rules.Language.{python}
 use Rattle.session_types.specs.declared.scope.Scope.{Scope}
 use Rattle.test_suite.specs.Suites.{numbered_item}
@@ -35,4 +35,4 @@ selected_items table files items numbers = map (λ n. selected_item table (files
 unfoldable pub AreNotRun : List Item → List ℕ → List ItemReport → Type 0
 AreNotRun items numbers reports =
     (table : TableValue) (files : ℕ → ℕ) (options : Options) (scope : ℕ → Scope) (fixture : ℕ → FixtureTexts)
-    → map (item_report options scope fixture) (map (λ t. row {L = python} t [] []) (map (task None) (selected_items table files items numbers))) ≡ reports
+    → map (item_report options scope fixture) (map (λ t. report_row {L = python} t [] []) (map (task None) (selected_items table files items numbers))) ≡ reports

@@ -1,7 +1,7 @@
 -- Where a session over sources runs: a world, and what is set up in it.
 use Rattle.std.specs.Prelude.{◌≡◌, ℕ, ◌<◌, [], Option, Some, None, length}
 use Rattle.fixture_table.specs.Tree.{IsTree}
-use Rattle.fixture_world.specs.Items.{item_of, selected_item}
+use Rattle.fixture_world.specs.Items.{item_in_session, selected_item}
 use Rattle.item_stack.specs.States.{item_state}
 use Rattle.runtest_reports.specs.report_rules.Collected.{FixtureTexts, SelectedItem}
 use Rattle.run_items.specs.Texts.{fixture_texts}
@@ -9,11 +9,11 @@ use Rattle.run_items.specs.declared.plan.Plan.{Plan}
 use Rattle.run_items.specs.declared.stand.Stand.{Stand}
 use Rattle.fixture_world.specs.runtest_rules.Language.{python}
 use Rattle.fixture_world.specs.runtest_rules.Rules.{rules_within}
-use Rattle.session_rules.specs.Fits.{Fits}
-use Rattle.session_rules.specs.Teardown.{State}
+use Rattle.session_rules.specs.Fits.{HasFixtureClosure}
+use Rattle.session_rules.specs.Teardown.{SessionState}
 use Rattle.session_rules.specs.World.{Rules}
 use Rattle.item_stack.specs.setup_stack.Scopes.{HasScopes}
-use Rattle.test_suite.specs.Suites.{item_at}
+use Rattle.test_suite.specs.Suites.{item_with_node}
 use Rattle.test_suite.specs.declared.item.Item.{Item}
 
 -- the rules of a plan
@@ -24,7 +24,7 @@ abbrev pub plan_fixture : Plan → ℕ → FixtureTexts
 plan_fixture plan d = fixture_texts plan.run.suite d
 
 -- THE STATE of the session that runs there; the rules aren't looked at
-abbrev pub stand_state : Stand → State python
+abbrev pub stand_state : Stand → SessionState python
 stand_state stand = item_state (rules_within 0 (record { items = []; fixtures = []; outer = 0 })) stand.world stand.stack
 
 -- an item of a plan, as a session and a report know it; the number of its file isn't looked at on one thread
@@ -40,8 +40,8 @@ pub record IsPlan (plan : Plan) : Type 0 where
 -- the plan speaks of an item: its node stands in the table, the suite has it there, and its closure fits
 pub record IsPlannedItem (plan : Plan) (item : Item) : Type 0 where
   pub node : item.node < length plan.table.nodes
-  pub found : item_at plan.run.suite item.node ≡ item
-  pub fits : Fits (plan_rules plan) (item_of plan.table item)
+  pub found : item_with_node plan.run.suite item.node ≡ item
+  pub fits : HasFixtureClosure (plan_rules plan) (item_in_session plan.table item)
 
 -- the node of an item, where there is one
 abbrev pub node_of : Option Item → Option ℕ

@@ -32,7 +32,7 @@ pub(crate) fn make_instance(world: &mut RunWorld, item: &Item) -> Result<Option<
 
 /// The object that hooks get for an item.
 pub(crate) fn make_item(world: &mut RunWorld, item: &Item) -> Result<Value, OutOfMemory>
-    ensures { IfOk result (λ object. (object, world.new) ≡ objects.object_made item.now world.old) }
+    ensures { IfOk result (λ object. (object, world.new) ≡ objects.item_object item.now world.old) }
 {
     let object = fixture_world::make_item(world.alloc, &mut world.world, item)?;
     Ok(object)

@@ -3,11 +3,11 @@
 ghost use Rattle.std.specs.Prelude.{◌≡◌, [], IfOk, None, OnOk, Some};
 ghost use Rattle.std.specs.Option.{option_to_list};
 ghost use Rattle.runtest_reports.specs.fixture_sessions.FixtureSession.{fixture_call};
-ghost use Rattle.fixture_world.specs.Items.{item_of};
+ghost use Rattle.fixture_world.specs.Items.{item_in_session};
 ghost use Rattle.run_items.specs.Stands.{IsPlannedItem, plan_rules, stand_state};
 ghost use Rattle.session_rules.specs.Demand.{numbers_of};
-ghost use Rattle.session_rules.specs.Session.{test_item, test_with};
-ghost use Rattle.session_rules.specs.Teardown.{emit, step};
+ghost use Rattle.session_rules.specs.Session.{pyfunc_call, test_with};
+ghost use Rattle.session_rules.specs.Teardown.{emit, session_step};
 ghost use Rattle.session_types.specs.declared.journal.Event.TheVariants.{CallBegins, CallEnds};
 
 use crate::acts::{ask_test, call_test, memory, wrong_arguments};
@@ -28,7 +28,7 @@ fn call_with(
     values: &[Value],
 ) -> Result<Option<Failure>, OutOfMemory>
     requires item { IsPlannedItem plan.now item.now }
-    ensures { IfOk result (λ failure. step (option_to_list failure) (stand_state stand.new) ≡ test_with (plan_rules plan.now) (item_of plan.now.table item.now) (Some values.now) (stand_state stand.old)) }
+    ensures { IfOk result (λ failure. session_step (option_to_list failure) (stand_state stand.new) ≡ test_with (plan_rules plan.now) (item_in_session plan.now.table item.now) (Some values.now) (stand_state stand.old)) }
 {
     let request = ask_test(&mut stand.world, item)?;
     stand.stack.request = request;
@@ -44,7 +44,7 @@ fn fail_arguments(
     item: &Item,
 ) -> Result<Option<Failure>, OutOfMemory>
     requires item { IsPlannedItem plan.now item.now }
-    ensures { IfOk result (λ failure. step (option_to_list failure) (stand_state stand.new) ≡ test_with (plan_rules plan.now) (item_of plan.now.table item.now) None (stand_state stand.old)) }
+    ensures { IfOk result (λ failure. session_step (option_to_list failure) (stand_state stand.new) ≡ test_with (plan_rules plan.now) (item_in_session plan.now.table item.now) None (stand_state stand.old)) }
 {
     let failure = wrong_arguments(&mut stand.world, item)?;
     Ok(Some(failure))
@@ -57,7 +57,7 @@ fn call_where(
     values: Option<Seq<Value>>,
 ) -> Result<Option<Failure>, OutOfMemory>
     requires item { IsPlannedItem plan.now item.now }
-    ensures { IfOk result (λ failure. step (option_to_list failure) (stand_state stand.new) ≡ test_with (plan_rules plan.now) (item_of plan.now.table item.now) values (stand_state stand.old)) }
+    ensures { IfOk result (λ failure. session_step (option_to_list failure) (stand_state stand.new) ≡ test_with (plan_rules plan.now) (item_in_session plan.now.table item.now) values (stand_state stand.old)) }
 {
     match values {
         Some(values) => {
@@ -74,7 +74,7 @@ fn call_where(
 /// Calls a test with the values that its set-up was given.
 fn call_asked(stand: &mut Stand, plan: &Plan, item: &Item) -> Result<Seq<Failure>, OutOfMemory>
     requires item { IsPlannedItem plan.now item.now }
-    ensures { IfOk result (λ raised. step raised (stand_state stand.new) ≡ test_item (plan_rules plan.now) (item_of plan.now.table item.now) (stand_state stand.old)) }
+    ensures { IfOk result (λ raised. session_step raised (stand_state stand.new) ≡ pyfunc_call (plan_rules plan.now) (item_in_session plan.now.table item.now) (stand_state stand.old)) }
 {
     let alloc = memory(&stand.world);
     let given = stand.stack.stack.given.items();
@@ -107,7 +107,7 @@ fn end_call(stand: &mut Stand, node: u32) -> Result<(), OutOfMemory>
 /// Calls an item's test with the values that it was given.
 pub(crate) fn call(stand: &mut Stand, plan: &Plan, item: &Item) -> Result<Seq<Failure>, OutOfMemory>
     requires item { IsPlannedItem plan.now item.now }
-    ensures { IfOk result (λ raised. step raised (stand_state stand.new) ≡ fixture_call (plan_rules plan.now) (item_of plan.now.table item.now) (stand_state stand.old)) }
+    ensures { IfOk result (λ raised. session_step raised (stand_state stand.new) ≡ fixture_call (plan_rules plan.now) (item_in_session plan.now.table item.now) (stand_state stand.old)) }
 {
     begin_call(stand, item.node)?;
     let raised = call_asked(stand, plan, item)?;

@@ -1,12 +1,12 @@
 // The ends of phases.
 
 ghost use Rattle.std.specs.Prelude.{◌≡◌, IfOk, OnOk};
-ghost use Rattle.fixture_world.specs.Items.{item_of};
+ghost use Rattle.fixture_world.specs.Items.{item_in_session};
 ghost use Rattle.report_parts.specs.Outcomes.{is_raised};
 ghost use Rattle.run_items.specs.Stands.{IsPlannedItem, plan_rules, stand_state};
 ghost use Rattle.runtest_reports.specs.Kept.{reported_ending, session_phase};
 ghost use Rattle.session_rules.specs.Session.{telling};
-ghost use Rattle.session_rules.specs.Teardown.{in_world, step};
+ghost use Rattle.session_rules.specs.Teardown.{in_world, session_step};
 ghost use Rattle.session_rules.specs.World.{Teardown};
 
 use crate::acts;
@@ -27,7 +27,7 @@ pub(crate) fn is_error(
     raised: &[Failure],
 ) -> Result<bool, OutOfMemory>
     requires item { IsPlannedItem plan.now item.now }
-    ensures { IfOk result (λ error. error ≡ is_raised (telling (plan_rules plan.now) Teardown (item_of plan.now.table item.now) (step raised.now (stand_state stand.now))).told.end) }
+    ensures { IfOk result (λ error. error ≡ is_raised (telling (plan_rules plan.now) Teardown (item_in_session plan.now.table item.now) (session_step raised.now (stand_state stand.now))).told.end) }
 {
     let error = acts::fails_in_teardown(&stand.world, item, raised)?;
     Ok(error)
@@ -49,8 +49,8 @@ fn end_of(
     raised: &[Failure],
 ) -> Result<PhaseEnding, OutOfMemory>
     requires item { IsPlannedItem plan.now item.now }
-    ensures told { IfOk result (λ ending. reported_ending ending ≡ (telling (plan_rules plan.now) (session_phase phase) (item_of plan.now.table item.now) (step raised.now (stand_state stand.old))).told) }
-    ensures state { OnOk result (stand_state stand.new ≡ in_world (telling (plan_rules plan.now) (session_phase phase) (item_of plan.now.table item.now) (step raised.now (stand_state stand.old))).world (stand_state stand.old)) }
+    ensures told { IfOk result (λ ending. reported_ending ending ≡ (telling (plan_rules plan.now) (session_phase phase) (item_in_session plan.now.table item.now) (session_step raised.now (stand_state stand.old))).told) }
+    ensures state { OnOk result (stand_state stand.new ≡ in_world (telling (plan_rules plan.now) (session_phase phase) (item_in_session plan.now.table item.now) (session_step raised.now (stand_state stand.old))).world (stand_state stand.old)) }
 {
     let ending = acts::end_phase(&mut stand.world, phase, item, raised)?;
     Ok(ending_of(ending))
@@ -65,8 +65,8 @@ pub(crate) fn end_phase(
     raised: Seq<Failure>,
 ) -> Result<PhaseEnding, OutOfMemory>
     requires item { IsPlannedItem plan.now item.now }
-    ensures told { IfOk result (λ ending. reported_ending ending ≡ (telling (plan_rules plan.now) (session_phase phase) (item_of plan.now.table item.now) (step raised (stand_state stand.old))).told) }
-    ensures state { OnOk result (stand_state stand.new ≡ in_world (telling (plan_rules plan.now) (session_phase phase) (item_of plan.now.table item.now) (step raised (stand_state stand.old))).world (stand_state stand.old)) }
+    ensures told { IfOk result (λ ending. reported_ending ending ≡ (telling (plan_rules plan.now) (session_phase phase) (item_in_session plan.now.table item.now) (session_step raised (stand_state stand.old))).told) }
+    ensures state { OnOk result (stand_state stand.new ≡ in_world (telling (plan_rules plan.now) (session_phase phase) (item_in_session plan.now.table item.now) (session_step raised (stand_state stand.old))).world (stand_state stand.old)) }
 {
     let ending = end_of(stand, plan, phase, item, raised.items());
     drop(raised);

@@ -3,8 +3,8 @@
 ghost use Rattle.std.specs.Prelude.{◌≡◌, [], IfOk, option_map};
 ghost use Rattle.runtest_reports.specs.fixture_sessions.FixtureSession.{fixture_leave};
 ghost use Rattle.run_items.specs.Stands.{IsPlan, IsPlannedItem, node_of, plan_rules, planned, stand_state};
-ghost use Rattle.runtest_reports.specs.Stages.{IsKnown, session_item};
-ghost use Rattle.session_rules.specs.Teardown.{down_all, step};
+ghost use Rattle.runtest_reports.specs.Stages.{IsKnownItem, session_item};
+ghost use Rattle.session_rules.specs.Teardown.{down_all, session_step};
 
 use crate::acts::memory;
 use crate::plan::Plan;
@@ -29,8 +29,8 @@ pub(crate) fn leave(
     next: Option<&Item>,
 ) -> Result<Seq<Failure>, OutOfMemory>
     requires plan { IsPlan plan.now }
-    requires next { IsKnown (IsPlannedItem plan.now) (option_map (λ item. item.now) next) }
-    ensures { IfOk result (λ raised. step raised (stand_state stand.new) ≡ fixture_leave (plan_rules plan.now) (session_item (planned plan.now) (option_map (λ item. item.now) next.entry)) (stand_state stand.old)) }
+    requires next { IsKnownItem (IsPlannedItem plan.now) (option_map (λ item. item.now) next) }
+    ensures { IfOk result (λ raised. session_step raised (stand_state stand.new) ≡ fixture_leave (plan_rules plan.now) (session_item (planned plan.now) (option_map (λ item. item.now) next.entry)) (stand_state stand.old)) }
 {
     let alloc = memory(&stand.world);
     let node = node_of(next);
@@ -49,7 +49,7 @@ pub(crate) fn leave(
 pub(crate) fn all_down(stand: &mut Stand, plan: &Plan) -> Result<Seq<Failure>, OutOfMemory>
     requires plan { IsPlan plan.now }
     requires left { (stand_state stand.old).given ≡ [] }
-    ensures { IfOk result (λ raised. step raised (stand_state stand.new) ≡ down_all (plan_rules plan.now) (stand_state stand.old).live (stand_state stand.old)) }
+    ensures { IfOk result (λ raised. session_step raised (stand_state stand.new) ≡ down_all (plan_rules plan.now) (stand_state stand.old).live (stand_state stand.old)) }
 {
     let alloc = memory(&stand.world);
     let raised = item_stack::all_down(

@@ -2,10 +2,10 @@
 
 ghost use Rattle.std.specs.Prelude.{◌≡◌, IfOk, None, Some};
 ghost use Rattle.runtest_reports.specs.fixture_sessions.FixtureSession.{fixture_set_up};
-ghost use Rattle.fixture_world.specs.Items.{closure_of, item_of};
+ghost use Rattle.fixture_world.specs.Items.{closure_of, item_in_session};
 ghost use Rattle.run_items.specs.Stands.{IsPlan, IsPlannedItem, plan_rules, stand_state};
 ghost use Rattle.session_rules.specs.Session.{demand_closure, set_up_item};
-ghost use Rattle.session_rules.specs.Teardown.{step};
+ghost use Rattle.session_rules.specs.Teardown.{session_step};
 
 use crate::acts::{fixture_fault, memory, skip};
 use crate::plan::Plan;
@@ -27,7 +27,7 @@ fn demand(
     requires plan { IsPlan plan.now }
     requires item { IsPlannedItem plan.now item.now }
     requires closure { closure_of item.now.closure ≡ Some defs.now }
-    ensures { IfOk result (λ raised. step raised (stand_state stand.new) ≡ demand_closure (plan_rules plan.now) (item_of plan.now.table item.now) defs.now (stand_state stand.old)) }
+    ensures { IfOk result (λ raised. session_step raised (stand_state stand.new) ≡ demand_closure (plan_rules plan.now) (item_in_session plan.now.table item.now) defs.now (stand_state stand.old)) }
 {
     let alloc = memory(&stand.world);
     let raised = demand_all(
@@ -46,7 +46,7 @@ fn demand(
 fn fault(stand: &mut Stand, plan: &Plan, item: &Item) -> Result<Seq<Failure>, OutOfMemory>
     requires item { IsPlannedItem plan.now item.now }
     requires closure { closure_of item.now.closure ≡ None }
-    ensures { IfOk result (λ raised. step raised (stand_state stand.new) ≡ set_up_item (plan_rules plan.now) (item_of plan.now.table item.now) (stand_state stand.old)) }
+    ensures { IfOk result (λ raised. session_step raised (stand_state stand.new) ≡ set_up_item (plan_rules plan.now) (item_in_session plan.now.table item.now) (stand_state stand.old)) }
 {
     let failure = fixture_fault(&mut stand.world, item)?;
     let raised = one(memory(&stand.world), failure)?;
@@ -56,7 +56,7 @@ fn fault(stand: &mut Stand, plan: &Plan, item: &Item) -> Result<Seq<Failure>, Ou
 fn demand_or_fault(stand: &mut Stand, plan: &Plan, item: &Item) -> Result<Seq<Failure>, OutOfMemory>
     requires plan { IsPlan plan.now }
     requires item { IsPlannedItem plan.now item.now }
-    ensures { IfOk result (λ raised. step raised (stand_state stand.new) ≡ set_up_item (plan_rules plan.now) (item_of plan.now.table item.now) (stand_state stand.old)) }
+    ensures { IfOk result (λ raised. session_step raised (stand_state stand.new) ≡ set_up_item (plan_rules plan.now) (item_in_session plan.now.table item.now) (stand_state stand.old)) }
 {
     match &item.closure {
         ItemClosure::Whole(defs) => {
@@ -78,7 +78,7 @@ pub(crate) fn set_up(
 ) -> Result<Seq<Failure>, OutOfMemory>
     requires plan { IsPlan plan.now }
     requires item { IsPlannedItem plan.now item.now }
-    ensures { IfOk result (λ raised. step raised (stand_state stand.new) ≡ fixture_set_up (plan_rules plan.now) (item_of plan.now.table item.now) (stand_state stand.old)) }
+    ensures { IfOk result (λ raised. session_step raised (stand_state stand.new) ≡ fixture_set_up (plan_rules plan.now) (item_in_session plan.now.table item.now) (stand_state stand.old)) }
 {
     let skipped = skip(&mut stand.world, item)?;
     match skipped {

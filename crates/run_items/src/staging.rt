@@ -4,7 +4,7 @@ ghost use Rattle.std.specs.Prelude.{◌≡◌, IfOk, OnOk};
 ghost use Rattle.run_items.specs.Stands.{IsPlan, IsPlannedItem, plan_fixture, plan_rules, planned, stand_state};
 ghost use Rattle.runtest_reports.specs.Kept.{reported_ending, session_phase};
 ghost use Rattle.session_rules.specs.Session.{telling};
-ghost use Rattle.session_rules.specs.Teardown.{in_world, step};
+ghost use Rattle.session_rules.specs.Teardown.{in_world, session_step};
 
 use crate::naming::{argument_names, fixture_name, fixture_scope};
 use crate::plan::Plan;
@@ -88,8 +88,8 @@ impl Stage for Stand {
     ) -> Result<PhaseEnding, OutOfMemory>
         requires here { IsPlan plan.now }
         requires known { IsPlannedItem plan.now item.now }
-        ensures told { IfOk result (λ ending. reported_ending ending ≡ (telling (plan_rules plan.now) (session_phase phase) (planned plan.now item.now).item (step raised (stand_state self.old))).told) }
-        ensures state { OnOk result (stand_state self.new ≡ in_world (telling (plan_rules plan.now) (session_phase phase) (planned plan.now item.now).item (step raised (stand_state self.old))).world (stand_state self.old)) }
+        ensures told { IfOk result (λ ending. reported_ending ending ≡ (telling (plan_rules plan.now) (session_phase phase) (planned plan.now item.now).item (session_step raised (stand_state self.old))).told) }
+        ensures state { OnOk result (stand_state self.new ≡ in_world (telling (plan_rules plan.now) (session_phase phase) (planned plan.now item.now).item (session_step raised (stand_state self.old))).world (stand_state self.old)) }
         ensures here { OnOk result (IsPlan plan.now) }
     {
         let ended = ending::end_phase(self, plan, phase, item, raised)?;

@@ -1,7 +1,7 @@
 -- The objects that the runner gives the language.
 use Rattle.std.specs.Prelude.{◌≡◌, ℕ, false, List, [], ◌∷◌, ◌++◌, length, slice_get, Option, Some, None}
 use Rattle.py_values.specs.Ends.{id_at}
-use Rattle.py_values.specs.Raises.{raise, thrown}
+use Rattle.py_values.specs.Raises.{text_raise, thrown}
 use Rattle.py_kinds.specs.Classes.{root_of}
 use Rattle.py_values.specs.declared.class.ClassForm.TheVariants as form
 use Rattle.py_values.specs.declared.class.ClassRef.TheVariants as ref
@@ -27,13 +27,13 @@ test_item name node_id = obj.Item (record { name = name; node_id = node_id })
 abbrev pub instance : ObjId → Obj
 instance class = obj.Instance (record { class = class; names = [] })
 
-abbrev pub IsSource : Option Obj → Type 0
-IsSource (Some (obj.Class c)) = c.form ≡ form.Source
-IsSource _ = ⊥
+abbrev pub IsSourceClass : Option Obj → Type 0
+IsSourceClass (Some (obj.Class c)) = c.form ≡ form.Source
+IsSourceClass _ = ⊥
 
 -- a class of the sources that is no class of exceptions
 abbrev pub NamesClass : List Obj → Value → Type 0
-NamesClass heap (val.Ref id) = IsSource (slice_get heap id.at) × (root_of heap (ref.Defined id) ≡ None)
+NamesClass heap (val.Ref id) = IsSourceClass (slice_get heap id.at) × (root_of heap (ref.Defined id) ≡ None)
 NamesClass heap val.None = ⊥
 NamesClass heap (val.Bool b) = ⊥
 NamesClass heap (val.Int n) = ⊥
@@ -50,7 +50,7 @@ IsInstance class v old heap = (id : ObjId) → class ≡ val.Ref id → (v, heap
 abbrev pub IsGiven : New → Value → List Obj → List Obj → Type 0
 IsGiven (new.Text t) v old heap = (v, heap) ≡ with_object (obj.Text t) old
 IsGiven (new.List vs) v old heap = (v, heap) ≡ with_object (obj.List vs.items) old
-IsGiven (new.Exception class text) v old heap = (v, heap) ≡ thrown (raise class text) old
+IsGiven (new.Exception class text) v old heap = (v, heap) ≡ thrown (text_raise class text) old
 IsGiven (new.Request name scope param) v old heap = (v, heap) ≡ with_object (open_request name scope param) old
 IsGiven (new.Item name id) v old heap = (v, heap) ≡ with_object (test_item name id) old
 IsGiven (new.Instance class) v old heap = IsInstance class v old heap

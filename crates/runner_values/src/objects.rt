@@ -45,7 +45,7 @@ fn put_exception(
     class: ExcClass,
     text: &PyText,
 ) -> Result<Value, OutOfMemory>
-    ensures { IfOk result (λ v. (v, heap.new) ≡ thrown (raise class text.now) heap.old) }
+    ensures { IfOk result (λ v. (v, heap.new) ≡ thrown (text_raise class text.now) heap.old) }
 {
     let raise = Raise {
         class,
@@ -55,7 +55,7 @@ fn put_exception(
     throw(alloc, heap, raise)
 }
 
-ghost use Rattle.py_values.specs.Raises.{raise, thrown};
+ghost use Rattle.py_values.specs.Raises.{text_raise, thrown};
 
 fn put_instance(alloc: Global, heap: &mut Heap, class: Value) -> Result<Value, OutOfMemory>
     requires { NamesClass heap.old class }

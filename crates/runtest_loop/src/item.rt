@@ -6,9 +6,9 @@ ghost use Rattle.report_parts.specs.Outcomes.{is_raised};
 ghost use Rattle.runtest_loop.specs.Calls.{all_down_behind, call_where, failed_call, torn_run, torn_where};
 ghost use Rattle.runtest_loop.specs.Item.{IsKeptCall, IsKeptItem};
 ghost use Rattle.runtest_reports.specs.Kept.{IsKept, session_phase};
-ghost use Rattle.runtest_reports.specs.Stages.{IsKnown, kept_next, session_item};
-ghost use Rattle.session_rules.specs.Session.{as_count, opened, reaches};
-ghost use Rattle.session_rules.specs.Teardown.{step};
+ghost use Rattle.runtest_reports.specs.Stages.{IsKnownItem, kept_next, session_item};
+ghost use Rattle.session_rules.specs.Session.{as_count, with_new_instance, reaches};
+ghost use Rattle.session_rules.specs.Teardown.{session_step};
 ghost use Rattle.session_rules.specs.World as session;
 
 use report_parts::{Phase, is_failed, is_raised};
@@ -57,8 +57,8 @@ fn end_phase<S: Stage>(
 ) -> Result<KeptPhase, OutOfMemory>
     requires here { S.stands setting.now stage.old }
     requires known { S.known setting.now item.now }
-    ensures kept { IfOk result (λ k. IsKept (S.rules setting.now).scope (S.fixture setting.now) show (S.selected setting.now item.now) (loop.phase_run (S.rules setting.now) (session_phase phase) (S.selected setting.now item.now).item before (step raised (S.state stage.old))).end k) }
-    ensures state { OnOk result (S.state stage.new ≡ (loop.phase_run (S.rules setting.now) (session_phase phase) (S.selected setting.now item.now).item before (step raised (S.state stage.old))).state) }
+    ensures kept { IfOk result (λ k. IsKept (S.rules setting.now).scope (S.fixture setting.now) show (S.selected setting.now item.now) (loop.phase_run (S.rules setting.now) (session_phase phase) (S.selected setting.now item.now).item before (session_step raised (S.state stage.old))).end k) }
+    ensures state { OnOk result (S.state stage.new ≡ (loop.phase_run (S.rules setting.now) (session_phase phase) (S.selected setting.now item.now).item before (session_step raised (S.state stage.old))).state) }
     ensures here { OnOk result (S.stands setting.now stage.new) }
 {
     let noted = note::<S>(alloc, setting, show, item, stage.journal(), before)?;
@@ -176,7 +176,7 @@ fn all_down<S: Stage>(
 ) -> Result<Seq<S::Thrown>, OutOfMemory>
     requires here { S.stands setting.now stage.old }
     requires left { (S.state stage.old).given ≡ [] }
-    ensures state { IfOk result (λ all. step all (S.state stage.new) ≡ all_down_behind (S.rules setting.now) (step raised (S.state stage.old))) }
+    ensures state { IfOk result (λ all. session_step all (S.state stage.new) ≡ all_down_behind (S.rules setting.now) (session_step raised (S.state stage.old))) }
     ensures here { OnOk result (S.stands setting.now stage.new) }
 {
     let mut raised = raised;
@@ -198,7 +198,7 @@ fn all_down_where<S: Stage>(
     requires left { (S.state stage.old).given ≡ [] }
     requires known { S.known setting.now item.now }
     requires few { bad ≤ 500000 }
-    ensures state { IfOk result (λ all. step all (S.state stage.new) ≡ loop.all_down_where (S.rules setting.now) maxfail (S.selected setting.now item.now).item bad (step raised (S.state stage.old))) }
+    ensures state { IfOk result (λ all. session_step all (S.state stage.new) ≡ loop.all_down_where (S.rules setting.now) maxfail (S.selected setting.now item.now).item bad (session_step raised (S.state stage.old))) }
     ensures here { OnOk result (S.stands setting.now stage.new) }
 {
     match stage.is_error(setting, item, raised.items()) {
@@ -222,7 +222,7 @@ fn make_next<S: Stage>(
     next: Option<&S::Item>,
 ) -> Result<(), OutOfMemory>
     requires here { S.stands setting.now stage.old }
-    requires known { IsKnown (S.known setting.now) (option_map (λ item. item.now) next) }
+    requires known { IsKnownItem (S.known setting.now) (option_map (λ item. item.now) next) }
     ensures state { OnOk result (S.state stage.new ≡ loop.next_object (S.rules setting.now) (session_item (S.selected setting.now) (option_map (λ item. item.now) next.entry)) (S.state stage.old)) }
     ensures here { OnOk result (S.stands setting.now stage.new) }
 {
@@ -243,9 +243,9 @@ fn leave<S: Stage>(
 ) -> Result<Seq<S::Thrown>, OutOfMemory>
     requires here { S.stands setting.now stage.old }
     requires known { S.known setting.now item.now }
-    requires next { IsKnown (S.known setting.now) (option_map (λ item. item.now) next) }
+    requires next { IsKnownItem (S.known setting.now) (option_map (λ item. item.now) next) }
     requires few { bad ≤ 500000 }
-    ensures state { IfOk result (λ all. step all (S.state stage.new) ≡ loop.fixture_teardown (S.rules setting.now) maxfail (S.selected setting.now item.now).item (session_item (S.selected setting.now) (option_map (λ item. item.now) next.entry)) bad (S.state stage.old)) }
+    ensures state { IfOk result (λ all. session_step all (S.state stage.new) ≡ loop.fixture_teardown (S.rules setting.now) maxfail (S.selected setting.now item.now).item (session_item (S.selected setting.now) (option_map (λ item. item.now) next.entry)) bad (S.state stage.old)) }
     ensures here { OnOk result (S.stands setting.now stage.new) }
 {
     make_next(stage, setting, next)?;
@@ -275,7 +275,7 @@ fn tear_down<S: Stage>(
 ) -> Result<KeptPhase, OutOfMemory>
     requires here { S.stands setting.now stage.old }
     requires known { S.known setting.now item.now }
-    requires next { IsKnown (S.known setting.now) (option_map (λ item. item.now) next) }
+    requires next { IsKnownItem (S.known setting.now) (option_map (λ item. item.now) next) }
     requires few { bad ≤ 500000 }
     ensures kept { IfOk result (λ k. IsKept (S.rules setting.now).scope (S.fixture setting.now) show (S.selected setting.now item.now) (torn_run (S.rules setting.now) maxfail (S.selected setting.now item.now).item (session_item (S.selected setting.now) (option_map (λ item. item.now) next.entry)) bad (S.state stage.old)).end k) }
     ensures state { OnOk result (S.state stage.new ≡ (torn_run (S.rules setting.now) maxfail (S.selected setting.now item.now).item (session_item (S.selected setting.now) (option_map (λ item. item.now) next.entry)) bad (S.state stage.old)).state) }
@@ -328,7 +328,7 @@ fn behind_call<S: Stage>(
 ) -> Result<KeptItem, OutOfMemory>
     requires here { S.stands setting.now stage.old }
     requires known { S.known setting.now item.now }
-    requires next { IsKnown (S.known setting.now) (option_map (λ item. item.now) next) }
+    requires next { IsKnownItem (S.known setting.now) (option_map (λ item. item.now) next) }
     requires few { bad ≤ 400002 }
     ensures set_up { IfOk result (λ k. k.set_up ≡ set_up) }
     ensures call { IfOk result (λ k. k.call ≡ call) }
@@ -372,7 +372,7 @@ fn behind_set_up<S: Stage>(
 ) -> Result<KeptItem, OutOfMemory>
     requires here { S.stands setting.now stage.old }
     requires known { S.known setting.now item.now }
-    requires next { IsKnown (S.known setting.now) (option_map (λ item. item.now) next) }
+    requires next { IsKnownItem (S.known setting.now) (option_map (λ item. item.now) next) }
     requires few { bad ≤ 400001 }
     ensures set_up { IfOk result (λ k. k.set_up ≡ set_up) }
     ensures call { IfOk result (λ k. IsKeptCall (S.rules setting.now).scope (S.fixture setting.now) show (S.selected setting.now item.now) (call_where (S.rules setting.now) (S.selected setting.now item.now).item passed (S.state stage.old)).end k.call) }
@@ -410,7 +410,7 @@ pub(crate) fn run_item<S: Stage>(
 ) -> Result<KeptItem, OutOfMemory>
     requires here { S.stands setting.now stage.old }
     requires known { S.known setting.now item.now }
-    requires next { IsKnown (S.known setting.now) (option_map (λ item. item.now) next) }
+    requires next { IsKnownItem (S.known setting.now) (option_map (λ item. item.now) next) }
     requires few { bad ≤ 400000 }
     ensures kept { IfOk result (λ k. IsKeptItem (S.rules setting.now).scope (S.fixture setting.now) show (S.selected setting.now item.now) (loop.fixture_item (S.rules setting.now) maxfail has_object (S.selected setting.now item.now).item (session_item (S.selected setting.now) (option_map (λ item. item.now) next.entry)) bad (S.state stage.old)) k) }
     ensures state { OnOk result (S.state stage.new ≡ (loop.fixture_item (S.rules setting.now) maxfail has_object (S.selected setting.now item.now).item (session_item (S.selected setting.now) (option_map (λ item. item.now) next.entry)) bad (S.state stage.old)).state) }

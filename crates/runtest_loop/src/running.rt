@@ -9,8 +9,8 @@ ghost use Rattle.report_parts.specs.declared.report.ItemReport.{ItemReport};
 ghost use Rattle.runtest_loop.specs.RunFaults.{IsBlamed};
 ghost use Rattle.runtest_reports.specs.Kept.{arrived_all};
 ghost use Rattle.runtest_reports.specs.report_rules.Rows.{Arrival};
-ghost use Rattle.runtest_reports.specs.Stages.{IsKnown, session_item};
-ghost use Rattle.session_rules.specs.Session.{reaches, start};
+ghost use Rattle.runtest_reports.specs.Stages.{IsKnownItem, session_item};
+ghost use Rattle.session_rules.specs.Session.{reaches, initial_state};
 ghost use Rattle.share_files.specs.Deal.{Every};
 
 use crate::fed::{next_number, value_at};
@@ -19,7 +19,7 @@ use crate::receiver::Receiver;
 use crate::run_end::{RunEnd, RunFault};
 use cli_words::Options;
 use report_parts::ItemReport;
-use runtest_reports::{Arrived, Stage, report_of};
+use runtest_reports::{FixtureLines, Stage, report_of};
 use seq::{OutOfMemory, Seq};
 use share_files::Feed;
 use std::alloc::Global;
@@ -37,7 +37,7 @@ fn tell_item<S: Stage>(
     stage: &mut S,
     setting: &S::Setting,
     options: &Options,
-    arrived: &mut Seq<Arrived>,
+    arrived: &mut Seq<FixtureLines>,
     item: &S::Item,
     next: Option<&S::Item>,
     has_object: bool,
@@ -45,7 +45,7 @@ fn tell_item<S: Stage>(
 ) -> Result<Told, OutOfMemory>
     requires here { S.stands setting.now stage.old }
     requires known { S.known setting.now item.now }
-    requires next { IsKnown (S.known setting.now) (option_copied next) }
+    requires next { IsKnownItem (S.known setting.now) (option_copied next) }
     requires few { bad ≤ 400000 }
     ensures report { IfOk result (λ t. (arrivals : List Arrival) → arrived.old ≡ arrived_all (S.rules setting.now).scope (S.fixture setting.now) options.now.setup_show arrivals
         → (t.report ≡ told_item (S.rules setting.now) (S.fixture setting.now) options.now arrivals (S.selected setting.now item.now) (loop.fixture_item (S.rules setting.now) options.now.maxfail has_object (S.selected setting.now item.now).item (session_item (S.selected setting.now) (option_copied next.entry)) bad (S.state stage.old)))
@@ -156,7 +156,7 @@ pub fn run<S: Stage, F: Feed, P: Receiver>(
     to: &mut P,
 ) -> Result<RunEnd, RunFault>
     requires here { S.stands setting.now stage.old }
-    requires start { S.state stage.old ≡ start (S.state stage.old).world }
+    requires start { S.state stage.old ≡ initial_state (S.state stage.old).world }
     requires known { AreKnown (S.known setting.now) items.now }
     requires limit { F.limit feed.old ≤ length groups.now }
     requires in_range { numbers_in_range (length items.now) groups.now }

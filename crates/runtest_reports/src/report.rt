@@ -6,7 +6,7 @@ ghost use Rattle.runtest_reports.specs.Kept.{session_phase};
 ghost use Rattle.runtest_reports.specs.Lines.{all_that_came, down_lines, kept_lines, noted_lines};
 ghost use Rattle.runtest_reports.specs.Reported.{all_came, all_lines, call_came, call_captured, call_end, call_lines, kept_report};
 
-use crate::kept::{Arrived, KeptItem, KeptPhase, Noted, PhaseEnding};
+use crate::kept::{FixtureEvent, FixtureLines, KeptItem, KeptPhase, PhaseEnding};
 use crate::names::push_used;
 use crate::noting::push_blanks;
 use crate::stage::Stage;
@@ -15,10 +15,10 @@ use seq::{OutOfMemory, Seq};
 use session_types::DefId;
 use std::alloc::Global;
 
-fn copied(alloc: Global, one: &Arrived) -> Result<Arrived, OutOfMemory>
+fn copied(alloc: Global, one: &FixtureLines) -> Result<FixtureLines, OutOfMemory>
     ensures { IfOk result (λ copy. copy ≡ one.now) }
 {
-    Ok(Arrived {
+    Ok(FixtureLines {
         n: one.n,
         up_line: Text::from_str(alloc, one.up_line.text())?,
         down_line: Text::from_str(alloc, one.down_line.text())?,
@@ -26,11 +26,15 @@ fn copied(alloc: Global, one: &Arrived) -> Result<Arrived, OutOfMemory>
 }
 
 /// Adds what came up.
-fn push_came(alloc: Global, arrived: &mut Seq<Arrived>, noted: &[Noted]) -> Result<(), OutOfMemory>
+fn push_came(
+    alloc: Global,
+    arrived: &mut Seq<FixtureLines>,
+    noted: &[FixtureEvent],
+) -> Result<(), OutOfMemory>
     ensures { OnOk result (arrived.new ≡ arrived.old ++ all_that_came noted.now) }
 {
     'noted: for one in noted {
-        if let Noted::Up(came) = one {
+        if let FixtureEvent::Up(came) = one {
             arrived.push(copied(alloc, came)?)?;
         }
     }
@@ -48,7 +52,7 @@ fn push_down(
     alloc: Global,
     lines: &mut Seq<Text>,
     n: u64,
-    arrived: &[Arrived],
+    arrived: &[FixtureLines],
 ) -> Result<(), OutOfMemory>
     ensures { OnOk result (lines.new ≡ lines.old ++ down_lines n arrived.now) }
 {
@@ -65,15 +69,15 @@ fn push_down(
 fn push_noted(
     alloc: Global,
     lines: &mut Seq<Text>,
-    arrived: &[Arrived],
-    noted: &[Noted],
+    arrived: &[FixtureLines],
+    noted: &[FixtureEvent],
 ) -> Result<(), OutOfMemory>
     ensures { OnOk result (lines.new ≡ lines.old ++ flat_map (noted_lines arrived.now) noted.now) }
 {
     'noted: for one in noted {
         match one {
-            Noted::Up(came) => push_copy(alloc, lines, &came.up_line)?,
-            Noted::Down(n) => push_down(alloc, lines, *n, arrived)?,
+            FixtureEvent::Up(came) => push_copy(alloc, lines, &came.up_line)?,
+            FixtureEvent::Down(n) => push_down(alloc, lines, *n, arrived)?,
         }
     }
     Ok(())
@@ -165,7 +169,7 @@ fn push_phase<S: Stage>(
     setting: &S::Setting,
     phase: Phase,
     item: &S::Item,
-    arrived: &[Arrived],
+    arrived: &[FixtureLines],
     lines: &mut Seq<Text>,
     kept: &KeptPhase,
 ) -> Result<(), OutOfMemory>
@@ -186,7 +190,7 @@ fn push_call<S: Stage>(
     alloc: Global,
     setting: &S::Setting,
     item: &S::Item,
-    arrived: &[Arrived],
+    arrived: &[FixtureLines],
     lines: &mut Seq<Text>,
     call: &Option<KeptPhase>,
 ) -> Result<(), OutOfMemory>
@@ -204,7 +208,7 @@ fn shown<S: Stage>(
     setting: &S::Setting,
     show: bool,
     item: &S::Item,
-    arrived: &[Arrived],
+    arrived: &[FixtureLines],
     kept: &KeptItem,
 ) -> Result<Seq<Text>, OutOfMemory>
     ensures { IfOk result (λ lines. lines ≡ all_lines (S.rules setting.now).scope (S.fixture setting.now) show arrived.now (S.selected setting.now item.now) kept.now) }
@@ -236,7 +240,7 @@ fn shown<S: Stage>(
 
 fn push_call_came(
     alloc: Global,
-    arrived: &mut Seq<Arrived>,
+    arrived: &mut Seq<FixtureLines>,
     call: &Option<KeptPhase>,
 ) -> Result<(), OutOfMemory>
     ensures { OnOk result (arrived.new ≡ arrived.old ++ call_came call.now) }
@@ -250,7 +254,7 @@ fn push_call_came(
 /// Adds what came up in the phases of an item.
 fn push_all_came(
     alloc: Global,
-    arrived: &mut Seq<Arrived>,
+    arrived: &mut Seq<FixtureLines>,
     kept: &KeptItem,
 ) -> Result<(), OutOfMemory>
     ensures { OnOk result (arrived.new ≡ arrived.old ++ all_came kept.now) }
@@ -274,7 +278,7 @@ fn names<S: Stage>(
     setting: &S::Setting,
     show: bool,
     item: &S::Item,
-    arrived: &[Arrived],
+    arrived: &[FixtureLines],
     kept: &KeptItem,
 ) -> Result<ItemNames, OutOfMemory>
     ensures node_id { IfOk result (λ n. n.node_id ≡ (S.selected setting.now item.now).texts.node_id) }
@@ -342,7 +346,7 @@ fn behind_came<S: Stage>(
     alloc: Global,
     setting: &S::Setting,
     show: bool,
-    arrived: &[Arrived],
+    arrived: &[FixtureLines],
     item: &S::Item,
     kept: KeptItem,
 ) -> Result<ItemReport, OutOfMemory>
@@ -362,7 +366,7 @@ pub fn report_of<S: Stage>(
     alloc: Global,
     setting: &S::Setting,
     show: bool,
-    arrived: &mut Seq<Arrived>,
+    arrived: &mut Seq<FixtureLines>,
     item: &S::Item,
     kept: KeptItem,
 ) -> Result<ItemReport, OutOfMemory>

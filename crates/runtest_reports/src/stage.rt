@@ -3,11 +3,11 @@
 ghost use Rattle.std.specs.Prelude.{◌≡◌, ℕ, List, [], IfOk, OnOk, option_map};
 ghost use Rattle.fixture_sessions.specs.FixtureSession.{fixture_call, fixture_leave, fixture_set_up, object_stands};
 ghost use Rattle.report_parts.specs.Outcomes.{is_raised};
-ghost use Rattle.fixture_sessions.specs.report_rules.Collected.{FixtureTexts, SelectedItem, spoken};
+ghost use Rattle.fixture_sessions.specs.report_rules.Collected.{FixtureTexts, SelectedItem, report_language};
 ghost use Rattle.runtest_reports.specs.Kept.{reported_ending, session_phase};
-ghost use Rattle.runtest_reports.specs.Stages.{IsKnown, session_item};
-ghost use Rattle.session_rules.specs.Session.{opened, telling};
-ghost use Rattle.session_rules.specs.Teardown.{State, down_all, in_world, step};
+ghost use Rattle.runtest_reports.specs.Stages.{IsKnownItem, session_item};
+ghost use Rattle.session_rules.specs.Session.{with_new_instance, telling};
+ghost use Rattle.session_rules.specs.Teardown.{SessionState, down_all, in_world, session_step};
 ghost use Rattle.session_rules.specs.World.{Rules, Teardown};
 
 use crate::kept::PhaseEnding;
@@ -34,10 +34,10 @@ pub trait Stage {
     /// A collected item.
     type Item;
 
-    ghost rules: { Self.Setting → Rules (spoken Self.World Self.Value Self.Thrown Self.Rest) };
+    ghost rules: { Self.Setting → Rules (report_language Self.World Self.Value Self.Thrown Self.Rest) };
 
     /// The session's state.
-    ghost state: { Self → State (spoken Self.World Self.Value Self.Thrown Self.Rest) };
+    ghost state: { Self → SessionState (report_language Self.World Self.Value Self.Thrown Self.Rest) };
 
     /// What a session and a report know of an item.
     ghost selected: { Self.Setting → Self.Item → SelectedItem };
@@ -55,7 +55,7 @@ pub trait Stage {
     fn open(&mut self, setting: &Self::Setting, item: &Self::Item) -> Result<(), OutOfMemory>
         requires here { stands setting.now self.old }
         requires known { known setting.now item.now }
-        ensures state { OnOk result (state self.new ≡ opened (rules setting.now) (selected setting.now item.now).item (state self.old)) }
+        ensures state { OnOk result (state self.new ≡ with_new_instance (rules setting.now) (selected setting.now item.now).item (state self.old)) }
         ensures here { OnOk result (stands setting.now self.new) };
 
     /// Makes the object that hooks get for an item.
@@ -73,7 +73,7 @@ pub trait Stage {
     ) -> Result<Seq<Self::Thrown>, OutOfMemory>
         requires here { stands setting.now self.old }
         requires known { known setting.now item.now }
-        ensures state { IfOk result (λ raised. step raised (state self.new) ≡ fixture_set_up (rules setting.now) (selected setting.now item.now).item (state self.old)) }
+        ensures state { IfOk result (λ raised. session_step raised (state self.new) ≡ fixture_set_up (rules setting.now) (selected setting.now item.now).item (state self.old)) }
         ensures here { OnOk result (stands setting.now self.new) };
 
     /// Calls an item's test with the values that it was given.
@@ -84,7 +84,7 @@ pub trait Stage {
     ) -> Result<Seq<Self::Thrown>, OutOfMemory>
         requires here { stands setting.now self.old }
         requires known { known setting.now item.now }
-        ensures state { IfOk result (λ raised. step raised (state self.new) ≡ fixture_call (rules setting.now) (selected setting.now item.now).item (state self.old)) }
+        ensures state { IfOk result (λ raised. session_step raised (state self.new) ≡ fixture_call (rules setting.now) (selected setting.now item.now).item (state self.old)) }
         ensures here { OnOk result (stands setting.now self.new) };
 
     /// Calls the finalizers of the test's own `request`, and takes down what isn't for the next item.
@@ -94,15 +94,15 @@ pub trait Stage {
         next: Option<&Self::Item>,
     ) -> Result<Seq<Self::Thrown>, OutOfMemory>
         requires here { stands setting.now self.old }
-        requires known { IsKnown (known setting.now) (option_map (λ item. item.now) next) }
-        ensures state { IfOk result (λ raised. step raised (state self.new) ≡ fixture_leave (rules setting.now) (session_item (selected setting.now) (option_map (λ item. item.now) next.entry)) (state self.old)) }
+        requires known { IsKnownItem (known setting.now) (option_map (λ item. item.now) next) }
+        ensures state { IfOk result (λ raised. session_step raised (state self.new) ≡ fixture_leave (rules setting.now) (session_item (selected setting.now) (option_map (λ item. item.now) next.entry)) (state self.old)) }
         ensures here { OnOk result (stands setting.now self.new) };
 
     /// Takes down all that lives, where no item is at hand.
     fn all_down(&mut self, setting: &Self::Setting) -> Result<Seq<Self::Thrown>, OutOfMemory>
         requires here { stands setting.now self.old }
         requires left { (state self.old).given ≡ [] }
-        ensures state { IfOk result (λ raised. step raised (state self.new) ≡ down_all (rules setting.now) (state self.old).live (state self.old)) }
+        ensures state { IfOk result (λ raised. session_step raised (state self.new) ≡ down_all (rules setting.now) (state self.old).live (state self.old)) }
         ensures here { OnOk result (stands setting.now self.new) };
 
     /// Whether a teardown that raised these is an error.
@@ -114,7 +114,7 @@ pub trait Stage {
     ) -> Result<bool, OutOfMemory>
         requires here { stands setting.now self.now }
         requires known { known setting.now item.now }
-        ensures { IfOk result (λ error. error ≡ is_raised (telling (rules setting.now) Teardown (selected setting.now item.now).item (step raised.now (state self.now))).told.end) };
+        ensures { IfOk result (λ error. error ≡ is_raised (telling (rules setting.now) Teardown (selected setting.now item.now).item (session_step raised.now (state self.now))).told.end) };
 
     /// The end of a phase that raised these.
     fn end_phase(
@@ -126,8 +126,8 @@ pub trait Stage {
     ) -> Result<PhaseEnding, OutOfMemory>
         requires here { stands setting.now self.old }
         requires known { known setting.now item.now }
-        ensures told { IfOk result (λ ending. reported_ending ending ≡ (telling (rules setting.now) (session_phase phase) (selected setting.now item.now).item (step raised (state self.old))).told) }
-        ensures state { OnOk result (state self.new ≡ in_world (telling (rules setting.now) (session_phase phase) (selected setting.now item.now).item (step raised (state self.old))).world (state self.old)) }
+        ensures told { IfOk result (λ ending. reported_ending ending ≡ (telling (rules setting.now) (session_phase phase) (selected setting.now item.now).item (session_step raised (state self.old))).told) }
+        ensures state { OnOk result (state self.new ≡ in_world (telling (rules setting.now) (session_phase phase) (selected setting.now item.now).item (session_step raised (state self.old))).world (state self.old)) }
         ensures here { OnOk result (stands setting.now self.new) };
 
     /// The events so far, in order.

@@ -9,7 +9,7 @@ use Rattle.report_parts.specs.declared.report.Told.{Told}
 use Rattle.tracebacks.specs.source_meaning.Meaning.{SourceWorld}
 use Rattle.tracebacks.specs.Frames.{told}
 use Rattle.tracebacks.specs.Texts.{exception_text}
-use Rattle.fixture_calls.specs.Failing.{as_failure, failure_trace, has_failed, made_for}
+use Rattle.fixture_calls.specs.Failing.{as_failure, failure_trace, some_failure, made_for}
 use Rattle.fixture_calls.specs.declared.failure.Failure.{Failure}
 use Rattle.fixture_calls.specs.declared.failure.Failure.TheVariants.{Exception, FixtureFault}
 use Rattle.test_suite.specs.declared.item.Item.{Item}
@@ -26,7 +26,7 @@ abbrev pub failure_told : SourceWorld → Failure → Told
 failure_told w f = told w.sources (failure_trace f) (failure_text w.heap f)
 
 abbrev pub skip_made : Item → Option (List ℕ) → SourceWorld → Option Failure × SourceWorld
-skip_made i (Some reason) w = has_failed (as_failure (made_for i.defined class.Skipped reason w))
+skip_made i (Some reason) w = some_failure (as_failure (made_for i.defined class.Skipped reason w))
 skip_made i None w = (None, w)
 
 -- A SKIP: where the marks of an item say so, `Skipped` is raised with their reason (pytest's "Skipping test functions")

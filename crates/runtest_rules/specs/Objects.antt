@@ -15,8 +15,8 @@ use Rattle.fixture_calls.specs.Failing.{in_heap}
 use Rattle.test_suite.specs.declared.item.Item.{Item}
 
 -- THE OBJECT that hooks get for an item
-unfoldable pub object_made : Item → SourceWorld → Value × SourceWorld
-object_made i w = in_heap (with_object (test_item i.name (chars i.node_id)) w.heap) w
+unfoldable pub item_object : Item → SourceWorld → Value × SourceWorld
+item_object i w = in_heap (with_object (test_item i.name (chars i.node_id)) w.heap) w
 
 -- whether a class of the heap is a class of the sources and no class of exceptions
 abbrev pub is_source_class : Option ClassObj → Bool

@@ -14,7 +14,7 @@ use Rattle.report_parts.specs.declared.outcome.Phase.{Phase as ShownPhase}
 use Rattle.report_parts.specs.declared.outcome.Phase.TheVariants as shown
 use Rattle.report_parts.specs.declared.report.PhaseEnd.{PhaseEnd}
 use Rattle.report_parts.specs.declared.report.PhaseEnd.TheVariants as end
-use Rattle.report_rules.specs.Collected.{Ending}
+use Rattle.report_rules.specs.Collected.{CapturedEnd}
 use Rattle.session_rules.specs.World.{Phase, SetUp, Call, Teardown}
 use Rattle.tracebacks.specs.source_meaning.Meaning.{SourceWorld}
 use Rattle.tracebacks.specs.Frames.{frame_told}
@@ -62,9 +62,9 @@ verdict_raises verdict.Xpassed = false
 verdict_raises verdict.StrictXpassed = false
 verdict_raises verdict.Raised = true
 
-abbrev pub ending_with : PhaseEnd → List ℕ → Ending
+abbrev pub ending_with : PhaseEnd → List ℕ → CapturedEnd
 ending_with end captured = record { end = end; captured = captured }
 
 -- THE END OF A PHASE that raised these: its outcome, and what was printed in it, which is taken
-unfoldable pub phase_ended : Phase → Item → List Failure → SourceWorld → Ending × SourceWorld
+unfoldable pub phase_ended : Phase → Item → List Failure → SourceWorld → CapturedEnd × SourceWorld
 phase_ended phase i raised w = (ending_with (end_of_phase phase i raised w) (utf8_lossy w.printed), world_with_printed [] w)

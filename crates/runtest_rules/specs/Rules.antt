@@ -6,9 +6,9 @@ use Rattle.hook_order.specs.declared.implementation.Impl.{Impl}
 use Rattle.py_values.specs.declared.class.ExcClass.TheVariants as class
 use Rattle.py_values.specs.declared.value.Value.{Value}
 use Rattle.py_values.specs.declared.value.Value.TheVariants as val
-use Rattle.report_rules.specs.Collected.{Ending}
+use Rattle.report_rules.specs.Collected.{CapturedEnd}
 use Rattle.session_rules.specs.Hooks.{HookAnswer, HookGave, HookRaised}
-use Rattle.session_rules.specs.World.{Rules, Phase, SetUp, Call, Teardown, WorldAnswer, Account, After, BodyEnd, NewException, NewRequest, ClosedRequest, Outcome, Returned, Yielded, Raised}
+use Rattle.session_rules.specs.World.{Rules, Phase, SetUp, Call, Teardown, WorldAnswer, Account, CallOutcome, BodyEnd, NewException, NewRequest, ClosedRequest, BodyOutcome, Returned, Yielded, Raised}
 use Rattle.tracebacks.specs.source_meaning.Meaning.{SourceWorld}
 use Rattle.fixture_calls.specs.Asking.{finalizers_taken, fixture_request, test_request}
 use Rattle.fixture_calls.specs.Calls.{finalizer_called, test_called}
@@ -17,12 +17,12 @@ use Rattle.fixture_calls.specs.Yields.{did_not_yield, fixture_abandoned, fixture
 use Rattle.fixture_calls.specs.declared.failure.Failure.{Failure}
 use Rattle.fixture_calls.specs.declared.yields.FixtureEnd.{FixtureEnd}
 use Rattle.fixture_calls.specs.declared.yields.FixtureEnd.TheVariants as end
-use Rattle.test_suite.specs.Suites.{fixture_at, item_at}
+use Rattle.test_suite.specs.Suites.{fixture_at, item_with_node}
 use Rattle.test_suite.specs.declared.item.Item.{Item}
 use Rattle.test_suite.specs.declared.suite.Suite.{Suite}
 use Rattle.runtest_rules.specs.Failures.{fixture_fault, skipped, wrong_arguments}
 use Rattle.runtest_rules.specs.Language.{python}
-use Rattle.runtest_rules.specs.Objects.{instance_made, object_made}
+use Rattle.runtest_rules.specs.Objects.{instance_made, item_object}
 use Rattle.runtest_rules.specs.Phases.{phase_ended}
 
 abbrev pub world_answer : {A : Type 0} → A × SourceWorld → WorldAnswer python A
@@ -37,10 +37,10 @@ request_answer x = record { request = x.0; world = x.1 }
 abbrev pub closed_answer : List Value × SourceWorld → ClosedRequest python
 closed_answer x = record { finalizers = x.0; world = x.1 }
 
-abbrev pub after_call : Option Failure × SourceWorld → After python
+abbrev pub after_call : Option Failure × SourceWorld → CallOutcome python
 after_call x = record { raised = x.0; world = x.1 }
 
-abbrev pub account : Ending × SourceWorld → Account python
+abbrev pub account : CapturedEnd × SourceWorld → Account python
 account x = record { told = x.0; world = x.1 }
 
 abbrev pub body_end_of : FixtureEnd → BodyEnd python
@@ -48,11 +48,11 @@ body_end_of (end.Returned v) = Returned v
 body_end_of (end.Yielded v n) = Yielded v n
 body_end_of (end.Raised f) = Raised f
 
-abbrev pub outcome : FixtureEnd × SourceWorld → Outcome python
-outcome x = record { how = body_end_of x.0; world = x.1 }
+abbrev pub body_outcome : FixtureEnd × SourceWorld → BodyOutcome python
+body_outcome x = record { how = body_end_of x.0; world = x.1 }
 
 -- without hooks of sources no wrapper begins or goes on
-abbrev pub no_body : SourceWorld → Outcome python
+abbrev pub no_body : SourceWorld → BodyOutcome python
 no_body w = record { how = Returned val.None; world = w }
 
 -- an exception that is never asked for
@@ -80,11 +80,11 @@ abbrev pub implemented_for : Item → Impl → SourceWorld → WorldAnswer pytho
 implemented_for i which w = if which.registered == 0 then hook_end_of (skipped i w) else hook_end_of (None, w)
 
 -- a value, unless it is None
-abbrev pub unless_none : Value → Option Value
-unless_none val.None = None
-unless_none (val.Bool b) = Some (val.Bool b)
-unless_none (val.Int n) = Some (val.Int n)
-unless_none (val.Ref id) = Some (val.Ref id)
+abbrev pub not_none : Value → Option Value
+not_none val.None = None
+not_none (val.Bool b) = Some (val.Bool b)
+not_none (val.Int n) = Some (val.Int n)
+not_none (val.Ref id) = Some (val.Ref id)
 
 -- exceptions are objects
 abbrev pub is_object_at : ℕ → Value → Bool
@@ -106,29 +106,29 @@ rules_within limit suite =
       depth = length suite.fixtures;
       scope = λ d. (fixture_at suite d).scope;
       yields = λ d. (fixture_at suite d).yields;
-      make_instance = λ n w. world_answer (instance_made (item_at suite n) w);
-      make_item = λ n w. world_answer (object_made (item_at suite n) w);
+      make_instance = λ n w. world_answer (instance_made (item_with_node suite n) w);
+      make_item = λ n w. world_answer (item_object (item_with_node suite n) w);
       ask = λ n d param w. request_answer (fixture_request (fixture_at suite d) w);
-      begin = λ n d param own values request w. outcome (fixture_begun limit (fixture_at suite d) own values request w);
+      begin = λ n d param own values request w. body_outcome (fixture_begun limit (fixture_at suite d) own values request w);
       did_not_yield = λ d w. new_exception (did_not_yield (fixture_at suite d) w);
-      resume = λ rest w. outcome (fixture_resumed limit rest w);
+      resume = λ rest w. body_outcome (fixture_resumed limit rest w);
       abandon = λ rest w. fixture_abandoned rest w;
       yielded_again = λ d w. new_exception (yielded_again (fixture_at suite d) w);
       close = λ request w. closed_answer (finalizers_taken request w);
       finalize = λ f w. after_call (finalizer_called limit f w);
-      fault = λ n w. new_exception (fixture_fault (item_at suite n) w);
-      ask_test = λ n w. request_answer (test_request (item_at suite n) w);
-      test = λ n own values request w. after_call (test_called limit (item_at suite n) own values request w);
-      wrong_arguments = λ n w. new_exception (wrong_arguments (item_at suite n) w);
+      fault = λ n w. new_exception (fixture_fault (item_with_node suite n) w);
+      ask_test = λ n w. request_answer (test_request (item_with_node suite n) w);
+      test = λ n own values request w. after_call (test_called limit (item_with_node suite n) own values request w);
+      wrong_arguments = λ n w. new_exception (wrong_arguments (item_with_node suite n) w);
       hooks = λ phase n. hooks_of phase;
-      implement = λ phase n arguments which w. implemented_for (item_at suite n) which w;
+      implement = λ phase n arguments which w. implemented_for (item_with_node suite n) which w;
       open_wrapper = λ phase n arguments which w. no_body w;
       wrapper_did_not_yield = λ which w. no_wrapper (codes "hook wrapper did not yield") w;
       resume_wrapper = λ phase n rest sent w. no_body (fixture_abandoned rest w);
       wrapper_yielded_again = λ which w. no_wrapper (codes "hook wrapper yielded twice") w;
-      unless_none = unless_none;
+      unless_none = not_none;
       is_same_object = λ e f. is_same_value (exception_of e) (exception_of f);
-      end_phase = λ phase n raised w. account (phase_ended phase (item_at suite n) raised w);
+      end_phase = λ phase n raised w. account (phase_ended phase (item_with_node suite n) raised w);
     }
 
 -- THE RULES of a suite under these options

@@ -11,7 +11,7 @@ pub struct Ending {
 }
 
 impl Model for Ending {
-    ghost use Rattle.report_rules.specs.Collected.{Ending as EndingTold};
+    ghost use Rattle.report_rules.specs.Collected.{CapturedEnd as EndingTold};
 
     ghost Value = { EndingTold };
 

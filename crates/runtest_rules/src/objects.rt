@@ -98,9 +98,9 @@ fn new_object(world: &mut World, name: PyText, node_id: PyText) -> Result<Value,
 }
 
 /// The object that hooks get for an item (pytest's reference, `Item`). Behind want of memory the world is spent.
-#[tactic(auto, unfolding(crate::specs::Objects::object_made))]
+#[tactic(auto, unfolding(crate::specs::Objects::item_object))]
 pub fn make_item(alloc: Global, world: &mut World, item: &Item) -> Result<Value, OutOfMemory>
-    ensures { IfOk result (λ v. (v, world.new) ≡ objects.object_made item.now world.old) }
+    ensures { IfOk result (λ v. (v, world.new) ≡ objects.item_object item.now world.old) }
 {
     let name = PyText::from_chars(alloc, item.name.chars())?;
     let node_id = PyText::from_str(alloc, item.node_id.text())?;

@@ -1,7 +1,7 @@
 -- What the code reads and selects is what options say.
 use Rattle.std.proofs.Common.{◌≡◌, ◌↔◌, ℕ, Bool, true, false, ◌&&◌, List, Option, Some, None, Ok, Err, IsTrue, refl, sym, ap, ap₂, subst, ◌∙◌, chars, option_map}
 use Rattle.cli_words.specs.declared.options.Options.{Options}
-use Rattle.mark_expr.specs.Answer.{Answer, Gave, Reads, Wrong, TooDeep}
+use Rattle.mark_expr.specs.Answer.{ParseResult, Gave, Reads, Wrong, TooDeep}
 use Rattle.mark_expr.specs.Expression.{Tree}
 use Rattle.mark_expr.specs.Matching.{Holds, truth}
 use Rattle.mark_expr.specs.declared.fault.ExprFault.{ExprFault}
@@ -22,7 +22,7 @@ use Rattle.selection.specs.declared.fault.SelectionFault.TheVariants as faults
 pub blank_read : (flag : Flag) (text : List ℕ) → true ≡ is_blank_value text → IsValueRead flag (answer_for text) (Ok None)
 blank_read flag text e = rw (← e) (refl, refl)
 
-ok_answer : (flag : Flag) (e : MarkExpr) (a : Answer) → Gave (Ok e) a → IsValueRead flag (Some a) (Ok (Some e))
+ok_answer : (flag : Flag) (e : MarkExpr) (a : ParseResult) → Gave (Ok e) a → IsValueRead flag (Some a) (Ok (Some e))
 ok_answer flag e (Reads tree) g = (ap Some g, refl)
 ok_answer flag e (Wrong column) g = absurd g
 ok_answer flag e TooDeep g = absurd g
@@ -30,7 +30,7 @@ ok_answer flag e TooDeep g = absurd g
 pub ok_read : (flag : Flag) (text : List ℕ) (e : MarkExpr) → false ≡ is_blank_value text → Gave (Ok e) (expression_answer (chars text)) → IsValueRead flag (answer_for text) (Ok (Some e))
 ok_read flag text e blank g = rw (← blank) (ok_answer flag e (expression_answer (chars text)) g)
 
-err_answer : (flag : Flag) (fault : ExprFault) (a : Answer) → Gave (Err fault) a → IsValueRead flag (Some a) (Err (fault_seen flag fault))
+err_answer : (flag : Flag) (fault : ExprFault) (a : ParseResult) → Gave (Err fault) a → IsValueRead flag (Some a) (Err (fault_seen flag fault))
 err_answer flag (expr.Bad c) (Reads tree) g = absurd g
 err_answer flag (expr.Bad c) (Wrong column) g = ap (λ k. Some (faults.Wrong flag k)) (sym g)
 err_answer flag (expr.Bad c) TooDeep g = absurd g

@@ -4,10 +4,10 @@ use Rattle.std.specs.List.{list_all}
 use Rattle.std.specs.Option.{option_map}
 use Rattle.std.specs.Str.{chars}
 use Rattle.cli_words.specs.declared.options.Options.{Options}
-use Rattle.mark_expr.specs.Answer.{Answer, Reads, Wrong, TooDeep}
+use Rattle.mark_expr.specs.Answer.{ParseResult, Reads, Wrong, TooDeep}
 use Rattle.mark_expr.specs.Expression.{Tree, view}
 use Rattle.mark_expr.specs.Matching.{truth}
-use Rattle.mark_expr.specs.Text.{is_blank}
+use Rattle.mark_expr.specs.Text.{is_inline_space}
 use Rattle.mark_expr.specs.declared.fault.ExprFault.{ExprFault}
 use Rattle.mark_expr.specs.declared.fault.ExprFault.TheVariants as expr
 use Rattle.mark_expr.specs.declared.matching.How.{How}
@@ -21,27 +21,27 @@ use Rattle.selection.specs.declared.fault.Flag.{Flag}
 use Rattle.selection.specs.declared.fault.Flag.TheVariants.{Keyword, Marks}
 
 -- the option's value, as it is given: empty without the option
-abbrev pub value_given : Options → Flag → List ℕ
-value_given o Keyword = o.keyword
-value_given o Marks = o.marks
+abbrev pub flag_value : Options → Flag → List ℕ
+flag_value o Keyword = o.keyword
+flag_value o Marks = o.marks
 
 -- a value that is empty or of blanks alone is no expression
 abbrev pub is_blank_value : List ℕ → Bool
-is_blank_value text = list_all is_blank text
+is_blank_value text = list_all is_inline_space text
 
 -- what is answered for a value, if it is an expression
-abbrev pub answer_for : List ℕ → Option Answer
+abbrev pub answer_for : List ℕ → Option ParseResult
 answer_for text = if is_blank_value text then None else Some (expression_answer (chars text))
 
 -- the expression that is read, if there is one
-abbrev pub tree_in : Option Answer → Option Tree
+abbrev pub tree_in : Option ParseResult → Option Tree
 tree_in None = None
 tree_in (Some (Reads tree)) = Some tree
 tree_in (Some (Wrong column)) = None
 tree_in (Some TooDeep) = None
 
 unfoldable pub tree_given : Options → Flag → Option Tree
-tree_given o flag = tree_in (answer_for (value_given o flag))
+tree_given o flag = tree_in (answer_for (flag_value o flag))
 
 -- the flag_text of the option
 abbrev pub flag_text : Flag → List ℕ
@@ -55,14 +55,14 @@ selection_text (faults.TooDeep flag) = codes "expression in " ++ (flag_text flag
 selection_text faults.OutOfMemory = codes "out of memory"
 
 -- why a value is refused
-abbrev pub value_fault : Flag → Option Answer → Option SelectionFault
+abbrev pub value_fault : Flag → Option ParseResult → Option SelectionFault
 value_fault flag None = None
 value_fault flag (Some (Reads tree)) = None
 value_fault flag (Some (Wrong column)) = Some (faults.Wrong flag column)
 value_fault flag (Some TooDeep) = Some (faults.TooDeep flag)
 
 unfoldable pub flag_fault : Options → Flag → Option SelectionFault
-flag_fault o flag = value_fault flag (answer_for (value_given o flag))
+flag_fault o flag = value_fault flag (answer_for (flag_value o flag))
 
 abbrev pub earlier_fault : Option SelectionFault → Option SelectionFault → Option SelectionFault
 earlier_fault None second = second
@@ -101,7 +101,7 @@ fault_seen flag expr.Nesting = faults.TooDeep flag
 fault_seen flag expr.OutOfMemory = faults.OutOfMemory
 
 -- what was read of an option's value, for which that is answered
-abbrev pub IsValueRead : Flag → Option Answer → Result (Option MarkExpr) SelectionFault → Type 0
+abbrev pub IsValueRead : Flag → Option ParseResult → Result (Option MarkExpr) SelectionFault → Type 0
 IsValueRead flag answer (Ok read) = (tree_seen read ≡ tree_in answer) × (value_fault flag answer ≡ None)
 IsValueRead flag answer (Err faults.OutOfMemory) = Unit {0}
 IsValueRead flag answer (Err (faults.Wrong f column)) = value_fault flag answer ≡ Some (faults.Wrong f column)

@@ -1,5 +1,5 @@
 ghost use Rattle.std.specs.Prelude.{◌≡◌, IfOk, IfErr};
-ghost use Rattle.mark_expr.specs.Text.{is_blank};
+ghost use Rattle.mark_expr.specs.Text.{is_inline_space};
 ghost use Rattle.selection.specs.Exprs as meant;
 
 use crate::fault::{Flag, SelectionFault};
@@ -15,7 +15,7 @@ pub struct Exprs {
 }
 
 fn is_blank(byte: u8) -> bool
-    ensures { result ≡ is_blank byte }
+    ensures { result ≡ is_inline_space byte }
 {
     byte == b' ' || byte == b'\t'
 }

@@ -4,9 +4,9 @@ use Rattle.std.specs.Ordering.{int_eq}
 use Rattle.call_products.specs.Products.{plain, failed, wrong}
 use Rattle.call_products.specs.declared.product.Product.{Product}
 use Rattle.py_values.specs.Limits.{most_elements}
-use Rattle.py_values.specs.Numbers.{number_of}
+use Rattle.py_values.specs.Numbers.{int_value}
 use Rattle.py_values.specs.declared.class.ExcClass.TheVariants.{ValueError, MemoryError}
-use Rattle.py_values.specs.declared.end.Made.TheVariants.{New}
+use Rattle.py_values.specs.declared.end.Effect.TheVariants.{New}
 use Rattle.py_values.specs.declared.object.Obj.TheVariants.{Range}
 use Rattle.py_values.specs.declared.value.Value.{Value}
 use Rattle.sequence_calls.specs.declared.ranges.Span.{Span}
@@ -32,9 +32,9 @@ span_by _ _ _ = None
 
 -- `range(b)`, `range(a, b)` and `range(a, b, c)` of numbers
 abbrev pub span_of : List Value → Option Span
-span_of (b ∷ []) = span_by (Some (pos 0)) (number_of b) (Some (pos 1))
-span_of (a ∷ b ∷ []) = span_by (number_of a) (number_of b) (Some (pos 1))
-span_of (a ∷ b ∷ c ∷ []) = span_by (number_of a) (number_of b) (number_of c)
+span_of (b ∷ []) = span_by (Some (pos 0)) (int_value b) (Some (pos 1))
+span_of (a ∷ b ∷ []) = span_by (int_value a) (int_value b) (Some (pos 1))
+span_of (a ∷ b ∷ c ∷ []) = span_by (int_value a) (int_value b) (int_value c)
 span_of _ = None
 
 abbrev pub range_by : Option Span → Product

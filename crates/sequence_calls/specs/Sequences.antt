@@ -5,10 +5,10 @@ use Rattle.call_products.specs.Arguments.{sole, pair}
 use Rattle.call_products.specs.Elements.{elements_of}
 use Rattle.call_products.specs.Products.{plain, wrong, refs_from}
 use Rattle.call_products.specs.declared.elements.Elements.{Elements}
-use Rattle.call_products.specs.declared.elements.Gathered.{Gathered}
-use Rattle.call_products.specs.declared.elements.Gathered.TheVariants as gathered
+use Rattle.call_products.specs.declared.elements.ElementsResult.{ElementsResult}
+use Rattle.call_products.specs.declared.elements.ElementsResult.TheVariants as gathered
 use Rattle.call_products.specs.declared.product.Product.{Product}
-use Rattle.py_values.specs.declared.end.Made.TheVariants.{Give, New, Fail}
+use Rattle.py_values.specs.declared.end.Effect.TheVariants.{Give, New, Fail}
 use Rattle.py_values.specs.declared.end.Raise.{Raise}
 use Rattle.py_values.specs.declared.object.Obj.{Obj}
 use Rattle.py_values.specs.declared.object.Obj.TheVariants as obj
@@ -19,7 +19,7 @@ abbrev pub refused : Raise → Product
 refused r = plain (Fail r 0)
 
 -- `list(x)`
-abbrev pub list_made : Gathered → Product
+abbrev pub list_made : ElementsResult → Product
 list_made (gathered.Elements e) = record { objects = e.objects; made = New (obj.List e.values) (length e.values) }
 list_made (gathered.Refused r) = refused r
 
@@ -41,7 +41,7 @@ tuple_length heap val.None = None
 tuple_length heap (val.Bool b) = None
 tuple_length heap (val.Int z) = None
 
-abbrev pub tuple_made : Gathered → Product
+abbrev pub tuple_made : ElementsResult → Product
 tuple_made (gathered.Elements e) = record { objects = e.objects; made = New (obj.Tuple e.values) (length e.values) }
 tuple_made (gathered.Refused r) = refused r
 
@@ -60,7 +60,7 @@ abbrev pub tuple_of : List Obj → List Value → List (List ℕ × Value) → P
 tuple_of heap args named = tuple_by heap (sole args named)
 
 -- `reversed(x)`
-abbrev pub reversed_made : Gathered → Product
+abbrev pub reversed_made : ElementsResult → Product
 reversed_made (gathered.Elements e) = record { objects = e.objects; made = New (obj.List (reverse e.values)) (length e.values) }
 reversed_made (gathered.Refused r) = refused r
 
@@ -95,7 +95,7 @@ list_from behind os from =
     record { objects = os; made = New (obj.List (refs_from (behind + from) (length os - from))) (length os - from) }
 
 -- `enumerate(x)`
-abbrev pub enumerate_made : ℕ → Gathered → Product
+abbrev pub enumerate_made : ℕ → ElementsResult → Product
 enumerate_made behind (gathered.Elements e) = list_from behind (e.objects ++ numbered 0 e.values) (length e.objects)
 enumerate_made behind (gathered.Refused r) = refused r
 
@@ -107,12 +107,12 @@ abbrev pub enumerate_of : List Obj → List Value → List (List ℕ × Value) �
 enumerate_of heap args named = enumerate_by heap (sole args named)
 
 -- `zip(x, y)`
-abbrev pub zip_with : ℕ → Elements → Gathered → Product
+abbrev pub zip_with : ℕ → Elements → ElementsResult → Product
 zip_with behind xs (gathered.Elements ys) =
     list_from behind ((xs.objects ++ ys.objects) ++ paired xs.values ys.values) (length (xs.objects ++ ys.objects))
 zip_with behind xs (gathered.Refused r) = refused r
 
-abbrev pub zip_first : List Obj → Value → Gathered → Product
+abbrev pub zip_first : List Obj → Value → ElementsResult → Product
 zip_first heap y (gathered.Elements xs) = zip_with (length heap) xs (elements_of heap (length heap + length xs.objects) y)
 zip_first heap y (gathered.Refused r) = refused r
 

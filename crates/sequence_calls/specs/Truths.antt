@@ -3,11 +3,11 @@ use Rattle.std.specs.Prelude.{ℕ, suc, ◌+◌, Bool, true, false, not, List, [
 use Rattle.call_products.specs.Arguments.{sole}
 use Rattle.call_products.specs.Elements.{elements_of}
 use Rattle.call_products.specs.Products.{plain, wrong}
-use Rattle.call_products.specs.declared.elements.Gathered.{Gathered}
-use Rattle.call_products.specs.declared.elements.Gathered.TheVariants as gathered
+use Rattle.call_products.specs.declared.elements.ElementsResult.{ElementsResult}
+use Rattle.call_products.specs.declared.elements.ElementsResult.TheVariants as gathered
 use Rattle.call_products.specs.declared.product.Product.{Product}
 use Rattle.call_products.specs.py_kinds.Truth.{truth}
-use Rattle.py_values.specs.declared.end.Made.TheVariants.{Give, Fail}
+use Rattle.py_values.specs.declared.end.Effect.TheVariants.{Give, Fail}
 use Rattle.py_values.specs.declared.object.Obj.{Obj}
 use Rattle.py_values.specs.declared.value.Value.{Value}
 use Rattle.py_values.specs.declared.value.Value.TheVariants.{Bool as TruthValue}
@@ -26,7 +26,7 @@ abbrev pub decided : Bool → ℕ → Option ℕ → Product
 decided wanted n (Some i) = plain (Give (TruthValue (not wanted)) i)
 decided wanted n None = plain (Give (TruthValue wanted) n)
 
-abbrev pub decided_by : List Obj → Bool → Gathered → Product
+abbrev pub decided_by : List Obj → Bool → ElementsResult → Product
 decided_by heap wanted (gathered.Elements e) = decided wanted (length e.values) (until_other heap wanted 0 e.values)
 decided_by heap wanted (gathered.Refused r) = plain (Fail r 0)
 

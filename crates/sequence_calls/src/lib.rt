@@ -15,7 +15,7 @@
 //!
 //! # What tests alone show
 //!
-//! Worked calls with their values and errors as CPython has them, and their costs (`methods_tests`).
+//! Worked calls with their values and errors as CPython has them, and their costs (`value_tests`).
 //!
 //! # What neither shows
 //!
@@ -23,7 +23,6 @@
 #![tactic(auto)]
 
 pub use call_products;
-pub use call_products::py_ops;
 
 pub mod ranges;
 pub mod sequences;

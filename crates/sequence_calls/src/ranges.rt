@@ -5,7 +5,7 @@ ghost use Rattle.sequence_calls.specs.Ranges as ranges;
 
 use call_products::product::{Product, failed, plain, wrong};
 use py_values::class::ExcClass;
-use py_values::end::Made;
+use py_values::end::Effect;
 use py_values::limits::MOST_ELEMENTS;
 use py_values::number::number;
 use py_values::object::Obj;
@@ -61,7 +61,7 @@ fn span_made(alloc: Global, span: Span) -> Result<Product, OutOfMemory>
         step: span.step,
         length: length as usize,
     };
-    Ok(plain(alloc, Made::New(Obj::Range(range), 0)))
+    Ok(plain(alloc, Effect::New(Obj::Range(range), 0)))
 }
 
 /// The numbers of a range, which are the arguments of the call.

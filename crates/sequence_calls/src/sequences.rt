@@ -4,9 +4,9 @@ ghost use Rattle.std.specs.Prelude.{◌≡◌, ◌++◌, ◌+◌, IfOk, OnOk, le
 ghost use Rattle.sequence_calls.specs.Sequences as sequences;
 
 use call_products::arguments::{pair, sole};
-use call_products::elements::{Elements, Gathered, elements_of};
+use call_products::elements::{Elements, ElementsResult, elements_of};
 use call_products::product::{Product, plain, refs, wrong};
-use py_values::end::{Made, Raise};
+use py_values::end::{Effect, Raise};
 use py_values::heap::Heap;
 use py_values::object::Obj;
 use py_values::rows::Values;
@@ -18,22 +18,22 @@ use std::alloc::Global;
 fn refused(alloc: Global, raise: Raise) -> Product
     ensures { result ≡ sequences.refused raise }
 {
-    plain(alloc, Made::Fail(raise, 0))
+    plain(alloc, Effect::Fail(raise, 0))
 }
 
 /// A list of elements.
-fn list_made(alloc: Global, gathered: Gathered) -> Product
+fn list_made(alloc: Global, gathered: ElementsResult) -> Product
     ensures { result ≡ sequences.list_made gathered }
 {
     match gathered {
-        Gathered::Elements(Elements { objects, values }) => {
+        ElementsResult::Elements(Elements { objects, values }) => {
             let cost = values.items().len() as u64;
             Product {
                 objects,
-                made: Made::New(Obj::List(values), cost),
+                made: Effect::New(Obj::List(values), cost),
             }
         }
-        Gathered::Refused(raise) => refused(alloc, raise),
+        ElementsResult::Refused(raise) => refused(alloc, raise),
     }
 }
 
@@ -69,18 +69,18 @@ fn tuple_length(heap: &Heap, v: Value) -> Option<usize>
 }
 
 /// A tuple of elements.
-fn tuple_made(alloc: Global, gathered: Gathered) -> Product
+fn tuple_made(alloc: Global, gathered: ElementsResult) -> Product
     ensures { result ≡ sequences.tuple_made gathered }
 {
     match gathered {
-        Gathered::Elements(Elements { objects, values }) => {
+        ElementsResult::Elements(Elements { objects, values }) => {
             let cost = values.items().len() as u64;
             Product {
                 objects,
-                made: Made::New(Obj::Tuple(values), cost),
+                made: Effect::New(Obj::Tuple(values), cost),
             }
         }
-        Gathered::Refused(raise) => refused(alloc, raise),
+        ElementsResult::Refused(raise) => refused(alloc, raise),
     }
 }
 
@@ -88,7 +88,7 @@ fn tuple_of_value(alloc: Global, heap: &Heap, v: Value) -> Result<Product, OutOf
     ensures { IfOk result (λ p. p ≡ sequences.tuple_of_value heap.now v) }
 {
     match tuple_length(heap, v) {
-        Some(len) => Ok(plain(alloc, Made::Give(v, len as u64))),
+        Some(len) => Ok(plain(alloc, Effect::Give(v, len as u64))),
         None => {
             let gathered = elements_of(alloc, heap, heap.len(), v)?;
             Ok(tuple_made(alloc, gathered))
@@ -118,19 +118,19 @@ fn reversed_items(alloc: Global, items: &[Value]) -> Result<Vec<Value>, OutOfMem
     Ok(values)
 }
 
-fn reversed_made(alloc: Global, gathered: Gathered) -> Result<Product, OutOfMemory>
+fn reversed_made(alloc: Global, gathered: ElementsResult) -> Result<Product, OutOfMemory>
     ensures { IfOk result (λ p. p ≡ sequences.reversed_made gathered) }
 {
     match gathered {
-        Gathered::Elements(Elements { objects, values }) => {
+        ElementsResult::Elements(Elements { objects, values }) => {
             let cost = values.items().len() as u64;
             let items = reversed_items(alloc, values.items())?;
             Ok(Product {
                 objects,
-                made: Made::New(Obj::List(Values::from_vec(items)), cost),
+                made: Effect::New(Obj::List(Values::from_vec(items)), cost),
             })
         }
-        Gathered::Refused(raise) => Ok(refused(alloc, raise)),
+        ElementsResult::Refused(raise) => Ok(refused(alloc, raise)),
     }
 }
 
@@ -210,7 +210,7 @@ fn list_from(
     let values = refs(alloc, first, count)?;
     Ok(Product {
         objects: Seq::from_vec(objects),
-        made: Made::New(Obj::List(Values::from_vec(values)), count as u64),
+        made: Effect::New(Obj::List(Values::from_vec(values)), count as u64),
     })
 }
 
@@ -224,17 +224,21 @@ fn place_behind(place: usize, far: usize) -> Result<usize, OutOfMemory>
     }
 }
 
-fn enumerate_made(alloc: Global, heap: &Heap, gathered: Gathered) -> Result<Product, OutOfMemory>
+fn enumerate_made(
+    alloc: Global,
+    heap: &Heap,
+    gathered: ElementsResult,
+) -> Result<Product, OutOfMemory>
     ensures { IfOk result (λ p. p ≡ sequences.enumerate_made (length heap.now) gathered) }
 {
     match gathered {
-        Gathered::Elements(Elements { objects, values }) => {
+        ElementsResult::Elements(Elements { objects, values }) => {
             let mut objects = objects.into_vec();
             let from = objects.len();
             number_all(alloc, &mut objects, values.items())?;
             list_from(alloc, heap, objects, from)
         }
-        Gathered::Refused(raise) => Ok(refused(alloc, raise)),
+        ElementsResult::Refused(raise) => Ok(refused(alloc, raise)),
     }
 }
 
@@ -269,19 +273,19 @@ fn zip_with(
     alloc: Global,
     heap: &Heap,
     xs: Elements,
-    gathered: Gathered,
+    gathered: ElementsResult,
 ) -> Result<Product, OutOfMemory>
     ensures { IfOk result (λ p. p ≡ sequences.zip_with (length heap.now) xs gathered) }
 {
     match gathered {
-        Gathered::Elements(ys) => {
+        ElementsResult::Elements(ys) => {
             let mut objects = xs.objects.into_vec();
             append_all(&mut objects, ys.objects.into_vec())?;
             let from = objects.len();
             pair_all(alloc, &mut objects, xs.values.items(), ys.values.items())?;
             list_from(alloc, heap, objects, from)
         }
-        Gathered::Refused(raise) => Ok(refused(alloc, raise)),
+        ElementsResult::Refused(raise) => Ok(refused(alloc, raise)),
     }
 }
 
@@ -289,12 +293,12 @@ fn zip_values(alloc: Global, heap: &Heap, x: Value, y: Value) -> Result<Product,
     ensures { IfOk result (λ p. p ≡ sequences.zip_values heap.now x y) }
 {
     match elements_of(alloc, heap, heap.len(), x)? {
-        Gathered::Elements(xs) => {
+        ElementsResult::Elements(xs) => {
             let from = place_behind(heap.len(), xs.objects.items().len())?;
             let gathered = elements_of(alloc, heap, from, y)?;
             zip_with(alloc, heap, xs, gathered)
         }
-        Gathered::Refused(raise) => Ok(refused(alloc, raise)),
+        ElementsResult::Refused(raise) => Ok(refused(alloc, raise)),
     }
 }
 

@@ -4,10 +4,10 @@ ghost use Rattle.std.specs.Prelude.{◌≡◌, IfOk};
 ghost use Rattle.sequence_calls.specs.Truths as truths;
 
 use call_products::arguments::sole;
-use call_products::elements::{Gathered, elements_of};
+use call_products::elements::{ElementsResult, elements_of};
 use call_products::product::{Product, plain, wrong};
 use call_products::py_kinds::truth::truth;
-use py_values::end::Made;
+use py_values::end::Effect;
 use py_values::heap::Heap;
 use py_values::value::Value;
 use py_values::{OutOfMemory, PyText};
@@ -36,20 +36,20 @@ fn decided(alloc: Global, wanted: bool, len: usize, other: Option<usize>) -> Pro
     ensures { result ≡ truths.decided wanted len other }
 {
     match other {
-        Some(i) => plain(alloc, Made::Give(Value::Bool(!wanted), i as u64)),
-        None => plain(alloc, Made::Give(Value::Bool(wanted), len as u64)),
+        Some(i) => plain(alloc, Effect::Give(Value::Bool(!wanted), i as u64)),
+        None => plain(alloc, Effect::Give(Value::Bool(wanted), len as u64)),
     }
 }
 
-fn decided_by(alloc: Global, heap: &Heap, wanted: bool, gathered: Gathered) -> Product
+fn decided_by(alloc: Global, heap: &Heap, wanted: bool, gathered: ElementsResult) -> Product
     ensures { result ≡ truths.decided_by heap.now wanted gathered }
 {
     match gathered {
-        Gathered::Elements(elements) => {
+        ElementsResult::Elements(elements) => {
             let items = elements.values.items();
             decided(alloc, wanted, items.len(), until_other(heap, wanted, items))
         }
-        Gathered::Refused(raise) => plain(alloc, Made::Fail(raise, 0)),
+        ElementsResult::Refused(raise) => plain(alloc, Effect::Fail(raise, 0)),
     }
 }
 

@@ -16,16 +16,16 @@ use Rattle.fixture_sessions.specs.FixtureFrames.{AddsNone, KeepsFrames, Spends, 
 use Rattle.py_values.specs.declared.value.Value.{Value}
 use Rattle.py_values.specs.declared.value.Value.TheVariants as val
 use Rattle.runtest_rules.specs.py_world.Resuming.{Sent, SentValue, abandon_of, is_out}
-use Rattle.fixture_sessions.specs.report_rules.Rows.{Task, item_of, ran}
+use Rattle.fixture_sessions.specs.report_rules.Rows.{Task, task_item, ran}
 use Rattle.runtest_rules.specs.Failures.{fixture_fault, skipped, wrong_arguments}
 use Rattle.runtest_rules.specs.Language.{python}
-use Rattle.runtest_rules.specs.Objects.{instance_made, object_made}
+use Rattle.runtest_rules.specs.Objects.{instance_made, item_object}
 use Rattle.runtest_rules.specs.Phases.{phase_ended}
 use Rattle.runtest_rules.specs.Rules.{body_end_of, hooks_of, rules}
 use Rattle.session_rules.specs.Fits.{Distinct}
 use Rattle.session_rules.specs.World.{Call, Phase, SetUp, Teardown}
 use Rattle.core_rules.specs.source_meaning.Meaning.{SourceWorld, source_begin, source_call, source_resume}
-use Rattle.runtest_rules.specs.test_suite.Suites.{fixture_at, item_at}
+use Rattle.runtest_rules.specs.test_suite.Suites.{fixture_at, item_with_node}
 use Rattle.runtest_rules.specs.test_suite.declared.fixture.Fixture.{Fixture}
 use Rattle.runtest_rules.specs.test_suite.declared.item.Item.{Item}
 use Rattle.runtest_rules.specs.test_suite.declared.suite.Suite.{Suite}
@@ -36,9 +36,9 @@ made_instance : (i : Item) (w : SourceWorld) → AddsNone is_out w (instance_mad
 unfolding instance_made
 made_instance i w = none_added w (instance_made i w).1 (instance_frames i.test.class w)
 
-made_object : (i : Item) (w : SourceWorld) → AddsNone is_out w (object_made i w).1
-unfolding object_made
-made_object i w = none_added w (object_made i w).1 refl
+made_object : (i : Item) (w : SourceWorld) → AddsNone is_out w (item_object i w).1
+unfolding item_object
+made_object i w = none_added w (item_object i w).1 refl
 
 asked : (f : Fixture) (w : SourceWorld) → AddsNone is_out w (fixture_request f w).1
 unfolding fixture_request
@@ -126,8 +126,8 @@ module _ (calls : (w : SourceWorld) (f : Value) (args : List Value) (budget : �
   pub keeps : (options : Options) (suite : Suite) → KeepsFrames (rules options suite) is_out
   keeps options suite =
       record {
-        make_instance = λ n w. made_instance (item_at suite n) w;
-        make_item = λ n w. made_object (item_at suite n) w;
+        make_instance = λ n w. made_instance (item_with_node suite n) w;
+        make_item = λ n w. made_object (item_with_node suite n) w;
         ask = λ n d param w. asked (fixture_at suite d) w;
         begin = λ n d param own values request w r o. begun options.step_limit (fixture_at suite d) own values request w r o;
         did_not_yield = λ d w. not_yielded (fixture_at suite d) w;
@@ -136,17 +136,17 @@ module _ (calls : (w : SourceWorld) (f : Value) (args : List Value) (budget : �
         yielded_again = λ d w. again (fixture_at suite d) w;
         close = λ request w. closed request w;
         finalize = λ f w. finalized options.step_limit f w;
-        fault = λ n w. faulty (item_at suite n) w;
-        ask_test = λ n w. test_asked (item_at suite n) w;
-        test = λ n own values request w. tested options.step_limit (item_at suite n) own values request w;
-        wrong_arguments = λ n w. wrong (item_at suite n) w;
-        skip = λ n w. skips (item_at suite n) w;
-        end_phase = λ phase n raised w. ended phase (item_at suite n) raised w;
+        fault = λ n w. faulty (item_with_node suite n) w;
+        ask_test = λ n w. test_asked (item_with_node suite n) w;
+        test = λ n own values request w. tested options.step_limit (item_with_node suite n) own values request w;
+        wrong_arguments = λ n w. wrong (item_with_node suite n) w;
+        skip = λ n w. skips (item_with_node suite n) w;
+        end_phase = λ phase n raised w. ended phase (item_with_node suite n) raised w;
       }
 
 -- and so behind a session none is left
 pub none_is_left : ((options : Options) (suite : Suite) → KeepsFrames (rules options suite) is_out)
-    → (options : Options) (suite : Suite) (w : SourceWorld) (maxfail : ℕ) (tasks : List Task) → Distinct (map item_of tasks) → AddsNone is_out w (ran (rules options suite) w maxfail tasks).world
+    → (options : Options) (suite : Suite) (w : SourceWorld) (maxfail : ℕ) (tasks : List Task) → Distinct (map task_item tasks) → AddsNone is_out w (ran (rules options suite) w maxfail tasks).world
 none_is_left keep options suite w maxfail tasks distinct =
     subst (λ (v : SourceWorld). AddsNone is_out w v) (sym (world_same (rules options suite) (built_in options suite) w maxfail tasks distinct))
-    (none_left (rules options suite) is_out (keep options suite) w maxfail (map item_of tasks))
+    (none_left (rules options suite) is_out (keep options suite) w maxfail (map task_item tasks))

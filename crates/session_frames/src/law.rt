@@ -2,7 +2,7 @@ ghost use Rattle.std.specs.Prelude.{ℕ, List, map};
 ghost use Rattle.cli_words.specs.declared.options.Options.{Options};
 ghost use Rattle.fixture_sessions.specs.FixtureFrames.{AddsNone, KeepsFrames};
 ghost use Rattle.runtest_rules.specs.py_world.Resuming.{is_out};
-ghost use Rattle.fixture_sessions.specs.report_rules.Rows.{Task, item_of, ran};
+ghost use Rattle.fixture_sessions.specs.report_rules.Rows.{Task, task_item, ran};
 ghost use Rattle.runtest_rules.specs.Rules.{rules};
 ghost use Rattle.session_rules.specs.Fits.{Distinct};
 ghost use Rattle.core_rules.specs.source_meaning.Meaning.{SourceWorld};
@@ -19,7 +19,7 @@ pub fn sources_keep_their_frames()
 
 /// A law: behind a session over sources no frame stands at its `yield` that didn't before.
 pub fn no_frame_is_left()
-    ensures { (options : Options) (suite : Suite) (w : SourceWorld) (maxfail : ℕ) (tasks : List Task) → Distinct (map item_of tasks)
+    ensures { (options : Options) (suite : Suite) (w : SourceWorld) (maxfail : ℕ) (tasks : List Task) → Distinct (map task_item tasks)
         → AddsNone is_out w (ran (rules options suite) w maxfail tasks).world }
 {
     sources_keep_their_frames();

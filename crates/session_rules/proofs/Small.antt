@@ -2,14 +2,14 @@
 use Rattle.std.specs.Prelude.{ℕ, ◌==◌, ◌+◌, Bool, true, false, List, [], ◌∷◌, ◌++◌, None, Some, if◌then◌else◌}
 use Rattle.hook_order.specs.declared.implementation.Impl.{Impl}
 use Rattle.session_rules.specs.Hooks.{HookGave, HookMessage, SentRaise, SentValue, SentValues}
-use Rattle.session_rules.specs.Request.{Request, closed, new_request}
+use Rattle.session_rules.specs.Request.{RequestFinalizers, closed, new_request}
 use Rattle.session_rules.specs.World.{Call, BodyEnd, Language, Phase, Raised, Returned, Rules, SetUp, Teardown, Yielded}
 use Rattle.session_types.specs.declared.scope.Scope.TheVariants.{Function}
 
 -- what was called, and one `request`
 pub record Log : Type 0 where
   pub lines : List ℕ
-  pub request : Request ℕ
+  pub request : RequestFinalizers ℕ
 
 -- what is raised at the end of a phase is bad
 abbrev pub raised_bad : List ℕ → Bool

@@ -7,7 +7,7 @@ use Rattle.session_types.specs.declared.journal.Event.TheVariants.{Up, UpFailed}
 use Rattle.session_types.specs.Live.{find, dependents}
 use Rattle.session_types.specs.Numbers.{with_number, with_numbers}
 use Rattle.session_rules.specs.World.{Language, Rules, Item, Slot, LiveInstance, SetUpEnd, Value, Failure, BodyEnd, Returned, Yielded, Raised, NewException, NewRequest}
-use Rattle.session_rules.specs.Teardown.{Grant, State, Step, down_all, in_world}
+use Rattle.session_rules.specs.Teardown.{Grant, SessionState, Step, down_all, in_world}
 
 -- the answer to a demand: what was given, or the exceptions
 pub data Answer (L : Language) : Type 0 where
@@ -16,29 +16,29 @@ pub data Answer (L : Language) : Type 0 where
 
 pub record Reply (L : Language) : Type 0 where
   pub answer : Answer L
-  pub state : State L
+  pub state : SessionState L
 
-abbrev pub reply : {L : Language} → Answer L → State L → Reply L
+abbrev pub reply : {L : Language} → Answer L → SessionState L → Reply L
 reply a s = record { answer = a; state = s }
 
 -- the answers to the demands of a list, or the first fault
-pub data Answers (L : Language) : Type 0 where
-  AllGiven : List (Grant L) → Answers L
-  OneRefused : List L.Thrown → Answers L
+pub data JointAnswer (L : Language) : Type 0 where
+  AllGiven : List (Grant L) → JointAnswer L
+  OneRefused : List L.Thrown → JointAnswer L
 
 pub record Replies (L : Language) : Type 0 where
-  pub answers : Answers L
-  pub state : State L
+  pub answers : JointAnswer L
+  pub state : SessionState L
 
-abbrev pub replies : {L : Language} → Answers L → State L → Replies L
+abbrev pub replies : {L : Language} → JointAnswer L → SessionState L → Replies L
 replies a s = record { answers = a; state = s }
 
-abbrev pub ask_next : {L : Language} → (List (Grant L) → State L → Replies L) → List (Grant L) → Answer L → State L → Replies L
+abbrev pub ask_next : {L : Language} → (List (Grant L) → SessionState L → Replies L) → List (Grant L) → Answer L → SessionState L → Replies L
 ask_next rest given (Given i) s = rest (given ++ i ∷ []) s
 ask_next rest given (Refused es) s = replies (OneRefused es) s
 
 -- each in order, behind those that were given; the first fault is the answer
-abbrev pub ask_all : {L : Language} → (ℕ → State L → Reply L) → List ℕ → List (Grant L) → State L → Replies L
+abbrev pub ask_all : {L : Language} → (ℕ → SessionState L → Reply L) → List ℕ → List (Grant L) → SessionState L → Replies L
 ask_all ask [] given s = replies (AllGiven given) s
 ask_all ask (d ∷ ds) given s = ask_next (ask_all ask ds) given (ask d s).answer (ask d s).state
 
@@ -71,7 +71,7 @@ event_of bases i (Value v) = Up (made_of bases i)
 event_of bases i (Failure e) = UpFailed (made_of bases i)
 
 -- one comes up, or fails to; its bases are what its arguments were given
-abbrev pub born : {L : Language} → List ℕ → LiveInstance L → L.World → State L → Reply L
+abbrev pub born : {L : Language} → List ℕ → LiveInstance L → L.World → SessionState L → Reply L
 born bases i w s = reply (answer_of i i.slot.kept) (record s { world = w; live = s.live ++ i ∷ []; next = s.next + 1; events = s.events ++ event_of bases i i.slot.kept ∷ [] })
 
 -- what is kept of one whose function ended, and the world behind it
@@ -91,8 +91,8 @@ making_of rules d request (Yielded v rest) w = making (Value v) (Some rest) requ
 making_of rules d request (Raised e) w = making (Failure e) None request w
 making_of rules d request (Returned v) w = if rules.yields d then failed_with request (rules.did_not_yield d w) else making (Value v) None request w
 
-abbrev pub begun : {L : Language} → Rules L → Item → ℕ → List (Grant L) → Option L.Value → NewRequest L → NewInstance L
-begun rules item d given own a =
+abbrev pub call_fixture_func : {L : Language} → Rules L → Item → ℕ → List (Grant L) → Option L.Value → NewRequest L → NewInstance L
+call_fixture_func rules item d given own a =
     making_of rules d a.request (rules.begin item.node d (item.parameter d) own (values_of given) a.request a.world).how
     (rules.begin item.node d (item.parameter d) own (values_of given) a.request a.world).world
 
@@ -109,14 +109,14 @@ fresh rules item d given n held =
       slot = held;
     }
 
-abbrev pub made : {L : Language} → Rules L → Item → ℕ → List (Grant L) → NewInstance L → State L → Reply L
+abbrev pub made : {L : Language} → Rules L → Item → ℕ → List (Grant L) → NewInstance L → SessionState L → Reply L
 made rules item d given m s = born (numbers_of given []) (fresh rules item d given s.next m.held) m.world s
 
-abbrev pub set_up : {L : Language} → Rules L → Item → ℕ → List (Grant L) → State L → Reply L
-set_up rules item d given s = made rules item d given (begun rules item d given s.instance (rules.ask item.node d (item.parameter d) s.world)) s
+abbrev pub set_up : {L : Language} → Rules L → Item → ℕ → List (Grant L) → SessionState L → Reply L
+set_up rules item d given s = made rules item d given (call_fixture_func rules item d given s.instance (rules.ask item.node d (item.parameter d) s.world)) s
 
 -- where the old one is gone: where teardowns raised, these exceptions are the answer
-abbrev pub set_up_after : {L : Language} → Rules L → Item → ℕ → List (Grant L) → List L.Thrown → State L → Reply L
+abbrev pub set_up_after : {L : Language} → Rules L → Item → ℕ → List (Grant L) → List L.Thrown → SessionState L → Reply L
 set_up_after rules item d given [] s = set_up rules item d given s
 set_up_after rules item d given (x ∷ xs) s = reply (Refused (x ∷ xs)) s
 
@@ -131,25 +131,25 @@ is_same (Some x) (Some y) = x == y
 
 -- none lives on its scope node: it is made. One lives with the same parameter: it answers, or its kept exception does. One lives
 -- with another parameter: it goes down with all that depend on it, and then it is made
-abbrev pub settle : {L : Language} → Rules L → Item → ℕ → List (Grant L) → Option (LiveInstance L) → State L → Reply L
+abbrev pub settle : {L : Language} → Rules L → Item → ℕ → List (Grant L) → Option (LiveInstance L) → SessionState L → Reply L
 settle rules item d given None s = set_up rules item d given s
 settle rules item d given (Some i) s =
     if is_same i.param (item.parameter d)
     then reply (answer_of i i.slot.kept) s
     else replace rules item d given (down_all rules (dependents i.order s.live) s)
 
-abbrev pub with_arguments : {L : Language} → Rules L → Item → ℕ → Answers L → State L → Reply L
+abbrev pub with_arguments : {L : Language} → Rules L → Item → ℕ → JointAnswer L → SessionState L → Reply L
 with_arguments rules item d (AllGiven given) s = settle rules item d given (find d (item.place d) s.live) s
 with_arguments rules item d (OneRefused es) s = reply (Refused es) s
 
 abbrev pub answer_with : {L : Language} → Rules L → Item → ℕ → Replies L → Reply L
 answer_with rules item d r = with_arguments rules item d r.answers r.state
 
-abbrev pub faulty : {L : Language} → NewException L → State L → Reply L
+abbrev pub faulty : {L : Language} → NewException L → SessionState L → Reply L
 faulty t s = reply (Refused (t.thrown ∷ [])) (in_world t.world s)
 
 -- its arguments are demanded in order, and then it is found or made. What asks `depth` deep asks for itself: that is a fault of
 -- the item's closure
-abbrev pub demand : {L : Language} → Rules L → Item → ℕ → ℕ → State L → Reply L
+abbrev pub demand : {L : Language} → Rules L → Item → ℕ → ℕ → SessionState L → Reply L
 demand rules item zero d s = faulty (rules.fault item.node s.world) s
 demand rules item (suc depth) d s = answer_with rules item d (ask_all (demand rules item depth) (item.requests d) [] s)

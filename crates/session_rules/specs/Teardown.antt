@@ -3,7 +3,7 @@ use Rattle.std.specs.Prelude.{ℕ, Bool, true, false, List, [], ◌∷◌, ◌++
 use Rattle.std.specs.Option.{option_to_list}
 use Rattle.session_types.specs.declared.journal.Event.{Event}
 use Rattle.session_types.specs.declared.journal.Event.TheVariants.{DownBegins, Down}
-use Rattle.session_types.specs.Live.{down_order, without, numbered, numbers_in}
+use Rattle.session_types.specs.Live.{down_order, without, instance_by_number, instance_numbers}
 use Rattle.session_rules.specs.World.{Language, Rules, LiveInstance, BodyEnd, Returned, Yielded, Raised, NewException, ClosedRequest, Phase}
 
 -- what answered a demand: its definition, its number, its value, and the numbers of all on which it depends
@@ -28,7 +28,7 @@ pub record ItemObject (L : Language) : Type 0 where
   pub object : L.Value
 
 -- a session in its course
-pub record State (L : Language) : Type 0 where
+pub record SessionState (L : Language) : Type 0 where
   pub world : L.World
   pub live : List (LiveInstance L)
   -- the number of set-ups so far, failed ones among them
@@ -55,19 +55,19 @@ pub record State (L : Language) : Type 0 where
 -- the exceptions of a step, in order, and the state behind it
 pub record Step (L : Language) : Type 0 where
   pub raised : List L.Thrown
-  pub state : State L
+  pub state : SessionState L
 
-abbrev pub step : {L : Language} → List L.Thrown → State L → Step L
-step raised s = record { raised = raised; state = s }
+abbrev pub session_step : {L : Language} → List L.Thrown → SessionState L → Step L
+session_step raised s = record { raised = raised; state = s }
 
-abbrev pub in_world : {L : Language} → L.World → State L → State L
+abbrev pub in_world : {L : Language} → L.World → SessionState L → SessionState L
 in_world w s = record s { world = w }
 
-abbrev pub emit : {L : Language} → Event → State L → State L
+abbrev pub emit : {L : Language} → Event → SessionState L → SessionState L
 emit e s = record s { events = s.events ++ e ∷ [] }
 
-abbrev pub also : {L : Language} → List L.Thrown → Step L → Step L
-also raised r = record r { raised = raised ++ r.raised }
+abbrev pub also_raised : {L : Language} → List L.Thrown → Step L → Step L
+also_raised raised r = record r { raised = raised ++ r.raised }
 
 -- what a teardown raised, and the world behind it
 pub record TeardownEnd (L : Language) : Type 0 where
@@ -110,21 +110,21 @@ abbrev pub some_raised : {A : Type 0} → List A → Bool
 some_raised [] = false
 some_raised (x ∷ xs) = true
 
-abbrev pub gone : {L : Language} → LiveInstance L → TeardownEnd L → State L → State L
+abbrev pub gone : {L : Language} → LiveInstance L → TeardownEnd L → SessionState L → SessionState L
 gone i t s = record s { world = t.world; live = without i.order s.live; events = s.events ++ DownBegins i.order ∷ Down i.order (some_raised t.raised) ∷ [] }
 
-abbrev pub down : {L : Language} → Rules L → LiveInstance L → State L → Step L
-down rules i s = step (torn_of rules i s.world).raised (gone i (torn_of rules i s.world) s)
+abbrev pub down : {L : Language} → Rules L → LiveInstance L → SessionState L → Step L
+down rules i s = session_step (torn_of rules i s.world).raised (gone i (torn_of rules i s.world) s)
 
 -- the one with a number, where it still lives
-abbrev pub down_one : {L : Language} → Rules L → Option (LiveInstance L) → State L → Step L
-down_one rules None s = step [] s
+abbrev pub down_one : {L : Language} → Rules L → Option (LiveInstance L) → SessionState L → Step L
+down_one rules None s = session_step [] s
 down_one rules (Some i) s = down rules i s
 
 -- all are done, whatever raises; `raised` is what was raised before
-abbrev pub down_more : {L : Language} → Rules L → List ℕ → List L.Thrown → State L → Step L
-down_more rules [] raised s = step raised s
-down_more rules (n ∷ ns) raised s = down_more rules ns (raised ++ (down_one rules (numbered n s.live) s).raised) (down_one rules (numbered n s.live) s).state
+abbrev pub down_more : {L : Language} → Rules L → List ℕ → List L.Thrown → SessionState L → Step L
+down_more rules [] raised s = session_step raised s
+down_more rules (n ∷ ns) raised s = down_more rules ns (raised ++ (down_one rules (instance_by_number n s.live) s).raised) (down_one rules (instance_by_number n s.live) s).state
 
-abbrev pub down_all : {L : Language} → Rules L → List (LiveInstance L) → State L → Step L
-down_all rules set s = down_more rules (numbers_in (down_order set)) [] s
+abbrev pub down_all : {L : Language} → Rules L → List (LiveInstance L) → SessionState L → Step L
+down_all rules set s = down_more rules (instance_numbers (down_order set)) [] s

@@ -32,12 +32,12 @@ pub data BodyEnd (L : Language) : Type 0 where
   Raised : L.Thrown → BodyEnd L
 
 -- the end of a body, and the world behind it
-pub record Outcome (L : Language) : Type 0 where
+pub record BodyOutcome (L : Language) : Type 0 where
   pub how : BodyEnd L
   pub world : L.World
 
 -- the exception that one call raised, and the world behind it
-pub record After (L : Language) : Type 0 where
+pub record CallOutcome (L : Language) : Type 0 where
   pub raised : Option L.Thrown
   pub world : L.World
 
@@ -111,33 +111,33 @@ pub record Rules (L : Language) : Type 0 where
   pub ask : ℕ → ℕ → Option ℕ → L.World → NewRequest L
   -- a definition's function is called for an item, with this parameter, this instance of the item's class, these values and this
   -- request
-  pub begin : ℕ → ℕ → Option ℕ → Option L.Value → List L.Value → Option L.Value → L.World → Outcome L
+  pub begin : ℕ → ℕ → Option ℕ → Option L.Value → List L.Value → Option L.Value → L.World → BodyOutcome L
   -- `fixture 'NAME' did not yield`
   pub did_not_yield : ℕ → L.World → NewException L
   -- what remains behind a `yield`, with the sent value None
-  pub resume : L.Rest → L.World → Outcome L
+  pub resume : L.Rest → L.World → BodyOutcome L
   -- what remains is given up
   pub abandon : L.Rest → L.World → L.World
   -- `fixture function has more than one 'yield'`
   pub yielded_again : ℕ → L.World → NewException L
   pub close : L.Value → L.World → ClosedRequest L
-  pub finalize : L.Value → L.World → After L
+  pub finalize : L.Value → L.World → CallOutcome L
   -- the fault of an item's closure
   pub fault : ℕ → L.World → NewException L
   -- the `request` that an item's test takes
   pub ask_test : ℕ → L.World → NewRequest L
   -- an item's test is called, with the instance of its class, these values and this request
-  pub test : ℕ → Option L.Value → List L.Value → Option L.Value → L.World → After L
+  pub test : ℕ → Option L.Value → List L.Value → Option L.Value → L.World → CallOutcome L
   -- `wrong arguments for NAME`
   pub wrong_arguments : ℕ → L.World → NewException L
   -- the implementations of a phase's hook that serve the item, the built-in ones among them, in hook order
   pub hooks : Phase → ℕ → List Impl
   -- an implementation is called for an item
   pub implement : Phase → ℕ → HookArguments L → Impl → L.World → WorldAnswer L (HookAnswer L.Value L.Thrown)
-  pub open_wrapper : Phase → ℕ → HookArguments L → Impl → L.World → Outcome L
+  pub open_wrapper : Phase → ℕ → HookArguments L → Impl → L.World → BodyOutcome L
   -- `hook wrapper did not yield`
   pub wrapper_did_not_yield : Impl → L.World → NewException L
-  pub resume_wrapper : Phase → ℕ → L.Rest → HookMessage L.Value L.Thrown → L.World → Outcome L
+  pub resume_wrapper : Phase → ℕ → L.Rest → HookMessage L.Value L.Thrown → L.World → BodyOutcome L
   -- `hook wrapper yielded twice`
   pub wrapper_yielded_again : Impl → L.World → NewException L
   -- a value, unless it is None

@@ -4,16 +4,16 @@ ghost use Rattle.hook_order.specs.declared.answers.Inner.{Inner};
 ghost use Rattle.hook_order.specs.HookCall.{CallsEach, FindsFirst, HookCall};
 ghost use Rattle.session_rules.specs.Hooks.{HookRunner, first_call, hook_call};
 ghost use Rattle.session_rules.specs.HookFollows.{Agrees, Follows, HookView, itself};
-ghost use Rattle.session_rules.specs.Request.{Request, new_request, added_all, closed};
-ghost use Rattle.session_types.specs.Members.{In};
+ghost use Rattle.session_rules.specs.Request.{RequestFinalizers, new_request, added_all, closed};
+ghost use Rattle.session_types.specs.Members.{IsMember};
 ghost use Rattle.session_rules.specs.Events.{Lawful};
 ghost use Rattle.session_rules.specs.World.{Frame, Item, Phase, Exceptions, Rules, language};
-ghost use Rattle.session_rules.specs.Teardown.{State};
+ghost use Rattle.session_rules.specs.Teardown.{SessionState};
 ghost use Rattle.session_rules.specs.Demand.{Refused, demand};
-ghost use Rattle.session_rules.specs.Session.{HookPlace, hook_runner, session, start};
+ghost use Rattle.session_rules.specs.Session.{HookPlace, hook_runner, session, initial_state};
 ghost use Rattle.session_rules.specs.Reports.{IsReport};
 ghost use Rattle.session_rules.specs.Frames.{Tidy};
-ghost use Rattle.session_rules.specs.Fits.{Fits, Distinct, Settled, IsClosure};
+ghost use Rattle.session_rules.specs.Fits.{HasFixtureClosure, Distinct, IsWellScoped, IsClosure};
 
 use hook_order::Runner;
 
@@ -34,35 +34,35 @@ pub trait Acts {
 
 /// The events of every session are lawful, whatever its fixtures, hooks and tests do or raise.
 pub fn every_journal_is_lawful<W: Acts>()
-    ensures { (rules : Rules (language W W.Value W.Thrown W.Rest W.Told W.is_bad)) (maxfail : ℕ) (items : List Item) (world : W) → ((item : Item) → In item items → Fits rules item) → Distinct items → Lawful (session rules maxfail items (start world)).events }
+    ensures { (rules : Rules (language W W.Value W.Thrown W.Rest W.Told W.is_bad)) (maxfail : ℕ) (items : List Item) (world : W) → ((item : Item) → IsMember item items → HasFixtureClosure rules item) → Distinct items → Lawful (session rules maxfail items (initial_state world)).events }
 {}
 
 /// A session reports the items in order, each once: its set-up, its call where that raised nothing, and its teardown; all of them,
 /// or up to the first with which maxfail is reached. What is counted is what these phases tell, and the journal is the events of
 /// these phases, in order.
 pub fn every_item_is_reported_once<W: Acts>()
-    ensures { (rules : Rules (language W W.Value W.Thrown W.Rest W.Told W.is_bad)) (maxfail : ℕ) (items : List Item) (world : W) → IsReport maxfail items (session rules maxfail items (start world)) }
+    ensures { (rules : Rules (language W W.Value W.Thrown W.Rest W.Told W.is_bad)) (maxfail : ℕ) (items : List Item) (world : W) → IsReport maxfail items (session rules maxfail items (initial_state world)) }
 {}
 
 /// No frozen frame is out at the end of a session that wasn't out at its start, whatever is raised.
 pub fn no_frame_is_left_out<W: Acts>()
-    ensures { (rules : Rules (language W W.Value W.Thrown W.Rest W.Told W.is_bad)) (out : W → ℕ) → Tidy rules out → (maxfail : ℕ) (items : List Item) (world : W) → ((item : Item) → In item items → Fits rules item) → out (session rules maxfail items (start world)).world ≡ out world }
+    ensures { (rules : Rules (language W W.Value W.Thrown W.Rest W.Told W.is_bad)) (out : W → ℕ) → Tidy rules out → (maxfail : ℕ) (items : List Item) (world : W) → ((item : Item) → IsMember item items → HasFixtureClosure rules item) → out (session rules maxfail items (initial_state world)).world ≡ out world }
 {}
 
 /// A demand that is refused says why.
 pub fn refusals_tell<W: Acts>()
-    ensures { (rules : Rules (language W W.Value W.Thrown W.Rest W.Told W.is_bad)) (item : Item) (depth d : ℕ) (s : State (language W W.Value W.Thrown W.Rest W.Told W.is_bad)) → (demand rules item depth d s).answer ≡ Refused [] → ⊥ }
+    ensures { (rules : Rules (language W W.Value W.Thrown W.Rest W.Told W.is_bad)) (item : Item) (depth d : ℕ) (s : SessionState (language W W.Value W.Thrown W.Rest W.Told W.is_bad)) → (demand rules item depth d s).answer ≡ Refused [] → ⊥ }
 {}
 
 /// A demand is the same at any depth that what it asks for doesn't pass.
 pub fn depth_does_not_matter<W: Acts>()
-    ensures { (rules : Rules (language W W.Value W.Thrown W.Rest W.Told W.is_bad)) (item : Item) (one other d : ℕ) (s : State (language W W.Value W.Thrown W.Rest W.Told W.is_bad)) → Settled rules item one d → Settled rules item other d → demand rules item one d s ≡ demand rules item other d s }
+    ensures { (rules : Rules (language W W.Value W.Thrown W.Rest W.Told W.is_bad)) (item : Item) (one other d : ℕ) (s : SessionState (language W W.Value W.Thrown W.Rest W.Told W.is_bad)) → IsWellScoped rules item one d → IsWellScoped rules item other d → demand rules item one d s ≡ demand rules item other d s }
 {}
 
 /// A closure without fault is what the demands need: nothing that it reaches goes deeper than there are definitions, and nothing
 /// asks for narrower scope.
 pub fn closures_are_settled<W: Acts>()
-    ensures { (rules : Rules (language W W.Value W.Thrown W.Rest W.Told W.is_bad)) (item : Item) (ds : List ℕ) → IsClosure rules item ds → (d : ℕ) → In d ds → Settled rules item rules.depth d }
+    ensures { (rules : Rules (language W W.Value W.Thrown W.Rest W.Told W.is_bad)) (item : Item) (ds : List ℕ) → IsClosure rules item ds → (d : ℕ) → IsMember d ds → IsWellScoped rules item rules.depth d }
 {}
 
 /// What hook_order's calls do and answer are the hook calls of a session, where their runner does what the session says of each
@@ -79,7 +79,7 @@ pub fn hook_calls_agree<R: Runner>()
 /// The same of a runner that is read as the state of a session, where it holds besides the phase, the item and the next item.
 pub fn hook_calls_are_a_sessions<R: Runner, W: Acts>()
     ensures { (rules : Rules (language W W.Value W.Thrown W.Rest W.Told W.is_bad))
-        (view : HookView R R.Got R.Exc R.Frozen (State (language W W.Value W.Thrown W.Rest W.Told W.is_bad)) HookPlace W.Value (Exceptions (language W W.Value W.Thrown W.Rest W.Told W.is_bad)) (Frame (language W W.Value W.Thrown W.Rest W.Told W.is_bad)))
+        (view : HookView R R.Got R.Exc R.Frozen (SessionState (language W W.Value W.Thrown W.Rest W.Told W.is_bad)) HookPlace W.Value (Exceptions (language W W.Value W.Thrown W.Rest W.Told W.is_bad)) (Frame (language W W.Value W.Thrown W.Rest W.Told W.is_bad)))
         → Follows view R.calls R.begins R.resumes (hook_runner rules)
         → (impls : List Impl) (before after : R) (end : Inner R.Got R.Exc) (values : List R.Got)
         → HookCall (CallsEach R.calls) R.begins R.resumes impls before end values after → Agrees view (hook_call (hook_runner rules (view.place before)) impls (view.state before)) before end values after }
@@ -89,5 +89,5 @@ pub fn hook_calls_are_a_sessions<R: Runner, W: Acts>()
 /// added.
 pub fn finalizers_are_latest_first<W: Acts>()
     ensures latest { (fs : List W.Value) → added_all fs new_request ≡ record { is_open = true; finalizers = reverse fs } }
-    ensures going { (fs : List W.Value) (request : Request W.Value) → added_all fs (closed request) ≡ closed request }
+    ensures going { (fs : List W.Value) (request : RequestFinalizers W.Value) → added_all fs (closed request) ≡ closed request }
 {}

@@ -1,33 +1,45 @@
 //! The rules of a session of fixtures, and the laws that follow from them, apart from any language.
 //!
-//! Fixtures are set up on demand, live on the node of their scope, and are torn down (pytest's documentation, "How to use fixtures" and
-//! "Fixtures reference"; pluggy's documentation, "Wrappers"). What a fixture's function, its rest behind a `yield`, a finalizer, a hook
-//! and a test do is given by the functions of a world (`Acts::rules`), of which no law asks anything: each may raise, at every point.
+//! # What it is for
 //!
-//! Proved, each as the contract of a public function with an empty body:
+//! Fixtures are set up on demand, live on the node of their scope, and are torn down (pytest's documentation, "How to use fixtures"
+//! and "Fixtures reference"; pluggy's documentation, "Wrappers"). What a fixture's function, its rest behind a `yield`, a
+//! finalizer, a hook and a test do is given by rules (`Rules`) over a world (`Acts`), of which no law but that on frozen frames
+//! asks anything: each may raise, at every point.
+//!
+//! # What is proved
+//!
+//! Each as the contract of a public function with an empty body:
 //!
 //! - `every_journal_is_lawful`: for all items, no two with one node (`Distinct`), each with a fault or with a closure that fits the
-//!   table (`Fits`), and for every maxfail, the events of the session are `Lawful`: what comes up, or fails to, goes down exactly once;
-//!   it rests on what came up before, and all that depends on it is down before it; a test is called at most once, with instances that
-//!   live, or that went down before something on which they depend; at the end nothing is up.
-//! - `every_item_is_reported_once`: the items that ran are a prefix of the list, each once, with its set-up, its call exactly where the
-//!   set-up raised nothing, and its teardown; where items are left, maxfail was reached; what is counted is what these phases tell, and
-//!   the journal is the events of these phases, each once (`IsReport`).
-//! - `no_frame_is_left_out`: at the end no frozen frame is out that wasn't at the start, where each rule but those of a frame leaves the
-//!   frames alone (`Tidy`).
+//!   table (`HasFixtureClosure`), and for every maxfail, the events of the session are `Lawful`: what comes up, or fails to, goes down exactly
+//!   once; it rests on what came up before, and all that depends on it is down before it; a test is called at most once, with
+//!   instances that live, or that went down before something on which they depend; at the end nothing is up.
+//! - `every_item_is_reported_once`: the items that ran are a prefix of the list, each once, with its set-up, its call exactly where
+//!   the set-up raised nothing, and its teardown; where items are left, maxfail was reached; what is counted is what these phases
+//!   tell, and the journal is the events of these phases, each once (`IsReport`).
+//! - `no_frame_is_left_out`: for items that fit, at the end no frozen frame is out that wasn't at the start, where each rule but
+//!   those of a frame leaves the frames alone (`Tidy`).
 //! - `closures_are_settled`, `depth_does_not_matter`, `refusals_tell`: a closure without fault asks less deep than there are
 //!   definitions; a demand is the same at any depth that suffices; a refused one says why.
-//! - `hook_calls_agree` (`all`, `first`): what `call_all` and `call_first` of hook_order do and answer are the hook calls of a session,
-//!   where the runner does what the session says of each implementation; else memory was wanted. `hook_calls_are_a_sessions`: the same
-//!   of a runner that is read as the state of a session and holds item, phase and next item besides.
-//! - `finalizers_are_latest_first` (`latest`, `going`): a `request` gives its finalizers latest first, and takes none once its instance
-//!   is going.
+//! - `hook_calls_agree` (`all`, `firstresult`): what `call_all` and `call_first` of hook_order do and answer are the hook calls of a
+//!   session, where the runner does what the session says of each implementation; else memory was wanted.
+//!   `hook_calls_are_a_sessions`: the same of a runner that is read as the state of a session and holds item, phase and next item
+//!   besides.
+//! - `finalizers_are_latest_first` (`latest`, `going`): a `request` gives its finalizers latest first, and takes none once its
+//!   instance is going.
 //!
 //! Computed when the crate is checked, not proved in general: `proofs/Rows.antt` (sessions on small worlds: four scopes, raises in
-//! set-up, call, teardown, finalizers and hooks, changed parameters, wrappers, maxfail) and `proofs/Unlawful.antt` (lists of events that
-//! `Lawful` refuses, each by the point that it breaks).
+//! set-up, call, teardown, finalizers and hooks, changed parameters, wrappers, maxfail) and `proofs/Unlawful.antt` (lists of events
+//! that `Lawful` refuses, each by the point that it breaks).
 //!
-//! Neither: that a world of a language does what its rules say, and that the world closes its `request` objects as `Request` says.
+//! # What tests alone show
+//!
+//! That there is a world of which the laws speak (`session_tests`).
+//!
+//! # What neither shows
+//!
+//! That a world of a language does what its rules say, and that the world closes its `request` objects as `RequestFinalizers` says.
 //!
 //! The definitions, in the order in which to read them:
 //!
@@ -37,8 +49,8 @@
 //! 4. `specs/Teardown.antt`, `specs/Demand.antt`, `specs/Session.antt`: teardown, demand, the phases of an item, a session.
 //! 5. `specs/Events.antt`: what the events of a session must be, a relation on the list of events alone.
 //! 6. `specs/Fits.antt`: what the laws ask of the items: that a closure has no fault, and that no two have one node.
-//! 7. `specs/Reports.antt`: each item reported once; `specs/Frames.antt`: the frozen frames that are out; `specs/HookFollows.antt`: the
-//!    tie to the calls of hook_order.
+//! 7. `specs/Reports.antt`: each item reported once; `specs/Frames.antt`: the frozen frames that are out; `specs/HookFollows.antt`:
+//!    the tie to the calls of hook_order.
 #![tactic(auto)]
 
 mod law;

@@ -48,16 +48,16 @@ abbrev pub without : {S : Type 0} → ℕ → List (Instance S) → List (Instan
 without n live = filter (λ i. not (n == i.order)) live
 
 -- the one with this number
-abbrev pub numbered : {S : Type 0} → ℕ → List (Instance S) → Option (Instance S)
-numbered n [] = None
-numbered n (i ∷ is) = if n == i.order then Some i else numbered n is
+abbrev pub instance_by_number : {S : Type 0} → ℕ → List (Instance S) → Option (Instance S)
+instance_by_number n [] = None
+instance_by_number n (i ∷ is) = if n == i.order then Some i else instance_by_number n is
 
-abbrev pub number_of : {S : Type 0} → Instance S → ℕ
-number_of i = i.order
+abbrev pub instance_number : {S : Type 0} → Instance S → ℕ
+instance_number i = i.order
 
-abbrev pub numbers_in : {S : Type 0} → List (Instance S) → List ℕ
-numbers_in is = map number_of is
+abbrev pub instance_numbers : {S : Type 0} → List (Instance S) → List ℕ
+instance_numbers is = map instance_number is
 
 -- the numbers of those of one scope, later set-ups first
 abbrev pub scope_numbers : {S : Type 0} → ℕ → List (Instance S) → List ℕ
-scope_numbers r set = numbers_in (of_scope r set)
+scope_numbers r set = instance_numbers (of_scope r set)

@@ -2,6 +2,6 @@
 use Rattle.std.specs.Prelude.{◌≡◌, List, [], ◌∷◌, ◌⊎◌}
 
 -- x stands in the list
-abbrev pub In : {A : Type 0} → A → List A → Type 0
-In x [] = ⊥
-In x (y ∷ ys) = (x ≡ y) ⊎ In x ys
+abbrev pub IsMember : {A : Type 0} → A → List A → Type 0
+IsMember x [] = ⊥
+IsMember x (y ∷ ys) = (x ≡ y) ⊎ IsMember x ys

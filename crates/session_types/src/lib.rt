@@ -1,16 +1,23 @@
 //! The types that fixtures, parameters, chains and sessions share, and what they say of live instances.
 //!
-//! `Scope` with its rank, the number of a definition (`DefId`), lists of numbers (`Numbers`), a fixture that was set up (`Instance`),
-//! and the events of a session (`Event`, `Birth`). A later scope is one more line here: in the enum, in `rank`, and in the count.
+//! # What it is for
 //!
-//! Proved: `Scope::rank` is the place from broad to narrow (`rank`) and below the number of scopes (`below`); a `DefId` is its number
-//! (`new`, `number`). `Numbers` is the list type of the crate seq.
+//! `Scope` with its rank, the number of a definition (`DefId`), lists of numbers (`Numbers`, the list type of the crate seq), a
+//! fixture that was set up (`Instance`), and the events of a session (`Event`, `Birth`). A later scope is one more line here: in
+//! the enum, in `rank`, and in the count.
 //!
-//! Only tests show that an `Instance` and its events can be written down and read.
+//! # What is proved
+//!
+//! `Scope::rank` is the place from broad to narrow (`rank`) and below the number of scopes (`below`); a `DefId` is its number
+//! (`new`, `number`).
+//!
+//! # What tests alone show
+//!
+//! That an `Instance` and its events can be written down and read (`session_tests`).
 //!
 //! The definitions, in the order in which to read them: `specs/Members.antt` (what stands in a list), `specs/Numbers.antt`,
-//! `specs/Scopes.antt`, and `specs/Live.antt`: the live instances, what dies with one of them, and in which order. Those of a session
-//! stand in session_rules.
+//! `specs/Scopes.antt`, and `specs/Live.antt`: the live instances, what dies with one of them, and in which order. Those of a
+//! session stand in session_rules.
 #![tactic(auto)]
 
 mod def_id;

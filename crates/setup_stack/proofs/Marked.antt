@@ -1,7 +1,7 @@
 -- Marks on numbers.
 use Rattle.std.proofs.Common.{◌≡◌, ℕ, zero, suc, ◌==◌, ◌||◌, Bool, true, false, List, [], ◌∷◌, ◌++◌, inl, inr, refl, sym, ap, ap₂, ◌∙◌, Result, Ok, Err, OnOk}
 use Rattle.std.specs.List.{list_all}
-use Rattle.session_types.specs.Members.{In}
+use Rattle.session_types.specs.Members.{IsMember}
 use Rattle.session_types.proofs.Lists.{and_both, eqb_is, or_cases}
 use Rattle.setup_stack.specs.declared.answers.Answer.{Answer as CodeAnswer}
 use Rattle.setup_stack.specs.declared.answers.Answer.TheVariants as told
@@ -15,7 +15,7 @@ marked_push (x ∷ marks) zero = refl
 marked_push (x ∷ marks) (suc e) = marked_push marks e
 
 -- where all are marked, each is
-pub each_marked : (marks : List Bool) (ds : List ℕ) → list_all (is_marked marks) ds ≡ true → (r : ℕ) → In r ds → is_marked marks r ≡ true
+pub each_marked : (marks : List Bool) (ds : List ℕ) → list_all (is_marked marks) ds ≡ true → (r : ℕ) → IsMember r ds → is_marked marks r ≡ true
 each_marked marks [] h r m = absurd m
 each_marked marks (d ∷ ds) h r (inl e) = ap (is_marked marks) e ∙ (and_both (is_marked marks d) (list_all (is_marked marks) ds) h).0
 each_marked marks (d ∷ ds) h r (inr m) = each_marked marks ds (and_both (is_marked marks d) (list_all (is_marked marks) ds) h).1 r m

@@ -1,15 +1,15 @@
 -- What stands for an item, and what a demand of it comes to.
 use Rattle.std.proofs.Common.{◌≡◌, ℕ, zero, suc, Bool, true, false, cond, ◌&&◌, List, [], ◌∷◌, ◌++◌, inl, inr, refl, sym, ap, ◌∙◌, subst, append_assoc, eqb, eq-eqb, Option, Some, None}
 use Rattle.std.proofs.lemmas.List.{append-nil}
-use Rattle.session_types.specs.Members.{In}
+use Rattle.session_types.specs.Members.{IsMember}
 use Rattle.session_types.specs.declared.instance.Instance.{Instance}
 use Rattle.session_types.specs.Live.{dependents, find, is_at}
 use Rattle.session_rules.specs.World.{Item, Language, LiveInstance, Rules, SetUpEnd, Value, Failure}
-use Rattle.session_rules.specs.Teardown.{Grant, State, down_all}
-use Rattle.session_rules.specs.Demand.{AllGiven, Answer, Given, Refused, Replies, Reply, answer_of, answer_with, ask_all, ask_next, begun, demand, fresh, got, is_same, replace, replies, reply, settle}
-use Rattle.session_rules.specs.Fits.{Settled}
+use Rattle.session_rules.specs.Teardown.{Grant, SessionState, down_all}
+use Rattle.session_rules.specs.Demand.{AllGiven, Answer, Given, Refused, Replies, Reply, answer_of, answer_with, ask_all, ask_next, call_fixture_func, demand, fresh, got, is_same, replace, replies, reply, settle}
+use Rattle.session_rules.specs.Fits.{IsWellScoped}
 use Rattle.setup_stack.specs.declared.answers.Answer.{Answer as CodeAnswer}
-use Rattle.setup_stack.specs.Standing.{AllStand, IsNoted, Stands, is_marked, stays}
+use Rattle.setup_stack.specs.Standing.{AllStand, IsNoted, IsCached, is_marked, stays}
 use Rattle.setup_stack.specs.Views.{answer_in, grant_of}
 
 module _ {S : Type 0} where
@@ -40,7 +40,7 @@ both a b p q = ap (λ (x : Bool). x && b) p ∙ q
 
 module _ {L : Language} (rules : Rules L) (item : Item) where
   -- what stands, stands with more behind it
-  pub stands_more : (live more : List (LiveInstance L)) (d : ℕ) → Stands rules item live d → Stands rules item (live ++ more) d
+  pub stands_more : (live more : List (LiveInstance L)) (d : ℕ) → IsCached rules item live d → IsCached rules item (live ++ more) d
   stands_more live more d h =
       record {
         one = h.one;
@@ -52,12 +52,12 @@ module _ {L : Language} (rules : Rules L) (item : Item) where
       }
 
   -- a demand of it
-  pub stood : (live more : List (LiveInstance L)) (s : State L) (depth d : ℕ) (h : Stands rules item live d) → s.live ≡ live ++ more → Settled rules item depth d → demand rules item depth d s ≡ reply (Given (got h.value h.one)) s
+  pub stood : (live more : List (LiveInstance L)) (s : SessionState L) (depth d : ℕ) (h : IsCached rules item live d) → s.live ≡ live ++ more → IsWellScoped rules item depth d → demand rules item depth d s ≡ reply (Given (got h.value h.one)) s
   stood live more s zero d h e ready = absurd ready
   stood live more s (suc depth) d h e ready = h.answers s more depth e (λ x m. (ready x m).1)
 
   -- demands of such
-  all_stood : (live more : List (LiveInstance L)) (s : State L) (depth : ℕ) → s.live ≡ live ++ more → (ds : List ℕ) → ((e : ℕ) → In e ds → Stands rules item live e) → ((e : ℕ) → In e ds → Settled rules item depth e) → (given : List (Grant L)) → (gs : List (Grant L)) × (ask_all (demand rules item depth) ds given s ≡ replies (AllGiven gs) s)
+  all_stood : (live more : List (LiveInstance L)) (s : SessionState L) (depth : ℕ) → s.live ≡ live ++ more → (ds : List ℕ) → ((e : ℕ) → IsMember e ds → IsCached rules item live e) → ((e : ℕ) → IsMember e ds → IsWellScoped rules item depth e) → (given : List (Grant L)) → (gs : List (Grant L)) × (ask_all (demand rules item depth) ds given s ≡ replies (AllGiven gs) s)
   all_stood live more s depth e [] h ready given = (given, refl)
   all_stood live more s depth e (d ∷ ds) h ready given =
       let one = h d (inl refl) in
@@ -65,7 +65,7 @@ module _ {L : Language} (rules : Rules L) (item : Item) where
       (r.0, ap (λ (q : Reply L). ask_next (ask_all (demand rules item depth) ds) given q.answer q.state) (stood live more s depth d one e (ready d (inl refl))) ∙ r.1)
 
   -- one that lives with its parameter and has a value stands, where all that it asks for stand
-  pub now_stands : (live : List (LiveInstance L)) (d : ℕ) (one : LiveInstance L) (value : L.Value) → find d (item.place d) live ≡ Some one → is_same one.param (item.parameter d) ≡ true → one.slot.kept ≡ Value value → ((e : ℕ) → In e (item.requests d) → Stands rules item live e) → Stands rules item live d
+  pub now_stands : (live : List (LiveInstance L)) (d : ℕ) (one : LiveInstance L) (value : L.Value) → find d (item.place d) live ≡ Some one → is_same one.param (item.parameter d) ≡ true → one.slot.kept ≡ Value value → ((e : ℕ) → IsMember e (item.requests d) → IsCached rules item live e) → IsCached rules item live d
   now_stands live d one value found same kept all =
       record {
         one = one;
@@ -83,7 +83,7 @@ module _ {L : Language} (rules : Rules L) (item : Item) where
       }
 
   -- a settled one, where none went down
-  pub record IsKept (d : ℕ) (s : State L) (r : Reply L) : Type 0 where
+  pub record IsKept (d : ℕ) (s : SessionState L) (r : Reply L) : Type 0 where
     pub more : List (LiveInstance L)
     pub live : r.state.live ≡ s.live ++ more
     pub one : LiveInstance L
@@ -91,9 +91,9 @@ module _ {L : Language} (rules : Rules L) (item : Item) where
     pub same : is_same one.param (item.parameter d) ≡ true
     pub answer : r.answer ≡ answer_of one one.slot.kept
 
-  kept_by : (d : ℕ) (given : List (Grant L)) (s : State L) (o : Option (LiveInstance L)) → find d (item.place d) s.live ≡ o → stays item d o ≡ true → IsKept d s (settle rules item d given o s)
+  kept_by : (d : ℕ) (given : List (Grant L)) (s : SessionState L) (o : Option (LiveInstance L)) → find d (item.place d) s.live ≡ o → stays item d o ≡ true → IsKept d s (settle rules item d given o s)
   kept_by d given s None e h =
-      let m = begun rules item d given s.instance (rules.ask item.node d (item.parameter d) s.world) in
+      let m = call_fixture_func rules item d given s.instance (rules.ask item.node d (item.parameter d) s.world) in
       let i = fresh rules item d given s.next m.held in
       record {
         more = i ∷ [];
@@ -119,7 +119,7 @@ module _ {L : Language} (rules : Rules L) (item : Item) where
   value_kept i (Failure x) g e = (let z : Refused (x ∷ []) ≡ Given g = e in cc)
 
   -- what is marked behind it stands
-  pub settled_stand : (d : ℕ) (given : List (Grant L)) (s t : State L) (a : CodeAnswer L.Value L.Thrown) (marks after : List Bool)
+  pub settled_stand : (d : ℕ) (given : List (Grant L)) (s t : SessionState L) (a : CodeAnswer L.Value L.Thrown) (marks after : List Bool)
       → AllStand rules item s.live marks
       → stays item d (find d (item.place d) s.live) ≡ true
       → answer_in rules a ≡ (settle rules item d given (find d (item.place d) s.live) s).answer
@@ -128,43 +128,43 @@ module _ {L : Language} (rules : Rules L) (item : Item) where
       → AllStand rules item t.live after
   settled_stand d given s t a marks after stand h ea et noted =
       let k = kept_by d given s (find d (item.place d) s.live) refl h in
-      let el : t.live ≡ s.live ++ k.more = ap (λ (x : State L). x.live) et ∙ k.live in
-      let still : (e : ℕ) → is_marked marks e ≡ true → Stands rules item t.live e = λ e m. subst (λ (l : List (LiveInstance L)). Stands rules item l e) (sym el) (stands_more s.live k.more e (stand e m)) in
+      let el : t.live ≡ s.live ++ k.more = ap (λ (x : SessionState L). x.live) et ∙ k.live in
+      let still : (e : ℕ) → is_marked marks e ≡ true → IsCached rules item t.live e = λ e m. subst (λ (l : List (LiveInstance L)). IsCached rules item l e) (sym el) (stands_more s.live k.more e (stand e m)) in
       λ e m.
       elim (noted e m) [
         | inl q ↦ still e q
         | inr q ↦
             (let g = q.1.0 in
             let v = value_kept k.one k.one.slot.kept (grant_of rules g) (sym k.answer ∙ (sym ea ∙ ap (answer_in rules) q.1.1)) in
-            let one = now_stands t.live d k.one v.0 (ap (λ (x : State L). find d (item.place d) x.live) et ∙ k.found) k.same v.1 (λ r n. still r (q.2 r n)) in
-            subst (λ (x : ℕ). Stands rules item t.live x) (sym q.0) one)
+            let one = now_stands t.live d k.one v.0 (ap (λ (x : SessionState L). find d (item.place d) x.live) et ∙ k.found) k.same v.1 (λ r n. still r (q.2 r n)) in
+            subst (λ (x : ℕ). IsCached rules item t.live x) (sym q.0) one)
       ]
 
   -- what is found again where it stands
-  pub again_same : (d : ℕ) (given : List (Grant L)) (s : State L) (h : Stands rules item s.live d) → settle rules item d given (find d (item.place d) s.live) s ≡ reply (Given (got h.value h.one)) s
+  pub again_same : (d : ℕ) (given : List (Grant L)) (s : SessionState L) (h : IsCached rules item s.live d) → settle rules item d given (find d (item.place d) s.live) s ≡ reply (Given (got h.value h.one)) s
   again_same d given s h =
       ap (λ (o : Option (LiveInstance L)). settle rules item d given o s) h.found
       ∙ (ap (λ (b : Bool). cond b (reply (answer_of h.one h.one.slot.kept) s) (replace rules item d given (down_all rules (dependents h.one.order s.live) s))) h.same
       ∙ ap (λ (k : SetUpEnd L). reply (answer_of h.one k) s) h.kept)
 
   -- a demand of it, by what is found again
-  module _ (d : ℕ) (given : List (Grant L)) (s t : State L) (a : CodeAnswer L.Value L.Thrown) (h : Stands rules item s.live d) where
+  module _ (d : ℕ) (given : List (Grant L)) (s t : SessionState L) (a : CodeAnswer L.Value L.Thrown) (h : IsCached rules item s.live d) where
     pub unchanged : t ≡ (settle rules item d given (find d (item.place d) s.live) s).state → t ≡ s
     unchanged et = et ∙ ap (λ (r : Reply L). r.state) (again_same d given s h)
 
-    pub demanded_again : answer_in rules a ≡ (settle rules item d given (find d (item.place d) s.live) s).answer → t ≡ (settle rules item d given (find d (item.place d) s.live) s).state → (depth : ℕ) → ((e : ℕ) → In e (item.requests d) → Settled rules item depth e) → demand rules item (suc depth) d s ≡ reply (answer_in rules a) t
+    pub demanded_again : answer_in rules a ≡ (settle rules item d given (find d (item.place d) s.live) s).answer → t ≡ (settle rules item d given (find d (item.place d) s.live) s).state → (depth : ℕ) → ((e : ℕ) → IsMember e (item.requests d) → IsWellScoped rules item depth e) → demand rules item (suc depth) d s ≡ reply (answer_in rules a) t
     demanded_again ea et depth ready =
         h.answers s [] depth (sym (append-nil s.live)) ready
         ∙ (ap (λ (x : Answer L). reply x s) (sym (ea ∙ ap (λ (r : Reply L). r.answer) (again_same d given s h)))
-        ∙ ap (λ (x : State L). reply (answer_in rules a) x) (sym (unchanged et)))
+        ∙ ap (λ (x : SessionState L). reply (answer_in rules a) x) (sym (unchanged et)))
 
-    pub settled_again : answer_in rules a ≡ (settle rules item d given (find d (item.place d) s.live) s).answer → t ≡ (settle rules item d given (find d (item.place d) s.live) s).state → (depth : ℕ) → Settled rules item depth d → demand rules item depth d s ≡ reply (answer_in rules a) t
+    pub settled_again : answer_in rules a ≡ (settle rules item d given (find d (item.place d) s.live) s).answer → t ≡ (settle rules item d given (find d (item.place d) s.live) s).state → (depth : ℕ) → IsWellScoped rules item depth d → demand rules item depth d s ≡ reply (answer_in rules a) t
     settled_again ea et zero ready = absurd ready
     settled_again ea et (suc depth) ready = demanded_again ea et depth (λ x m. (ready x m).1)
 
   -- what stands, stands where nothing changed
-  pub stand_same : (s t : State L) (marks : List Bool) → t ≡ s → AllStand rules item s.live marks → AllStand rules item t.live marks
-  stand_same s t marks e h = subst (λ (x : State L). AllStand rules item x.live marks) (sym e) h
+  pub stand_same : (s t : SessionState L) (marks : List Bool) → t ≡ s → AllStand rules item s.live marks → AllStand rules item t.live marks
+  stand_same s t marks e h = subst (λ (x : SessionState L). AllStand rules item x.live marks) (sym e) h
 
   -- none is marked
   pub none_stand : (live : List (LiveInstance L)) (marks : List Bool) → marks ≡ [] → AllStand rules item live marks

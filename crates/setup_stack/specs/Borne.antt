@@ -9,7 +9,7 @@ use Rattle.fixture_instances.specs.declared.ends.SetUpEnd.{SetUpEnd as KeptEnd}
 use Rattle.fixture_instances.specs.declared.ends.SetUpEnd.TheVariants as kept
 use Rattle.setup_stack.specs.declared.answers.Answer.{Answer as CodeAnswer}
 use Rattle.setup_stack.specs.declared.answers.Answer.TheVariants as told
-use Rattle.fixture_instances.specs.declared.ends.Held.{Held}
+use Rattle.fixture_instances.specs.declared.ends.CachedResult.{CachedResult}
 
 abbrev pub birth_of : {S : Type 0} → List ℕ → Instance S → Birth
 birth_of bases i = record { n = i.order; def = i.def; param = i.param; node = i.node; bases = bases }
@@ -18,7 +18,7 @@ abbrev pub event_by : {V E : Type 0} → KeptEnd V E → Birth → Event
 event_by (kept.Value v) made = Up made
 event_by (kept.Failure e) made = UpFailed made
 
-abbrev pub event_for : {V E R : Type 0} → List ℕ → Instance (Held V E R) → Event
+abbrev pub event_for : {V E R : Type 0} → List ℕ → Instance (CachedResult V E R) → Event
 event_for bases i = event_by i.slot.kept (birth_of bases i)
 
 abbrev pub answer_with : {V E : Type 0} → ℕ → ℕ → List ℕ → KeptEnd V (List E) → CodeAnswer V E

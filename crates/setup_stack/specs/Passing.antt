@@ -1,17 +1,17 @@
 -- What demands and teardowns don't look at: the rest of a session's state, and of an item.
 use Rattle.std.specs.Prelude.{◌≡◌, ℕ}
 use Rattle.session_rules.specs.World.{Language, Item}
-use Rattle.session_rules.specs.Teardown.{State, Step, step}
+use Rattle.session_rules.specs.Teardown.{SessionState, Step, session_step}
 use Rattle.session_rules.specs.Demand.{Reply, reply}
 
 -- a state with what fixtures know of it from another
-abbrev pub over : {L : Language} → State L → State L → State L
+abbrev pub over : {L : Language} → SessionState L → SessionState L → SessionState L
 over s t = record s { world = t.world; live = t.live; next = t.next; events = t.events; instance = t.instance; given = t.given }
 
-abbrev pub over_step : {L : Language} → State L → Step L → Step L
-over_step s r = step r.raised (over s r.state)
+abbrev pub over_step : {L : Language} → SessionState L → Step L → Step L
+over_step s r = session_step r.raised (over s r.state)
 
-abbrev pub over_reply : {L : Language} → State L → Reply L → Reply L
+abbrev pub over_reply : {L : Language} → SessionState L → Reply L → Reply L
 over_reply s r = reply r.answer (over s r.state)
 
 -- items that a demand can't tell apart

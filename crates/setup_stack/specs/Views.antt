@@ -2,7 +2,7 @@
 use Rattle.std.specs.Prelude.{ℕ, List, [], ◌∷◌, Option, None, false}
 use Rattle.session_types.specs.declared.journal.Event.{Event}
 use Rattle.session_rules.specs.World.{Language, Rules, LiveInstance}
-use Rattle.session_rules.specs.Teardown.{Grant, State}
+use Rattle.session_rules.specs.Teardown.{Grant, SessionState}
 use Rattle.session_rules.specs.Demand.{Answer, Given, Refused}
 use Rattle.setup_stack.specs.declared.answers.Grant.{Grant as CodeGrant}
 use Rattle.setup_stack.specs.declared.answers.Answer.{Answer as CodeAnswer}
@@ -22,7 +22,7 @@ answer_in rules (told.Given g) = Given (grant_of rules g)
 answer_in rules (told.Refused es) = Refused es
 
 -- a session's state, as far as fixtures know it
-abbrev pub stated : {L : Language} → Rules L → L.World → List (LiveInstance L) → ℕ → List Event → List (CodeGrant L.Value) → Option L.Value → State L
+abbrev pub stated : {L : Language} → Rules L → L.World → List (LiveInstance L) → ℕ → List Event → List (CodeGrant L.Value) → Option L.Value → SessionState L
 stated rules w live next events given own =
     record {
       world = w;
@@ -41,5 +41,5 @@ stated rules w live next events given own =
     }
 
 -- the state that a world and a stack make together
-abbrev pub state_of : {L : Language} → Rules L → L.World → FixtureStack L.Value L.Thrown L.Rest → State L
-state_of rules w s = stated rules w (live_instances rules s.live.live) s.live.next s.events s.given s.own
+abbrev pub stack_state : {L : Language} → Rules L → L.World → FixtureStack L.Value L.Thrown L.Rest → SessionState L
+stack_state rules w s = stated rules w (live_instances rules s.live.live) s.live.next s.events s.given s.own

@@ -1,5 +1,5 @@
 ghost use Rattle.std.specs.Prelude.{◌≡◌, ◌<◌, ◌+◌, List, [], ◌∷◌, ◌++◌, length, drop, MatchOption, IfOk};
-ghost use Rattle.setup_stack.specs.Asking.{IsHanded, opened, wants, wants_then};
+ghost use Rattle.setup_stack.specs.Asking.{IsHanded, fresh_frame, wants, wants_then};
 ghost use Rattle.fixture_instances.specs.Items.{requests_in};
 
 use crate::answers::{Answer, Grant};
@@ -33,7 +33,7 @@ pub(crate) fn open<V>(
 ) -> Result<AskFrame<V>, OutOfMemory>
     requires def { def < length table.now.defs }
     requires node { item.now.node < length table.now.nodes }
-    ensures { IfOk result (λ frame. frame ≡ opened def (requests_in table.now item.now def)) }
+    ensures { IfOk result (λ frame. frame ≡ fresh_frame def (requests_in table.now item.now def)) }
 {
     let requests = requests_of(alloc, table, item, def)?;
     Ok(AskFrame {

@@ -4,15 +4,15 @@ ghost use Rattle.fixture_instances.specs.Views.{body_end, set_up_end, slot_of, t
 ghost use Rattle.setup_stack.specs.Making.{made_with};
 
 use crate::lists::alone;
-use fixture_instances::{BodyEnd, Executor, Held, ItemRef, SetUpEnd};
+use fixture_instances::{BodyEnd, CachedResult, Executor, ItemRef, SetUpEnd};
 use fixture_table::Table;
 use seq::{OutOfMemory, Seq};
 use session_types::DefId;
 use std::alloc::Global;
 
 /// What was made of a fixture whose function ended: what is kept of it, and what is answered.
-pub struct Made<V, E, R> {
-    pub held: Held<V, E, R>,
+pub struct SetUpOutcome<V, E, R> {
+    pub held: CachedResult<V, E, R>,
     pub told: SetUpEnd<V, Seq<E>>,
 }
 
@@ -40,13 +40,13 @@ fn failed<W: Executor>(
     world: &W,
     request: Option<W::Value>,
     thrown: W::Thrown,
-) -> Result<Made<W::Value, W::Thrown, W::Rest>, OutOfMemory>
+) -> Result<SetUpOutcome<W::Value, W::Thrown, W::Rest>, OutOfMemory>
     ensures { IfOk result (λ made. made ≡ record { held = record { kept = SetUpEnd.Failure thrown; rest = None; request = request }; told = SetUpEnd.Failure (thrown ∷ []) }) }
 {
     let copy = world.copied(&thrown)?;
     let list = alone(alloc, copy)?;
-    Ok(Made {
-        held: Held {
+    Ok(SetUpOutcome {
+        held: CachedResult {
             kept: SetUpEnd::Failure(thrown),
             rest: None,
             request,
@@ -56,11 +56,11 @@ fn failed<W: Executor>(
 }
 
 /// A set-up that gave a value, and what remains of its function.
-fn gave<V: Copy, E, R>(value: V, rest: Option<R>, request: Option<V>) -> Made<V, E, R>
+fn gave<V: Copy, E, R>(value: V, rest: Option<R>, request: Option<V>) -> SetUpOutcome<V, E, R>
     ensures { result ≡ record { held = record { kept = SetUpEnd.Value value; rest = rest; request = request }; told = SetUpEnd.Value value } }
 {
-    Made {
-        held: Held {
+    SetUpOutcome {
+        held: CachedResult {
             kept: SetUpEnd::Value(value),
             rest,
             request,
@@ -79,7 +79,7 @@ fn returned<W: Executor>(
     def: DefId,
     request: Option<W::Value>,
     value: W::Value,
-) -> Result<Made<W::Value, W::Thrown, W::Rest>, OutOfMemory>
+) -> Result<SetUpOutcome<W::Value, W::Thrown, W::Rest>, OutOfMemory>
     requires known { W.knows setting.now table.now item.now }
     requires def { def < length table.now.defs }
     ensures made { IfOk result (λ made. made_with (W.rules setting.now) made.held world.new ≡ making_of (W.rules setting.now) def request (body_end (W.rules setting.now) (BodyEnd.Returned value)) world.old) }
@@ -103,7 +103,7 @@ pub fn make<W: Executor>(
     def: DefId,
     request: Option<W::Value>,
     end: BodyEnd<W::Value, W::Thrown, W::Rest>,
-) -> Result<Made<W::Value, W::Thrown, W::Rest>, OutOfMemory>
+) -> Result<SetUpOutcome<W::Value, W::Thrown, W::Rest>, OutOfMemory>
     requires known { W.knows setting.now table.now item.now }
     requires def { def < length table.now.defs }
     ensures made { IfOk result (λ made. made_with (W.rules setting.now) made.held world.new ≡ making_of (W.rules setting.now) def request (body_end (W.rules setting.now) end) world.old) }

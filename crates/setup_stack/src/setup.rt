@@ -4,15 +4,15 @@ ghost use Rattle.session_types.specs.declared.journal.Event.TheVariants.{CallBeg
 ghost use Rattle.session_types.specs.Live.{not_on};
 ghost use Rattle.session_rules.specs.Demand.{demand};
 ghost use Rattle.session_rules.specs.Session.{demand_closure};
-ghost use Rattle.session_rules.specs.Teardown.{down_all, step};
+ghost use Rattle.session_rules.specs.Teardown.{down_all, session_step};
 ghost use Rattle.fixture_table.specs.Tree.{IsTree};
 ghost use Rattle.setup_stack.specs.Asking.{AreReady, IsReady};
 ghost use Rattle.setup_stack.specs.Grants.{orders_of};
-ghost use Rattle.fixture_instances.specs.Items.{item_of};
+ghost use Rattle.fixture_instances.specs.Items.{item_for_session};
 ghost use Rattle.fixture_instances.specs.Resting.{AreSpent, abandoned, spent};
 ghost use Rattle.setup_stack.specs.Scopes.{HasScopes};
 ghost use Rattle.setup_stack.specs.SetUps.{IsDemanded, IsNode, next_chain};
-ghost use Rattle.setup_stack.specs.Views.{state_of};
+ghost use Rattle.setup_stack.specs.Views.{stack_state};
 ghost use Rattle.fixture_instances.specs.Views.{live_instances};
 
 use crate::answers::Answer;
@@ -79,8 +79,8 @@ impl<V: Copy, E: Drop, R> FixtureStack<V, E, R> {
         requires scopes { HasScopes (W.rules setting.now) table.now }
         requires tree { IsTree table.now.nodes }
         requires node { item.now.node < length table.now.nodes }
-        requires ready { IsReady (W.rules setting.now) (item_of table.now item.now) (length table.now.defs) (W.rules setting.now).depth def }
-        ensures { IsDemanded (W.rules setting.now) result (demand (W.rules setting.now) (item_of table.now item.now) (W.rules setting.now).depth def (state_of (W.rules setting.now) world.old (record self.old { own = item.now.own }))) (state_of (W.rules setting.now) world.new self.new) }
+        requires ready { IsReady (W.rules setting.now) (item_for_session table.now item.now) (length table.now.defs) (W.rules setting.now).depth def }
+        ensures { IsDemanded (W.rules setting.now) result (demand (W.rules setting.now) (item_for_session table.now item.now) (W.rules setting.now).depth def (stack_state (W.rules setting.now) world.old (record self.old { own = item.now.own }))) (stack_state (W.rules setting.now) world.new self.new) }
     {
         self.own = item.own;
         let mut marks = Vec::new(alloc);
@@ -110,8 +110,8 @@ impl<V: Copy, E: Drop, R> FixtureStack<V, E, R> {
         requires scopes { HasScopes (W.rules setting.now) table.now }
         requires tree { IsTree table.now.nodes }
         requires node { item.now.node < length table.now.nodes }
-        requires ready { AreReady (W.rules setting.now) (item_of table.now item.now) (length table.now.defs) (W.rules setting.now).depth defs.now }
-        ensures { IfOk result (λ raised. step raised (state_of (W.rules setting.now) world.new self.new) ≡ demand_closure (W.rules setting.now) (item_of table.now item.now) defs.now (state_of (W.rules setting.now) world.old (record self.old { own = item.now.own }))) }
+        requires ready { AreReady (W.rules setting.now) (item_for_session table.now item.now) (length table.now.defs) (W.rules setting.now).depth defs.now }
+        ensures { IfOk result (λ raised. session_step raised (stack_state (W.rules setting.now) world.new self.new) ≡ demand_closure (W.rules setting.now) (item_for_session table.now item.now) defs.now (stack_state (W.rules setting.now) world.old (record self.old { own = item.now.own }))) }
     {
         self.own = item.own;
         let mut marks = Vec::new(alloc);
@@ -137,7 +137,7 @@ impl<V: Copy, E: Drop, R> FixtureStack<V, E, R> {
     ) -> Result<Seq<E>, OutOfMemory>
         requires tree { IsTree table.now.nodes }
         requires next { IsNode table.now (option_map (λ item. item.now) next) }
-        ensures { IfOk result (λ raised. step raised (state_of (W.rules setting.now) world.new self.new) ≡ down_all (W.rules setting.now) (not_on (next_chain table.now (option_map (λ item. item.now) next.entry)) (live_instances (W.rules setting.now) self.old.live.live)) (state_of (W.rules setting.now) world.old (record self.old { given = [] }))) }
+        ensures { IfOk result (λ raised. session_step raised (stack_state (W.rules setting.now) world.new self.new) ≡ down_all (W.rules setting.now) (not_on (next_chain table.now (option_map (λ item. item.now) next.entry)) (live_instances (W.rules setting.now) self.old.live.live)) (stack_state (W.rules setting.now) world.old (record self.old { given = [] }))) }
     {
         let chain = next_chain(alloc, table, next)?;
         let raised = leave(alloc, self, world, setting, &chain)?;

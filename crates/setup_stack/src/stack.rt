@@ -1,33 +1,35 @@
 ghost use Rattle.std.specs.Prelude.{◌≡◌, ℕ, ◌+◌, ◌<◌, ◌^◌, ◌++◌, List, [], ◌∷◌, length, map, None, Some, IfOk, OnOk};
 ghost use Rattle.std.specs.Option.{option_map};
-ghost use Rattle.session_types.specs.Members.{In};
-ghost use Rattle.session_types.specs.Live.{dependents, find, down_order, not_on, number_of, numbered, numbers_in, without};
+ghost use Rattle.session_types.specs.Members.{IsMember};
+ghost use Rattle.session_types.specs.Live.{dependents, find, down_order, not_on, instance_number, instance_by_number, instance_numbers, without};
 ghost use Rattle.session_types.specs.declared.instance.Instance.{Instance};
-ghost use Rattle.session_rules.specs.Teardown.{down_all, down_more, down_one, some_raised, step};
-ghost use Rattle.session_rules.specs.Demand.{answer_of, begun, demand, replace, reply, set_up, settle};
-ghost use Rattle.session_rules.specs.Fits.{Settled};
+ghost use Rattle.session_rules.specs.Teardown.{down_all, down_more, down_one, some_raised, session_step};
+ghost use Rattle.session_rules.specs.Demand.{answer_of, call_fixture_func, demand, replace, reply, set_up, settle};
+ghost use Rattle.session_rules.specs.Fits.{IsWellScoped};
 ghost use Rattle.session_rules.specs.Session.{demand_closure};
 ghost use Rattle.fixture_table.specs.Tree.{IsTree};
 ghost use Rattle.fixture_table.specs.Nearest.{def_at};
 ghost use Rattle.live_chains.specs.declared.id.LiveId.{LiveId};
 ghost use Rattle.live_chains.specs.Chained.{Apart, id_order, ids_without};
-ghost use Rattle.setup_stack.specs.Asking.{IsDeep, IsReady, IsTurn, goes_or_ends, wants, wants_then};
+ghost use Rattle.setup_stack.specs.Asking.{IsWithinDepth, IsReady, IsTurn, goes_or_ends, wants, wants_then};
 ghost use Rattle.setup_stack.specs.Borne.{answer_with, event_for, without_all};
-ghost use Rattle.fixture_instances.specs.Items.{item_of, place_in};
+ghost use Rattle.fixture_instances.specs.Items.{item_for_session, def_scope_node};
 ghost use Rattle.setup_stack.specs.Making.{made_with};
 ghost use Rattle.setup_stack.specs.Scopes.{HasScopes};
-ghost use Rattle.setup_stack.specs.Standing.{AllStand, Stands};
-ghost use Rattle.setup_stack.specs.Views.{answer_in, grants_of, state_of};
+ghost use Rattle.setup_stack.specs.Standing.{AllStand, IsCached};
+ghost use Rattle.setup_stack.specs.Views.{answer_in, grants_of, stack_state};
 ghost use Rattle.fixture_instances.specs.Views.{live_instance, live_instances, set_up_end, told_of};
 
 use crate::answers::{Answer, Grant};
 use crate::frame::{AskFrame, Turn, hand, next_of, open};
 use crate::lists::{bases_of, is_same, orders_of, push_all, values_of};
-use crate::making::{Made, make, tell};
+use crate::making::{SetUpOutcome, make, tell};
 use crate::marks::is_marked;
 use crate::standing::{note, stays};
 use crate::tearing::{close_request, tear};
-use fixture_instances::{Executor, Held, ItemRef, LiveFixtures, SetUpEnd, parameter_in, place_of};
+use fixture_instances::{
+    CachedResult, Executor, ItemRef, LiveFixtures, SetUpEnd, parameter_in, place_of,
+};
 use fixture_table::Table;
 use live_chains::LiveId;
 use seq::{OutOfMemory, Seq};
@@ -62,9 +64,9 @@ fn down<W: Executor>(
     id: LiveId,
     raised: &mut Seq<W::Thrown>,
 ) -> Result<(), OutOfMemory>
-    requires { In id stack.old.live.ids }
-    ensures state { OnOk result (state_of (W.rules setting.now) world.new stack.new ≡ (down_one (W.rules setting.now) (numbered id.order (live_instances (W.rules setting.now) stack.old.live.live)) (state_of (W.rules setting.now) world.old stack.old)).state) }
-    ensures raised { OnOk result (raised.new ≡ raised.old ++ (down_one (W.rules setting.now) (numbered id.order (live_instances (W.rules setting.now) stack.old.live.live)) (state_of (W.rules setting.now) world.old stack.old)).raised) }
+    requires { IsMember id stack.old.live.ids }
+    ensures state { OnOk result (stack_state (W.rules setting.now) world.new stack.new ≡ (down_one (W.rules setting.now) (instance_by_number id.order (live_instances (W.rules setting.now) stack.old.live.live)) (stack_state (W.rules setting.now) world.old stack.old)).state) }
+    ensures raised { OnOk result (raised.new ≡ raised.old ++ (down_one (W.rules setting.now) (instance_by_number id.order (live_instances (W.rules setting.now) stack.old.live.live)) (stack_state (W.rules setting.now) world.old stack.old)).raised) }
     ensures ids { OnOk result (stack.new.live.ids ≡ ids_without id.order stack.old.live.ids) }
     ensures live { OnOk result (stack.new.live.live ≡ without id.order stack.old.live.live) }
 {
@@ -79,7 +81,7 @@ fn down<W: Executor>(
         bases: _bases,
         slot,
     } = stack.live.take(id);
-    let Held {
+    let CachedResult {
         kept: _kept,
         rest,
         request: _request,
@@ -101,9 +103,9 @@ fn down_each<W: Executor>(
     ids: &[LiveId],
     raised: &mut Seq<W::Thrown>,
 ) -> Result<(), OutOfMemory>
-    requires live { (id : LiveId) → In id ids.now → In id stack.old.live.ids }
+    requires live { (id : LiveId) → IsMember id ids.now → IsMember id stack.old.live.ids }
     requires once { Apart id_order ids.now }
-    ensures down { OnOk result (step raised.new (state_of (W.rules setting.now) world.new stack.new) ≡ down_more (W.rules setting.now) (map id_order ids.now) raised.old (state_of (W.rules setting.now) world.old stack.old)) }
+    ensures down { OnOk result (session_step raised.new (stack_state (W.rules setting.now) world.new stack.new) ≡ down_more (W.rules setting.now) (map id_order ids.now) raised.old (stack_state (W.rules setting.now) world.old stack.old)) }
     ensures live { OnOk result (stack.new.live.live ≡ without_all (map id_order ids.now) stack.old.live.live) }
 {
     for id in ids {
@@ -120,7 +122,7 @@ pub(crate) fn leave<W: Executor>(
     setting: &W::Setting,
     chain: &[u32],
 ) -> Result<Seq<W::Thrown>, OutOfMemory>
-    ensures { IfOk result (λ raised. step raised (state_of (W.rules setting.now) world.new stack.new) ≡ down_all (W.rules setting.now) (not_on chain.now (live_instances (W.rules setting.now) stack.old.live.live)) (state_of (W.rules setting.now) world.old (record stack.old { given = [] }))) }
+    ensures { IfOk result (λ raised. session_step raised (stack_state (W.rules setting.now) world.new stack.new) ≡ down_all (W.rules setting.now) (not_on chain.now (live_instances (W.rules setting.now) stack.old.live.live)) (stack_state (W.rules setting.now) world.old (record stack.old { given = [] }))) }
 {
     let going = stack.live.off_of(alloc, chain)?;
     stack.given = Seq::new(alloc);
@@ -139,10 +141,10 @@ fn begin<W: Executor>(
     def: DefId,
     own: Option<W::Value>,
     given: &[Grant<W::Value>],
-) -> Result<Made<W::Value, W::Thrown, W::Rest>, OutOfMemory>
+) -> Result<SetUpOutcome<W::Value, W::Thrown, W::Rest>, OutOfMemory>
     requires known { W.knows setting.now table.now item.now }
     requires def { def < length table.now.defs }
-    ensures made { IfOk result (λ made. made_with (W.rules setting.now) made.held world.new ≡ begun (W.rules setting.now) (item_of table.now item.now) def (grants_of (W.rules setting.now) given.now) own ((W.rules setting.now).ask item.now.node def ((item_of table.now item.now).parameter def) world.old)) }
+    ensures made { IfOk result (λ made. made_with (W.rules setting.now) made.held world.new ≡ call_fixture_func (W.rules setting.now) (item_for_session table.now item.now) def (grants_of (W.rules setting.now) given.now) own ((W.rules setting.now).ask item.now.node def ((item_for_session table.now item.now).parameter def) world.old)) }
     ensures told { IfOk result (λ made. made.told ≡ told_of made.held.kept) }
 {
     let values = values_of(alloc, given)?;
@@ -153,7 +155,7 @@ fn begin<W: Executor>(
 }
 
 /// The event of one that comes up, or fails to.
-fn event_for<V, E, R>(bases: Numbers, instance: &Instance<Held<V, E, R>>) -> Event
+fn event_for<V, E, R>(bases: Numbers, instance: &Instance<CachedResult<V, E, R>>) -> Event
     ensures { result ≡ event_for bases instance.now }
 {
     let birth = Birth {
@@ -172,7 +174,7 @@ fn event_for<V, E, R>(bases: Numbers, instance: &Instance<Held<V, E, R>>) -> Eve
 /// One comes up, or fails to.
 fn bear<V, E, R>(
     stack: &mut FixtureStack<V, E, R>,
-    instance: Instance<Held<V, E, R>>,
+    instance: Instance<CachedResult<V, E, R>>,
     bases: Numbers,
 ) -> Result<(), OutOfMemory>
     requires room { 0 < stack.old.live.spare }
@@ -227,9 +229,9 @@ fn set_up<W: Executor>(
     requires tree { IsTree table.now.nodes }
     requires def { def < length table.now.defs }
     requires node { item.now.node < length table.now.nodes }
-    requires free { find def (place_in table.now item.now def) stack.old.live.live ≡ None }
-    ensures answer { IfOk result (λ answer. answer_in (W.rules setting.now) answer ≡ (set_up (W.rules setting.now) (item_of table.now item.now) def (grants_of (W.rules setting.now) given.now) (state_of (W.rules setting.now) world.old stack.old)).answer) }
-    ensures state { OnOk result (state_of (W.rules setting.now) world.new stack.new ≡ (set_up (W.rules setting.now) (item_of table.now item.now) def (grants_of (W.rules setting.now) given.now) (state_of (W.rules setting.now) world.old stack.old)).state) }
+    requires free { find def (def_scope_node table.now item.now def) stack.old.live.live ≡ None }
+    ensures answer { IfOk result (λ answer. answer_in (W.rules setting.now) answer ≡ (set_up (W.rules setting.now) (item_for_session table.now item.now) def (grants_of (W.rules setting.now) given.now) (stack_state (W.rules setting.now) world.old stack.old)).answer) }
+    ensures state { OnOk result (stack_state (W.rules setting.now) world.new stack.new ≡ (set_up (W.rules setting.now) (item_for_session table.now item.now) def (grants_of (W.rules setting.now) given.now) (stack_state (W.rules setting.now) world.old stack.old)).state) }
 {
     let direct = orders_of(alloc, given)?;
     let bases = bases_of(alloc, given)?;
@@ -237,7 +239,7 @@ fn set_up<W: Executor>(
     stack.live.reserve()?;
     let order = stack.live.next();
     let made = begin(alloc, world, setting, table, item, def, stack.own, given)?;
-    let Made { held, told } = made;
+    let SetUpOutcome { held, told } = made;
     let instance = Instance {
         def,
         param: parameter_in(item.params.items(), def),
@@ -259,8 +261,8 @@ fn found<W: Executor>(
     setting: &W::Setting,
     id: LiveId,
 ) -> Result<Answer<W::Value, W::Thrown>, OutOfMemory>
-    requires { In id stack.now.live.ids }
-    ensures { IfOk result (λ answer. option_map (λ i. answer_of (live_instance (W.rules setting.now) i) (set_up_end (W.rules setting.now) i.slot.kept)) (numbered id.order stack.now.live.live) ≡ Some (answer_in (W.rules setting.now) answer)) }
+    requires { IsMember id stack.now.live.ids }
+    ensures { IfOk result (λ answer. option_map (λ i. answer_of (live_instance (W.rules setting.now) i) (set_up_end (W.rules setting.now) i.slot.kept)) (instance_by_number id.order stack.now.live.live) ≡ Some (answer_in (W.rules setting.now) answer)) }
 {
     let told = tell(alloc, world, &stack.live.held(id).kept)?;
     let one = stack.live.get(id);
@@ -285,9 +287,9 @@ fn replace<W: Executor>(
     requires tree { IsTree table.now.nodes }
     requires def { def < length table.now.defs }
     requires node { item.now.node < length table.now.nodes }
-    requires there { option_map number_of (find def (place_in table.now item.now def) stack.old.live.live) ≡ Some id.order }
-    ensures answer { IfOk result (λ answer. answer_in (W.rules setting.now) answer ≡ (replace (W.rules setting.now) (item_of table.now item.now) def (grants_of (W.rules setting.now) given.now) (down_all (W.rules setting.now) (dependents id.order (live_instances (W.rules setting.now) stack.old.live.live)) (state_of (W.rules setting.now) world.old stack.old))).answer) }
-    ensures state { OnOk result (state_of (W.rules setting.now) world.new stack.new ≡ (replace (W.rules setting.now) (item_of table.now item.now) def (grants_of (W.rules setting.now) given.now) (down_all (W.rules setting.now) (dependents id.order (live_instances (W.rules setting.now) stack.old.live.live)) (state_of (W.rules setting.now) world.old stack.old))).state) }
+    requires there { option_map instance_number (find def (def_scope_node table.now item.now def) stack.old.live.live) ≡ Some id.order }
+    ensures answer { IfOk result (λ answer. answer_in (W.rules setting.now) answer ≡ (replace (W.rules setting.now) (item_for_session table.now item.now) def (grants_of (W.rules setting.now) given.now) (down_all (W.rules setting.now) (dependents id.order (live_instances (W.rules setting.now) stack.old.live.live)) (stack_state (W.rules setting.now) world.old stack.old))).answer) }
+    ensures state { OnOk result (stack_state (W.rules setting.now) world.new stack.new ≡ (replace (W.rules setting.now) (item_for_session table.now item.now) def (grants_of (W.rules setting.now) given.now) (down_all (W.rules setting.now) (dependents id.order (live_instances (W.rules setting.now) stack.old.live.live)) (stack_state (W.rules setting.now) world.old stack.old))).state) }
 {
     stack.live.is_in_order();
     let ids = stack.live.dependents_of(alloc, id)?;
@@ -317,10 +319,10 @@ fn settle_found<W: Executor>(
     requires tree { IsTree table.now.nodes }
     requires def { def < length table.now.defs }
     requires node { item.now.node < length table.now.nodes }
-    requires live { In id stack.old.live.ids }
-    requires there { option_map number_of (find def (place_in table.now item.now def) stack.old.live.live) ≡ Some id.order }
-    ensures answer { IfOk result (λ answer. answer_in (W.rules setting.now) answer ≡ (settle (W.rules setting.now) (item_of table.now item.now) def (grants_of (W.rules setting.now) given.now) (find def (place_in table.now item.now def) (live_instances (W.rules setting.now) stack.old.live.live)) (state_of (W.rules setting.now) world.old stack.old)).answer) }
-    ensures state { OnOk result (state_of (W.rules setting.now) world.new stack.new ≡ (settle (W.rules setting.now) (item_of table.now item.now) def (grants_of (W.rules setting.now) given.now) (find def (place_in table.now item.now def) (live_instances (W.rules setting.now) stack.old.live.live)) (state_of (W.rules setting.now) world.old stack.old)).state) }
+    requires live { IsMember id stack.old.live.ids }
+    requires there { option_map instance_number (find def (def_scope_node table.now item.now def) stack.old.live.live) ≡ Some id.order }
+    ensures answer { IfOk result (λ answer. answer_in (W.rules setting.now) answer ≡ (settle (W.rules setting.now) (item_for_session table.now item.now) def (grants_of (W.rules setting.now) given.now) (find def (def_scope_node table.now item.now def) (live_instances (W.rules setting.now) stack.old.live.live)) (stack_state (W.rules setting.now) world.old stack.old)).answer) }
+    ensures state { OnOk result (stack_state (W.rules setting.now) world.new stack.new ≡ (settle (W.rules setting.now) (item_for_session table.now item.now) def (grants_of (W.rules setting.now) given.now) (find def (def_scope_node table.now item.now def) (live_instances (W.rules setting.now) stack.old.live.live)) (stack_state (W.rules setting.now) world.old stack.old)).state) }
 {
     stack.live.is_in_order();
     if is_same(
@@ -350,8 +352,8 @@ fn settle<W: Executor>(
     requires tree { IsTree table.now.nodes }
     requires def { def < length table.now.defs }
     requires node { item.now.node < length table.now.nodes }
-    ensures answer { IfOk result (λ answer. answer_in (W.rules setting.now) answer ≡ (settle (W.rules setting.now) (item_of table.now item.now) def (grants_of (W.rules setting.now) given.now) (find def (place_in table.now item.now def) (live_instances (W.rules setting.now) stack.old.live.live)) (state_of (W.rules setting.now) world.old stack.old)).answer) }
-    ensures state { OnOk result (state_of (W.rules setting.now) world.new stack.new ≡ (settle (W.rules setting.now) (item_of table.now item.now) def (grants_of (W.rules setting.now) given.now) (find def (place_in table.now item.now def) (live_instances (W.rules setting.now) stack.old.live.live)) (state_of (W.rules setting.now) world.old stack.old)).state) }
+    ensures answer { IfOk result (λ answer. answer_in (W.rules setting.now) answer ≡ (settle (W.rules setting.now) (item_for_session table.now item.now) def (grants_of (W.rules setting.now) given.now) (find def (def_scope_node table.now item.now def) (live_instances (W.rules setting.now) stack.old.live.live)) (stack_state (W.rules setting.now) world.old stack.old)).answer) }
+    ensures state { OnOk result (stack_state (W.rules setting.now) world.new stack.new ≡ (settle (W.rules setting.now) (item_for_session table.now item.now) def (grants_of (W.rules setting.now) given.now) (find def (def_scope_node table.now item.now def) (live_instances (W.rules setting.now) stack.old.live.live)) (stack_state (W.rules setting.now) world.old stack.old)).state) }
 {
     match stack.live.find(def, place_of(table, item, def)) {
         None => {
@@ -380,8 +382,8 @@ fn settle_bare<W: Executor>(
     requires tree { IsTree table.now.nodes }
     requires def { def < length table.now.defs }
     requires node { item.now.node < length table.now.nodes }
-    ensures answer { IfOk result (λ answer. answer_in (W.rules setting.now) answer ≡ (settle (W.rules setting.now) (item_of table.now item.now) def [] (find def (place_in table.now item.now def) (live_instances (W.rules setting.now) stack.old.live.live)) (state_of (W.rules setting.now) world.old stack.old)).answer) }
-    ensures state { OnOk result (state_of (W.rules setting.now) world.new stack.new ≡ (settle (W.rules setting.now) (item_of table.now item.now) def [] (find def (place_in table.now item.now def) (live_instances (W.rules setting.now) stack.old.live.live)) (state_of (W.rules setting.now) world.old stack.old)).state) }
+    ensures answer { IfOk result (λ answer. answer_in (W.rules setting.now) answer ≡ (settle (W.rules setting.now) (item_for_session table.now item.now) def [] (find def (def_scope_node table.now item.now def) (live_instances (W.rules setting.now) stack.old.live.live)) (stack_state (W.rules setting.now) world.old stack.old)).answer) }
+    ensures state { OnOk result (stack_state (W.rules setting.now) world.new stack.new ≡ (settle (W.rules setting.now) (item_for_session table.now item.now) def [] (find def (def_scope_node table.now item.now def) (live_instances (W.rules setting.now) stack.old.live.live)) (stack_state (W.rules setting.now) world.old stack.old)).state) }
 {
     let none = Seq::new(alloc);
     let answer = settle(alloc, stack, world, setting, table, item, def, none.items())?;
@@ -405,10 +407,10 @@ fn settle_noted<W: Executor>(
     requires tree { IsTree table.now.nodes }
     requires def { def < length table.now.defs }
     requires node { item.now.node < length table.now.nodes }
-    requires stand { AllStand (W.rules setting.now) (item_of table.now item.now) (live_instances (W.rules setting.now) stack.old.live.live) marks.old.items }
-    ensures answer { IfOk result (λ answer. answer_in (W.rules setting.now) answer ≡ (settle (W.rules setting.now) (item_of table.now item.now) def (grants_of (W.rules setting.now) given.now) (find def (place_in table.now item.now def) (live_instances (W.rules setting.now) stack.old.live.live)) (state_of (W.rules setting.now) world.old stack.old)).answer) }
-    ensures state { OnOk result (state_of (W.rules setting.now) world.new stack.new ≡ (settle (W.rules setting.now) (item_of table.now item.now) def (grants_of (W.rules setting.now) given.now) (find def (place_in table.now item.now def) (live_instances (W.rules setting.now) stack.old.live.live)) (state_of (W.rules setting.now) world.old stack.old)).state) }
-    ensures stand { OnOk result (AllStand (W.rules setting.now) (item_of table.now item.now) (live_instances (W.rules setting.now) stack.new.live.live) marks.new.items) }
+    requires stand { AllStand (W.rules setting.now) (item_for_session table.now item.now) (live_instances (W.rules setting.now) stack.old.live.live) marks.old.items }
+    ensures answer { IfOk result (λ answer. answer_in (W.rules setting.now) answer ≡ (settle (W.rules setting.now) (item_for_session table.now item.now) def (grants_of (W.rules setting.now) given.now) (find def (def_scope_node table.now item.now def) (live_instances (W.rules setting.now) stack.old.live.live)) (stack_state (W.rules setting.now) world.old stack.old)).answer) }
+    ensures state { OnOk result (stack_state (W.rules setting.now) world.new stack.new ≡ (settle (W.rules setting.now) (item_for_session table.now item.now) def (grants_of (W.rules setting.now) given.now) (find def (def_scope_node table.now item.now def) (live_instances (W.rules setting.now) stack.old.live.live)) (stack_state (W.rules setting.now) world.old stack.old)).state) }
+    ensures stand { OnOk result (AllStand (W.rules setting.now) (item_for_session table.now item.now) (live_instances (W.rules setting.now) stack.new.live.live) marks.new.items) }
 {
     let keeps = stays(&stack.live, table, item, def);
     let answer = settle(alloc, stack, world, setting, table, item, def, given)?;
@@ -436,11 +438,11 @@ fn again<W: Executor>(
     requires scopes { HasScopes (W.rules setting.now) table.now }
     requires tree { IsTree table.now.nodes }
     requires node { item.now.node < length table.now.nodes }
-    requires deep { IsDeep (W.rules setting.now) (item_of table.now item.now) (length table.now.defs) (W.rules setting.now).depth below.old.items top }
+    requires deep { IsWithinDepth (W.rules setting.now) (item_for_session table.now item.now) (length table.now.defs) (W.rules setting.now).depth below.old.items top }
     requires next { wants top ≡ next ∷ wants_then top }
-    requires stands { Stands (W.rules setting.now) (item_of table.now item.now) (live_instances (W.rules setting.now) stack.old.live.live) next }
-    ensures turn { IfOk result (λ turn. IsTurn (W.rules setting.now) (item_of table.now item.now) (length table.now.defs) below.old.items top (state_of (W.rules setting.now) world.old stack.old) turn below.new.items (state_of (W.rules setting.now) world.new stack.new)) }
-    ensures state { OnOk result (state_of (W.rules setting.now) world.new stack.new ≡ state_of (W.rules setting.now) world.old stack.old) }
+    requires stands { IsCached (W.rules setting.now) (item_for_session table.now item.now) (live_instances (W.rules setting.now) stack.old.live.live) next }
+    ensures turn { IfOk result (λ turn. IsTurn (W.rules setting.now) (item_for_session table.now item.now) (length table.now.defs) below.old.items top (stack_state (W.rules setting.now) world.old stack.old) turn below.new.items (stack_state (W.rules setting.now) world.new stack.new)) }
+    ensures state { OnOk result (stack_state (W.rules setting.now) world.new stack.new ≡ stack_state (W.rules setting.now) world.old stack.old) }
 {
     let answer = settle_bare(alloc, stack, world, setting, table, item, next)?;
     below.push(top)?;
@@ -464,10 +466,10 @@ fn turn<W: Executor>(
     requires scopes { HasScopes (W.rules setting.now) table.now }
     requires tree { IsTree table.now.nodes }
     requires node { item.now.node < length table.now.nodes }
-    requires deep { IsDeep (W.rules setting.now) (item_of table.now item.now) (length table.now.defs) (W.rules setting.now).depth below.old.items top }
-    requires stand { AllStand (W.rules setting.now) (item_of table.now item.now) (live_instances (W.rules setting.now) stack.old.live.live) marks.old.items }
-    ensures turn { IfOk result (λ turn. IsTurn (W.rules setting.now) (item_of table.now item.now) (length table.now.defs) below.old.items top (state_of (W.rules setting.now) world.old stack.old) turn below.new.items (state_of (W.rules setting.now) world.new stack.new)) }
-    ensures stand { OnOk result (AllStand (W.rules setting.now) (item_of table.now item.now) (live_instances (W.rules setting.now) stack.new.live.live) marks.new.items) }
+    requires deep { IsWithinDepth (W.rules setting.now) (item_for_session table.now item.now) (length table.now.defs) (W.rules setting.now).depth below.old.items top }
+    requires stand { AllStand (W.rules setting.now) (item_for_session table.now item.now) (live_instances (W.rules setting.now) stack.old.live.live) marks.old.items }
+    ensures turn { IfOk result (λ turn. IsTurn (W.rules setting.now) (item_for_session table.now item.now) (length table.now.defs) below.old.items top (stack_state (W.rules setting.now) world.old stack.old) turn below.new.items (stack_state (W.rules setting.now) world.new stack.new)) }
+    ensures stand { OnOk result (AllStand (W.rules setting.now) (item_for_session table.now item.now) (live_instances (W.rules setting.now) stack.new.live.live) marks.new.items) }
 {
     match next_of(&top) {
         Some(next) => {
@@ -513,10 +515,10 @@ pub(crate) fn demand<W: Executor>(
     requires scopes { HasScopes (W.rules setting.now) table.now }
     requires tree { IsTree table.now.nodes }
     requires node { item.now.node < length table.now.nodes }
-    requires ready { IsReady (W.rules setting.now) (item_of table.now item.now) (length table.now.defs) (W.rules setting.now).depth def }
-    requires stand { AllStand (W.rules setting.now) (item_of table.now item.now) (live_instances (W.rules setting.now) stack.old.live.live) marks.old.items }
-    ensures stand { OnOk result (AllStand (W.rules setting.now) (item_of table.now item.now) (live_instances (W.rules setting.now) stack.new.live.live) marks.new.items) }
-    ensures answer { IfOk result (λ answer. demand (W.rules setting.now) (item_of table.now item.now) (W.rules setting.now).depth def (state_of (W.rules setting.now) world.old stack.old) ≡ reply (answer_in (W.rules setting.now) answer) (state_of (W.rules setting.now) world.new stack.new)) }
+    requires ready { IsReady (W.rules setting.now) (item_for_session table.now item.now) (length table.now.defs) (W.rules setting.now).depth def }
+    requires stand { AllStand (W.rules setting.now) (item_for_session table.now item.now) (live_instances (W.rules setting.now) stack.old.live.live) marks.old.items }
+    ensures stand { OnOk result (AllStand (W.rules setting.now) (item_for_session table.now item.now) (live_instances (W.rules setting.now) stack.new.live.live) marks.new.items) }
+    ensures answer { IfOk result (λ answer. demand (W.rules setting.now) (item_for_session table.now item.now) (W.rules setting.now).depth def (stack_state (W.rules setting.now) world.old stack.old) ≡ reply (answer_in (W.rules setting.now) answer) (stack_state (W.rules setting.now) world.new stack.new)) }
 {
     if is_marked(marks.as_slice(), def.number() as usize) {
         let answer = settle_bare(alloc, stack, world, setting, table, item, def)?;
@@ -549,10 +551,10 @@ pub(crate) fn demand_noted<W: Executor>(
     requires scopes { HasScopes (W.rules setting.now) table.now }
     requires tree { IsTree table.now.nodes }
     requires node { item.now.node < length table.now.nodes }
-    requires ready { IsReady (W.rules setting.now) (item_of table.now item.now) (length table.now.defs) (W.rules setting.now).depth def }
-    requires stand { AllStand (W.rules setting.now) (item_of table.now item.now) (live_instances (W.rules setting.now) stack.old.live.live) marks.old.items }
-    ensures stand { OnOk result (AllStand (W.rules setting.now) (item_of table.now item.now) (live_instances (W.rules setting.now) stack.new.live.live) marks.new.items) }
-    ensures noted { IfOk result (λ refused. (ds : List ℕ) → demand_closure (W.rules setting.now) (item_of table.now item.now) (def ∷ ds) (state_of (W.rules setting.now) world.old stack.old) ≡ goes_or_ends (demand_closure (W.rules setting.now) (item_of table.now item.now) ds) refused (state_of (W.rules setting.now) world.new stack.new)) }
+    requires ready { IsReady (W.rules setting.now) (item_for_session table.now item.now) (length table.now.defs) (W.rules setting.now).depth def }
+    requires stand { AllStand (W.rules setting.now) (item_for_session table.now item.now) (live_instances (W.rules setting.now) stack.old.live.live) marks.old.items }
+    ensures stand { OnOk result (AllStand (W.rules setting.now) (item_for_session table.now item.now) (live_instances (W.rules setting.now) stack.new.live.live) marks.new.items) }
+    ensures noted { IfOk result (λ refused. (ds : List ℕ) → demand_closure (W.rules setting.now) (item_for_session table.now item.now) (def ∷ ds) (stack_state (W.rules setting.now) world.old stack.old) ≡ goes_or_ends (demand_closure (W.rules setting.now) (item_for_session table.now item.now) ds) refused (stack_state (W.rules setting.now) world.new stack.new)) }
 {
     let answer = demand(alloc, stack, world, setting, table, item, def, marks)?;
     match answer {

@@ -1,6 +1,6 @@
 ghost use Rattle.std.specs.Prelude.{◌≡◌, OnOk};
 ghost use Rattle.std.specs.List.{list_all};
-ghost use Rattle.fixture_instances.specs.Items.{item_of, place_in, requests_in};
+ghost use Rattle.fixture_instances.specs.Items.{item_for_session, def_scope_node, requests_in};
 ghost use Rattle.fixture_table.specs.Tree.{IsTree};
 ghost use Rattle.session_types.specs.Live.{find};
 ghost use Rattle.setup_stack.specs.Standing.{IsNoted, is_marked, stays};
@@ -58,7 +58,7 @@ pub fn stays<V, E, R>(
     requires tree { IsTree table.now.nodes }
     requires def { def < length table.now.defs }
     requires node { item.now.node < length table.now.nodes }
-    ensures { result ≡ stays (item_of table.now item.now) def (find def (place_in table.now item.now def) live.now.live) }
+    ensures { result ≡ stays (item_for_session table.now item.now) def (find def (def_scope_node table.now item.now def) live.now.live) }
 {
     live.is_in_order();
     match live.find(def, place_of(table, item, def)) {

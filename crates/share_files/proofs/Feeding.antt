@@ -1,7 +1,7 @@
 -- Lists that rise.
 use Rattle.std.proofs.Common.{◌≡◌, ℕ, zero, suc, ◌+◌, ◌<◌, ◌≤◌, List, [], ◌∷◌, ◌++◌, length, drop, take, replicate, ◌/◌, length-append, zero-add, suc-add, refl, sym, ap, ◌∙◌, subst, arith, inl, inr, Option, None, Some, IfSome, IsSome, filter, nat_lt, Bool, cond}
 use Rattle.std.proofs.lemmas.Bool.{lt-ltb, le-ltb}
-use Rattle.share_files.specs.Fed.{Begun, numbers_of}
+use Rattle.share_files.specs.Fed.{OwnGroupFirst, numbers_drawn}
 use Rattle.share_files.specs.Work.{Took, IsRange}
 use Rattle.share_files.specs.Deal.{RisesFrom, Every, times}
 use Rattle.std.proofs.lemmas.Option.{none-some}
@@ -49,8 +49,8 @@ Every_rest P [] b = tt
 Every_rest P (x ∷ xs) b = b.1
 
 -- what a feed that has ended gave
-pub took_all : (worker groups : ℕ) (taken : List ℕ) (last : Option ℕ) → Begun worker taken last → Every (λ k. k < groups) taken → IfSome last (λ n. groups ≤ n) → IsSome last
-    → Took groups worker (numbers_of taken last ∷ []) (taken ∷ [])
+pub took_all : (worker groups : ℕ) (taken : List ℕ) (last : Option ℕ) → OwnGroupFirst worker taken last → Every (λ k. k < groups) taken → IfSome last (λ n. groups ≤ n) → IsSome last
+    → Took groups worker (numbers_drawn taken last ∷ []) (taken ∷ [])
 took_all worker groups taken None begun below reached is = absurd (subst (λ (b : Bool). cond b ⊥ (Unit {0})) is tt)
 took_all worker groups taken (Some n) begun below reached is = elim begun [
   | inl none ↦ absurd (none-some n (sym none.1))

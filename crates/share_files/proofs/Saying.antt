@@ -7,7 +7,7 @@ use Rattle.atomic_table.specs.Table.{State}
 use Rattle.share_files.specs.declared.rule.Range.{Range}
 use Rattle.share_files.specs.declared.rule.Counts.{Counts}
 use Rattle.share_files.specs.Deal.{drawn, lists_from, RisesFrom, Every, times, times_in}
-use Rattle.share_files.specs.Rule.{workers_from, covers, past, total, IsKept, OnlyLast, Says}
+use Rattle.share_files.specs.Rule.{workers_from, covers, past, range_sum, SharingInvariant, OnlyLast, Says}
 use Rattle.share_files.proofs.Dealt.{drawn_same, drawn_else, times_same, times_else, miss, none_below, none_above, lists_rise}
 use Rattle.share_files.proofs.Views.{total_same, lt_or_le, past_at}
 use Rattle.share_files.proofs.Kept.{word_bound}
@@ -41,7 +41,7 @@ only_lasts : (groups low : ℕ) (ls : List (List ℕ)) → Every (RisesFrom low)
 only_lasts groups low [] r few = tt
 only_lasts groups low (l ∷ ls) r few = (only_last groups low l r.0 few.0, only_lasts groups low ls r.1 few.1)
 
-pub kept_says : (c : Counts) (s : State (Unit {0}) Range) → IsKept c s → Says c (slice_index s.words 0) s.views
+pub kept_says : (c : Counts) (s : State (Unit {0}) Range) → SharingInvariant c s → Says c (slice_index s.words 0) s.views
 kept_says c s kept = subst (λ n. Says c n s.views) (sym found) record {
   ranges = kept.each;
   no_other = kept.no_other;
@@ -60,9 +60,9 @@ kept_says c s kept = subst (λ n. Says c n s.views) (sym found) record {
   rising : (at : ℕ) (v : Range) → get_elem? s.views at ≡ some v → Every (RisesFrom c.workers) v.lists
   rising at v e = subst (Every (RisesFrom c.workers)) (sym (kept.views at v e).lists) (lists_rise c.workers v.first (length v.lists) c.workers kept.draws (le_refl _))
 
-  same : (x w : ℕ) → ((k n : ℕ) → times_in x (lists_from k n c.workers kept.draws) ≡ times w (workers_from k n)) → total (λ v. times_in x v.lists) s.views ≡ total (covers w) s.views
+  same : (x w : ℕ) → ((k n : ℕ) → times_in x (lists_from k n c.workers kept.draws) ≡ times w (workers_from k n)) → range_sum (λ v. times_in x v.lists) s.views ≡ range_sum (covers w) s.views
   same x w h = total_same (λ v. times_in x v.lists) (covers w) s.views (λ at v e. ap (times_in x) (kept.views at v e).lists ∙ h v.first (length v.lists))
 
-  nothing : (views : List Range) → total (λ _. 0) views ≡ 0
+  nothing : (views : List Range) → range_sum (λ _. 0) views ≡ 0
   nothing [] = refl
   nothing (v ∷ vs) = omega (arith, nothing vs)

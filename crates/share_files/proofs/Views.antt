@@ -7,48 +7,48 @@ use Rattle.std.proofs.Math.Seq.{take-append_seam, drop-append_seam}
 use Rattle.std.proofs.lemmas.Bool.{cases_eq}
 use Rattle.share_files.specs.declared.rule.Range.{Range}
 use Rattle.share_files.specs.Deal.{Every, times}
-use Rattle.share_files.specs.Rule.{range, workers_from, covers, past, past_in, total}
+use Rattle.share_files.specs.Rule.{range, workers_from, covers, past, past_in, range_sum}
 use Rattle.share_files.proofs.Dealt.{times_same, times_else, times-append}
 
 pub lt_or_le : (a b : ℕ) → (a < b) ⊎ (b ≤ a)
 lt_or_le a b = elim (dec_le b a) [ yes d ↦ inr d | no d ↦ inl (lt_of_not-le d) ]
 
-pub total-set : (f : Range → ℕ) (views : List Range) (at : ℕ) (v w : Range) → get_elem? views at ≡ some v → total f (set views at w) + f v ≡ total f views + f w
+pub total-set : (f : Range → ℕ) (views : List Range) (at : ℕ) (v w : Range) → get_elem? views at ≡ some v → range_sum f (set views at w) + f v ≡ range_sum f views + f w
 total-set f [] at v w e = absurd (some-ne-none v (sym e))
 total-set f (u ∷ us) zero v w e = let h : f u ≡ f v = ap f (some-injective u v e) in omega (arith, h)
 total-set f (u ∷ us) (suc at) v w e = omega (arith, total-set f us at v w e)
 
-pub total-snoc : (f : Range → ℕ) (views : List Range) (v : Range) → total f (views ++ v ∷ []) ≡ total f views + f v
+pub total-snoc : (f : Range → ℕ) (views : List Range) (v : Range) → range_sum f (views ++ v ∷ []) ≡ range_sum f views + f v
 total-snoc f [] v = omega arith
 total-snoc f (u ∷ us) v = omega (arith, total-snoc f us v)
 
-pub total_one : (f : Range → ℕ) (views : List Range) (at : ℕ) (v : Range) → get_elem? views at ≡ some v → f v ≤ total f views
+pub total_one : (f : Range → ℕ) (views : List Range) (at : ℕ) (v : Range) → get_elem? views at ≡ some v → f v ≤ range_sum f views
 total_one f [] at v e = absurd (some-ne-none v (sym e))
 total_one f (u ∷ us) zero v e = let h : f u ≡ f v = ap f (some-injective u v e) in omega (arith, h)
 total_one f (u ∷ us) (suc at) v e = omega (arith, total_one f us at v e)
 
-pub total_two : (f : Range → ℕ) (views : List Range) (i j : ℕ) (v w : Range) → get_elem? views i ≡ some v → get_elem? views j ≡ some w → j ≢ i → f v + f w ≤ total f views
+pub total_two : (f : Range → ℕ) (views : List Range) (i j : ℕ) (v w : Range) → get_elem? views i ≡ some v → get_elem? views j ≡ some w → j ≢ i → f v + f w ≤ range_sum f views
 total_two f [] i j v w e d ne = absurd (some-ne-none v (sym e))
 total_two f (u ∷ us) zero zero v w e d ne = absurd (ne refl)
 total_two f (u ∷ us) zero (suc j) v w e d ne = let h : f u ≡ f v = ap f (some-injective u v e) in omega (arith, h, total_one f us j w d)
 total_two f (u ∷ us) (suc i) zero v w e d ne = let h : f u ≡ f w = ap f (some-injective u w d) in omega (arith, h, total_one f us i v e)
 total_two f (u ∷ us) (suc i) (suc j) v w e d ne = omega (arith, total_two f us i j v w e d (λ q. ne (ap suc q)))
 
-pub total_le : (f h : Range → ℕ) (views : List Range) → ((at : ℕ) (v : Range) → get_elem? views at ≡ some v → f v ≤ h v) → total f views ≤ total h views
+pub total_le : (f h : Range → ℕ) (views : List Range) → ((at : ℕ) (v : Range) → get_elem? views at ≡ some v → f v ≤ h v) → range_sum f views ≤ range_sum h views
 total_le f h [] le = omega arith
 total_le f h (u ∷ us) le = omega (arith, le 0 u refl, total_le f h us (λ at v e. le (suc at) v e))
 
-pub total_same : (f h : Range → ℕ) (views : List Range) → ((at : ℕ) (v : Range) → get_elem? views at ≡ some v → f v ≡ h v) → total f views ≡ total h views
+pub total_same : (f h : Range → ℕ) (views : List Range) → ((at : ℕ) (v : Range) → get_elem? views at ≡ some v → f v ≡ h v) → range_sum f views ≡ range_sum h views
 total_same f h [] same = refl
 total_same f h (u ∷ us) same = omega (arith, same 0 u refl, total_same f h us (λ at v e. same (suc at) v e))
 
 -- a view is cut in two
-pub total_cut : (f : Range → ℕ) (views : List Range) (at : ℕ) (v left right : Range) → get_elem? views at ≡ some v → f v ≡ f left + f right → total f (set views at left ++ right ∷ []) ≡ total f views
+pub total_cut : (f : Range → ℕ) (views : List Range) (at : ℕ) (v left right : Range) → get_elem? views at ≡ some v → f v ≡ f left + f right → range_sum f (set views at left ++ right ∷ []) ≡ range_sum f views
 total_cut f views at v left right e sum = omega (arith, total-snoc f (set views at left) right, total-set f views at v left e, sum)
 
 -- two views are one
 pub total_joined : (f : Range → ℕ) (views : List Range) (i j : ℕ) (v w both spent : Range) → get_elem? views i ≡ some v → get_elem? (set views i both) j ≡ some w
-    → f both ≡ f v + f w → f spent ≡ 0 → total f (set (set views i both) j spent) ≡ total f views
+    → f both ≡ f v + f w → f spent ≡ 0 → range_sum f (set (set views i both) j spent) ≡ range_sum f views
 total_joined f views i j v w both spent e d sum none = omega (arith, total-set f (set views i both) j w spent d, total-set f views i v both e, sum, none)
 
 pub workers_from-append : (k a b : ℕ) → workers_from k (a + b) ≡ workers_from k a ++ workers_from (k + a) b

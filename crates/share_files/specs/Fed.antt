@@ -35,22 +35,22 @@ abbrev pub has_ended : Fed → Bool
 has_ended f = is_some f.last
 
 -- the numbers drawn: the first group is the worker's own
-abbrev pub numbers_of : List ℕ → Option ℕ → List ℕ
-numbers_of taken last = drop 1 taken ++ option_to_list last
+abbrev pub numbers_drawn : List ℕ → Option ℕ → List ℕ
+numbers_drawn taken last = drop 1 taken ++ option_to_list last
 
 -- nothing was asked, or the worker's own group came first
-abbrev pub Begun : ℕ → List ℕ → Option ℕ → Type 0
-Begun worker taken last = ((taken ≡ []) × (last ≡ None)) ⊎ (taken ≡ worker ∷ drop 1 taken)
+abbrev pub OwnGroupFirst : ℕ → List ℕ → Option ℕ → Type 0
+OwnGroupFirst worker taken last = ((taken ≡ []) × (last ≡ None)) ⊎ (taken ≡ worker ∷ drop 1 taken)
 
 -- what holds of every feed: its seat is one of the shared word, and knows the numbers drawn
 pub record IsFeed {S : Type 0} (shared own : TableId) (key : Counts) (me : Me S Range) (worker groups : ℕ) (taken : List ℕ) (room : ℕ) (last : Option ℕ) : Type 0 where
   pub table : own ≡ shared
   pub one_word : shared.words ≡ 1
   pub counted : key.groups ≡ groups
-  pub numbers : me ≡ (range worker (numbers_of taken last ∷ []), [])
+  pub numbers : me ≡ (range worker (numbers_drawn taken last ∷ []), [])
   pub inside : worker < groups
   pub reserved : groups ≤ room
-  pub begun : Begun worker taken last
+  pub begun : OwnGroupFirst worker taken last
   pub rising : RisesFrom worker taken
   pub below : Every (λ n. n < groups) taken
   pub past : IfSome last (λ n. groups ≤ n)

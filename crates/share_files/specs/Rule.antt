@@ -20,8 +20,8 @@ abbrev pub covers : ℕ → Range → ℕ
 covers k v = times k (workers_from v.first (length v.lists))
 
 -- how many workers a range has
-abbrev pub size : Range → ℕ
-size v = length v.lists
+abbrev pub workers_in : Range → ℕ
+workers_in v = length v.lists
 
 -- how many numbers of a list reach the number of groups
 abbrev pub past : ℕ → List ℕ → ℕ
@@ -36,9 +36,9 @@ abbrev pub all_past : ℕ → Range → ℕ
 all_past groups v = past_in groups v.lists
 
 -- a number of each view, added up
-abbrev pub total : (Range → ℕ) → List Range → ℕ
-total f [] = 0
-total f (v ∷ vs) = f v + total f vs
+abbrev pub range_sum : (Range → ℕ) → List Range → ℕ
+range_sum f [] = 0
+range_sum f (v ∷ vs) = f v + range_sum f vs
 
 -- what a view says: its lists are those of the workers of its range, and at most one number of each reaches the number of groups
 pub record IsView (c : Counts) (draws : List ℕ) (v : Range) : Type 0 where
@@ -46,7 +46,7 @@ pub record IsView (c : Counts) (draws : List ℕ) (v : Range) : Type 0 where
   pub last : Every (λ l. past c.groups l ≤ 1) v.lists
 
 -- what holds between any two steps
-pub record IsKept {S : Type 0} (c : Counts) (s : State S Range) : Type 0 where
+pub record SharingInvariant {S : Type 0} (c : Counts) (s : State S Range) : Type 0 where
   -- who drew, in order
   pub draws : List ℕ
   pub who : Every (λ k. k < c.workers) draws
@@ -54,11 +54,11 @@ pub record IsKept {S : Type 0} (c : Counts) (s : State S Range) : Type 0 where
   pub word : s.words ≡ (c.workers + length draws) ∷ []
   pub views : (at : ℕ) (v : Range) → get_elem? s.views at ≡ some v → IsView c draws v
   -- each worker is in the range of exactly one view
-  pub each : (k : ℕ) → k < c.workers → total (covers k) s.views ≡ 1
-  pub no_other : (k : ℕ) → c.workers ≤ k → total (covers k) s.views ≡ 0
-  pub all : total size s.views ≡ c.workers
+  pub each : (k : ℕ) → k < c.workers → range_sum (covers k) s.views ≡ 1
+  pub no_other : (k : ℕ) → c.workers ≤ k → range_sum (covers k) s.views ≡ 0
+  pub all : range_sum workers_in s.views ≡ c.workers
   -- each number that reaches the number of groups stands in a list
-  pub bound : c.workers + length draws ≤ c.groups + total (all_past c.groups) s.views
+  pub bound : c.workers + length draws ≤ c.groups + range_sum (all_past c.groups) s.views
   pub counts : (c.workers ≤ c.groups) × (c.groups < 2 ^ 32)
 
 -- at the start one seat has all workers, none of which drew
@@ -66,13 +66,13 @@ abbrev pub all_workers : Counts → Range
 all_workers c = range 0 (replicate c.workers [])
 
 -- a number more in the first list
-abbrev pub with_number : ℕ → List (List ℕ) → List (List ℕ)
-with_number n [] = []
-with_number n (l ∷ ls) = (l ++ n ∷ []) ∷ ls
+abbrev pub with_drawn : ℕ → List (List ℕ) → List (List ℕ)
+with_drawn n [] = []
+with_drawn n (l ∷ ls) = (l ++ n ∷ []) ∷ ls
 
 -- the number found is one more of the seat's worker, and all of them rise, above the worker's own
 pub record Draws {S : Type 0} (step : Step S) (before : Me S Range) (found : ℕ) (after : Me S Range) : Type 0 where
-  pub drew : after ≡ (range before.0.first (with_number found before.0.lists), before.1)
+  pub drew : after ≡ (range before.0.first (with_drawn found before.0.lists), before.1)
   pub rising : Every (RisesFrom (before.0.first + 1)) after.0.lists
 
 abbrev pub lower_half : Range → Range
@@ -81,8 +81,8 @@ lower_half v = range v.first (take (length v.lists / 2) v.lists)
 abbrev pub upper_half : Range → Range
 upper_half v = range (v.first + length v.lists / 2) (drop (length v.lists / 2) v.lists)
 
-abbrev pub joined : Range → Range → Range
-joined v w = range v.first (v.lists ++ w.lists)
+abbrev pub joined_range : Range → Range → Range
+joined_range v w = range v.first (v.lists ++ w.lists)
 
 abbrev pub nobody : Range
 nobody = range 0 []
@@ -96,14 +96,14 @@ OnlyLast groups (x ∷ y ∷ ys) = (x < groups) × OnlyLast groups (y ∷ ys)
 -- what the rule says of the word and the views
 pub record Says (c : Counts) (next : ℕ) (views : List Range) : Type 0 where
   -- the ranges are disjoint, and together all workers
-  pub ranges : (k : ℕ) → k < c.workers → total (covers k) views ≡ 1
-  pub no_other : (k : ℕ) → c.workers ≤ k → total (covers k) views ≡ 0
+  pub ranges : (k : ℕ) → k < c.workers → range_sum (covers k) views ≡ 1
+  pub no_other : (k : ℕ) → c.workers ≤ k → range_sum (covers k) views ≡ 0
   -- the word is at least the number of workers, and at most the number of groups and that of workers
   pub word : (c.workers ≤ next) × (next ≤ c.groups + c.workers)
   -- each list rises, from the number of workers on
   pub rising : (at : ℕ) (v : Range) → get_elem? views at ≡ some v → Every (RisesFrom c.workers) v.lists
   -- each number from the number of workers to below the word stands in exactly one list, once, and no other number in any
-  pub each : (x : ℕ) → c.workers ≤ x → x < next → total (λ v. times_in x v.lists) views ≡ 1
-  pub none : (x : ℕ) → (x < c.workers) ⊎ (next ≤ x) → total (λ v. times_in x v.lists) views ≡ 0
+  pub each : (x : ℕ) → c.workers ≤ x → x < next → range_sum (λ v. times_in x v.lists) views ≡ 1
+  pub none : (x : ℕ) → (x < c.workers) ⊎ (next ≤ x) → range_sum (λ v. times_in x v.lists) views ≡ 0
   -- only the last number of a list may reach the number of groups
   pub last : (at : ℕ) (v : Range) → get_elem? views at ≡ some v → Every (OnlyLast c.groups) v.lists

@@ -9,8 +9,8 @@ use Rattle.share_files.specs.declared.rule.Range.{Range}
 use Rattle.share_files.specs.Rule.{range, past}
 
 -- the lists that code holds
-abbrev pub lists_of : List (Vec ℕ Global) → List (List ℕ)
-lists_of vecs = map (λ v. v.items) vecs
+abbrev pub held_lists : List (Vec ℕ Global) → List (List ℕ)
+held_lists vecs = map (λ v. v.items) vecs
 
 -- each worker with its list, and what it is then
 abbrev pub AllWork : {W : Type 0} → (W → List ℕ → W → Type 0) → List W → List (List ℕ) → List W → Type 0
@@ -43,8 +43,8 @@ Starts table k count None = ⊥
 Starts table k count (Some seat) = (seat.table_id ≡ table) × (seat.me ≡ (range k (replicate count []), []))
 
 -- a range of workers that may run: there is its seat, it has a worker, each list is blank, and all know the number of groups
-abbrev pub Ready : {S W : Type 0} → (W → ℕ) → TableId → ℕ → ℕ → Option (Seat S Range) → List (Vec ℕ Global) → List W → Type 0
-Ready groups_of table groups k seat lists workers =
+abbrev pub ReadyWorkers : {S W : Type 0} → (W → ℕ) → TableId → ℕ → ℕ → Option (Seat S Range) → List (Vec ℕ Global) → List W → Type 0
+ReadyWorkers groups_of table groups k seat lists workers =
     Starts table k (length workers) seat
     × (0 < length workers)
     × (k + length workers ≤ groups)

@@ -1,8 +1,8 @@
 ghost use Rattle.std.specs.Prelude.{◌≡◌, ℕ, ◌+◌, ◌<◌, ◌≤◌, Bool, true, false, List, [], ◌∷◌, ◌++◌, drop, None, Some, IfSome, IfNone, IsSome};
 ghost use Rattle.atomic_table.specs.Table.{Me};
 ghost use Rattle.share_files.specs.Deal.{times, left, RisesFrom, Every};
-ghost use Rattle.share_files.specs.Rule.{range, past, with_number};
-ghost use Rattle.share_files.specs.Fed.{Origin, Begun};
+ghost use Rattle.share_files.specs.Rule.{range, past, with_drawn};
+ghost use Rattle.share_files.specs.Fed.{Origin, OwnGroupFirst};
 ghost use Rattle.share_files.specs.Work.{IsBlank, IsRange, Took};
 
 use crate::rule::{Board, Draw, Range};
@@ -59,7 +59,7 @@ fn draw(shared: &Board, seat: &mut Seat<(), Range>) -> u64
     requires table { (seat.old.table_id ≡ shared.now.table_id) × (shared.now.table_id.words ≡ 1) }
     requires own { (k : ℕ) × (l : List ℕ) × (seat.old.me ≡ (range k (l ∷ []), [])) × (past shared.now.key.groups l ≡ 0) }
     ensures table { seat.new.table_id ≡ seat.old.table_id }
-    ensures drew { seat.new.me ≡ (range seat.old.me.0.first (with_number result seat.old.me.0.lists), seat.old.me.1) }
+    ensures drew { seat.new.me ≡ (range seat.old.me.0.first (with_drawn result seat.old.me.0.lists), seat.old.me.1) }
     ensures rising { Every (RisesFrom (seat.old.me.0.first + 1)) seat.new.me.0.lists }
 {
     shared.fetch_add::<Draw>(seat, 0, 1)
@@ -69,7 +69,7 @@ fn draw(shared: &Board, seat: &mut Seat<(), Range>) -> u64
 fn number(shared: &Board, seat: &mut Seat<(), Range>, worker: u32, taken: &[u32]) -> u64
     requires table { (seat.old.table_id ≡ shared.now.table_id) × (shared.now.table_id.words ≡ 1) }
     requires numbers { seat.old.me ≡ (range worker (drop 1 taken.now ∷ []), []) }
-    requires begun { Begun worker taken.now None }
+    requires begun { OwnGroupFirst worker taken.now None }
     requires below { Every (λ n. n < shared.now.key.groups) taken.now }
     ensures table { seat.new.table_id ≡ seat.old.table_id }
     ensures numbers { seat.new.me ≡ (range worker (drop 1 (taken.now ++ result ∷ []) ∷ []), []) }

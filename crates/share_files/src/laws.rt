@@ -3,7 +3,7 @@ ghost use Rattle.atomic_table.specs.Table.{State};
 ghost use Rattle.share_files.specs.declared.rule.Range.{Range};
 ghost use Rattle.share_files.specs.declared.rule.Counts.{Counts};
 ghost use Rattle.share_files.specs.Deal.{Every, RisesFrom, EachOnce, deal};
-ghost use Rattle.share_files.specs.Rule.{IsKept, Says};
+ghost use Rattle.share_files.specs.Rule.{SharingInvariant, Says};
 
 /// For every list of draws: each list rises, and each number from n to below the next one stands in exactly one list, once.
 pub fn deal_law()
@@ -14,5 +14,5 @@ pub fn deal_law()
 
 /// What the rule says of the shared word and of what the seats know.
 pub fn rule_law()
-    ensures { (c : Counts) (s : State (Unit {0}) Range) → IsKept c s → Says c (slice_index s.words 0) s.views }
+    ensures { (c : Counts) (s : State (Unit {0}) Range) → SharingInvariant c s → Says c (slice_index s.words 0) s.views }
 {}

@@ -19,9 +19,9 @@ pub struct Range {
 pub struct DrawnOnce;
 
 impl TableRule<(), Range, Counts> for DrawnOnce {
-    ghost use Rattle.share_files.specs.Rule.{IsKept, all_workers};
+    ghost use Rattle.share_files.specs.Rule.{SharingInvariant, all_workers};
 
-    ghost holds = { IsKept };
+    ghost holds = { SharingInvariant };
 
     ghost first = { all_workers };
 }
@@ -53,9 +53,9 @@ impl Split<Range> for Halves {
 pub struct Whole;
 
 impl Join<Range> for Whole {
-    ghost use Rattle.share_files.specs.Rule.{joined, nobody};
+    ghost use Rattle.share_files.specs.Rule.{joined_range, nobody};
 
-    ghost both = { joined };
+    ghost both = { joined_range };
 
     ghost spent = { nobody };
 }

@@ -5,13 +5,13 @@ use Rattle.py_tree.specs.Trees as t
 use Rattle.py_tree.specs.Trees.{Tree, Trees, Empty, More, Maybe, Absent, Present}
 use Rattle.source_meaning.specs.Requests.{source_kinds}
 use Rattle.py_world.specs.Arguments.{arguments_of}
-use Rattle.py_world.specs.Outcome.{Part}
+use Rattle.py_world.specs.Outcome.{Denotation}
 use Rattle.py_world.specs.Expressions.{noted, constant, name_part, text_part, unary_part, binary_part, compare_part, not_part, and_part, or_part, choice_part, call_part}
 use Rattle.py_world.specs.Displays.{list_part, tuple_part, dict_part, subscript_part, slice_part}
 use Rattle.py_world.specs.Attributes.{attribute_part}
 
 abbrev pub SourcePart : Type 0
-SourcePart = Part source_kinds
+SourcePart = Denotation source_kinds
 
 abbrev mutual
   -- WHAT AN EXPRESSION DOES

@@ -3,7 +3,7 @@
 use Rattle.std.specs.Prelude.{ℕ, List}
 use Rattle.py_values.specs.declared.value.Value.{Value}
 use Rattle.source_meaning.specs.Requests.{source_kinds}
-use Rattle.source_meaning.specs.Statements.{entry, act, script_body, remains}
+use Rattle.source_meaning.specs.Statements.{source_entry, source_act, script_body, source_remains}
 use Rattle.py_world.specs.World.{World}
 use Rattle.py_world.specs.Calls.{Meaning}
 use Rattle.py_world.specs.Runs.{Told, call_of, module_of}
@@ -12,18 +12,18 @@ use Rattle.py_world.specs.Resuming.{Sent, ToldBegun, begin_of, resume_of}
 abbrev pub SourceWorld : Type 0
 SourceWorld = World source_kinds
 
-abbrev pub source : Meaning source_kinds
-source = record { entry = entry; act = act; body = script_body; remains = remains }
+abbrev pub source_semantics : Meaning source_kinds
+source_semantics = record { entry = source_entry; act = source_act; body = script_body; remains = source_remains }
 
 abbrev pub source_call : Value → List Value → ℕ → SourceWorld → Told source_kinds
-source_call f args budget w = call_of source f args budget w
+source_call f args budget w = call_of source_semantics f args budget w
 
 abbrev pub source_module : List ℕ → ℕ → SourceWorld → Told source_kinds
-source_module path budget w = module_of source path budget w
+source_module path budget w = module_of source_semantics path budget w
 
 abbrev pub source_begin : Value → List Value → ℕ → SourceWorld → ToldBegun source_kinds
-source_begin f args budget w = begin_of source f args budget w
+source_begin f args budget w = begin_of source_semantics f args budget w
 
 -- of the frozen frame of a number
 abbrev pub source_resume : ℕ → Sent → ℕ → SourceWorld → ToldBegun source_kinds
-source_resume n sent budget w = resume_of source n sent budget w
+source_resume n sent budget w = resume_of source_semantics n sent budget w

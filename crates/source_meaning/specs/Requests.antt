@@ -14,17 +14,17 @@ pub data Use : Type 0 where
 -- what stands behind a statement in one of the blocks around it, in code whose asserts are explained or not: statements, or the
 -- handlers of a `try` on a line, with the statements behind `else` and behind `finally`; and first, behind a `yield`, the use of what
 -- it is given
-pub data Layer : Type 0 where
-  Statements : Bool → List Statement → Layer
-  Guard : Bool → ℕ → Handlers → List Statement → List Statement → Layer
-  Receives : Use → Layer
+pub data SourceLayer : Type 0 where
+  Statements : Bool → List Statement → SourceLayer
+  Guard : Bool → ℕ → Handlers → List Statement → List Statement → SourceLayer
+  Receives : Use → SourceLayer
 
 -- a statement with what stands behind it, the innermost block first, or a turn of a `while` or of a `for` at a place, in code whose
 -- asserts are explained or not
-pub data Turn : Type 0 where
-  StatementOf : Bool → List Layer → Statement → Turn
-  TurnOf : Bool → Tree → Block → Turn
-  ForOf : Bool → Taker → Block → IterAt → Turn
+pub data SourceTurn : Type 0 where
+  StatementOf : Bool → List SourceLayer → Statement → SourceTurn
+  TurnOf : Bool → Tree → Block → SourceTurn
+  ForOf : Bool → Taker → Block → IterAt → SourceTurn
 
 -- a source's code: its statements, and whether its asserts are explained
 pub record Script : Type 0 where
@@ -39,4 +39,4 @@ pub record Function : Type 0 where
   pub body : Block
 
 abbrev pub source_kinds : Kinds
-source_kinds = record { code = Function; script = Script; rest = List Layer; turn = Turn }
+source_kinds = record { code = Function; script = Script; rest = List SourceLayer; turn = SourceTurn }

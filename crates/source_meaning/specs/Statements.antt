@@ -7,13 +7,13 @@ use Rattle.py_tree.specs.Statements.{Statement, Block, Branches, Handlers, NoSta
 use Rattle.py_tree.specs.Names.{locals_of, yields_in}
 use Rattle.py_world.specs.py_kinds.Truth.{truth}
 use Rattle.source_meaning.specs.Expressions.{SourcePart, eval, parts, some_part}
-use Rattle.source_meaning.specs.Requests.{source_kinds, Use, NoUse, Targets, ReturnIt, Layer, Statements, Guard, Receives, Turn, StatementOf, TurnOf, ForOf, Script, Function}
+use Rattle.source_meaning.specs.Requests.{source_kinds, Use, NoUse, Targets, ReturnIt, SourceLayer, Statements, Guard, Receives, SourceTurn, StatementOf, TurnOf, ForOf, Script, Function}
 use Rattle.source_meaning.specs.Watched.{watch}
 use Rattle.py_tree.specs.Trees.{Tree, Maybe, Absent, Present}
 use Rattle.py_world.specs.Site.{site}
 use Rattle.py_world.specs.World.{heap_of, unset}
 use Rattle.py_world.specs.Outcome.{Body, After, Next, on_next, on_value, if_true}
-use Rattle.py_world.specs.Statements.{Choice, asked, expression_statement, return_value, yield_value, received, no_use, return_sent, pass, leave_loop, next_turn, fail, fail_explained, choose, loop, turn_of}
+use Rattle.py_world.specs.Statements.{IfClause, asked, expression_statement, return_value, yield_value, received, no_use, return_sent, pass, leave_loop, next_turn, fail, fail_explained, choose, loop, turn_of}
 use Rattle.py_world.specs.Definitions.{Written, define, class_statement}
 use Rattle.py_world.specs.Names.{delete_name}
 use Rattle.py_world.specs.Targets.{Store, store_name, store_attribute, store_item, store_all, unpack, assign, augment_name, augment_attribute, augment_item, delete_attribute, delete_item}
@@ -31,7 +31,7 @@ abbrev pub SourceStore : Type 0
 SourceStore = Store source_kinds
 
 abbrev pub SourceChoice : Type 0
-SourceChoice = Choice source_kinds
+SourceChoice = IfClause source_kinds
 
 abbrev pub SourceHandling : Type 0
 SourceHandling = Handling source_kinds
@@ -70,19 +70,19 @@ abbrev pub store_places : List Place → List SourceStore
 store_places [] = []
 store_places (p ∷ ps) = store_place p ∷ store_places ps
 
-abbrev pub store : Taker → SourceStore
-store (One p) = store_place p
-store (Unpack ps) = unpack (store_places ps)
+abbrev pub source_store : Taker → SourceStore
+source_store (One p) = store_place p
+source_store (Unpack ps) = unpack (store_places ps)
 
-abbrev pub stores : List Taker → List SourceStore
-stores [] = []
-stores (x ∷ xs) = store x ∷ stores xs
+abbrev pub source_stores : List Taker → List SourceStore
+source_stores [] = []
+source_stores (x ∷ xs) = source_store x ∷ source_stores xs
 
 -- what is done with the value that a `yield` is given
-abbrev pub use_of : Use → SourceStore
-use_of NoUse = no_use
-use_of (Targets ts) = store_all (stores ts)
-use_of ReturnIt = return_sent
+abbrev pub source_use : Use → SourceStore
+source_use NoUse = no_use
+source_use (Targets ts) = store_all (source_stores ts)
+source_use ReturnIt = return_sent
 
 abbrev pub augment : Place → BinOp → SourcePart → SourcePart
 augment (NamePlace at name) op e = augment_name name op e
@@ -95,50 +95,50 @@ delete (AttributePlace at e name) = delete_attribute (eval e) name
 delete (SubscriptPlace at e i) = delete_item (eval e) (eval i)
 
 -- an assert, whose failure is a part of it
-abbrev pub assert : SourcePart → SourcePart → SourcePart
-assert e failure p s k = e p (unset s) (λ o. on_value o k (λ v s. if_true (truth (heap_of s) v) (k (Next s)) (failure p s k)))
+abbrev pub source_assert : SourcePart → SourcePart → SourcePart
+source_assert e failure p s k = e p (unset s) (λ o. on_value o k (λ v s. if_true (truth (heap_of s) v) (k (Next s)) (failure p s k)))
 
 -- a plain one, and one whose failure tells the parts of its condition
 abbrev pub assert_as : Bool → Tree → Option SourcePart → SourcePart
-assert_as false e message = assert (eval e) (fail message)
-assert_as true e message = assert (watch 0 e) (fail_explained e message)
+assert_as false e message = source_assert (eval e) (fail message)
+assert_as true e message = source_assert (watch 0 e) (fail_explained e message)
 
 -- a statement begins with a step
-abbrev pub begun : Bool → List Layer → Statement → SourcePart
-begun x ls st = asked (StatementOf x ls st)
+abbrev pub source_begun : Bool → List SourceLayer → Statement → SourcePart
+source_begun x ls st = asked (StatementOf x ls st)
 
 -- the statements of a block, the first one first
-abbrev pub listed : Block → List Statement
-listed NoStatement = []
-listed (t.Next before st) = listed before ++ st ∷ []
+abbrev pub statements_listed : Block → List Statement
+statements_listed NoStatement = []
+statements_listed (t.Next before st) = statements_listed before ++ st ∷ []
 
 -- STATEMENTS ONE AFTER ANOTHER, each on its line
-abbrev pub sequence : Bool → List Layer → List Statement → SourceBody
-sequence x ls [] scene s k = k (Next s)
-sequence x ls (st ∷ rest) scene s k = begun x (Statements x rest ∷ ls) st (site scene (position st).line) s (λ o. on_next o k (λ s. sequence x ls rest scene s k))
+abbrev pub source_sequence : Bool → List SourceLayer → List Statement → SourceBody
+source_sequence x ls [] scene s k = k (Next s)
+source_sequence x ls (st ∷ rest) scene s k = source_begun x (Statements x rest ∷ ls) st (site scene (position st).line) s (λ o. on_next o k (λ s. source_sequence x ls rest scene s k))
 
-abbrev pub block : Bool → List Layer → Block → SourceBody
-block x ls b = sequence x ls (listed b)
+abbrev pub source_block_body : Bool → List SourceLayer → Block → SourceBody
+source_block_body x ls b = source_sequence x ls (statements_listed b)
 
 -- the handlers of a `try`, the first one first
-abbrev pub handlings : Bool → List Layer → Handlers → List SourceHandling
-handlings x ls NoHandler = []
-handlings x ls (t.Handler before at class name body) = handlings x ls before ++ (some_part class, (name, block x ls body)) ∷ []
+abbrev pub source_handlings : Bool → List SourceLayer → Handlers → List SourceHandling
+source_handlings x ls NoHandler = []
+source_handlings x ls (t.Handler before at class name body) = source_handlings x ls before ++ (some_part class, (name, source_block_body x ls body)) ∷ []
 
 -- what guards the block of a `try`
-abbrev pub guard : Bool → List Layer → Handlers → List Statement → List Statement → After source_kinds
-guard x ls handlers other last = guarded (handlings x ls handlers) (sequence x ls other) (sequence x ls last)
+abbrev pub source_guard : Bool → List SourceLayer → Handlers → List Statement → List Statement → After source_kinds
+source_guard x ls handlers other last = guarded (source_handlings x ls handlers) (source_sequence x ls other) (source_sequence x ls last)
 
 -- what remains of a body does with the end of the part before it, the innermost block first
-abbrev pub remains : List Layer → After source_kinds
-remains [] p o k = k o
-remains (Statements x ss ∷ ls) p o k = on_next o (λ o. remains ls p o k) (λ s. sequence x ls ss p.scene s (λ o. remains ls p o k))
-remains (Guard x line handlers other last ∷ ls) p o k = guard x ls handlers other last (site p.scene line) o (λ o. remains ls p o k)
-remains (Receives u ∷ ls) p o k = received (use_of u) p o (λ o. remains ls p o k)
+abbrev pub source_remains : List SourceLayer → After source_kinds
+source_remains [] p o k = k o
+source_remains (Statements x ss ∷ ls) p o k = on_next o (λ o. source_remains ls p o k) (λ s. source_sequence x ls ss p.scene s (λ o. source_remains ls p o k))
+source_remains (Guard x line handlers other last ∷ ls) p o k = source_guard x ls handlers other last (site p.scene line) o (λ o. source_remains ls p o k)
+source_remains (Receives u ∷ ls) p o k = received (source_use u) p o (λ o. source_remains ls p o k)
 
-abbrev pub choices : Bool → List Layer → Branches → List SourceChoice
-choices x ls NoBranch = []
-choices x ls (t.Branch before at condition body) = choices x ls before ++ (at.line, (eval condition, block x ls body)) ∷ []
+abbrev pub source_choices : Bool → List SourceLayer → Branches → List SourceChoice
+source_choices x ls NoBranch = []
+source_choices x ls (t.Branch before at condition body) = source_choices x ls before ++ (at.line, (eval condition, source_block_body x ls body)) ∷ []
 
 abbrev pub function : Bool → List ℕ → List Parameter → Block → Function
 function x name params body = record { explains = x; name = name; params = params; body = body }
@@ -147,24 +147,24 @@ abbrev pub script : Bool → Block → Script
 script x body = record { explains = x; body = body }
 
 -- a `try`, which guards its block on its line
-abbrev pub try_at : Bool → List Layer → Block → Handlers → List Statement → List Statement → SourcePart
-try_at x ls body handlers other last p s k =
-    try_statement (block x (Guard x p.line handlers other last ∷ ls) body) (handlings x ls handlers) (sequence x ls other) (sequence x ls last) p s k
+abbrev pub source_try : Bool → List SourceLayer → Block → Handlers → List Statement → List Statement → SourcePart
+source_try x ls body handlers other last p s k =
+    try_statement (source_block_body x (Guard x p.line handlers other last ∷ ls) body) (source_handlings x ls handlers) (source_sequence x ls other) (source_sequence x ls last) p s k
 
-abbrev pub entry : Function → Entry source_kinds
-entry f = record { name = f.name; own = locals_of f.params f.body; body = block f.explains [] f.body }
+abbrev pub source_entry : Function → Entry source_kinds
+source_entry f = record { name = f.name; own = locals_of f.params f.body; body = source_block_body f.explains [] f.body }
 
 abbrev pub script_body : Script → SourceBody
-script_body m = block m.explains [] m.body
+script_body m = source_block_body m.explains [] m.body
 
 -- parameters as they are written, and the defaults of those that have one
 abbrev pub is_given : Maybe → Bool
 is_given Absent = false
 is_given (Present e) = true
 
-abbrev pub written : List Parameter → List Written
-written [] = []
-written (Parameter_at at name annotation default ∷ ps) = (name, is_given default) ∷ written ps
+abbrev pub source_written : List Parameter → List Written
+source_written [] = []
+source_written (Parameter_at at name annotation default ∷ ps) = (name, is_given default) ∷ source_written ps
 
 abbrev pub with_part : Maybe → List SourcePart → List SourcePart
 with_part Absent es = es
@@ -175,32 +175,32 @@ default_parts [] = []
 default_parts (Parameter_at at name annotation default ∷ ps) = with_part default (default_parts ps)
 
 -- WHAT A STATEMENT DOES, its step being taken
-abbrev pub statement : Bool → List Layer → Statement → SourcePart
-statement x ls (t.Do at e) = expression_statement (eval e)
-statement x ls (t.Assign at ts e) = assign (stores ts) (eval e)
-statement x ls (t.AugAssign at p op e) = augment p op (eval e)
-statement x ls (t.Return at e) = return_value (some_part e)
-statement x ls (t.Assert at e m) = assert_as x e (some_part m)
-statement x ls (t.GlobalOf at names) = pass
-statement x ls (t.Pass at) = pass
-statement x ls (t.Break at) = leave_loop
-statement x ls (t.Continue at) = next_turn
-statement x ls (t.If at branches other) = choose (choices x ls branches) (block x ls other)
-statement x ls (t.While at e body) = loop (TurnOf x e body) (eval e)
-statement x ls (t.Def at decorators word name params returns body) = define (parts decorators) (default_parts params) (written params) name word.line (yields_in body) (function x name params body)
-statement x ls (t.YieldOf at word e) = yield_value (some_part e) (Receives NoUse ∷ ls)
-statement x ls (t.AssignYield at ts word e) = yield_value (some_part e) (Receives (Targets ts) ∷ ls)
-statement x ls (t.ReturnYield at word e) = yield_value (some_part e) (Receives ReturnIt ∷ ls)
-statement x ls (t.Raise at e) = raise_value entry (some_part e)
-statement x ls (t.Del at p) = delete p
-statement x ls (t.Import at names alias) = import_statement script_body names alias
-statement x ls (t.ImportFrom at names all) = import_from script_body names all
-statement x ls (t.For at taker e body) = for_statement (ForOf x taker body) (eval e)
-statement x ls (t.Try at body handlers other final) = try_at x ls body handlers (listed other) (listed final)
-statement x ls (t.With at e name body) = with_statement (eval e) name (block x [] body)
-statement x ls (t.Class at decorators word name base body) = class_statement (parts decorators) (some_part base) name word.line (block x [] body)
+abbrev pub source_statement : Bool → List SourceLayer → Statement → SourcePart
+source_statement x ls (t.Do at e) = expression_statement (eval e)
+source_statement x ls (t.Assign at ts e) = assign (source_stores ts) (eval e)
+source_statement x ls (t.AugAssign at p op e) = augment p op (eval e)
+source_statement x ls (t.Return at e) = return_value (some_part e)
+source_statement x ls (t.Assert at e m) = assert_as x e (some_part m)
+source_statement x ls (t.GlobalOf at names) = pass
+source_statement x ls (t.Pass at) = pass
+source_statement x ls (t.Break at) = leave_loop
+source_statement x ls (t.Continue at) = next_turn
+source_statement x ls (t.If at branches other) = choose (source_choices x ls branches) (source_block_body x ls other)
+source_statement x ls (t.While at e body) = loop (TurnOf x e body) (eval e)
+source_statement x ls (t.Def at decorators word name params returns body) = define (parts decorators) (default_parts params) (source_written params) name word.line (yields_in body) (function x name params body)
+source_statement x ls (t.YieldOf at word e) = yield_value (some_part e) (Receives NoUse ∷ ls)
+source_statement x ls (t.AssignYield at ts word e) = yield_value (some_part e) (Receives (Targets ts) ∷ ls)
+source_statement x ls (t.ReturnYield at word e) = yield_value (some_part e) (Receives ReturnIt ∷ ls)
+source_statement x ls (t.Raise at e) = raise_value source_entry (some_part e)
+source_statement x ls (t.Del at p) = delete p
+source_statement x ls (t.Import at names alias) = import_statement script_body names alias
+source_statement x ls (t.ImportFrom at names all) = import_from script_body names all
+source_statement x ls (t.For at taker e body) = for_statement (ForOf x taker body) (eval e)
+source_statement x ls (t.Try at body handlers other final) = source_try x ls body handlers (statements_listed other) (statements_listed final)
+source_statement x ls (t.With at e name body) = with_statement (eval e) name (source_block_body x [] body)
+source_statement x ls (t.Class at decorators word name base body) = class_statement (parts decorators) (some_part base) name word.line (source_block_body x [] body)
 
-abbrev pub act : Turn → SourcePart
-act (StatementOf x ls st) = statement x ls st
-act (TurnOf x e body) = turn_of (TurnOf x e body) (eval e) (block x [] body)
-act (ForOf x taker body at) = for_turn (ForOf x taker body) (store taker) (block x [] body) at
+abbrev pub source_act : SourceTurn → SourcePart
+source_act (StatementOf x ls st) = source_statement x ls st
+source_act (TurnOf x e body) = turn_of (TurnOf x e body) (eval e) (source_block_body x [] body)
+source_act (ForOf x taker body at) = for_turn (ForOf x taker body) (source_store taker) (source_block_body x [] body) at

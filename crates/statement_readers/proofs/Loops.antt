@@ -15,12 +15,12 @@ use Rattle.py_cursor.specs.py_expressions.Sorts.{exprs}
 use Rattle.py_cursor.specs.py_expressions.Values.{taker_in}
 use Rattle.py_cursor.specs.py_expressions.Lines.{E1}
 use Rattle.py_grammar.specs.Lines.{SI}
-use Rattle.statement_readers.specs.Reads.{reads}
+use Rattle.statement_readers.specs.Reads.{reads_as}
 use Rattle.statement_readers.proofs.Expressions.{takes}
 use Rattle.py_cursor.specs.declared.stop.Stop.{Stop}
 use Rattle.py_cursor.specs.Cursor.{FailsAs}
 use Rattle.statement_readers.specs.Turns.{Turn, On, Out, turned, turns}
-use Rattle.statement_readers.specs.Words.{wanted, starts, one, name_at, name_step, names_on, alias_behind, alias, alias_step, aliases_on, listed_step, listed_on, assignment, optional_exprs, yield_to, assigned, assign_step, assigns, simple, simple_step, simples_on}
+use Rattle.statement_readers.specs.Words.{one_among, starts, one, name_reader, name_step, names_on, alias_behind, alias, alias_step, aliases_on, listed_step, listed_on, assignment, optional_exprs, yield_to, right_side, assign_step, assigns, simple, simple_step, simples_on}
 use Rattle.statement_readers.proofs.Takes.{simple_takes}
 use Rattle.statement_readers.proofs.Turns.{Keeps, over, goes, fails, next, ends, fails_bind, wanted_takes, first_takes, first_whole}
 
@@ -32,22 +32,22 @@ pub takes_bind : {A B : Type 0} (r : Read Token A) (f : A → B) (n : ℕ) → (
 takes_bind r f n h b rest e = let y = bind_found r (λ y. Found (f y.0) y.1) b rest e in let i = h y.0 y.1 y.2 in let j = ap length (found_rest (f y.0) b y.1 rest y.3) in omega arith
 
 -- NAMES
-pub name_takes : (ts : List Token) (n : List ℕ) (rest : List Token) → name_at ts ≡ Found n rest → length rest < length ts
-unfolding name_at
-name_takes ts n rest e = takes_bind (wanted (k.name ∷ []) ts) text_of (length ts) (wanted_takes (k.name ∷ []) ts) n rest e
+pub name_takes : (ts : List Token) (n : List ℕ) (rest : List Token) → name_reader ts ≡ Found n rest → length rest < length ts
+unfolding name_reader
+name_takes ts n rest e = takes_bind (one_among (k.name ∷ []) ts) text_of (length ts) (wanted_takes (k.name ∷ []) ts) n rest e
 
 name_keeps : Keeps name_step
-name_keeps ns o after t rest e = takes_bind (name_at after) (λ n. On (ns ++ n ∷ [])) (suc (length after)) (λ a rest i. let h = name_takes after a rest i in omega arith) (On t) rest e
+name_keeps ns o after t rest e = takes_bind (name_reader after) (λ n. On (ns ++ n ∷ [])) (suc (length after)) (λ a rest i. let h = name_takes after a rest i in omega arith) (On t) rest e
 
 pub names_over : (c : ℕ) (ns : List (List ℕ)) (ts : List Token) → first_of kind (c ∷ []) ts ≡ None → names_on c (ns, ts) ≡ Found ns ts
 unfolding names_on
 names_over c ns ts e = over (c ∷ []) (λ ns. ns) name_step ns ts e
 
-pub names_fails : (c : ℕ) (ns : List (List ℕ)) (ts : List Token) (o : Token) (after : List Token) (stop : Stop) (whole : Read Token (List (List ℕ))) → first_of kind (c ∷ []) ts ≡ Some (o, after) → FailsAs stop (name_at after) → names_on c (ns, ts) ≡ whole → FailsAs stop whole
+pub names_fails : (c : ℕ) (ns : List (List ℕ)) (ts : List Token) (o : Token) (after : List Token) (stop : Stop) (whole : Read Token (List (List ℕ))) → first_of kind (c ∷ []) ts ≡ Some (o, after) → FailsAs stop (name_reader after) → names_on c (ns, ts) ≡ whole → FailsAs stop whole
 unfolding names_on
-names_fails c ns ts o after stop whole e i w = fails (c ∷ []) (λ ns. ns) name_step name_keeps ns ts o after stop whole e (fails_bind stop (name_at after) _ i) w
+names_fails c ns ts o after stop whole e i w = fails (c ∷ []) (λ ns. ns) name_step name_keeps ns ts o after stop whole e (fails_bind stop (name_reader after) _ i) w
 
-pub names_next : (c : ℕ) (ns : List (List ℕ)) (ts : List Token) (o : Token) (after : List Token) (n : List ℕ) (rest : List Token) (more : List (List ℕ)) (whole : Read Token (List (List ℕ))) → first_of kind (c ∷ []) ts ≡ Some (o, after) → name_at after ≡ Found n rest → more ≡ ns ++ n ∷ [] → names_on c (ns, ts) ≡ whole → names_on c (more, rest) ≡ whole
+pub names_next : (c : ℕ) (ns : List (List ℕ)) (ts : List Token) (o : Token) (after : List Token) (n : List ℕ) (rest : List Token) (more : List (List ℕ)) (whole : Read Token (List (List ℕ))) → first_of kind (c ∷ []) ts ≡ Some (o, after) → name_reader after ≡ Found n rest → more ≡ ns ++ n ∷ [] → names_on c (ns, ts) ≡ whole → names_on c (more, rest) ≡ whole
 unfolding names_on
 names_next c ns ts o after n rest more whole e i j w = next (c ∷ []) (λ ns. ns) name_step name_keeps ns ts o after more rest whole e (rw (i, j) refl) w
 
@@ -64,13 +64,13 @@ pub alias_keeps : (ts : List Token) (a : Option (List ℕ)) (rest : List Token) 
 unfolding alias_behind
 alias_keeps ts a rest e = go (one k.as_word ts) refl e
   where
-    go : (x : Option (Token × List Token)) → one k.as_word ts ≡ x → pick x (λ o. name_at o.1 >>= λ n. Found (Some n.0) n.1) (Found None ts) ≡ Found a rest → length rest ≤ length ts
-    go (Some x) i e = let h = first_takes (k.as_word ∷ []) ts x.0 x.1 i in let j = takes_bind (name_at x.1) (λ n. Some n) (length x.1) (name_takes x.1) a rest e in omega arith
+    go : (x : Option (Token × List Token)) → one k.as_word ts ≡ x → pick x (λ o. name_reader o.1 >>= λ n. Found (Some n.0) n.1) (Found None ts) ≡ Found a rest → length rest ≤ length ts
+    go (Some x) i e = let h = first_takes (k.as_word ∷ []) ts x.0 x.1 i in let j = takes_bind (name_reader x.1) (λ n. Some n) (length x.1) (name_takes x.1) a rest e in omega arith
     go None i e = let n : Option (List ℕ) = None in let j = ap length (found_rest n a ts rest e) in omega arith
 
 pub alias_takes : (ts : List Token) (a : Alias) (rest : List Token) → alias ts ≡ Found a rest → length rest < length ts
 unfolding alias
-alias_takes ts a rest e = takes_then (wanted (k.name ∷ []) ts) _ (length ts) (wanted_takes (k.name ∷ []) ts) (λ n mid b rest i. keeps_bind (alias_behind mid) _ (length mid) (alias_keeps mid) b rest i) a rest e
+alias_takes ts a rest e = takes_then (one_among (k.name ∷ []) ts) _ (length ts) (wanted_takes (k.name ∷ []) ts) (λ n mid b rest i. keeps_bind (alias_behind mid) _ (length mid) (alias_keeps mid) b rest i) a rest e
 
 alias_step_keeps : Keeps alias_step
 alias_step_keeps all o after t rest e = takes_bind (alias after) (λ a. On (all ++ a ∷ [])) (suc (length after)) (λ a rest i. let h = alias_takes after a rest i in omega arith) (On t) rest e
@@ -153,11 +153,11 @@ assignment_some at (t ∷ ts) e h = refl
 assign_keeps : (at : Pos) → Keeps (assign_step at)
 assign_keeps at s o after t rest e = go (taker_in s.1) e
   where
-    yields : (all : List Taker) (b : Bool) → cond b (reads 100 exprs after >>= λ y. Found (On (all, y.0.0)) y.1) (wanted (k.yield ∷ []) after >>= λ o. yield_to at all o.0.at o.1 >>= λ s. Found (Out s.0) s.1) ≡ Found (On t) rest → length rest < suc (length after)
-    yields all true e = takes_bind (reads 100 exprs after) (λ y. On (all, y.0)) (suc (length after)) (λ y rest i. let h = takes 100 exprs after y rest i in omega arith) (On t) rest e
-    yields all false e = let x = bind_found (wanted (k.yield ∷ []) after) (λ o. yield_to at all o.0.at o.1 >>= λ s. Found (Out s.0) s.1) (On t) rest e in let y = bind_found (yield_to at all x.0.at x.1) (λ s. Found (Out s.0) s.1) (On t) rest x.3 in let f = y.3 in absurd (cc)
+    yields : (all : List Taker) (b : Bool) → cond b (reads_as 100 exprs after >>= λ y. Found (On (all, y.0.0)) y.1) (one_among (k.yield ∷ []) after >>= λ o. yield_to at all o.0.at o.1 >>= λ s. Found (Out s.0) s.1) ≡ Found (On t) rest → length rest < suc (length after)
+    yields all true e = takes_bind (reads_as 100 exprs after) (λ y. On (all, y.0)) (suc (length after)) (λ y rest i. let h = takes 100 exprs after y rest i in omega arith) (On t) rest e
+    yields all false e = let x = bind_found (one_among (k.yield ∷ []) after) (λ o. yield_to at all o.0.at o.1 >>= λ s. Found (Out s.0) s.1) (On t) rest e in let y = bind_found (yield_to at all x.0.at x.1) (λ s. Found (Out s.0) s.1) (On t) rest x.3 in let f = y.3 in absurd (cc)
 
-    go : (x : Option Taker) → pick x (λ t. assigned at (s.0 ++ t ∷ []) after) (Found (Out (assignment at s.0 s.1)) (o ∷ after)) ≡ Found (On t) rest → length rest < suc (length after)
+    go : (x : Option Taker) → pick x (λ t. right_side at (s.0 ++ t ∷ []) after) (Found (Out (assignment at s.0 s.1)) (o ∷ after)) ≡ Found (On t) rest → length rest < suc (length after)
     go (Some x) e = yields (s.0 ++ x ∷ []) (starts E1 after) e
     go None e = absurd (cc)
 
@@ -179,25 +179,25 @@ gives_out f (Found x rest) = refl
 gives_out f (Bad rest) = refl
 gives_out f (Deep rest) = refl
 
-pub assigns_yield : (at : Pos) (all : List Taker) (e : Tree) (ts : List Token) (o : Token) (after : List Token) (t : Taker) (more : List Taker) (w : Token) (behind : List Token) (whole : Read Token Statement) → first_of kind (k.equal ∷ []) ts ≡ Some (o, after) → taker_in e ≡ Some t → more ≡ all ++ t ∷ [] → starts E1 after ≡ false → wanted (k.yield ∷ []) after ≡ Found w behind
+pub assigns_yield : (at : Pos) (all : List Taker) (e : Tree) (ts : List Token) (o : Token) (after : List Token) (t : Taker) (more : List Taker) (w : Token) (behind : List Token) (whole : Read Token Statement) → first_of kind (k.equal ∷ []) ts ≡ Some (o, after) → taker_in e ≡ Some t → more ≡ all ++ t ∷ [] → starts E1 after ≡ false → one_among (k.yield ∷ []) after ≡ Found w behind
     → assigns at ((all, e), ts) ≡ whole → yield_to at more w.at behind ≡ whole
 unfolding assigns
 assigns_yield at all e ts o after t more w behind whole d i j b f v =
     ap (λ m. yield_to at m w.at behind) j ∙ sym (gives_out (turns (k.equal ∷ []) (λ s. assignment at s.0 s.1) (assign_step at)) (yield_to at (all ++ t ∷ []) w.at behind))
     ∙ sym (goes (k.equal ∷ []) (λ s. assignment at s.0 s.1) (assign_step at) (assign_keeps at) (all, e) ts o after d ∙ rw (i, b, f) refl) ∙ v
 
-pub assigns_bad : (at : Pos) (all : List Taker) (e : Tree) (ts : List Token) (o : Token) (after : List Token) (t : Taker) (stop : Stop) (whole : Read Token Statement) → first_of kind (k.equal ∷ []) ts ≡ Some (o, after) → taker_in e ≡ Some t → starts E1 after ≡ false → FailsAs stop (wanted (k.yield ∷ []) after)
+pub assigns_bad : (at : Pos) (all : List Taker) (e : Tree) (ts : List Token) (o : Token) (after : List Token) (t : Taker) (stop : Stop) (whole : Read Token Statement) → first_of kind (k.equal ∷ []) ts ≡ Some (o, after) → taker_in e ≡ Some t → starts E1 after ≡ false → FailsAs stop (one_among (k.yield ∷ []) after)
     → assigns at ((all, e), ts) ≡ whole → FailsAs stop whole
 unfolding assigns
-assigns_bad at all e ts o after t stop whole d i b x v = fails (k.equal ∷ []) (λ s. assignment at s.0 s.1) (assign_step at) (assign_keeps at) (all, e) ts o after stop whole d (rw (i, b) (fails_bind stop (wanted (k.yield ∷ []) after) _ x)) v
+assigns_bad at all e ts o after t stop whole d i b x v = fails (k.equal ∷ []) (λ s. assignment at s.0 s.1) (assign_step at) (assign_keeps at) (all, e) ts o after stop whole d (rw (i, b) (fails_bind stop (one_among (k.yield ∷ []) after) _ x)) v
 
-pub assigns_fails : (at : Pos) (all : List Taker) (e : Tree) (ts : List Token) (o : Token) (after : List Token) (t : Taker) (stop : Stop) (whole : Read Token Statement) → first_of kind (k.equal ∷ []) ts ≡ Some (o, after) → taker_in e ≡ Some t → starts E1 after ≡ true → FailsAs stop (reads 100 exprs after)
+pub assigns_fails : (at : Pos) (all : List Taker) (e : Tree) (ts : List Token) (o : Token) (after : List Token) (t : Taker) (stop : Stop) (whole : Read Token Statement) → first_of kind (k.equal ∷ []) ts ≡ Some (o, after) → taker_in e ≡ Some t → starts E1 after ≡ true → FailsAs stop (reads_as 100 exprs after)
     → assigns at ((all, e), ts) ≡ whole → FailsAs stop whole
 unfolding assigns
-assigns_fails at all e ts o after t stop whole d i b x v = fails (k.equal ∷ []) (λ s. assignment at s.0 s.1) (assign_step at) (assign_keeps at) (all, e) ts o after stop whole d (rw (i, b) (fails_bind stop (reads 100 exprs after) _ x)) v
+assigns_fails at all e ts o after t stop whole d i b x v = fails (k.equal ∷ []) (λ s. assignment at s.0 s.1) (assign_step at) (assign_keeps at) (all, e) ts o after stop whole d (rw (i, b) (fails_bind stop (reads_as 100 exprs after) _ x)) v
 
 pub assigns_next : (at : Pos) (all : List Taker) (e : Tree) (ts : List Token) (o : Token) (after : List Token) (t : Taker) (more : List Taker) (y : Tree) (h : ℕ) (rest : List Token) (whole : Read Token Statement) → first_of kind (k.equal ∷ []) ts ≡ Some (o, after) → taker_in e ≡ Some t → more ≡ all ++ t ∷ [] → starts E1 after ≡ true
-    → reads 100 exprs after ≡ Found (y, h) rest → assigns at ((all, e), ts) ≡ whole → assigns at ((more, y), rest) ≡ whole
+    → reads_as 100 exprs after ≡ Found (y, h) rest → assigns at ((all, e), ts) ≡ whole → assigns at ((more, y), rest) ≡ whole
 unfolding assigns
 assigns_next at all e ts o after t more y h rest whole d i j b x v = next (k.equal ∷ []) (λ s. assignment at s.0 s.1) (assign_step at) (assign_keeps at) (all, e) ts o after (more, y) rest whole d (rw (i, b, x, j) refl) v
 

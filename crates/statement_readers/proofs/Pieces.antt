@@ -10,8 +10,8 @@ use Rattle.py_cursor.specs.token_kinds.Kinds.{kind, text_of}
 use Rattle.py_cursor.specs.token_kinds.Numbers as k
 use Rattle.py_cursor.specs.py_expressions.Sorts.{expr, exprs}
 use Rattle.py_cursor.specs.py_expressions.Lines.{E1}
-use Rattle.statement_readers.specs.Reads.{reads}
-use Rattle.statement_readers.specs.Words.{wanted, starts, one, optional_expr, optional_exprs, expr_behind, name_at, alias_behind}
+use Rattle.statement_readers.specs.Reads.{reads_as}
+use Rattle.statement_readers.specs.Words.{one_among, starts, one, optional_expr, optional_exprs, expr_behind, name_reader, alias_behind}
 
 pub bind_if : {A B : Type 0} (b : Bool) (x y : Read Token A) (f : A × List Token → Read Token B) → (cond b x y >>= f) ≡ cond b (x >>= f) (y >>= f)
 bind_if true x y f = refl
@@ -25,7 +25,7 @@ pub picks : {X A : Type 0} (o : Option X) (f g : X → Read Token A) (z w : Read
 picks (Some x) f g z w e i = e x
 picks None f g z w e i = i
 
-pub chosen : {A : Type 0} (F : List ℕ) (f : Token × List Token → Read Token A) (z : Read Token A) (ts : List Token) → pick (first_of kind F ts) f z ≡ cond (starts F ts) (wanted F ts >>= f) z
+pub chosen : {A : Type 0} (F : List ℕ) (f : Token × List Token → Read Token A) (z : Read Token A) (ts : List Token) → pick (first_of kind F ts) f z ≡ cond (starts F ts) (one_among F ts >>= f) z
 chosen F f z [] = refl
 chosen {A} F f z (t ∷ ts) = go (has (kind t) F)
   where
@@ -37,25 +37,25 @@ pub none_head : (ts : List Token) → head_is (λ t. has (kind t) []) ts ≡ fal
 none_head [] = refl
 none_head (t ∷ ts) = refl
 
-pub optional_expr_on : {A : Type 0} (f : Maybe × List Token → Read Token A) (ts : List Token) → (optional_expr ts >>= f) ≡ cond (starts E1 ts) (reads 100 expr ts >>= λ y. f (Present y.0.0, y.1)) (f (Absent, ts))
+pub optional_expr_on : {A : Type 0} (f : Maybe × List Token → Read Token A) (ts : List Token) → (optional_expr ts >>= f) ≡ cond (starts E1 ts) (reads_as 100 expr ts >>= λ y. f (Present y.0.0, y.1)) (f (Absent, ts))
 unfolding optional_expr
-optional_expr_on f ts = bind_if (starts E1 ts) _ _ f ∙ ap (λ v. cond (starts E1 ts) v (f (Absent, ts))) (bind_assoc (reads 100 expr ts) _ f)
+optional_expr_on f ts = bind_if (starts E1 ts) _ _ f ∙ ap (λ v. cond (starts E1 ts) v (f (Absent, ts))) (bind_assoc (reads_as 100 expr ts) _ f)
 
-pub optional_exprs_on : {A : Type 0} (f : Maybe × List Token → Read Token A) (ts : List Token) → (optional_exprs ts >>= f) ≡ cond (starts E1 ts) (reads 100 exprs ts >>= λ y. f (Present y.0.0, y.1)) (f (Absent, ts))
+pub optional_exprs_on : {A : Type 0} (f : Maybe × List Token → Read Token A) (ts : List Token) → (optional_exprs ts >>= f) ≡ cond (starts E1 ts) (reads_as 100 exprs ts >>= λ y. f (Present y.0.0, y.1)) (f (Absent, ts))
 unfolding optional_exprs
-optional_exprs_on f ts = bind_if (starts E1 ts) _ _ f ∙ ap (λ v. cond (starts E1 ts) v (f (Absent, ts))) (bind_assoc (reads 100 exprs ts) _ f)
+optional_exprs_on f ts = bind_if (starts E1 ts) _ _ f ∙ ap (λ v. cond (starts E1 ts) v (f (Absent, ts))) (bind_assoc (reads_as 100 exprs ts) _ f)
 
-pub behind_on : {A : Type 0} (c : ℕ) (f : Maybe × List Token → Read Token A) (ts : List Token) → (expr_behind c ts >>= f) ≡ pick (one c ts) (λ o. reads 100 expr o.1 >>= λ y. f (Present y.0.0, y.1)) (f (Absent, ts))
+pub behind_on : {A : Type 0} (c : ℕ) (f : Maybe × List Token → Read Token A) (ts : List Token) → (expr_behind c ts >>= f) ≡ pick (one c ts) (λ o. reads_as 100 expr o.1 >>= λ y. f (Present y.0.0, y.1)) (f (Absent, ts))
 unfolding expr_behind
-behind_on c f ts = bind_pick (one c ts) _ _ f ∙ picks (one c ts) _ _ _ _ (λ o. bind_assoc (reads 100 expr o.1) _ f) refl
+behind_on c f ts = bind_pick (one c ts) _ _ f ∙ picks (one c ts) _ _ _ _ (λ o. bind_assoc (reads_as 100 expr o.1) _ f) refl
 
-pub name_on : {A : Type 0} (f : List ℕ × List Token → Read Token A) (ts : List Token) → (name_at ts >>= f) ≡ (wanted (k.name ∷ []) ts >>= λ u. f (text_of u.0, u.1))
-unfolding name_at
-name_on f ts = bind_assoc (wanted (k.name ∷ []) ts) _ f
+pub name_on : {A : Type 0} (f : List ℕ × List Token → Read Token A) (ts : List Token) → (name_reader ts >>= f) ≡ (one_among (k.name ∷ []) ts >>= λ u. f (text_of u.0, u.1))
+unfolding name_reader
+name_on f ts = bind_assoc (one_among (k.name ∷ []) ts) _ f
 
-pub alias_on : {A : Type 0} (f : Option (List ℕ) × List Token → Read Token A) (ts : List Token) → (alias_behind ts >>= f) ≡ pick (one k.as_word ts) (λ o. wanted (k.name ∷ []) o.1 >>= λ u. f (Some (text_of u.0), u.1)) (f (None, ts))
+pub alias_on : {A : Type 0} (f : Option (List ℕ) × List Token → Read Token A) (ts : List Token) → (alias_behind ts >>= f) ≡ pick (one k.as_word ts) (λ o. one_among (k.name ∷ []) o.1 >>= λ u. f (Some (text_of u.0), u.1)) (f (None, ts))
 unfolding alias_behind
-alias_on f ts = bind_pick (one k.as_word ts) _ _ f ∙ picks (one k.as_word ts) _ _ _ _ (λ o. bind_assoc (name_at o.1) _ f ∙ name_on (λ n. f (Some n.0, n.1)) o.1) refl
+alias_on f ts = bind_pick (one k.as_word ts) _ _ f ∙ picks (one k.as_word ts) _ _ _ _ (λ o. bind_assoc (name_reader o.1) _ f ∙ name_on (λ n. f (Some n.0, n.1)) o.1) refl
 
 -- FROM THE GRAMMAR'S FORM TO THE CODE'S: what is read behind a value, in one piece or in two
 pub onward : {A B C : Type 0} {x : Read Token C} (r : Read Token A) (g : A × List Token → Read Token B) (h : B × List Token → Read Token C) → x ≡ (r >>= λ y. g y >>= h) → x ≡ ((r >>= g) >>= h)
@@ -74,7 +74,7 @@ pub choice : {X A B : Type 0} (o : Option X) (f : X → Read Token B) (g : X →
 choice (Some x) f g z w h e i = e x
 choice None f g z w h e i = i
 
-pub chosen_as : {A : Type 0} (F : List ℕ) (f : Token × List Token → Read Token A) (z : Read Token A) (ts : List Token) (y : Read Token A) → cond (starts F ts) (wanted F ts >>= f) z ≡ y → pick (first_of kind F ts) f z ≡ y
+pub chosen_as : {A : Type 0} (F : List ℕ) (f : Token × List Token → Read Token A) (z : Read Token A) (ts : List Token) (y : Read Token A) → cond (starts F ts) (one_among F ts >>= f) z ≡ y → pick (first_of kind F ts) f z ≡ y
 chosen_as F f z ts y e = chosen F f z ts ∙ e
 
 pub followed : {A : Type 0} {x y z : A} → x ≡ y → y ≡ z → x ≡ z

@@ -13,10 +13,10 @@ use Rattle.py_cursor.specs.py_expressions.Sorts.{expr}
 use Rattle.py_cursor.specs.py_expressions.Lines.{E1}
 use Rattle.py_cursor.specs.declared.stop.Stop.{Stop}
 use Rattle.py_cursor.specs.Cursor.{FailsAs}
-use Rattle.statement_readers.specs.Reads.{reads}
+use Rattle.statement_readers.specs.Reads.{reads_as}
 use Rattle.statement_readers.proofs.Expressions.{takes}
 use Rattle.statement_readers.specs.Turns.{On, Out, Turn, turns}
-use Rattle.statement_readers.specs.Words.{wanted, starts, one, expr_behind, alias_behind, param, param_step, params_on, decorator, decorator_step, decorators_on, caught}
+use Rattle.statement_readers.specs.Words.{one_among, starts, one, expr_behind, alias_behind, param, param_step, params_on, decorator, decorator_step, decorators_on, handler_head}
 use Rattle.statement_readers.proofs.Turns.{Keeps, over, fails, next, ends, fails_bind, wanted_takes, first_takes}
 use Rattle.statement_readers.proofs.Loops.{found_rest, takes_bind, takes_then, keeps_bind, alias_keeps}
 
@@ -24,8 +24,8 @@ pub expr_behind_keeps : (c : ℕ) (ts : List Token) (m : Maybe) (rest : List Tok
 unfolding expr_behind
 expr_behind_keeps c ts m rest e = go (one c ts) refl e
   where
-    go : (x : Option (Token × List Token)) → one c ts ≡ x → pick x (λ o. reads 100 expr o.1 >>= λ x. Found (Present x.0.0) x.1) (Found Absent ts) ≡ Found m rest → length rest ≤ length ts
-    go (Some x) i e = let h = first_takes (c ∷ []) ts x.0 x.1 i in let j = takes_bind (reads 100 expr x.1) (λ y. Present y.0) (length x.1) (takes 100 expr x.1) m rest e in omega arith
+    go : (x : Option (Token × List Token)) → one c ts ≡ x → pick x (λ o. reads_as 100 expr o.1 >>= λ x. Found (Present x.0.0) x.1) (Found Absent ts) ≡ Found m rest → length rest ≤ length ts
+    go (Some x) i e = let h = first_takes (c ∷ []) ts x.0 x.1 i in let j = takes_bind (reads_as 100 expr x.1) (λ y. Present y.0) (length x.1) (takes 100 expr x.1) m rest e in omega arith
     go None i e = let j = ap length (found_rest Absent m ts rest e) in omega arith
 
 -- two readings in a row that keep
@@ -34,7 +34,7 @@ keeps_then r g n h i b rest e = let y = bind_found r g b rest e in let j = h y.0
 
 pub param_takes : (ps : List Parameter) (ts : List Token) (b : List Parameter) (rest : List Token) → param ps ts ≡ Found b rest → length rest < length ts
 unfolding param
-param_takes ps ts b rest e = takes_then (wanted (k.name ∷ []) ts) _ (length ts) (wanted_takes (k.name ∷ []) ts)
+param_takes ps ts b rest e = takes_then (one_among (k.name ∷ []) ts) _ (length ts) (wanted_takes (k.name ∷ []) ts)
     (λ n mid b rest i. keeps_then (expr_behind k.colon mid) _ (length mid) (expr_behind_keeps k.colon mid) (λ a mid b rest i. keeps_bind (expr_behind k.equal mid) _ (length mid) (expr_behind_keeps k.equal mid) b rest i) b rest i) b rest e
 
 param_keeps : Keeps param_step
@@ -62,8 +62,8 @@ params_next ps ts o after more rest whole e b i w = next (k.comma ∷ []) (λ ps
 
 pub decorator_takes : (ts : List Token) (e : Tree) (rest : List Token) → decorator ts ≡ Found e rest → length rest < length ts
 unfolding decorator
-decorator_takes ts x rest e = takes_then (reads 100 expr ts) _ (length ts) (takes 100 expr ts)
-    (λ y mid b rest i. keeps_bind (wanted (k.newline ∷ []) mid) _ (length mid) (λ o rest j. let h = wanted_takes (k.newline ∷ []) mid o rest j in omega arith) b rest i) x rest e
+decorator_takes ts x rest e = takes_then (reads_as 100 expr ts) _ (length ts) (takes 100 expr ts)
+    (λ y mid b rest i. keeps_bind (one_among (k.newline ∷ []) mid) _ (length mid) (λ o rest j. let h = wanted_takes (k.newline ∷ []) mid o rest j in omega arith) b rest i) x rest e
 
 decorator_keeps : Keeps decorator_step
 decorator_keeps ds o after t rest e = takes_bind (decorator after) (λ x. On (More ds x)) (suc (length after)) (λ b rest i. let h = decorator_takes after b rest i in omega arith) (On t) rest e
@@ -80,12 +80,12 @@ pub decorators_next : (ds : Trees) (ts : List Token) (o : Token) (after : List T
 unfolding decorators_on
 decorators_next ds ts o after x rest more whole e i j w = next (k.at ∷ []) (λ ds. ds) decorator_step decorator_keeps ds ts o after more rest whole e (rw (i, j) refl) w
 
-pub caught_keeps : (ts : List Token) (x : Maybe × Option (List ℕ)) (rest : List Token) → caught ts ≡ Found x rest → length rest ≤ length ts
-unfolding caught
+pub caught_keeps : (ts : List Token) (x : Maybe × Option (List ℕ)) (rest : List Token) → handler_head ts ≡ Found x rest → length rest ≤ length ts
+unfolding handler_head
 caught_keeps ts x rest e = go (starts E1 ts) e
   where
-    go : (b : Bool) → cond b (reads 100 expr ts >>= λ c. alias_behind c.1 >>= λ n. Found (Present c.0.0, n.0) n.1) (Found (Absent, None) ts) ≡ Found x rest → length rest ≤ length ts
-    go true e = let h = takes_then (reads 100 expr ts) _ (length ts) (takes 100 expr ts) (λ c mid b rest i. keeps_bind (alias_behind mid) _ (length mid) (alias_keeps mid) b rest i) x rest e in omega arith
+    go : (b : Bool) → cond b (reads_as 100 expr ts >>= λ c. alias_behind c.1 >>= λ n. Found (Present c.0.0, n.0) n.1) (Found (Absent, None) ts) ≡ Found x rest → length rest ≤ length ts
+    go true e = let h = takes_then (reads_as 100 expr ts) _ (length ts) (takes 100 expr ts) (λ c mid b rest i. keeps_bind (alias_behind mid) _ (length mid) (alias_keeps mid) b rest i) x rest e in omega arith
     go false e = let n : Maybe × Option (List ℕ) = (Absent, None) in let j = ap length (found_rest n x ts rest e) in omega arith
 
 pub ruleset param_rules = (params_over, params_ends, params_next, params_fails)

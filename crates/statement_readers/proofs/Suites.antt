@@ -11,14 +11,14 @@ use Rattle.grammar_code.specs.Walk.{first_of, pick}
 use Rattle.py_cursor.specs.token_kinds.Kinds.{kind}
 use Rattle.py_cursor.specs.token_kinds.Numbers as k
 use Rattle.py_cursor.specs.py_expressions.Sorts.{expr}
-use Rattle.statement_readers.specs.Reads.{reads}
+use Rattle.statement_readers.specs.Reads.{reads_as}
 use Rattle.statement_readers.proofs.Expressions.{takes}
 use Rattle.py_grammar.specs.Lines.{ST}
 use Rattle.py_cursor.specs.declared.stop.Stop.{Stop}
 use Rattle.py_cursor.specs.Cursor.{FailsAs}
 use Rattle.statement_readers.specs.Turns.{Reader, On, turns}
 use Rattle.statement_readers.specs.Words as w
-use Rattle.statement_readers.specs.Words.{wanted, starts, one, suite, arm, elif_step, elifs_on, caught, handler, handler_step, handlers_on, stmt, stmt_step, stmts_on, stmts, block_at, simples, CO, compound}
+use Rattle.statement_readers.specs.Words.{one_among, starts, one, suite, arm, elif_step, elifs_on, handler_head, handler, handler_step, handlers_on, stmt, stmt_step, stmts_on, stmts, block_at, simples, CO, compound}
 use Rattle.statement_readers.proofs.Turns.{Keeps, over, fails, next, fails_bind, wanted_takes, first_takes, first_whole}
 use Rattle.statement_readers.proofs.Loops.{takes_bind, takes_then, keeps_bind}
 use Rattle.statement_readers.proofs.Signatures.{keeps_then, caught_keeps}
@@ -26,11 +26,11 @@ use Rattle.statement_readers.proofs.Takes.{simples_takes, block_takes, stmt_take
 
 pub suite_takes : (n : ℕ) (ts : List Token) (x : Block) (rest : List Token) → suite (block_at n) ts ≡ Found x rest → length rest < length ts
 unfolding suite
-suite_takes n ts x rest e = takes_then (wanted (k.colon ∷ []) ts) _ (length ts) (wanted_takes (k.colon ∷ []) ts) (λ o mid b rest i. let h = block_takes n mid b rest i in omega arith) x rest e
+suite_takes n ts x rest e = takes_then (one_among (k.colon ∷ []) ts) _ (length ts) (wanted_takes (k.colon ∷ []) ts) (λ o mid b rest i. let h = block_takes n mid b rest i in omega arith) x rest e
 
 pub arm_takes : (n : ℕ) (ts : List Token) (y : Tree × Block) (rest : List Token) → arm (block_at n) ts ≡ Found y rest → length rest < length ts
 unfolding arm
-arm_takes n ts y rest e = takes_then (reads 100 expr ts) _ (length ts) (takes 100 expr ts) (λ c mid b rest i. keeps_bind (suite (block_at n) mid) _ (length mid) (λ x rest j. let h = suite_takes n mid x rest j in omega arith) b rest i) y rest e
+arm_takes n ts y rest e = takes_then (reads_as 100 expr ts) _ (length ts) (takes 100 expr ts) (λ c mid b rest i. keeps_bind (suite (block_at n) mid) _ (length mid) (λ x rest j. let h = suite_takes n mid x rest j in omega arith) b rest i) y rest e
 
 elif_keeps : (n : ℕ) → Keeps (elif_step (block_at n))
 elif_keeps n bs o after t rest e = takes_bind (arm (block_at n) after) (λ y. On (Branch bs o.at y.0 y.1)) (suc (length after)) (λ y rest i. let h = arm_takes n after y rest i in omega arith) (On t) rest e
@@ -49,7 +49,7 @@ elifs_next n bs ts o after y b rest more whole e i j v = next (k.elif ∷ []) (�
 
 pub handler_keeps : (n : ℕ) (hs : Handlers) (word : Pos) (ts : List Token) (x : Handlers) (rest : List Token) → handler (block_at n) hs word ts ≡ Found x rest → length rest ≤ length ts
 unfolding handler
-handler_keeps n hs word ts x rest e = keeps_then (caught ts) _ (length ts) (caught_keeps ts) (λ c mid b rest i. keeps_bind (suite (block_at n) mid) _ (length mid) (λ x rest j. let h = suite_takes n mid x rest j in omega arith) b rest i) x rest e
+handler_keeps n hs word ts x rest e = keeps_then (handler_head ts) _ (length ts) (caught_keeps ts) (λ c mid b rest i. keeps_bind (suite (block_at n) mid) _ (length mid) (λ x rest j. let h = suite_takes n mid x rest j in omega arith) b rest i) x rest e
 
 handler_step_keeps : (n : ℕ) → Keeps (handler_step (block_at n))
 handler_step_keeps n hs o after t rest e = takes_bind (handler (block_at n) hs o.at after) (λ x. On x) (suc (length after)) (λ y rest i. let h = handler_keeps n hs o.at after y rest i in omega arith) (On t) rest e
@@ -88,10 +88,10 @@ left_some n h = grind (arith, nat_tests)
 pub left_none : (n : ℕ) → n ≡ 0 → nat_le 1 n ≡ false
 left_none n h = grind (arith, nat_tests)
 
-pub block_shape : (n : ℕ) (ts : List Token) → 0 < n → block_at n ts ≡ pick (one k.newline ts) (λ o. wanted (k.indent ∷ []) o.1 >>= λ i. stmts (block_at (n - 1)) (nat_le 1 (n - 1)) i.1 >>= λ x. wanted (k.dedent ∷ []) x.1 >>= λ d. Found x.0 d.1) (simples NoStatement ts)
+pub block_shape : (n : ℕ) (ts : List Token) → 0 < n → block_at n ts ≡ pick (one k.newline ts) (λ o. one_among (k.indent ∷ []) o.1 >>= λ i. stmts (block_at (n - 1)) (nat_le 1 (n - 1)) i.1 >>= λ x. one_among (k.dedent ∷ []) x.1 >>= λ d. Found x.0 d.1) (simples NoStatement ts)
 unfolding block_at
 block_shape zero ts h = absurd (omega arith)
-block_shape (suc n) ts h = ap (λ m. pick (one k.newline ts) (λ o. wanted (k.indent ∷ []) o.1 >>= λ i. stmts (block_at m) (nat_le 1 m) i.1 >>= λ x. wanted (k.dedent ∷ []) x.1 >>= λ d. Found x.0 d.1) (simples NoStatement ts)) (less n)
+block_shape (suc n) ts h = ap (λ m. pick (one k.newline ts) (λ o. one_among (k.indent ∷ []) o.1 >>= λ i. stmts (block_at m) (nat_le 1 m) i.1 >>= λ x. one_among (k.dedent ∷ []) x.1 >>= λ d. Found x.0 d.1) (simples NoStatement ts)) (less n)
   where
     less : (n : ℕ) → n ≡ suc n - 1
     less n = omega arith

@@ -8,7 +8,7 @@ use Rattle.grammar.specs.Levels.{readers}
 use Rattle.grammar.proofs.Along.{reader_takes}
 use Rattle.grammar_plain.specs.Plain.{plain}
 use Rattle.py_grammar.specs.Sorts as v
-use Rattle.py_grammar.specs.Sorts.{El, Name, sort}
+use Rattle.py_grammar.specs.Sorts.{BlockValue, BlockName, block_sort}
 use Rattle.py_grammar.specs.Lines.{statements}
 use Rattle.py_grammar.specs.Sources.{limited, unlimited}
 use Rattle.py_grammar.proofs.Good.{good_statements}
@@ -22,7 +22,7 @@ plain_found (Found x z) a rest e = (x.1, let i : x.0 ≡ a = cc in let j : z ≡
 plain_found (Bad z) a rest e = absurd (cc)
 plain_found (Deep z) a rest e = absurd (cc)
 
-line_takes : (n : ℕ) (r : Name) (ts : List Token) (a : El (sort r)) (rest : List Token) → L n r ts ≡ Found a rest → length rest < length ts
+line_takes : (n : ℕ) (r : BlockName) (ts : List Token) (a : BlockValue (block_sort r)) (rest : List Token) → L n r ts ≡ Found a rest → length rest < length ts
 line_takes n r ts a rest e = let x = plain_found (readers statements fr n r ts) a rest e in reader_takes statements good_statements (limited 100) unlimited fr (expression_rules 99) n r ts (a, x.0) rest x.1
 
 found_rest : {A : Type 0} (x y : A) (u v : List Token) → Found x u ≡ Found y v → u ≡ v

@@ -9,7 +9,7 @@ use Rattle.py_cursor.specs.token_kinds.Kinds.{kind}
 use Rattle.py_cursor.specs.declared.stop.Stop.{Stop}
 use Rattle.py_cursor.specs.declared.stop.Stop.TheVariants as stops
 use Rattle.py_cursor.specs.Cursor.{FailsAs}
-use Rattle.statement_readers.specs.Words.{wanted}
+use Rattle.statement_readers.specs.Words.{one_among}
 use Rattle.statement_readers.specs.Turns.{Reader, Turn, On, Out, turned, spin, step_at, turns}
 
 -- a fault inside is the fault of the whole
@@ -32,7 +32,7 @@ first_takes F ts o after e = let h = ap length (first_whole F ts o after e) in o
 found_rest : {A : Type 0} (x y : A) (u v : List Token) → Found x u ≡ Found y v → u ≡ v
 found_rest x y u v e = cc
 
-pub wanted_takes : (F : List ℕ) (ts : List Token) (o : Token) (rest : List Token) → wanted F ts ≡ Found o rest → length rest < length ts
+pub wanted_takes : (F : List ℕ) (ts : List Token) (o : Token) (rest : List Token) → one_among F ts ≡ Found o rest → length rest < length ts
 wanted_takes F ts o rest e = go (first_of kind F ts) refl e
   where
     go : (x : Option (Token × List Token)) → first_of kind F ts ≡ x → pick x (λ o. Found o.0 o.1) (Bad ts) ≡ Found o rest → length rest < length ts

@@ -37,8 +37,8 @@ abbrev pub item_of_node : Suite → ℕ → Option Item
 item_of_node suite node = if nat_le suite.outer node then slice_get suite.items (node - suite.outer) else None
 
 -- THE ITEM with a node; any other node names an item without names
-abbrev pub item_at : Suite → ℕ → Item
-item_at suite node = item_or (item_of_node suite node)
+abbrev pub item_with_node : Suite → ℕ → Item
+item_with_node suite node = item_or (item_of_node suite node)
 
 -- a fixture without name
 abbrev pub no_fixture : Fixture

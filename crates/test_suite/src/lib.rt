@@ -8,7 +8,7 @@
 //!
 //! # What is proved
 //!
-//! - [`Suite::item`] and [`Suite::fixture`] give what the definitions of the same names look up, where there is one (`item_at`,
+//! - [`Suite::item`] and [`Suite::fixture`] give what the definitions of the same names look up, where there is one (`item_with_node`,
 //!   `fixture_at`).
 //!
 //! # What tests alone show

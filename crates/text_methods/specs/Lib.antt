@@ -1,7 +1,6 @@
 pub use Rattle.call_products.specs as call_products
 pub use Rattle.call_products.specs.py_kinds
 pub use Rattle.call_products.specs.py_operands
-pub use Rattle.call_products.specs.py_ops
 pub mod Characters
 pub mod Pieces
 pub mod Methods

@@ -7,7 +7,7 @@ use Rattle.call_products.specs.Arguments.{has_none, sole, pair, sole_text}
 use Rattle.call_products.specs.Elements.{keys_of}
 use Rattle.call_products.specs.Products.{plain, failed, wrong, refs_from}
 use Rattle.call_products.specs.declared.product.Product.{Product}
-use Rattle.call_products.specs.py_ops.Compare.{text_of}
+use Rattle.call_products.specs.py_operands.Texts.{text_of}
 use Rattle.call_products.specs.py_operands.Faults.{not_iterable}
 use Rattle.call_products.specs.py_kinds.Builtins.{text_method_name}
 use Rattle.call_products.specs.py_kinds.Kinds.{kind_name}
@@ -15,7 +15,7 @@ use Rattle.py_values.specs.Limits.{most_elements}
 use Rattle.py_values.specs.declared.builtin.TextMethod.{TextMethod}
 use Rattle.py_values.specs.declared.builtin.TextMethod.TheVariants as method
 use Rattle.py_values.specs.declared.class.ExcClass.TheVariants.{ValueError, MemoryError}
-use Rattle.py_values.specs.declared.end.Made.TheVariants.{Give, New, Fail}
+use Rattle.py_values.specs.declared.end.Effect.TheVariants.{Give, New, Fail}
 use Rattle.py_values.specs.declared.object.Obj.{Obj}
 use Rattle.py_values.specs.declared.object.Obj.TheVariants as obj
 use Rattle.py_values.specs.declared.value.Value.{Value}
@@ -85,16 +85,16 @@ abbrev pub texts_of : List Obj → List Value → Option (List (List ℕ))
 texts_of heap [] = Some []
 texts_of heap (v ∷ vs) = text_before (text_of heap v) (texts_of heap vs)
 
-abbrev pub parts_by : Option (List (List ℕ)) → Parts
-parts_by (Some ts) = parts.Texts ts
-parts_by None = parts.OtherElements
+abbrev pub texts_to_join : Option (List (List ℕ)) → Parts
+texts_to_join (Some ts) = parts.Texts ts
+texts_to_join None = parts.OtherElements
 
 -- what `join` joins: the texts that the elements of an argument are
 abbrev pub parts_in : List Obj → Option Obj → Parts
 parts_in heap (Some (obj.Text t)) = parts.Texts (singles t)
-parts_in heap (Some (obj.List vs)) = parts_by (texts_of heap vs)
-parts_in heap (Some (obj.Tuple vs)) = parts_by (texts_of heap vs)
-parts_in heap (Some (obj.Dict es)) = parts_by (texts_of heap (keys_of es))
+parts_in heap (Some (obj.List vs)) = texts_to_join (texts_of heap vs)
+parts_in heap (Some (obj.Tuple vs)) = texts_to_join (texts_of heap vs)
+parts_in heap (Some (obj.Dict es)) = texts_to_join (texts_of heap (keys_of es))
 parts_in heap (Some (obj.Range r)) = if eqb r.length 0 then parts.Texts [] else parts.OtherElements
 parts_in heap _ = parts.NoElements
 
@@ -135,8 +135,8 @@ endswith_of t None = wrong (codes "endswith") (length t)
 abbrev pub isdigit_of : List ℕ → Bool → Product
 isdigit_of t alone = if alone then given (length t) (val.Bool (is_digits t)) else wrong (codes "isdigit") (length t)
 
-abbrev pub lower_of : List ℕ → Bool → Product
-lower_of t alone = if alone then new_text (length t) (map to_ascii_lowercase t) else wrong (codes "lower") (length t)
+abbrev pub str_lower : List ℕ → Bool → Product
+str_lower t alone = if alone then new_text (length t) (map to_ascii_lowercase t) else wrong (codes "lower") (length t)
 
 abbrev pub upper_of : List ℕ → Bool → Product
 upper_of t alone = if alone then new_text (length t) (map to_ascii_uppercase t) else wrong (codes "upper") (length t)
@@ -151,7 +151,7 @@ text_called heap method.EndsWith t args named = endswith_of t (sole_text heap ar
 text_called heap method.Find t args named = find_of t (sole_text heap args named)
 text_called heap method.IsDigit t args named = isdigit_of t (has_none args named)
 text_called heap method.Join t args named = join_of heap t (sole args named)
-text_called heap method.Lower t args named = lower_of t (has_none args named)
+text_called heap method.Lower t args named = str_lower t (has_none args named)
 text_called heap method.Replace t args named = replace_of heap t (pair args named)
 text_called heap method.Split t args named = split_of heap t args named
 text_called heap method.StartsWith t args named = startswith_of t (sole_text heap args named)

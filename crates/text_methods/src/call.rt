@@ -8,13 +8,14 @@ ghost use Rattle.text_methods.specs.Pieces as pieces;
 use crate::chars::{is_digits, lower, stripped, upper};
 use crate::joined::{Parts, parts_of};
 use crate::pieces::{first_place, joined, pieces, words};
-use call_products::arguments::{has_none, pair, sole, sole_text, text_of};
+use call_products::arguments::{has_none, pair, sole, sole_text};
 use call_products::product::{Product, failed, plain, refs, wrong};
 use call_products::py_kinds::builtins::builtin_name;
 use call_products::py_operands::faults::not_iterable;
+use call_products::py_operands::texts::text_of;
 use py_values::builtin::{Builtin, TextMethod};
 use py_values::class::ExcClass;
-use py_values::end::Made;
+use py_values::end::Effect;
 use py_values::heap::Heap;
 use py_values::limits::MOST_ELEMENTS;
 use py_values::object::Obj;
@@ -27,14 +28,14 @@ use std::alloc::Global;
 fn given(alloc: Global, cost: usize, v: Value) -> Product
     ensures { result ≡ methods.given cost v }
 {
-    plain(alloc, Made::Give(v, cost as u64))
+    plain(alloc, Effect::Give(v, cost as u64))
 }
 
 fn new_text(alloc: Global, cost: usize, text: &[char]) -> Result<Product, OutOfMemory>
     ensures { IfOk result (λ p. p ≡ methods.new_text cost text.now) }
 {
     let steps = steps_of(cost, text.len())?;
-    let made = Made::New(Obj::Text(PyText::from_chars(alloc, text)?), steps);
+    let made = Effect::New(Obj::Text(PyText::from_chars(alloc, text)?), steps);
     Ok(plain(alloc, made))
 }
 
@@ -95,7 +96,7 @@ fn text_list(
     let objects = text_objects(alloc, texts)?;
     Ok(Product {
         objects: Seq::from_vec(objects),
-        made: Made::New(Obj::List(Values::from_vec(values)), steps),
+        made: Effect::New(Obj::List(Values::from_vec(values)), steps),
     })
 }
 
@@ -184,7 +185,7 @@ fn join(
         Parts::OtherElements => wrong(alloc, "join", text.len() as u64),
         Parts::NoElements => {
             let raise = not_iterable(alloc, heap, v)?;
-            Ok(plain(alloc, Made::Fail(raise, text.len() as u64)))
+            Ok(plain(alloc, Effect::Fail(raise, text.len() as u64)))
         }
     }
 }
@@ -263,7 +264,7 @@ fn isdigit(alloc: Global, text: &[char], alone: bool) -> Result<Product, OutOfMe
 }
 
 fn lower_text(alloc: Global, text: &[char], alone: bool) -> Result<Product, OutOfMemory>
-    ensures { IfOk result (λ p. p ≡ methods.lower_of text.now alone) }
+    ensures { IfOk result (λ p. p ≡ methods.str_lower text.now alone) }
 {
     if !alone {
         return wrong(alloc, "lower", text.len() as u64);

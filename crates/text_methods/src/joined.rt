@@ -5,8 +5,8 @@ ghost use Rattle.text_methods.specs.Methods as methods;
 ghost use Rattle.text_methods.specs.Pieces as pieces;
 
 use crate::pieces::singles;
-use call_products::arguments::text_of;
 use call_products::elements::keys_of;
+use call_products::py_operands::texts::text_of;
 use py_values::heap::Heap;
 use py_values::object::Obj;
 use py_values::value::{ObjId, Value};
@@ -24,7 +24,7 @@ pub enum Parts {
 
 /// The texts that values are, where each is one.
 fn texts_of(alloc: Global, heap: &Heap, values: &[Value]) -> Result<Parts, OutOfMemory>
-    ensures { IfOk result (λ p. p ≡ methods.parts_by (methods.texts_of heap.now values.now)) }
+    ensures { IfOk result (λ p. p ≡ methods.texts_to_join (methods.texts_of heap.now values.now)) }
 {
     let mut texts = Vec::new(alloc);
     for v in values {

@@ -5,15 +5,19 @@ use Rattle.std.specs.Str.{chars}
 abbrev pub ended : List ℕ → List ℕ
 ended text = text ++ 10 ∷ []
 
+-- how many characters a title line has, where its text is short enough
+abbrev pub title_width : ℕ
+title_width = 80
+
 -- how many fill characters stand on each side of a title of that many characters
 abbrev pub bar_length : ℕ → ℕ
-bar_length count = max 1 ((80 - count - 2) / 2)
+bar_length count = max 1 ((title_width - count - 2) / 2)
 
--- the bar behind the text has one fill character more where the line would be shorter than 80
+-- the bar behind the text has one fill character more where the line would be shorter
 abbrev pub last_length : ℕ → ℕ
-last_length count = if nat_lt (count + 2 + 2 * bar_length count) 80 then bar_length count + 1 else bar_length count
+last_length count = if nat_lt (count + 2 + 2 * bar_length count) title_width then bar_length count + 1 else bar_length count
 
--- a title line: the text between two bars of fill characters, of 80 characters or more
+-- a title line: the text between two bars of fill characters, of that many characters or more
 unfoldable pub title : ℕ → List ℕ → List ℕ
 title fill text =
     let count = length (chars text) in

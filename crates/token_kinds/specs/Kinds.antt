@@ -42,7 +42,7 @@ op_number op.Ampersand = k.ampersand
 op_number op.Bar = k.bar
 op_number op.Caret = k.caret
 op_number op.Tilde = k.tilde
-op_number op.Less = k.less
+op_number op.Less = k.less_than
 op_number op.Greater = k.greater
 op_number op.LeftParen = k.left_paren
 op_number op.RightParen = k.right_paren
@@ -144,10 +144,10 @@ all_kinds = kinds.Name [] ∷ kinds.Number (pos 0) ∷ kinds.Text [] ∷ kinds.N
     ∷ kinds.Op op.Nonlocal ∷ kinds.Op op.Not ∷ kinds.Op op.Or ∷ kinds.Op op.Pass ∷ kinds.Op op.Raise ∷ kinds.Op op.Return ∷ kinds.Op op.Try ∷ kinds.Op op.While
     ∷ kinds.Op op.With ∷ kinds.Op op.Yield ∷ []
 
-abbrev pub pick : List TokenKind → ℕ → TokenKind
-pick [] n = kinds.End
-pick (x ∷ xs) n = cond (number_of x == n) x (pick xs n)
+abbrev pub kind_numbered : List TokenKind → ℕ → TokenKind
+kind_numbered [] n = kinds.End
+kind_numbered (x ∷ xs) n = cond (number_of x == n) x (kind_numbered xs n)
 
 -- (of no kind but these is one asked for)
 abbrev pub sample : ℕ → Token
-sample n = record { kind = pick all_kinds n; at = record { line = 1; column = 1 }; start = 0; end = 0 }
+sample n = record { kind = kind_numbered all_kinds n; at = record { line = 1; column = 1 }; start = 0; end = 0 }

@@ -1,5 +1,5 @@
 -- The text of an exception in a report (pytest's "How to manage pytest's output").
-use Rattle.std.specs.Prelude.{ℕ, List, ◌++◌, length, take, Option, Some, None, Bool, false, ◌&&◌, ◌==◌, codes, nat_eq, if◌then◌else◌, slice_get}
+use Rattle.std.specs.Prelude.{ℕ, ◌-◌, List, ◌++◌, length, take, Option, Some, None, Bool, false, ◌&&◌, ◌==◌, codes, nat_eq, if◌then◌else◌, slice_get}
 use Rattle.std.specs.List.{starts_with}
 use Rattle.py_values.specs.declared.class.ClassRef.{ClassRef}
 use Rattle.py_values.specs.declared.class.ClassRef.TheVariants.{Builtin, Defined}
@@ -20,9 +20,9 @@ abbrev pub most_told : ℕ
 most_told = 65536
 
 abbrev pub left_told : ℕ
-left_told = 65533
+left_told = most_told - 3
 
--- a message of more than 65,536 characters is its first 65,533 and three dots
+-- a message of more characters is its first ones and three dots
 abbrev pub message_text : Shown → List ℕ
 message_text s = if s.cut then take left_told s.text ++ codes "..." else s.text
 

@@ -18,7 +18,7 @@ use std::alloc::Global;
 /// The characters of a message that are shown, and those that are left where it is cut.
 const MOST: usize = 65_536;
 
-const LEFT: usize = 65_533;
+const LEFT: usize = MOST - 3;
 
 /// The UTF-8 text of characters.
 pub fn encoded(alloc: Global, chars: &[char]) -> Result<Text, OutOfMemory>

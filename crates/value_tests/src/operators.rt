@@ -2,9 +2,9 @@
 
 use crate::shown::{cost, ended, repr_told};
 use crate::spelled::{Operands, Tried};
-use py_calls::py_ops::binary::{augmented, binary, binary_text};
-use py_calls::py_ops::compare::{compare, compare_text};
-use py_calls::py_ops::unary::{unary, unary_text};
+use py_ops::binary::{augmented, binary, binary_text};
+use py_ops::compare::{compare, compare_text};
+use py_ops::unary::{unary, unary_text};
 use py_tree::{BinOp, CmpOp, UnOp};
 use py_values::end::OpEnd;
 use std::alloc::Global;

@@ -2,7 +2,7 @@
 
 use crate::objects::added;
 use crate::spelled::{Operands, Tried, put};
-use py_calls::py_ops::binary::binary;
+use py_ops::binary::binary;
 use py_tree::BinOp;
 use py_values::PyText;
 use py_values::change::Change;

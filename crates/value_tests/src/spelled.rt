@@ -4,7 +4,7 @@ use crate::objects::{
     added, builtin_class, builtin_function, class_by, exception_without_args, function, module,
 };
 use crate::special::{full_dict, nested, nested_exception, numbers, own_list, repeated, spaces};
-use py_calls::py_kinds::keys::{Keyed, key};
+use py_calls::py_kinds::keys::{KeyResult, key};
 use py_values::class::ClassRef;
 use py_values::dict::Dict;
 use py_values::heap::Heap;
@@ -83,8 +83,8 @@ fn range(spelled: &str) -> Obj {
 
 pub fn put(alloc: Global, heap: &Heap, dict: &mut Dict, from: Value, to: Value) -> Tried<()> {
     match key(alloc, heap, from)? {
-        Keyed::Key(plain) => dict.put(plain, from, to),
-        Keyed::Fault(_, _) => Ok(()),
+        KeyResult::Key(plain) => dict.put(plain, from, to),
+        KeyResult::Fault(_, _) => Ok(()),
     }
 }
 

@@ -1,9 +1,9 @@
 use Rattle.std.proofs.Common.{arith, []}
-use Rattle.collect_words.specs.Files.{files_of}
+use Rattle.collect_words.specs.Files.{files_named}
 use Rattle.collect_words.specs.declared.named.NamedWord.{NamedWord}
 use Rattle.collect_words.proofs.Once.{flat_step}
 use Rattle.collect_words.proofs.files.test_files.Goals as goal
 
 pub loop-word-preserved : goal.loop-word-preserved
 loop-word-preserved c =
-    flat_step (λ (word : NamedWord). files_of c.args.walk.now c.args.tests.now word.named) [] c.args.words.now c.loop-word.word-index c.word-item.result _ _ (omega arith) c.word-item.is c.loop-word.invariant c.in_ok-take_files.ensures
+    flat_step (λ (word : NamedWord). files_named c.args.walk.now c.args.tests.now word.named) [] c.args.words.now c.loop-word.word-index c.word-item.result _ _ (omega arith) c.word-item.is c.loop-word.invariant c.in_ok-take_files.ensures

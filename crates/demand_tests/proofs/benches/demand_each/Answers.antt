@@ -1,5 +1,5 @@
 use Rattle.std.proofs.Common.{ℕ, List, inl, inr, refl, sym, ◌∙◌, subst}
-use Rattle.session_types.specs.Members.{In}
+use Rattle.session_types.specs.Members.{IsMember}
 use Rattle.demand_tests.proofs.Rows.{ready_there}
 use Rattle.demand_tests.proofs.benches.demand_each.Goals as goal
 
@@ -9,11 +9,11 @@ defs-init c = record { script = refl; table = refl; ready = c.requires.ready }
 pub demand-requires-clause-ready : goal.demand-requires-clause-ready
 demand-requires-clause-ready c =
     ready_there c.defs.bench.script c.args.bench.now.script c.defs.bench.table c.args.bench.now.table c.args.item.now c.in-Some.def.now c.defs.invariant.script c.defs.invariant.table
-    (c.defs.invariant.ready c.in-Some.def.now (subst (λ (l : List ℕ). In c.in-Some.def.now l) (sym c.in-Some.ensures.cases.0) (inl refl)))
+    (c.defs.invariant.ready c.in-Some.def.now (subst (λ (l : List ℕ). IsMember c.in-Some.def.now l) (sym c.in-Some.ensures.cases.0) (inl refl)))
 
 pub defs-preserved : goal.defs-preserved
 defs-preserved c = record {
   script = c.demand.ensures.script ∙ c.defs.invariant.script;
   table = c.demand.ensures.table ∙ c.defs.invariant.table;
-  ready = λ d m. c.defs.invariant.ready d (subst (λ (l : List ℕ). In d l) (sym c.in-Some.ensures.cases.0) (inr m));
+  ready = λ d m. c.defs.invariant.ready d (subst (λ (l : List ℕ). IsMember d l) (sym c.in-Some.ensures.cases.0) (inr m));
 }

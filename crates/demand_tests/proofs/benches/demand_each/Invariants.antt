@@ -1,5 +1,5 @@
 use Rattle.std.proofs.Common.{◌≡◌, length}
-use Rattle.fixture_instances.specs.Items.{item_of}
+use Rattle.fixture_instances.specs.Items.{item_for_session}
 use Rattle.setup_stack.specs.Asking.{AreReady}
 use Rattle.demand_tests.specs.Logs.{logging}
 use Rattle.demand_tests.proofs.benches.demand_each.Given as goal
@@ -8,7 +8,7 @@ abbrev pub invariant-defs : goal.invariant-defs
 invariant-defs l = record {
   script : l.bench.script ≡ l.fn.bench.script;
   table : l.bench.table ≡ l.fn.bench.table;
-  ready : AreReady (logging l.fn.bench.script) (item_of l.fn.bench.table l.item) (length l.fn.bench.table.defs) (length l.fn.bench.script.parts) l.rest;
+  ready : AreReady (logging l.fn.bench.script) (item_for_session l.fn.bench.table l.item) (length l.fn.bench.table.defs) (length l.fn.bench.script.parts) l.rest;
 }
 
 abbrev pub decreases-defs : goal.decreases-defs

@@ -1,11 +1,11 @@
-use Rattle.link_cells.specs.Arena.{list_of}
+use Rattle.link_cells.specs.Arena.{list_at_head}
 use Rattle.link_cells.proofs.Calls.{some_of}
 use Rattle.link_cells.proofs.Walks.{walk_starts, walk_in_use, walk_next, walk_found}
 use Rattle.fixture_tests.proofs.cells.nth.Goals as goal
 
 pub loop-init : goal.loop-init
 loop-init c =
-    let o = some_of (list_of c.args.cells.now c.args.head) c.requires in
+    let o = some_of (list_at_head c.args.cells.now c.args.head) c.requires in
     walk_starts c.args.cells.now c.args.head o.0 c.first-at.result o.1 (c.first-at.ensures o.0 o.1)
 
 pub next-at-requires : goal.next-at-requires

@@ -6,7 +6,7 @@ use Rattle.item_stack.specs.Leaving.{chain_for}
 use Rattle.session_rules.specs.Teardown.{down_all}
 use Rattle.session_types.specs.Live.{not_on}
 use Rattle.setup_stack.specs.SetUps.{next_chain}
-use Rattle.setup_stack.specs.Views.{state_of}
+use Rattle.setup_stack.specs.Views.{stack_state}
 use Rattle.item_stack.proofs.leaving.down_for.Goals as goal
 
 pub returns : goal.returns
@@ -14,7 +14,7 @@ returns g c =
     let rules = g.W.Executor.rules c.args.setting.now in
     let table = c.args.table.now in
     let held = c.args.held.now in
-    let emptied = state_of rules c.args.world.now (record held.stack { given = [] }) in
+    let emptied = stack_state rules c.args.world.now (record held.stack { given = [] }) in
     gone_down rules (chain_for table c.args.next) c.args.world.now c.leave.new.world held (record { stack = c.leave.new.self; request = held.request }) c.in_ok-raised.raised refl
     (c.in_ok-raised.ensures
     ∙ (ap (λ (o : Option (ItemRef g.row.W-Value.Denot)). down_all rules (not_on (next_chain table o) (live_instances rules held.stack.live.live)) emptied) (c.as_ref.ensures.value ∙ c.plain_next-at.ensures)

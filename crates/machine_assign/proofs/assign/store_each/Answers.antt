@@ -2,9 +2,9 @@ use Rattle.std.proofs.Common.{◌≡◌, ◌∙◌, ◌<◌, drop, get_or, lengt
 use Rattle.std.proofs.lemmas.Result.{IfOk-weaker}
 use Rattle.machine_turns.specs.py_world.Targets.{store_each}
 use Rattle.machine_turns.specs.core_meaning.Statements.{store_at, store_singles}
-use Rattle.machine_turns.specs.machine_state.declared.machine.Doing.{Doing}
+use Rattle.machine_turns.specs.machine_state.declared.machine.NextAction.{NextAction}
 use Rattle.machine_turns.specs.machine_state.Places.{site_of}
-use Rattle.machine_turns.specs.machine_state.Frames.{after, handling_of, outer_of, rest_of, site_now, state_of, todo}
+use Rattle.machine_turns.specs.machine_state.Frames.{after_stack, handled_exception, outer_of, machine_rest, site_now, state_of, todo}
 use Rattle.machine_assign.proofs.Places.{each_turns}
 use Rattle.machine_assign.proofs.assign.store_each.Goals as goal
 
@@ -23,7 +23,7 @@ returns-clause-next c =
     let here : one ≡ get_or ss.value.items at one = search rules in
     let there : v ≡ get_or vs.items at v = search rules in
     IfOk-weaker c.store_single.result
-    (λ (d : Doing). todo d m' ≡ store_at one.kind v (site_of m.here (outer_of fs) (handling_of fs)) (state_of m) (after fs m.here))
-    (λ (d : Doing). todo d m' ≡ store_each (drop at (store_singles ss.value.items)) (drop at vs.items) (site_now m) (state_of m) (rest_of m))
+    (λ (d : NextAction). todo d m' ≡ store_at one.kind v (site_of m.here (outer_of fs) (handled_exception fs)) (state_of m) (after_stack fs m.here))
+    (λ (d : NextAction). todo d m' ≡ store_each (drop at (store_singles ss.value.items)) (drop at vs.items) (site_now m) (state_of m) (machine_rest m))
     (λ d h. h ∙ each_turns m.here m.stack fs ss c.in_ok-again.again vs at one v (state_of m) within here given there c.in_ok-push.ensures c.in_ok-again.ensures.cases)
     c.store_single.ensures.next

@@ -5,7 +5,7 @@ use Rattle.machine_state.specs.py_world.Calls.{init_of, invoke, new_instance}
 use Rattle.machine_state.specs.core_meaning.Statements.{entry}
 use Rattle.machine_state.specs.Places.{CoreRest, arguments_in, ends}
 use Rattle.machine_state.specs.Frames.{around_by, state_of}
-use Rattle.machine_call.specs.declared.class.Called.{Called}
+use Rattle.machine_call.specs.declared.class.CallProgress.{CallProgress}
 use Rattle.machine_call.specs.Called.{Calls, call_rest, with_init}
 use Rattle.machine_call.proofs.Classes.{bare_made, init_made, runs_as}
 use Rattle.machine_call.proofs.class.call_at.Goals as goal
@@ -21,8 +21,8 @@ returns-in-Some-2-clause-next c =
     ≡ with_init c.in-Some-2.init (new_instance exc c.args.id d.form args.plain m.heap) args (around_by c.args.origin m) (state_of m) (call_rest m) =
     init_made c.args.id d exc args args.plain (around_by c.args.origin m) (state_of m) (call_rest m) c.in-Some-2.init c.in-Some.ensures c.is_exc_class-is_exc.ensures refl found in
     IfOk-weaker c.call_with_init.result
-    (λ (k : Called). Calls k c.args.origin args c.call_with_init.new.m m.left (with_init c.in-Some-2.init (new_instance exc c.args.id d.form args.plain m.heap) args (around_by c.args.origin m) (state_of m) (call_rest m)))
-    (λ (k : Called). Calls k c.args.origin args c.call_with_init.new.m m.left (invoke entry (val.Ref c.args.id) args (around_by c.args.origin m) (state_of m) (call_rest m)))
+    (λ (k : CallProgress). Calls k c.args.origin args c.call_with_init.new.m m.left (with_init c.in-Some-2.init (new_instance exc c.args.id d.form args.plain m.heap) args (around_by c.args.origin m) (state_of m) (call_rest m)))
+    (λ (k : CallProgress). Calls k c.args.origin args c.call_with_init.new.m m.left (invoke entry (val.Ref c.args.id) args (around_by c.args.origin m) (state_of m) (call_rest m)))
     (λ k h. subst (λ (u : CoreRest). Calls k c.args.origin args c.call_with_init.new.m m.left u) (sym same) h) c.call_with_init.ensures.next
 
 pub returns-in_ok-doing-in-None-2-clause-next : goal.returns-in_ok-doing-in-None-2-clause-next

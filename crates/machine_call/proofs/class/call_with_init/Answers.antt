@@ -9,7 +9,7 @@ use Rattle.machine_state.specs.core_meaning.Statements.{entry}
 use Rattle.machine_state.specs.declared.machine.Machine.{Machine}
 use Rattle.machine_state.specs.Places.{CoreRest, arguments_in}
 use Rattle.machine_state.specs.Frames.{around_by, state_of}
-use Rattle.machine_call.specs.declared.class.Called.{Called}
+use Rattle.machine_call.specs.declared.class.CallProgress.{CallProgress}
 use Rattle.machine_call.specs.Called.{Calls, call_rest, with_init}
 use Rattle.machine_call.proofs.Classes.{init_begins, new_ready}
 use Rattle.machine_call.proofs.class.call_with_init.Goals as goal
@@ -34,6 +34,6 @@ returns-clause-next c =
     ≡ init_called entry c.args.init c.in_ok-v.v (not_callable (kind_name m1.heap c.args.init)) args (around_by c.args.origin m1) (state_of m1) (call_rest m1) =
     init_begins c.args.origin m m1 c.in_ok-v.v x c.args.init args given grown refl c.in_ok-push.ensures (ap (λ (heap : List Obj). with_heap heap (state_of m)) grown) in
     IfOk-weaker c.call_init.result
-    (λ (k : Called). Calls k c.args.origin args c.call_init.new.m m.left (init_called entry c.args.init c.in_ok-v.v (not_callable (kind_name m1.heap c.args.init)) args (around_by c.args.origin m1) (state_of m1) (call_rest m1)))
-    (λ (k : Called). Calls k c.args.origin args c.call_init.new.m m.left (with_init c.args.init x args (around_by c.args.origin m) (state_of m) (call_rest m)))
+    (λ (k : CallProgress). Calls k c.args.origin args c.call_init.new.m m.left (init_called entry c.args.init c.in_ok-v.v (not_callable (kind_name m1.heap c.args.init)) args (around_by c.args.origin m1) (state_of m1) (call_rest m1)))
+    (λ (k : CallProgress). Calls k c.args.origin args c.call_init.new.m m.left (with_init c.args.init x args (around_by c.args.origin m) (state_of m) (call_rest m)))
     (λ k h. subst (λ (u : CoreRest). Calls k c.args.origin args c.call_init.new.m m.left u) (sym same) h) c.call_init.ensures.next

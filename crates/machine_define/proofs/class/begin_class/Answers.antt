@@ -3,10 +3,10 @@ use Rattle.std.proofs.lemmas.Result.{IfOk-weaker}
 use Rattle.machine_state.specs.py_world.Expressions.{arguments}
 use Rattle.machine_state.specs.core_meaning.Expressions.{parts_of}
 use Rattle.machine_state.specs.core_meaning.Statements.{define_class, some_part}
-use Rattle.machine_state.specs.declared.machine.Doing.{Doing}
+use Rattle.machine_state.specs.declared.machine.NextAction.{NextAction}
 use Rattle.machine_state.specs.Definings.{core_class_behind}
 use Rattle.machine_state.specs.Places.{parts_from}
-use Rattle.machine_state.specs.Frames.{rest_of, site_now, state_of, todo}
+use Rattle.machine_state.specs.Frames.{machine_rest, site_now, state_of, todo}
 use Rattle.machine_define.proofs.Classes.{class_begins}
 use Rattle.machine_define.proofs.class.begin_class.Goals as goal
 
@@ -19,8 +19,8 @@ returns-clause-next c =
     let base = c.in_ok-copied.copied in
     let class = c.in_ok-again.again in
     IfOk-weaker c.next_decorator.result
-    (λ (d : Doing). todo d m' ≡ arguments (parts_from (length none) ds) none (site_now m) (state_of m) (rest_of m) (λ vs s. core_class_behind (some_part base) class.value vs (site_now m) s (rest_of m)))
-    (λ (d : Doing). todo d m' ≡ define_class (parts_of c.args.ds.now.value.items) (some_part c.args.base.now) c.args.class.now.value (site_now m) (state_of m) (rest_of m))
-    (λ d h. h ∙ class_begins c.args.class.now.value class.value c.args.ds.now ds (some_part c.args.base.now) (some_part base) none (site_now m) (state_of m) (rest_of m)
+    (λ (d : NextAction). todo d m' ≡ arguments (parts_from (length none) ds) none (site_now m) (state_of m) (machine_rest m) (λ vs s. core_class_behind (some_part base) class.value vs (site_now m) s (machine_rest m)))
+    (λ (d : NextAction). todo d m' ≡ define_class (parts_of c.args.ds.now.value.items) (some_part c.args.base.now) c.args.class.now.value (site_now m) (state_of m) (machine_rest m))
+    (λ d h. h ∙ class_begins c.args.class.now.value class.value c.args.ds.now ds (some_part c.args.base.now) (some_part base) none (site_now m) (state_of m) (machine_rest m)
     c.in_ok-again.ensures.cases c.in_ok-decorators.ensures.cases c.in_ok-copied.ensures c.new-none.ensures.items)
     c.next_decorator.ensures.next

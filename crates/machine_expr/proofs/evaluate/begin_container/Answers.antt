@@ -5,9 +5,9 @@ use Rattle.machine_state.specs.py_world.Displays.{collected, displayed, dict_par
 use Rattle.machine_state.specs.core_meaning.Expressions.{eval}
 use Rattle.machine_state.specs.core_meaning.Statements.{some_part}
 use Rattle.machine_state.specs.declared.frame.Display.TheVariants.{Tuple, List}
-use Rattle.machine_state.specs.declared.machine.Doing.{Doing}
+use Rattle.machine_state.specs.declared.machine.NextAction.{NextAction}
 use Rattle.machine_state.specs.Places.{parts_from}
-use Rattle.machine_state.specs.Frames.{display_of, rest_of, site_now, state_of, todo}
+use Rattle.machine_state.specs.Frames.{display_of, machine_rest, site_now, state_of, todo}
 use Rattle.machine_expr.specs.Noting.{with_note}
 use Rattle.machine_expr.proofs.Rows.{tuple_begins, list_begins, dict_begins, attribute_begins, subscript_begins, slice_begins, tuple_weight, list_weight, dict_weight, attribute_weight, subscript_weight, slice_weight}
 use Rattle.machine_expr.proofs.evaluate.begin_container.Goals as goal
@@ -19,8 +19,8 @@ returns-in-Tuple-clause-next c =
     let m' = c.begin_display.new.m in
     let p = site_now m in
     let s = state_of m in
-    let k = rest_of m in
-    IfOk-weaker c.begin_display.result (λ (d : Doing). todo d m' ≡ collected (λ heap vs. displayed (display_of Tuple) vs) (parts_from 0 c.in-Tuple.es) p s k) (λ (d : Doing). with_note e.at e.kind (todo d m') ≡ eval e p s k)
+    let k = machine_rest m in
+    IfOk-weaker c.begin_display.result (λ (d : NextAction). todo d m' ≡ collected (λ heap vs. displayed (display_of Tuple) vs) (parts_from 0 c.in-Tuple.es) p s k) (λ (d : NextAction). with_note e.at e.kind (todo d m') ≡ eval e p s k)
     (λ d h. ap (with_note e.at e.kind) h ∙ tuple_begins e.kind e.at p s k c.in-Tuple.es c.in-Tuple.is)
     c.begin_display.ensures.next
 
@@ -35,8 +35,8 @@ returns-in-List-clause-next c =
     let m' = c.begin_display-in-List.new.m in
     let p = site_now m in
     let s = state_of m in
-    let k = rest_of m in
-    IfOk-weaker c.begin_display-in-List.result (λ (d : Doing). todo d m' ≡ collected (λ heap vs. displayed (display_of List) vs) (parts_from 0 c.in-List.es) p s k) (λ (d : Doing). with_note e.at e.kind (todo d m') ≡ eval e p s k)
+    let k = machine_rest m in
+    IfOk-weaker c.begin_display-in-List.result (λ (d : NextAction). todo d m' ≡ collected (λ heap vs. displayed (display_of List) vs) (parts_from 0 c.in-List.es) p s k) (λ (d : NextAction). with_note e.at e.kind (todo d m') ≡ eval e p s k)
     (λ d h. ap (with_note e.at e.kind) h ∙ list_begins e.kind e.at p s k c.in-List.es c.in-List.is)
     c.begin_display-in-List.ensures.next
 
@@ -51,8 +51,8 @@ returns-in-Dict-clause-next c =
     let m' = c.begin_dict.new.m in
     let p = site_now m in
     let s = state_of m in
-    let k = rest_of m in
-    IfOk-weaker c.begin_dict.result (λ (d : Doing). todo d m' ≡ dict_part (parts_from 0 c.in-Dict.ks) (parts_from 0 c.in-Dict.es) p s k) (λ (d : Doing). with_note e.at e.kind (todo d m') ≡ eval e p s k)
+    let k = machine_rest m in
+    IfOk-weaker c.begin_dict.result (λ (d : NextAction). todo d m' ≡ dict_part (parts_from 0 c.in-Dict.ks) (parts_from 0 c.in-Dict.es) p s k) (λ (d : NextAction). with_note e.at e.kind (todo d m') ≡ eval e p s k)
     (λ d h. ap (with_note e.at e.kind) h ∙ dict_begins e.kind e.at p s k c.in-Dict.ks c.in-Dict.es c.in-Dict.is)
     c.begin_dict.ensures.next
 
@@ -67,8 +67,8 @@ returns-in-Attribute-clause-next c =
     let m' = c.begin_attribute.new.m in
     let p = site_now m in
     let s = state_of m in
-    let k = rest_of m in
-    IfOk-weaker c.begin_attribute.result (λ (d : Doing). todo d m' ≡ attribute_part (eval c.in-Attribute.a.value) c.in-Attribute.name p s k) (λ (d : Doing). with_note e.at e.kind (todo d m') ≡ eval e p s k)
+    let k = machine_rest m in
+    IfOk-weaker c.begin_attribute.result (λ (d : NextAction). todo d m' ≡ attribute_part (eval c.in-Attribute.a.value) c.in-Attribute.name p s k) (λ (d : NextAction). with_note e.at e.kind (todo d m') ≡ eval e p s k)
     (λ d h. ap (with_note e.at e.kind) h ∙ attribute_begins e.kind e.at p s k c.in-Attribute.a c.in-Attribute.name c.in-Attribute.is)
     c.begin_attribute.ensures.next
 
@@ -83,8 +83,8 @@ returns-in-Subscript-clause-next c =
     let m' = c.begin_subscript.new.m in
     let p = site_now m in
     let s = state_of m in
-    let k = rest_of m in
-    IfOk-weaker c.begin_subscript.result (λ (d : Doing). todo d m' ≡ subscript_part (eval c.in-Subscript.a.value) (eval c.in-Subscript.i.value) p s k) (λ (d : Doing). with_note e.at e.kind (todo d m') ≡ eval e p s k)
+    let k = machine_rest m in
+    IfOk-weaker c.begin_subscript.result (λ (d : NextAction). todo d m' ≡ subscript_part (eval c.in-Subscript.a.value) (eval c.in-Subscript.i.value) p s k) (λ (d : NextAction). with_note e.at e.kind (todo d m') ≡ eval e p s k)
     (λ d h. ap (with_note e.at e.kind) h ∙ subscript_begins e.kind e.at p s k c.in-Subscript.a c.in-Subscript.i c.in-Subscript.is)
     c.begin_subscript.ensures.next
 
@@ -99,8 +99,8 @@ returns-in-Slice-clause-next c =
     let m' = c.begin_slice.new.m in
     let p = site_now m in
     let s = state_of m in
-    let k = rest_of m in
-    IfOk-weaker c.begin_slice.result (λ (d : Doing). todo d m' ≡ slice_part (eval c.in-Slice.a.value) (some_part c.in-Slice.from) (some_part c.in-Slice.to) (some_part c.in-Slice.by) p s k) (λ (d : Doing). with_note e.at e.kind (todo d m') ≡ eval e p s k)
+    let k = machine_rest m in
+    IfOk-weaker c.begin_slice.result (λ (d : NextAction). todo d m' ≡ slice_part (eval c.in-Slice.a.value) (some_part c.in-Slice.from) (some_part c.in-Slice.to) (some_part c.in-Slice.by) p s k) (λ (d : NextAction). with_note e.at e.kind (todo d m') ≡ eval e p s k)
     (λ d h. ap (with_note e.at e.kind) h ∙ slice_begins e.kind e.at p s k c.in-Slice.a c.in-Slice.from c.in-Slice.to c.in-Slice.by c.in-Slice.is)
     c.begin_slice.ensures.next
 

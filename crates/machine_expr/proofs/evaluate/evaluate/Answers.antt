@@ -1,6 +1,6 @@
 use Rattle.std.proofs.Common.{◌<◌, arith, sym}
 use Rattle.machine_state.specs.core_meaning.Expressions.{eval}
-use Rattle.machine_state.specs.Frames.{rest_of}
+use Rattle.machine_state.specs.Frames.{machine_rest}
 use Rattle.machine_state.specs.Work.{weight_at}
 use Rattle.machine_immediate.specs.AtOnce.{IsImmediate}
 use Rattle.machine_immediate.proofs.AtOnces.{found}
@@ -11,7 +11,7 @@ pub returns-in-Some-clause-next : goal.returns-in-Some-clause-next
 returns-in-Some-clause-next c =
     let m = c.args.m.now in
     let h : IsImmediate (eval c.args.e.now) m.left c.in-Some.there m = found m (eval c.args.e.now) m.left c.in_ok-there.field-0 c.in-Some.there c.in-Some.is c.in_ok-there.ensures in
-    sym (h.goes_on (rest_of m))
+    sym (h.goes_on (machine_rest m))
 
 pub returns-in-Some-clause-left : goal.returns-in-Some-clause-left
 returns-in-Some-clause-left c =

@@ -3,10 +3,10 @@ use Rattle.std.proofs.lemmas.Result.{IfOk-weaker}
 use Rattle.py_kinds.specs.Truth.{truth}
 use Rattle.py_world.specs.Outcome.{if_true}
 use Rattle.py_world.specs.Statements.{branches_on}
-use Rattle.machine_state.specs.core_meaning.Statements.{block, choice, choices}
-use Rattle.machine_state.specs.declared.machine.Doing.{Doing}
+use Rattle.machine_state.specs.core_meaning.Statements.{core_block_body, choice, choices}
+use Rattle.machine_state.specs.declared.machine.NextAction.{NextAction}
 use Rattle.machine_state.specs.Places.{ends}
-use Rattle.machine_state.specs.Frames.{layers_of, rest_of, site_now, state_of, todo}
+use Rattle.machine_state.specs.Frames.{layers_of, machine_rest, site_now, state_of, todo}
 use Rattle.machine_assign.proofs.machine_turns_lemmas.Same.{same_run}
 use Rattle.machine_flow.proofs.Flows.{branch_tests}
 use Rattle.machine_flow.proofs.Immediately.{branch_there}
@@ -19,11 +19,11 @@ returns-in-Some-clause-next c =
     let x = c.in-Some.there in
     let ls = layers_of m.stack in
     let rest = choices ls (drop c.args.next c.args.branches.value.items) in
-    let other = block ls c.args.other.value in
+    let other = core_block_body ls c.args.other.value in
     let scene = (site_now m).scene in
-    let tree = if_true (truth m.heap x.value) (block ls c.in_ok-body.body.value scene (state_of m) (rest_of m)) (branches_on rest other scene (state_of m) (rest_of m)) in
-    let whole = branches_on (choice ls c.args.branch.now ∷ rest) other scene (state_of m) (rest_of m) in
-    IfOk-weaker c.choose.result (λ (d : Doing). todo d m' ≡ tree) (λ (d : Doing). ends m'.left (todo d m') ≡ ends m.left whole)
+    let tree = if_true (truth m.heap x.value) (core_block_body ls c.in_ok-body.body.value scene (state_of m) (machine_rest m)) (branches_on rest other scene (state_of m) (machine_rest m)) in
+    let whole = branches_on (choice ls c.args.branch.now ∷ rest) other scene (state_of m) (machine_rest m) in
+    IfOk-weaker c.choose.result (λ (d : NextAction). todo d m' ≡ tree) (λ (d : NextAction). ends m'.left (todo d m') ≡ ends m.left whole)
     (λ d h. same_run x.left m'.left (todo d m') tree c.choose.ensures.left h
     ∙ branch_there m c.args.branch.now c.deref.result.now c.in_ok-there.field-0 x c.in_ok-body.body rest other c.deref.ensures c.in_ok-body.ensures.cases c.in-Some.is c.in_ok-there.ensures)
     c.choose.ensures.next

@@ -4,10 +4,10 @@ use Rattle.py_core.specs.declared.stmt.CoreTarget.{CoreTarget}
 use Rattle.py_world.specs.Loops.{behind_target}
 use Rattle.py_world.specs.Outcome.{on_next}
 use Rattle.machine_state.specs.core_meaning.Requests.{ForOf}
-use Rattle.machine_state.specs.core_meaning.Statements.{block, store}
-use Rattle.machine_state.specs.declared.machine.Doing.{Doing}
+use Rattle.machine_state.specs.core_meaning.Statements.{core_block_body, store}
+use Rattle.machine_state.specs.declared.machine.NextAction.{NextAction}
 use Rattle.machine_state.specs.Places.{site_of}
-use Rattle.machine_state.specs.Frames.{after, handling_of, outer_of, rest_of, site_now, state_of, todo}
+use Rattle.machine_state.specs.Frames.{after_stack, handled_exception, outer_of, machine_rest, site_now, state_of, todo}
 use Rattle.machine_flow.proofs.Elements.{element_stored}
 use Rattle.machine_flow.proofs.turns.store_element.Goals as goal
 
@@ -19,8 +19,8 @@ returns-clause-next c =
     let t = c.args.target in
     let b = c.args.body in
     let v = c.args.v in
-    let stored = λ (x : CoreTarget). store x v (site_of m.here (outer_of fs') (handling_of fs')) (state_of m) (after fs' m.here) in
-    IfOk-weaker c.store_target.result (λ (d : Doing). todo d m' ≡ stored c.deref.result.now)
-    (λ (d : Doing). todo d m' ≡ store t.value v (site_now m) (state_of m) (λ o. on_next o (rest_of m) (λ s. behind_target (ForOf t.value b.value) (block [] b.value) c.args.next (site_now m) s (rest_of m))))
+    let stored = λ (x : CoreTarget). store x v (site_of m.here (outer_of fs') (handled_exception fs')) (state_of m) (after_stack fs' m.here) in
+    IfOk-weaker c.store_target.result (λ (d : NextAction). todo d m' ≡ stored c.deref.result.now)
+    (λ (d : NextAction). todo d m' ≡ store t.value v (site_now m) (state_of m) (λ o. on_next o (machine_rest m) (λ s. behind_target (ForOf t.value b.value) (core_block_body [] b.value) c.args.next (site_now m) s (machine_rest m))))
     (λ d h. h ∙ ap stored c.deref.ensures ∙ element_stored m.here m.stack (state_of m) t c.in_ok-again.again b c.args.next v fs' c.in_ok-again.ensures.cases c.in_ok-push.ensures)
     c.store_target.ensures.next

@@ -6,7 +6,7 @@ use Rattle.machine_state.specs.py_world.Imports.{import_end, import_statement, m
 use Rattle.machine_state.specs.core_meaning.Statements.{core_body}
 use Rattle.machine_state.specs.declared.machine.TurnEnd.{TurnEnd}
 use Rattle.machine_state.specs.Places.{ends}
-use Rattle.machine_state.specs.Frames.{ending, rest_of, site_now, state_of}
+use Rattle.machine_state.specs.Frames.{ending, machine_rest, site_now, state_of}
 use Rattle.machine_import.proofs.Reaching.{import_starts}
 use Rattle.machine_import.proofs.begin.begin_import.Goals as goal
 
@@ -19,7 +19,7 @@ returns-clause-next c =
     let name = c.in_ok-name.name in
     let p = site_now m in
     let s = state_of m in
-    let k = rest_of m in
+    let k = machine_rest m in
     IfOk-weaker c.import_behind.result
     (λ (t : TurnEnd). ends m.left (modules_at core_body (drop 0 (prefixes_behind [] copied)) None p s k (λ v s. k (import_end v copied name p s))) ≡ ending t m')
     (λ (t : TurnEnd). ends m.left (import_statement core_body d c.args.alias.now p s k) ≡ ending t m')

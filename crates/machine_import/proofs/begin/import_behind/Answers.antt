@@ -10,8 +10,8 @@ use Rattle.machine_state.specs.declared.frame.ModuleFrame.TheVariants as loads
 use Rattle.machine_state.specs.declared.machine.TurnEnd.{TurnEnd}
 use Rattle.machine_state.specs.Definings.{on_module}
 use Rattle.machine_state.specs.Places.{CoreState, ends}
-use Rattle.machine_state.specs.Frames.{ending, rest_of, site_now, state_of}
-use Rattle.machine_import.specs.declared.walk.Reached.TheVariants.{Load}
+use Rattle.machine_state.specs.Frames.{ending, machine_rest, site_now, state_of}
+use Rattle.machine_import.specs.declared.walk.ImportStep.TheVariants.{Load}
 use Rattle.machine_import.specs.Walks.{Reaches}
 use Rattle.machine_import.proofs.Reaching.{reached_as}
 use Rattle.machine_import.proofs.begin.import_behind.Goals as goal
@@ -22,10 +22,10 @@ returns-in-Load-clause-next c =
     let m' = c.wait.new.m in
     let d = c.args.dotted.value.items in
     let f = c.in-Load.next in
-    let go = λ (v : Option Value) (s : CoreState). rest_of m (import_end v d c.args.name (site_now m) s) in
+    let go = λ (v : Option Value) (s : CoreState). machine_rest m (import_end v d c.args.name (site_now m) s) in
     let reaches : Reaches (Load f) d c.args.from c.args.last m =
     reached_as c.in_ok-reached.reached (Load f) c.deref-2.result.now d c.args.from c.args.last m c.in-Load.is (c.deref-2.ensures.value ∙ ap (λ (v : Vec (List ℕ) Global). v.items) c.deref.ensures) c.in_ok-reached.ensures in
     IfOk-weaker c.wait.result
-    (λ (t : TurnEnd). ends m.left (load_part core_body f.path (faulty f.path) (site_now m) (state_of m) (λ o. on_module (loads.Import c.args.dotted f.looked c.args.name) (site_now m) o (rest_of m))) ≡ ending t m')
-    (λ (t : TurnEnd). ends m.left (modules_at core_body (drop c.args.from (prefixes_behind [] d)) c.args.last (site_now m) (state_of m) (rest_of m) go) ≡ ending t m')
-    (λ t h. ap (ends m.left) (reaches (rest_of m) go) ∙ h) c.wait.ensures.next
+    (λ (t : TurnEnd). ends m.left (load_part core_body f.path (faulty f.path) (site_now m) (state_of m) (λ o. on_module (loads.Import c.args.dotted f.looked c.args.name) (site_now m) o (machine_rest m))) ≡ ending t m')
+    (λ (t : TurnEnd). ends m.left (modules_at core_body (drop c.args.from (prefixes_behind [] d)) c.args.last (site_now m) (state_of m) (machine_rest m) go) ≡ ending t m')
+    (λ t h. ap (ends m.left) (reaches (machine_rest m) go) ∙ h) c.wait.ensures.next

@@ -5,8 +5,8 @@ use Rattle.std.specs.declared.vec.Vec.{Vec}
 use Rattle.py_tree.specs.declared.stmt.Alias.{Alias}
 use Rattle.machine_state.specs.declared.machine.TurnEnd.{TurnEnd}
 use Rattle.machine_state.specs.Places.{ends}
-use Rattle.machine_state.specs.Frames.{rest_of, site_now, state_of}
-use Rattle.machine_import.specs.declared.walk.Reached.TheVariants.{Load, Module}
+use Rattle.machine_state.specs.Frames.{machine_rest, site_now, state_of}
+use Rattle.machine_import.specs.declared.walk.ImportStep.TheVariants.{Load, Module}
 use Rattle.machine_import.specs.Names.{submodule_behind, Imported}
 use Rattle.machine_import.specs.Walks.{Reaches}
 use Rattle.machine_import.proofs.Reaching.{reached_as, submodule_loads, submodule_there}
@@ -29,9 +29,9 @@ returns-in-Module-clause-next c =
     reached_as c.in_ok-reached.reached (Module inner) c.deref-4.result.now (d ++ a.name ∷ []) c.args.from c.args.last m c.in-Module.is
     (c.deref-4.ensures.value ∙ (c.in_ok-name.ensures ∙ ap (λ (x : List (List ℕ)). x ++ a.name ∷ []) seen)) c.in_ok-reached.ensures in
     IfOk-weaker c.bind_submodule.result
-    (λ (t : Option TurnEnd). (rest : List Alias) → Imported t m m' (submodule_behind c.args.found dd a rest inner (site_now m) (state_of m) (rest_of m)) c.args.found dd rest) _
+    (λ (t : Option TurnEnd). (rest : List Alias) → Imported t m m' (submodule_behind c.args.found dd a rest inner (site_now m) (state_of m) (machine_rest m)) c.args.found dd rest) _
     (λ t h. submodule_there m c.args.found d all c.args.at a c.args.from c.args.last t m' inner w here reaches
-    (subst (λ (x : List (List ℕ)). (rest : List Alias) → Imported t m m' (submodule_behind c.args.found x a rest inner (site_now m) (state_of m) (rest_of m)) c.args.found x rest) same h))
+    (subst (λ (x : List (List ℕ)). (rest : List Alias) → Imported t m m' (submodule_behind c.args.found x a rest inner (site_now m) (state_of m) (machine_rest m)) c.args.found x rest) same h))
     c.bind_submodule.ensures.next
 
 pub returns-clause-next : goal.returns-clause-next

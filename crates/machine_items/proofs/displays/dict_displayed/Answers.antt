@@ -1,12 +1,12 @@
 use Rattle.std.proofs.Common.{◌≤◌, ◌<◌, ◌∙◌, ◌*◌, ◌+◌, ◌/◌, ◌^◌, ℕ, List, [], ap, sym, length, drop, get_or, arith, length-drop}
-use Rattle.py_values.specs.Ends.{within}
+use Rattle.py_values.specs.Ends.{payable}
 use Rattle.py_kinds.specs.Keys.{key_of, key_steps}
 use Rattle.py_values.specs.declared.dict.Pair.{Pair}
 use Rattle.py_values.specs.declared.key.Atom.{Atom}
 use Rattle.py_values.specs.declared.value.Value.TheVariants as val
 use Rattle.py_world.specs.Displays as world
 use Rattle.machine_items.specs.Storing.{pair_told}
-use Rattle.machine_items.specs.declared.displays.Stored.TheVariants.{Steps}
+use Rattle.machine_items.specs.declared.displays.PairResult.TheVariants.{Steps}
 use Rattle.machine_items.proofs.Pairs.{halves, next_pair, beyond, last_pair}
 use Rattle.machine_items.proofs.displays.dict_displayed.Goals as goal
 
@@ -41,7 +41,7 @@ returns-in-Beyond c =
     let far : 2 ^ 64 ≤ c.loop-i.steps + key_steps (key_of heap x) = rw c.in-Beyond.is at c.in_ok-n.ensures in
     let fits : c.args.budget < 2 ^ 64 = omega (arith, c.ranges.budget.fits) in
     sym
-    (ap (within c.args.budget) (c.loop-i.invariant ∙ ap (world.pairs_stored heap c.loop-i.dict c.loop-i.steps) (next_pair vs i room))
+    (ap (payable c.args.budget) (c.loop-i.invariant ∙ ap (world.pairs_stored heap c.loop-i.dict c.loop-i.steps) (next_pair vs i room))
     ∙ beyond c.args.budget heap c.loop-i.dict c.loop-i.steps x y (drop (2 * (i + 1)) vs) fits far)
 
 pub returns : goal.returns
@@ -50,4 +50,4 @@ returns c =
     let vs = c.args.values.now in
     let i = c.loop-i.i in
     let short : length (drop (2 * i) vs) < 2 = omega (arith, length-drop (2 * i) vs, c.loop-i-test.false) in
-    c.made_within-2.ensures ∙ ap (within c.args.budget) (sym (c.loop-i.invariant ∙ last_pair heap c.loop-i.dict c.loop-i.steps (drop (2 * i) vs) short))
+    c.made_within-2.ensures ∙ ap (payable c.args.budget) (sym (c.loop-i.invariant ∙ last_pair heap c.loop-i.dict c.loop-i.steps (drop (2 * i) vs) short))

@@ -8,7 +8,7 @@ use Rattle.machine_state.specs.py_world.World.{heap_of}
 use Rattle.machine_state.specs.declared.frame.ItemFrame.{ItemFrame}
 use Rattle.machine_state.specs.declared.machine.TurnEnd.{TurnEnd}
 use Rattle.machine_state.specs.Places.{parts_from, ends}
-use Rattle.machine_state.specs.Frames.{Follows, display_of, on_item, rest_of, site_now, state_of}
+use Rattle.machine_state.specs.Frames.{Follows, display_of, on_item, machine_rest, site_now, state_of}
 use Rattle.machine_expr.specs.Pairs.{pairs_from}
 use Rattle.machine_expr.proofs.Displays.{element_taken, pair_taken}
 use Rattle.machine_operands.proofs.items.take_item.Goals as goal
@@ -18,7 +18,7 @@ returns-in_ok-push-in-Collect-clause-next c =
     let m = c.args.m.now in
     let p = site_now m in
     let s = state_of m in
-    let k = rest_of m in
+    let k = machine_rest m in
     let d = c.in-Collect.display in
     let es = c.in-Collect.es in
     let vs = c.push.new.self.items in
@@ -36,7 +36,7 @@ returns-in_ok-push-in-Pairs-clause-next c =
     let m = c.args.m.now in
     let p = site_now m in
     let s = state_of m in
-    let k = rest_of m in
+    let k = machine_rest m in
     let ks = c.in-Pairs.ks in
     let es = c.in-Pairs.es in
     let vs = c.push-in-Pairs.new.self.items in

@@ -4,7 +4,7 @@ use Rattle.machine_state.specs.py_world.Imports.{import_from, import_statement}
 use Rattle.machine_state.specs.core_meaning.Statements.{core_body, statement_at}
 use Rattle.machine_state.specs.declared.machine.TurnEnd.{TurnEnd}
 use Rattle.machine_state.specs.Places.{ends}
-use Rattle.machine_state.specs.Frames.{ending, layers_of, rest_of, site_now, state_of}
+use Rattle.machine_state.specs.Frames.{ending, layers_of, machine_rest, site_now, state_of}
 use Rattle.machine_stmt.proofs.Blocks.{from_begins, import_begins}
 use Rattle.machine_stmt.proofs.begin.begin_imports.Goals as goal
 
@@ -16,7 +16,7 @@ returns-in-Import-clause-next c =
     let ls = layers_of m.stack in
     let p = site_now m in
     let s = state_of m in
-    let k = rest_of m in
+    let k = machine_rest m in
     let tree = import_statement core_body c.in-Import.dotted.value.items c.in-Import.alias p s k in
     let whole = statement_at ls kind p s k in
     IfOk-weaker c.begin_import.result (λ (t : TurnEnd). ends m.left tree ≡ ending t m') (λ (t : TurnEnd). ends m.left whole ≡ ending t m')
@@ -30,7 +30,7 @@ returns-in-ImportFrom-clause-next c =
     let ls = layers_of m.stack in
     let p = site_now m in
     let s = state_of m in
-    let k = rest_of m in
+    let k = machine_rest m in
     let tree = import_from core_body c.in-ImportFrom.dotted.value.items c.in-ImportFrom.all.value.items p s k in
     let whole = statement_at ls kind p s k in
     IfOk-weaker c.begin_import_from.result (λ (t : TurnEnd). ends m.left tree ≡ ending t m') (λ (t : TurnEnd). ends m.left whole ≡ ending t m')

@@ -4,9 +4,9 @@ use Rattle.machine_assign.specs.py_world.Targets.{augment_item}
 use Rattle.machine_assign.specs.core_meaning.Expressions.{eval}
 use Rattle.machine_assign.specs.machine_state.declared.frame.Frame.TheVariants.{Target}
 use Rattle.machine_assign.specs.machine_state.declared.frame.TargetFrame.TheVariants.{AugmentItem}
-use Rattle.machine_assign.specs.machine_state.declared.machine.Doing.{Doing}
+use Rattle.machine_assign.specs.machine_state.declared.machine.NextAction.{NextAction}
 use Rattle.machine_assign.specs.machine_state.Places.{site_of}
-use Rattle.machine_assign.specs.machine_state.Frames.{after, handling_of, outer_of, rest_of, site_now, state_of, todo}
+use Rattle.machine_assign.specs.machine_state.Frames.{after_stack, handled_exception, outer_of, machine_rest, site_now, state_of, todo}
 use Rattle.machine_store.proofs.Begins.{augment_item_begins}
 use Rattle.machine_store.proofs.augment.begin_item.Goals as goal
 
@@ -16,7 +16,7 @@ returns-clause-next c =
     let m' = c.descend.new.m in
     let fs = Target (AugmentItem c.in_ok-clone.field-0 c.args.op c.in_ok-clone-2.field-0) ∷ m.stack in
     let first = eval c.args.a.now.value in
-    IfOk-weaker c.descend.result (λ (d : Doing). todo d m' ≡ first (site_of m.here (outer_of fs) (handling_of fs)) (state_of m) (after fs m.here))
-    (λ (d : Doing). todo d m' ≡ augment_item first (eval c.args.i.now.value) c.args.op (eval c.args.e.now.value) (site_now m) (state_of m) (rest_of m))
+    IfOk-weaker c.descend.result (λ (d : NextAction). todo d m' ≡ first (site_of m.here (outer_of fs) (handled_exception fs)) (state_of m) (after_stack fs m.here))
+    (λ (d : NextAction). todo d m' ≡ augment_item first (eval c.args.i.now.value) c.args.op (eval c.args.e.now.value) (site_now m) (state_of m) (machine_rest m))
     (λ d h. h ∙ augment_item_begins m.here m.stack (state_of m) first c.args.i.now c.in_ok-clone.field-0 c.args.op c.args.e.now c.in_ok-clone-2.field-0 c.in_ok-clone.ensures.cases c.in_ok-clone-2.ensures.cases)
     c.descend.ensures.next

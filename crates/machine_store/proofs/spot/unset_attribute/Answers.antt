@@ -7,8 +7,8 @@ use Rattle.py_attributes.specs.Attributes.{no_attribute, own_value}
 use Rattle.machine_assign.specs.py_world.Attributes.{unset_attribute, without_attribute}
 use Rattle.machine_assign.specs.py_world.Outcome.{raised_at}
 use Rattle.machine_assign.specs.py_world.World.{with_heap}
-use Rattle.machine_assign.specs.machine_state.declared.machine.Doing.{Doing}
-use Rattle.machine_assign.specs.machine_state.Frames.{rest_of, site_now, state_of, todo}
+use Rattle.machine_assign.specs.machine_state.declared.machine.NextAction.{NextAction}
+use Rattle.machine_assign.specs.machine_state.Frames.{machine_rest, site_now, state_of, todo}
 use Rattle.machine_store.proofs.Attributes.{refused}
 use Rattle.machine_store.proofs.spot.unset_attribute.Goals as goal
 
@@ -21,7 +21,7 @@ returns-in-Some-clause-next c =
     let p = site_now m in
     let s = state_of m in
     let heap = c.unset_attribute.new.heap in
-    IfOk-weaker c.raise.result (λ (d : Doing). todo d m' ≡ rest_of m (raised_at c.in-Some.raise p (with_heap heap s)))
-    (λ (d : Doing). todo d m' ≡ unset_attribute x name p s (rest_of m))
-    (λ d h. h ∙ refused (is_some (own_value name (object_at m.heap x))) (without_attribute name) x (no_attribute (kind_name m.heap x) name) p s (rest_of m) c.in_ok-unset_attribute.field-0 heap c.in_ok-unset_attribute.ensures c.in-Some.raise c.in-Some.is)
+    IfOk-weaker c.raise.result (λ (d : NextAction). todo d m' ≡ machine_rest m (raised_at c.in-Some.raise p (with_heap heap s)))
+    (λ (d : NextAction). todo d m' ≡ unset_attribute x name p s (machine_rest m))
+    (λ d h. h ∙ refused (is_some (own_value name (object_at m.heap x))) (without_attribute name) x (no_attribute (kind_name m.heap x) name) p s (machine_rest m) c.in_ok-unset_attribute.field-0 heap c.in_ok-unset_attribute.ensures c.in-Some.raise c.in-Some.is)
     c.raise.ensures.next

@@ -2,10 +2,10 @@ use Rattle.std.proofs.Common.{◌≡◌, ◌∙◌}
 use Rattle.std.proofs.lemmas.Result.{IfOk-weaker}
 use Rattle.py_core.specs.Blocks.{handlers_in, other_in}
 use Rattle.machine_state.specs.py_world.Exceptions.{guarded_by}
-use Rattle.machine_state.specs.core_meaning.Statements.{block, guard, handlings}
-use Rattle.machine_state.specs.declared.machine.Doing.{Doing}
+use Rattle.machine_state.specs.core_meaning.Statements.{core_block_body, guard, handlings}
+use Rattle.machine_state.specs.declared.machine.NextAction.{NextAction}
 use Rattle.machine_state.specs.Places.{outcome, site_of}
-use Rattle.machine_state.specs.Frames.{after, handling_of, layers_of, outer_of, rest_of, site_now, state_of, todo}
+use Rattle.machine_state.specs.Frames.{after_stack, handled_exception, layers_of, outer_of, machine_rest, site_now, state_of, todo}
 use Rattle.machine_unwind.proofs.Ends.{guard_goes}
 use Rattle.machine_unwind.proofs.turns.take_guarded.Goals as goal
 
@@ -17,7 +17,7 @@ returns-clause-next c =
     let g = c.args.guard in
     let o = outcome c.args.end (state_of m) in
     IfOk-weaker c.guarded.result
-    (λ (d : Doing). todo d m' ≡ guarded_by (handlings (layers_of fs') (handlers_in g.value)) (block (layers_of fs') (other_in g.value)) (site_of m.here (outer_of fs') (handling_of fs')) o (after fs' m.here))
-    (λ (d : Doing). todo d m' ≡ guard (layers_of m.stack) g.value (site_now m) o (rest_of m))
+    (λ (d : NextAction). todo d m' ≡ guarded_by (handlings (layers_of fs') (handlers_in g.value)) (core_block_body (layers_of fs') (other_in g.value)) (site_of m.here (outer_of fs') (handled_exception fs')) o (after_stack fs' m.here))
+    (λ (d : NextAction). todo d m' ≡ guard (layers_of m.stack) g.value (site_now m) o (machine_rest m))
     (λ d h. h ∙ guard_goes m.here m.stack fs' o g c.in_ok-again.again c.in_ok-again.ensures.cases c.in_ok-push.ensures)
     c.guarded.ensures.next

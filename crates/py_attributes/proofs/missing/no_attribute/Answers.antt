@@ -1,6 +1,6 @@
 use Rattle.std.proofs.Common.{◌≡◌, ◌∙◌, ◌++◌, ℕ, List, ap, codes}
 use Rattle.py_kinds.specs.Kinds.{kind_name}
-use Rattle.py_values.specs.Raises.{raise}
+use Rattle.py_values.specs.Raises.{text_raise}
 use Rattle.py_values.specs.declared.class.ExcClass.TheVariants.{AttributeError}
 use Rattle.py_attributes.proofs.missing.no_attribute.Goals as goal
 
@@ -15,4 +15,4 @@ returns c =
     let text : c.deref.result.now ≡ codes "'" ++ (kind ++ (front ++ (c.args.name.now ++ codes "'"))) =
     c.deref.ensures.value ∙ c.in_ok-push_between.ensures ∙ ap (λ (xs : List ℕ). xs ++ (front ++ (c.args.name.now ++ codes "'"))) head
     in
-    c.in_ok-raise.ensures ∙ ap (raise AttributeError) text
+    c.in_ok-raise.ensures ∙ ap (text_raise AttributeError) text

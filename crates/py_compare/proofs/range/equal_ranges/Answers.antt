@@ -1,6 +1,6 @@
 use Rattle.std.proofs.Common.{◌≡◌, ◌<◌, ◌≢◌, ◌∙◌, ap, sym, arith, rules}
 use Rattle.py_compare.proofs.Progress.{steps_differ, all_alike, length_told}
-use Rattle.py_compare.specs.Equal.{told, found, Fails, Holds, of_length, numbers_equal}
+use Rattle.py_compare.specs.Equal.{told, finding, Fails, Holds, of_length, numbers_equal}
 use Rattle.py_values.specs.Ranges.{range_items}
 use Rattle.py_compare.proofs.range.equal_ranges.Goals as goal
 

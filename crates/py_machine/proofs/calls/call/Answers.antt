@@ -6,7 +6,7 @@ use Rattle.lower_law.specs.py_world.Calls.{invoke}
 use Rattle.lower_law.specs.py_world.Outcome.{call_end, raised}
 use Rattle.lower_law.specs.py_world.Runs.{ended_by, start, told_by}
 use Rattle.lower_law.specs.core_meaning.Statements.{entry}
-use Rattle.lower_law.specs.py_world.Arguments.{plain}
+use Rattle.lower_law.specs.py_world.Arguments.{positional_arguments}
 use Rattle.lower_law.specs.py_world.Site.{no_call}
 use Rattle.machine_state.specs.Places.{CoreOutcome, ends}
 use Rattle.machine_state.specs.Frames.{state_of, world_of}
@@ -20,7 +20,7 @@ returns-in-None c =
     let s = state_of c.reset.new.m in
     let w = world_of c.call_fitting.new.m in
     IfOk-weaker c.call_fitting.result
-    (λ (e : Ended). told_by c.args.budget (ends c.args.budget (invoke entry c.args.f (plain c.args.args.now) no_call s (λ (o : CoreOutcome). Done (call_end s o)))) ≡ (e, w)) _
+    (λ (e : Ended). told_by c.args.budget (ends c.args.budget (invoke entry c.args.f (positional_arguments c.args.args.now) no_call s (λ (o : CoreOutcome). Done (call_end s o)))) ≡ (e, w)) _
     (λ e h. call_fits c.args.f c.args.args.now c.args.budget (world_of c.args.m.now) w s e c.reset.ensures.state b h)
     c.call_fitting.ensures
 

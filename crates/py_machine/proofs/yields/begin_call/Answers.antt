@@ -1,5 +1,5 @@
 use Rattle.run_tree.specs.Todo.{Done}
-use Rattle.lower_law.specs.py_world.Arguments.{plain}
+use Rattle.lower_law.specs.py_world.Arguments.{positional_arguments}
 use Rattle.lower_law.specs.py_world.Calls.{invoke}
 use Rattle.lower_law.specs.py_world.Outcome.{call_end}
 use Rattle.lower_law.specs.py_world.Site.{no_call}
@@ -14,5 +14,5 @@ use Rattle.py_machine.proofs.yields.begin_call.Goals as goal
 pub returns : goal.returns
 returns c =
     let m = c.args.m.now in
-    begun_tells c.args.budget m.left (invoke entry c.args.f (plain c.args.args.now) no_call (state_of m) (λ (o : CoreOutcome). Done (call_end (state_of m) o)))
+    begun_tells c.args.budget m.left (invoke entry c.args.f (positional_arguments c.args.args.now) no_call (state_of m) (λ (o : CoreOutcome). Done (call_end (state_of m) o)))
     (stopped c.in_ok-stop.stop c.run_call.new.m) (told_begun c.in_ok-begun.begun) (world_of c.tell.new.m) c.requires.left c.in_ok-stop.ensures c.in_ok-begun.ensures

@@ -1,7 +1,7 @@
 use Rattle.std.proofs.Common.{◌≡◌, None, Some}
 use Rattle.std.proofs.lemmas.Result.{IfOk-weaker}
 use Rattle.run_tree.specs.Todo.{Done}
-use Rattle.lower_law.specs.py_world.Arguments.{plain}
+use Rattle.lower_law.specs.py_world.Arguments.{positional_arguments}
 use Rattle.lower_law.specs.py_world.Calls.{invoke}
 use Rattle.lower_law.specs.py_world.Outcome.{call_end, raised}
 use Rattle.lower_law.specs.py_world.Resuming.{begun_by, begun_over}
@@ -23,7 +23,7 @@ returns-in-None c =
     let w = world_of c.begin_call.new.m in
     let b : Begins None c.args.f c.args.args.now (start (world_of m)) = rw c.in-None.is at c.in_ok-misfit.ensures in
     IfOk-weaker c.begin_call.result
-    (λ (x : Begun). begun_by c.args.budget (ends c.args.budget (invoke entry c.args.f (plain c.args.args.now) no_call s (λ (o : CoreOutcome). Done (call_end s o)))) ≡ (told_begun x, w)) _
+    (λ (x : Begun). begun_by c.args.budget (ends c.args.budget (invoke entry c.args.f (positional_arguments c.args.args.now) no_call s (λ (o : CoreOutcome). Done (call_end s o)))) ≡ (told_begun x, w)) _
     (λ x h. called_fits c.args.f c.args.args.now c.args.budget (world_of m) w s (told_begun x) c.requires.state b h)
     c.begin_call.ensures
 

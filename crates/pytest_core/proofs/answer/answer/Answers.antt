@@ -1,6 +1,6 @@
 use Rattle.std.proofs.Common.{[], map, string_bytes, subst}
 use Rattle.std.proofs.lemmas.Result.{IfOk-weaker}
-use Rattle.pytest_core.specs.Report.{IsReport}
+use Rattle.pytest_core.specs.Report.{IsTreeReport}
 use Rattle.pytest_core.specs.Request.{WordsAsk}
 use Rattle.pytest_core.specs.declared.request.Request.TheVariants.{Run, Said}
 use Rattle.pytest_core.proofs.Asked.{run_said}
@@ -10,7 +10,7 @@ use Rattle.pytest_core.proofs.answer.answer.Goals as goal
 pub returns-in-Said-clause-said : goal.returns-in-Said-clause-said
 returns-in-Said-clause-said g c =
     let asks : WordsAsk (map string_bytes c.args.words.now) (Said c.in-Said.response) = subst (WordsAsk (map string_bytes c.args.words.now)) c.in-Said.is c.in_ok-response.ensures in
-    said_by (IsReport (map string_bytes c.args.words.now) []) (c.in-Said.response.0.items, c.in-Said.response.1) (asks [])
+    said_by (IsTreeReport (map string_bytes c.args.words.now) []) (c.in-Said.response.0.items, c.in-Said.response.1) (asks [])
 
 pub returns-in-Run-clause-report : goal.returns-in-Run-clause-report
 returns-in-Run-clause-report g c =

@@ -1,7 +1,7 @@
 use Rattle.std.proofs.Common.{refl}
 use Rattle.std.specs.Prelude.{Err}
 use Rattle.std.proofs.lemmas.Result.{IfOk-weaker}
-use Rattle.collect_tree.specs.Told.{collected_told, end_told}
+use Rattle.collect_tree.specs.Told.{collected_told, collection_end}
 use Rattle.run_items.specs.report_rules.Collected.{Whole}
 use Rattle.pytest_core.proofs.Ran.{are_distinct, faulty_said, of_collected, whole_said}
 use Rattle.pytest_core.proofs.Said.{built_by}
@@ -22,5 +22,5 @@ returns-in-Ok-clause-response c =
 pub returns-in-Err-clause-response : goal.returns-in-Err-clause-response
 returns-in-Err-clause-response c =
     IfOk-weaker c.fault_response.result _ _
-    (λ r h. faulty_said c.args.options.now c.args.files.now c.in-Err.ensures.told.0 (end_told (Err c.in-Err.fault) c.collect.new.world) (r.0.items, r.1) c.requires.fits c.in-Err.ensures.told.1 c.in-Err.ensures.told.2
+    (λ r h. faulty_said c.args.options.now c.args.files.now c.in-Err.ensures.told.0 (collection_end (Err c.in-Err.fault) c.collect.new.world) (r.0.items, r.1) c.requires.fits c.in-Err.ensures.told.1 c.in-Err.ensures.told.2
     (h c.collect.new.world)) c.fault_response.ensures.response

@@ -1,8 +1,8 @@
 use Rattle.std.proofs.Common.{◌≡◌, ◌++◌, drop}
 use Rattle.std.specs.Prelude.{string_bytes, flat_map}
-use Rattle.report_text.specs.Progress.{verbose_lines, rows}
+use Rattle.report_text.specs.Progress.{verbose_lines, placed_reports}
 use Rattle.report_text.proofs.running.push_all_verbose_lines.Given as goal
 
 abbrev pub invariant-loop-report : goal.invariant-loop-report
 invariant-loop-report l =
-    string_bytes l.out ++ flat_map verbose_lines (rows (drop l.report-index l.reports) l.left) ≡ string_bytes l.fn.out ++ flat_map verbose_lines (rows l.reports l.places)
+    string_bytes l.out ++ flat_map verbose_lines (placed_reports (drop l.report-index l.reports) l.left) ≡ string_bytes l.fn.out ++ flat_map verbose_lines (placed_reports l.reports l.places)

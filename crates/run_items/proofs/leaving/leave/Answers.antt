@@ -1,6 +1,6 @@
 use Rattle.std.proofs.Common.{ℕ, ◌∙◌, ap, subst, sym, List, Option}
 use Rattle.std.specs.Prelude.{option_map}
-use Rattle.item_stack.specs.Leaving.{IsNext, chain_for, left_for}
+use Rattle.item_stack.specs.Leaving.{IsNextItem, chain_for, left_for}
 use Rattle.run_items.proofs.Doings.{next_chain, next_stands}
 use Rattle.run_items.specs.Stands.{plan_rules, stand_state}
 use Rattle.run_items.proofs.leaving.leave.Goals as goal
@@ -10,7 +10,7 @@ leave-requires-clause-tree c = c.requires.plan.tree
 
 pub leave-requires-clause-next : goal.leave-requires-clause-next
 leave-requires-clause-next c =
-    subst (λ (o : Option ℕ). IsNext c.args.plan.now.table o) (sym c.node_of-node.ensures) (next_stands c.args.plan.now (option_map (λ item. item.now) c.args.next) c.requires.next)
+    subst (λ (o : Option ℕ). IsNextItem c.args.plan.now.table o) (sym c.node_of-node.ensures) (next_stands c.args.plan.now (option_map (λ item. item.now) c.args.next) c.requires.next)
 
 pub returns : goal.returns
 returns c =

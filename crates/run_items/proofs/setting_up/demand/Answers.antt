@@ -1,4 +1,4 @@
-use Rattle.fixture_world.specs.Items.{item_of}
+use Rattle.fixture_world.specs.Items.{item_in_session}
 use Rattle.run_items.proofs.Ready.{asked_plain, plan_ready}
 use Rattle.run_items.proofs.setting_up.demand.Goals as goal
 
@@ -18,4 +18,4 @@ pub demand_all-requires-clause-ready : goal.demand_all-requires-clause-ready
 demand_all-requires-clause-ready c = plan_ready c.args.plan.now c.args.item.now c.requires.plan c.requires.item c.args.defs.now c.requires.closure
 
 pub returns : goal.returns
-returns c = c.in_ok-raised.ensures (item_of c.args.plan.now.table c.args.item.now) (asked_plain c.args.plan.now c.args.item.now)
+returns c = c.in_ok-raised.ensures (item_in_session c.args.plan.now.table c.args.item.now) (asked_plain c.args.plan.now c.args.item.now)

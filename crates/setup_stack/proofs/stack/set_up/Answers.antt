@@ -1,8 +1,8 @@
 use Rattle.std.proofs.Common.{◌∙◌, ◌+◌, ◌++◌, ℕ, [], ◌∷◌, refl, sym, ap}
 use Rattle.session_types.specs.declared.instance.Instance.{Instance}
-use Rattle.fixture_instances.specs.declared.ends.Held.{Held}
+use Rattle.fixture_instances.specs.declared.ends.CachedResult.{CachedResult}
 use Rattle.setup_stack.specs.Borne.{answer_with}
-use Rattle.fixture_instances.specs.Items.{item_of, parameter_in}
+use Rattle.fixture_instances.specs.Items.{item_for_session, parameter_in}
 use Rattle.setup_stack.specs.Views.{answer_in, grants_of}
 use Rattle.setup_stack.proofs.Births.{was_set_up}
 use Rattle.setup_stack.proofs.Givens.{bases_same, orders_same}
@@ -11,10 +11,10 @@ use Rattle.setup_stack.proofs.stack.set_up.Goals as goal
 pub returns-clause-answer : goal.returns-clause-answer
 returns-clause-answer g c =
     let rules = g.W.Executor.rules c.args.setting.now in
-    let i : Instance (Held _ _ _) = record { def = c.args.def; param = c.parameter_in.result; node = c.place_of.result; scope = c.def.result.now.scope; order = c.next-order.result; bases = c.in_ok-bases.bases; slot = c.in_ok-made.made.held } in
+    let i : Instance (CachedResult _ _ _) = record { def = c.args.def; param = c.parameter_in.result; node = c.place_of.result; scope = c.def.result.now.scope; order = c.next-order.result; bases = c.in_ok-bases.bases; slot = c.in_ok-made.made.held } in
     let order = c.next-order.ensures ∙ ap (λ v. v.next) c.reserve.ensures.same in
     ap (answer_in rules) (c.answer_with.ensures ∙ ap (λ (o : ℕ). answer_with c.args.def o c.in_ok-copy.copy c.in_ok-made.made.told) order)
-    ∙ (was_set_up rules (item_of c.args.table.now c.args.item.now) c.args.def (grants_of rules c.args.given.now) i c.in_ok-direct.direct c.in_ok-copy.copy c.in_ok-made.made.told c.args.world.now c.begin.new.world c.args.stack.now c.bear.new.stack
+    ∙ (was_set_up rules (item_for_session c.args.table.now c.args.item.now) c.args.def (grants_of rules c.args.given.now) i c.in_ok-direct.direct c.in_ok-copy.copy c.in_ok-made.made.told c.args.world.now c.begin.new.world c.args.stack.now c.bear.new.stack
     (record {
       made = c.in_ok-made.ensures.made;
       told_is = c.in_ok-made.ensures.told;
@@ -34,9 +34,9 @@ returns-clause-answer g c =
 pub returns-clause-state : goal.returns-clause-state
 returns-clause-state g c =
     let rules = g.W.Executor.rules c.args.setting.now in
-    let i : Instance (Held _ _ _) = record { def = c.args.def; param = c.parameter_in.result; node = c.place_of.result; scope = c.def.result.now.scope; order = c.next-order.result; bases = c.in_ok-bases.bases; slot = c.in_ok-made.made.held } in
+    let i : Instance (CachedResult _ _ _) = record { def = c.args.def; param = c.parameter_in.result; node = c.place_of.result; scope = c.def.result.now.scope; order = c.next-order.result; bases = c.in_ok-bases.bases; slot = c.in_ok-made.made.held } in
     let order = c.next-order.ensures ∙ ap (λ v. v.next) c.reserve.ensures.same in
-    (was_set_up rules (item_of c.args.table.now c.args.item.now) c.args.def (grants_of rules c.args.given.now) i c.in_ok-direct.direct c.in_ok-copy.copy c.in_ok-made.made.told c.args.world.now c.begin.new.world c.args.stack.now c.bear.new.stack
+    (was_set_up rules (item_for_session c.args.table.now c.args.item.now) c.args.def (grants_of rules c.args.given.now) i c.in_ok-direct.direct c.in_ok-copy.copy c.in_ok-made.made.told c.args.world.now c.begin.new.world c.args.stack.now c.bear.new.stack
     (record {
       made = c.in_ok-made.ensures.made;
       told_is = c.in_ok-made.ensures.told;

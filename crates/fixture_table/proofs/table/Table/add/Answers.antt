@@ -2,7 +2,7 @@ use Rattle.std.proofs.Common.{◌≡◌, ◌∷◌, ◌++◌, [], ap, arith, len
 use Rattle.std.proofs.lemmas.List.{length-set}
 use Rattle.fixture_table.specs.Index.{IsIndex}
 use Rattle.fixture_table.specs.Marks.{row_of}
-use Rattle.fixture_table.specs.Nearest.{Stand}
+use Rattle.fixture_table.specs.Nearest.{StandAtNodes}
 use Rattle.fixture_table.specs.declared.types.FixtureDef.{FixtureDef}
 use Rattle.fixture_table.proofs.Index.{index_push, stand_push}
 use Rattle.fixture_table.proofs.table.Table.add.Goals as goal
@@ -21,7 +21,7 @@ invariant_of-self-2 c =
     let same : length c.push_at.new.rows.items ≡ length rows = ap (λ (l : List (List ℕ)). length l) is ∙ length-set rows c.args.def.node (row_of rows c.args.def.node ++ length defs ∷ []) in
     record {
       tree = c.self.invariant.tree;
-      stand = subst (λ (l : List FixtureDef). Stand nodes l) (sym pushed) (stand_push nodes defs c.args.def c.self.invariant.stand there);
+      stand = subst (λ (l : List FixtureDef). StandAtNodes nodes l) (sym pushed) (stand_push nodes defs c.args.def c.self.invariant.stand there);
       few = (let n = ap (λ (l : List FixtureDef). length l) pushed in let a = length-append defs (c.args.def ∷ []) in omega (arith, n, a, low, c.len.ensures));
       index = subst (λ (l : List FixtureDef). IsIndex nodes l c.push_at.new.rows.items) (sym pushed) (index_push nodes defs rows c.args.def c.self.invariant.index there_row c.push_at.new.rows.items is same);
     }

@@ -1,7 +1,7 @@
 use Rattle.std.proofs.Common.{◌≡◌, ◌*◌, ◌+◌, true, drop}
 use Rattle.std.specs.List.{fold}
 use Rattle.py_repr.specs.Adding.{add}
-use Rattle.py_repr.specs.Repr.{row, pairs_row, repr_to}
+use Rattle.py_repr.specs.Repr.{item_row, pairs_row, repr_to}
 use Rattle.py_repr.proofs.shower.Shower.+show.Given as goal
 
 abbrev pub decreases-show : goal.decreases-show
@@ -49,7 +49,7 @@ invariant-show_pairs-loop-i l = record {
 
 abbrev pub invariant-show_row-loop-v : goal.invariant-show_row-loop-v
 invariant-show_row-loop-v l = record {
-  text : fold add l.fn.self (row true (repr_to l.depth l.heap l.fn.around.items) l.vs)
-      ≡ fold add l.self (row l.first (repr_to l.depth l.heap l.fn.around.items) (drop l.v-index l.vs));
+  text : fold add l.fn.self (item_row true (repr_to l.depth l.heap l.fn.around.items) l.vs)
+      ≡ fold add l.self (item_row l.first (repr_to l.depth l.heap l.fn.around.items) (drop l.v-index l.vs));
   same : l.around.items ≡ l.fn.around.items;
 }

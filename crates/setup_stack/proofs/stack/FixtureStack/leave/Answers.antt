@@ -1,7 +1,7 @@
 use Rattle.std.proofs.Common.{◌∙◌, List, [], ℕ, ap}
 use Rattle.session_types.specs.Live.{not_on}
 use Rattle.session_rules.specs.Teardown.{down_all}
-use Rattle.setup_stack.specs.Views.{state_of}
+use Rattle.setup_stack.specs.Views.{stack_state}
 use Rattle.fixture_instances.specs.Views.{live_instances}
 use Rattle.setup_stack.proofs.stack.FixtureStack.leave.Goals as goal
 
@@ -9,4 +9,4 @@ pub returns : goal.returns
 returns g c =
     let rules = g.W.Executor.rules c.args.setting.now in
     let stack = c.args.self.now in
-    c.in_ok-raised.ensures ∙ ap (λ (chain : List ℕ). down_all rules (not_on chain (live_instances rules stack.live.live)) (state_of rules c.args.world.now (record stack { given = [] }))) (c.deref.ensures.value ∙ c.in_ok-chain.ensures)
+    c.in_ok-raised.ensures ∙ ap (λ (chain : List ℕ). down_all rules (not_on chain (live_instances rules stack.live.live)) (stack_state rules c.args.world.now (record stack { given = [] }))) (c.deref.ensures.value ∙ c.in_ok-chain.ensures)
