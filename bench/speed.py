@@ -3,17 +3,18 @@
 
 python3 bench/speed.py [PROGRAM]    (crates/pytest_run/out/pytest_run, which ./pytest_run builds, where none is named)
 
-Each file has one test. The program runs it as `PROGRAM --step-limit N FILE`; Python executes the same file and calls the test. Both are
-timed from start to end, the best of three runs each, and an empty test's time is taken off, so that what is left is the test's own.
+Each file has one test. The program runs it as `PROGRAM --step-limit N FILE`; Python executes the same file and calls the test. Of both the
+processor time is taken (of user code, so that a busy machine tells nearly the same as a quiet one), the best of seven runs in turn, and
+that of an empty test is taken off, so that what is left is the test's own.
 """
 import os
+import resource
 import subprocess
 import sys
 import tempfile
-import time
 
 STEPS = 10 ** 8
-RUNS = 3
+RUNS = 7
 
 EMPTY = """\
 def test_empty():
@@ -25,26 +26,29 @@ CASES = {
 def test_loop():
     total = 0
     i = 0
-    while i < 200000:
+    while i < 1000000:
         total = (total + i * i) %% 1000003
         i += 1
     assert total == %d
-""" % (sum(i * i for i in range(200000)) % 1000003),
-    "fib(24)": """\
+""" % (sum(i * i for i in range(1000000)) % 1000003),
+    "fib(24), 8 times": """\
 def fib(n):
     if n < 2:
         return n
     return fib(n - 1) + fib(n - 2)
 
 def test_fib():
-    assert fib(24) == 46368
+    i = 0
+    while i < 8:
+        assert fib(24) == 46368
+        i += 1
 """,
     "branches": """\
 def test_branches():
     evens = 0
     odds = 0
     i = 0
-    while i < 100000:
+    while i < 500000:
         if i % 2 == 0:
             evens = evens + 1
         elif i % 3 == 0 and i > 10:
@@ -52,7 +56,7 @@ def test_branches():
         else:
             odds = odds + 1
         i = i + 1
-    assert evens == 50000
+    assert evens == 250000
 """,
 }
 
@@ -63,25 +67,26 @@ for name, test in list(globals().items()):
 """
 
 
-def best(words, folder):
-    times = []
-    for _ in range(RUNS):
-        start = time.perf_counter()
-        done = subprocess.run(words, cwd=folder, stdout=subprocess.PIPE, stderr=subprocess.STDOUT, text=True)
-        times.append(time.perf_counter() - start)
-        if done.returncode != 0:
-            sys.exit(f"{' '.join(words)} ended with {done.returncode}:\n{done.stdout}")
-    return min(times)
+def spent(words, folder):
+    """The processor seconds of one run."""
+    before = resource.getrusage(resource.RUSAGE_CHILDREN).ru_utime
+    done = subprocess.run(words, cwd=folder, stdout=subprocess.PIPE, stderr=subprocess.STDOUT, text=True)
+    if done.returncode != 0:
+        sys.exit(f"{' '.join(words)} ended with {done.returncode}:\n{done.stdout}")
+    return resource.getrusage(resource.RUSAGE_CHILDREN).ru_utime - before
 
 
 def times(program, folder, text):
+    """The best times of the program and of Python, whose runs take turns."""
     with open(os.path.join(folder, "test_case.py"), "w") as file:
         file.write(text)
     with open(os.path.join(folder, "plain.py"), "w") as file:
         file.write(text + CALLS)
-    ours = best([program, "--step-limit", str(STEPS), "test_case.py"], folder)
-    theirs = best([sys.executable, "plain.py"], folder)
-    return ours, theirs
+    ours, theirs = [], []
+    for _ in range(RUNS):
+        ours.append(spent([program, "--step-limit", str(STEPS), "test_case.py"], folder))
+        theirs.append(spent([sys.executable, "plain.py"], folder))
+    return min(ours), min(theirs)
 
 
 def main():

@@ -29,7 +29,7 @@ pub struct RunWorld {
 
 impl Model for RunWorld {
     ghost use Rattle.fixture_calls.specs.source_meaning.Meaning.{SourceWorld};
-    ghost use Rattle.lower_law.proofs.Codes.{world_code};
+    ghost use Rattle.source_meaning.proofs.Codes.{world_code};
 
     ghost Value = { SourceWorld };
 

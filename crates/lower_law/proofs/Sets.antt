@@ -7,7 +7,7 @@ use Rattle.source_meaning.specs.py_world.Runs.{Told}
 use Rattle.source_meaning.specs.py_world.Resuming.{ToldBegun}
 use Rattle.source_meaning.specs.Requests.{source_kinds}
 use Rattle.source_meaning.specs.Meaning.{SourceWorld}
-use Rattle.lower_law.proofs.Codes.{pos_code, world_code}
+use Rattle.source_meaning.proofs.Codes.{pos_code, world_code}
 
 world-set : IsSet SourceWorld
 world-set = Coded-set world_code

@@ -10,15 +10,21 @@ use Rattle.call_products.specs.declared.product.Product.{Product}
 use Rattle.py_calls.specs.Called.{Called}
 use Rattle.py_calls.specs.Calls.{printed_within}
 use Rattle.machine_state.specs.py_world.declared.trace.TraceFrame.{TraceFrame}
-use Rattle.machine_state.specs.py_world.World.{with_objects, with_print, with_world, world_with_printed}
+use Rattle.machine_state.specs.py_world.World.{heap_of, with_objects, with_print, with_world, world_with_printed}
 use Rattle.machine_state.specs.py_world.Outcome.{call_end, made, product_end, raised, spent}
 use Rattle.py_values.specs.declared.end.Raise.{Raise}
+use Rattle.py_values.specs.declared.value.ObjId.{ObjId}
 use Rattle.py_values.specs.declared.value.Value.{Value}
+use Rattle.py_values.specs.declared.value.Value.TheVariants as val
+use Rattle.py_kinds.specs.Kinds.{kind_name}
 use Rattle.machine_state.specs.py_core.declared.stmt.CoreFn.{CoreFn}
+use Rattle.py_values.specs.declared.object.ClassObj.{ClassObj}
 use Rattle.py_values.specs.declared.object.FunctionObj.{FunctionObj}
+use Rattle.py_values.specs.declared.object.Obj.{Obj}
+use Rattle.py_values.specs.declared.object.Obj.TheVariants as obj
 use Rattle.machine_state.specs.py_world.World.{Stored, Locals}
-use Rattle.machine_state.specs.py_world.Calls.{arguments_for, builtin_called, entered, function_called, function_with, mark_or}
-use Rattle.std.specs.Prelude.{Result, slice_get}
+use Rattle.machine_state.specs.py_world.Calls.{arguments_for, builtin_called, called_or, class_called, entered, function_called, function_of_object, function_with, invoke, mark_or, not_callable}
+use Rattle.std.specs.Prelude.{Result, is_some, slice_get}
 use Rattle.machine_call.specs.Depth.{code_called}
 use Rattle.machine_call.specs.Products.{product_called, uncalled, uncalled_or}
 use Rattle.machine_call.specs.declared.objects.CodeCall.{CodeCall}
@@ -196,3 +202,34 @@ module _ (n l : ℕ) (st : Option (Stored CoreFn)) (none : Raise) (names : Resul
 
   pub code_missing : st ≡ None → l ≡ n → t ≡ k (raised none a.trace s) → ends n (code_called st names none a s k) ≡ ends l t
   code_missing there less is = rw (there, less, is) refl
+
+-- a call of a function
+pub function_called_at_once : (o : Option Obj) (none : Raise) (args : Arguments) (a : Around) (s : CoreState) (k : CoreThen) (class : ClassObj → CoreRest)
+    → is_some (function_of_object o) ≡ true → called_or entry o none args a s k class ≡ function_or (function_of_object o) none args a s k
+function_called_at_once (Some (obj.Function f)) none args a s k class is = refl
+function_called_at_once (Some (obj.Text x)) none args a s k class is = absurd cc
+function_called_at_once (Some (obj.List x)) none args a s k class is = absurd cc
+function_called_at_once (Some (obj.Tuple x)) none args a s k class is = absurd cc
+function_called_at_once (Some (obj.Dict x)) none args a s k class is = absurd cc
+function_called_at_once (Some (obj.Range x)) none args a s k class is = absurd cc
+function_called_at_once (Some (obj.Method x)) none args a s k class is = absurd cc
+function_called_at_once (Some (obj.Builtin x)) none args a s k class is = absurd cc
+function_called_at_once (Some (obj.Class x)) none args a s k class is = absurd cc
+function_called_at_once (Some (obj.Instance x)) none args a s k class is = absurd cc
+function_called_at_once (Some (obj.Exception x)) none args a s k class is = absurd cc
+function_called_at_once (Some (obj.Module x)) none args a s k class is = absurd cc
+function_called_at_once (Some (obj.Fixture x)) none args a s k class is = absurd cc
+function_called_at_once (Some obj.MarkMaker) none args a s k class is = absurd cc
+function_called_at_once (Some (obj.Mark x)) none args a s k class is = absurd cc
+function_called_at_once (Some (obj.Hook x)) none args a s k class is = absurd cc
+function_called_at_once (Some (obj.Param x)) none args a s k class is = absurd cc
+function_called_at_once (Some (obj.Request x)) none args a s k class is = absurd cc
+function_called_at_once (Some (obj.Raises x)) none args a s k class is = absurd cc
+function_called_at_once (Some (obj.Info x)) none args a s k class is = absurd cc
+function_called_at_once (Some (obj.Item x)) none args a s k class is = absurd cc
+function_called_at_once None none args a s k class is = absurd cc
+
+pub called_at_once : (callee : Value) (id : ObjId) (args : Arguments) (a : Around) (s : CoreState) (k : CoreThen) → callee ≡ val.Ref id → is_some (function_of_object (slice_get (heap_of s) id.at)) ≡ true
+    → invoke entry callee args a s k ≡ function_or (function_of_object (slice_get (heap_of s) id.at)) (not_callable (kind_name (heap_of s) callee)) args a s k
+called_at_once callee id args a s k is found =
+    rw is (function_called_at_once (slice_get (heap_of s) id.at) (not_callable (kind_name (heap_of s) (val.Ref id))) args a s k (λ (c : ClassObj). class_called entry id c args a s k) found)

@@ -1,4 +1,3 @@
-pub mod NamedParameters
 pub mod Calling
 pub mod Entering
 pub mod Classes

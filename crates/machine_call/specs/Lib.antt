@@ -1,4 +1,3 @@
-pub mod Given
 pub mod Depth
 pub mod Called
 pub mod Products

@@ -11,9 +11,9 @@ ghost use Rattle.machine_state.specs.Frames.{around_by, opened, machine_rest, st
 ghost use Rattle.machine_call.specs.Products as products;
 ghost use Rattle.pytest_calls.specs.Marks as marks;
 
-use crate::arguments::with_first;
 use crate::enter::not_callable;
 use call_products::product::{Product, add_all, product_within};
+use machine_arguments::arguments::with_first;
 use machine_state::arguments::CallArguments;
 use machine_state::locals::Locals;
 use machine_state::machine::{Machine, NextAction, Origin, TurnEnd};

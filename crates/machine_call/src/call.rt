@@ -13,8 +13,9 @@ ghost use Rattle.machine_state.specs.Work.{doing_work, Falls};
 ghost use Rattle.machine_call.specs.Depth.{Ready};
 ghost use Rattle.machine_call.specs.Called.{call_rest, Calls};
 
-use crate::class::{CallProgress, call_at};
+use crate::class::{CallProgress, call_at, is_function};
 use crate::enter::not_callable;
+use crate::objects::call_function;
 use machine_state::arguments::CallArguments;
 use machine_state::frame::{CallerFrame, End};
 use machine_state::machine::{Machine, NextAction, Origin, TurnEnd};
@@ -81,6 +82,20 @@ pub fn enter_call(
 
 ghost use Rattle.machine_state.specs.declared.machine.Entry.TheVariants as Entry;
 
+/// A call by the code without its step: a function is called at once.
+#[tactic(auto, using(crate::proofs::Calling::called_at_once))]
+fn call_now(m: &mut Machine, callee: Value, args: &CallArguments) -> Result<TurnEnd, OutOfMemory>
+    ensures next { IfOk result (λ t. Follows t m.new m.old.left (world.invoke entry callee (arguments_in args.now) (around_by Origin.Code m.old) (state_of m.old) (λ o. machine_rest m.old (call_end (state_of m.old) o)))) }
+    ensures left { m.new.left ≤ m.old.left }
+{
+    if let Value::Ref(id) = callee {
+        if is_function(&m.heap, id) {
+            return call_function(m, callee, id, args, Origin::Code);
+        }
+    }
+    invoke(m, callee, args, Origin::Code)
+}
+
 /// A call: its step, and then the call.
 pub fn apply(m: &mut Machine, callee: Value, args: CallArguments) -> Result<TurnEnd, OutOfMemory>
     ensures next { IfOk result (λ t. Follows t m.new m.old.left (expression.called callee (arguments_in args) (site_now m.old) (state_of m.old) (machine_rest m.old))) }
@@ -89,7 +104,7 @@ pub fn apply(m: &mut Machine, callee: Value, args: CallArguments) -> Result<Turn
     if !m.spend() {
         return Ok(TurnEnd::Exhausted(m.trace(Origin::Code)?));
     }
-    invoke(m, callee, &args, Origin::Code)
+    call_now(m, callee, &args)
 }
 
 /// Goes on in the caller.

@@ -11,9 +11,9 @@ ghost use Rattle.machine_state.specs.Frames.{around_by, machine_rest, state_of, 
 ghost use Rattle.machine_call.specs.Depth.{Ready};
 ghost use Rattle.machine_call.specs.Called.{bare_called, bare_misfit, call_rest, called_class, Calls};
 
-use crate::arguments::raise_misfit;
 use crate::enter::{not_callable, refuse};
 use crate::objects::{call_object, call_with};
+use machine_arguments::arguments::raise_misfit;
 use machine_items::exceptions::class_by;
 use machine_state::arguments::CallArguments;
 use machine_state::frame::{End, Frame};
@@ -87,7 +87,7 @@ fn class_in(heap: &Heap, id: ObjId) -> Option<&ClassObj>
 }
 
 /// Whether a function is at a place.
-fn is_function(heap: &Heap, id: ObjId) -> bool
+pub(crate) fn is_function(heap: &Heap, id: ObjId) -> bool
     ensures { result ≡ is_some (world.function_of_object (slice_get heap.now id.at)) }
 {
     match heap.get(id) {

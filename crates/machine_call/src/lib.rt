@@ -12,9 +12,7 @@
 //!   before the arguments; a call takes a step; a built-in function or method, a class of a built-in kind and a mark that was not called
 //!   pay for what they make; another class makes an instance, whose `__init__` is called where there is one, and which is given whatever
 //!   that gives. No step is gained (`left`), and what is left to do falls (`work`).
-//! - `fitting` gives the names with which a function's body begins, whether or not it yields, and `call_fitting` enters it with them.
-//! - `arguments_for` gives the local names with which a function begins, or what is raised in their place: each parameter has its argument
-//!   by position, its argument by name or its default.
+//! - `call_fitting` enters a function with the names with which its body begins.
 //!
 //! # What tests alone show
 //!
@@ -25,7 +23,6 @@
 //! Time and memory.
 #![tactic(auto)]
 
-pub mod arguments;
 mod builtins;
 pub mod call;
 mod class;

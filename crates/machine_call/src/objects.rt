@@ -12,9 +12,9 @@ ghost use Rattle.machine_call.specs.Depth.{Ready};
 ghost use Rattle.machine_call.specs.Called.{call_by, function_or, object_called};
 ghost use Rattle.machine_call.specs.Called as calls;
 
-use crate::arguments::{arguments_for, with_receiver};
 use crate::builtins::{call_builtin, call_mark, call_received, uncalled_mark};
 use crate::enter::{invoke_code, not_callable};
+use machine_arguments::arguments::{arguments_for, with_receiver};
 use machine_state::arguments::CallArguments;
 use machine_state::locals::Locals;
 use machine_state::machine::{Machine, Origin, TurnEnd};
@@ -85,7 +85,7 @@ fn function_call(
 
 /// Calls the function at a place; where there is none, the callee can't be called.
 #[tactic(auto, using(crate::proofs::Calling::function_goes, crate::proofs::Calling::no_function_goes))]
-fn call_function(
+pub(crate) fn call_function(
     m: &mut Machine,
     callee: Value,
     function: ObjId,

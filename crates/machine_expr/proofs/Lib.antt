@@ -3,4 +3,3 @@ pub mod Displays
 pub mod Rows
 pub mod Noted
 pub mod Weights
-pub mod Shapes

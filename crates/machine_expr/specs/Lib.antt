@@ -1,4 +1,3 @@
 pub mod Groups
 pub mod Noting
 pub mod Pairs
-pub mod Shapes

@@ -12,8 +12,8 @@ ghost use Rattle.machine_expr.specs.Noting.{with_note};
 
 use crate::containers::{begin_attribute, begin_dict, begin_display, begin_slice, begin_subscript};
 use crate::group::{Group, kind_group};
-use crate::shape::shape;
-use machine_immediate::immediate::at_once;
+use machine_arguments::shape::shape;
+use machine_immediate::immediate::{at_once, at_once_unless_call};
 use machine_immediate::part::{next_argument, temp_value};
 use machine_state::frame::{CallFrame, ChainFrame, Display, End, Frame, OperandFrame};
 use machine_state::machine::{Machine, NextAction, Origin};
@@ -313,7 +313,7 @@ fn begin_binary(
     ensures left { m.new.left ≤ m.old.left }
     ensures work { IfOk result (λ d. doing_work d + stack_work m.new ≤ weight a.now.value + (weight b.now.value + 2 + stack_work m.old)) }
 {
-    match at_once(m, a)? {
+    match at_once_unless_call(m, a)? {
         Some(there) => {
             m.left = there.left;
             begin_right(m, there.value, op, b)

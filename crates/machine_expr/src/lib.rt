@@ -11,7 +11,6 @@
 //! - `evaluate`, for each form of core expressions: the run of what is left stays the same (`next`), no step is gained (`left`), and it leaves
 //!   less to do (`work`).
 //! - `arguments`: the run of what is left of the call stays the same, under the steps that are left (`next`, `left`).
-//! - `shape` gives the arguments of a call by position and by name (`arguments_of`), in the order of the text.
 //!
 //! # What tests alone show
 //!
@@ -25,4 +24,3 @@
 pub mod containers;
 pub mod evaluate;
 pub mod group;
-pub mod shape;

@@ -1,3 +1,4 @@
 pub mod Parts
 pub mod AtOnce
+pub mod Opened
 pub mod Numbers

@@ -2,14 +2,20 @@
 //!
 //! # What it is for
 //!
-//! What makes no object, raises nothing and calls nothing within the steps that are left is evaluated where it stands (`at_once`), without
-//! a frame and a turn, and pays each step that the meaning says. `value_by` and `answer_by` tell the value of an operator or a comparison
-//! that is a number or a boolean and is made of two values alone; `operate_now` looks there first. The parts of an expression are handed
-//! out by their places (`part_at`, `op_at`, `next_argument`).
+//! What makes no object and raises nothing within the steps that are left is evaluated where it stands (`at_once`), without a frame and a
+//! turn, and pays each step that the meaning says: constants, bound names, temporaries, and operators and comparisons of what is there at
+//! once. In every eighth of the functions that are open one within another, this holds of calls too, of functions whose bodies only choose
+//! and return: a recursion of these is evaluated so from there on, sixteen calls deep or so. What is looked into in vain is run then; since
+//! seven functions out of eight don't look, no body is looked into in vain more than twice. `at_once_unless_call` leaves out a call, which
+//! was looked into with what it is an operand of.
+//!
+//! `value_by` and `answer_by` tell the value of an operator or a comparison that is a number or a boolean and is made of two values alone;
+//! `operate_now` looks there first. The parts of an expression are handed out by their places (`part_at`, `op_at`, `next_argument`).
 //!
 //! # What is proved
 //!
-//! - `at_once`, `operate_now`: the run of the expression is that of what follows its value, under the steps that are left behind it.
+//! - `at_once`, `at_once_unless_call`, `operate_now`: the run of the expression is that of what follows its value, under the steps that are
+//!   left behind it.
 //! - `value_by`: where it gives a value, the operator gives that one of these two values, over any heap, at no cost but its step.
 //! - `answer_by`: where it gives an answer, the comparison gives that boolean over this heap, at no cost but its step.
 //! - `part_at`, `next_argument`, `op_at`: the part or the operator at that place, and none behind the last.
@@ -20,9 +26,12 @@
 //!
 //! # What neither shows
 //!
-//! That a value is found at once where it could be; time.
+//! That a value is found at once where it could be; how often an expression is looked into; time.
 #![tactic(auto)]
 
 pub mod immediate;
+mod named;
+mod opening;
+mod operations;
 pub mod part;
 pub mod whole;

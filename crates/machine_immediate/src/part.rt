@@ -5,6 +5,7 @@ ghost use Rattle.machine_state.specs.py_world.Expressions as world;
 ghost use Rattle.machine_state.specs.py_world.Outcome.{Gave};
 ghost use Rattle.machine_state.specs.py_world.World.{temp};
 ghost use Rattle.machine_state.specs.Frames.{state_of};
+ghost use Rattle.machine_state.specs.Places.{CoreState};
 ghost use Rattle.machine_immediate.specs.Parts.{IsNext, IsNextOp};
 
 use machine_state::machine::Machine;
@@ -46,12 +47,19 @@ pub fn next_argument(
     part_at(es, so_far.len())
 }
 
-/// The value of a temporary.
-pub fn temp_value(m: &Machine, t: u32) -> Value
-    ensures { Gave result (state_of m.now) ≡ world.temp_found (temp t (state_of m.now)) (state_of m.now) }
+/// The value of a temporary among others.
+pub fn temp_in(temps: &[Option<Value>], t: u32) -> Value
+    ensures { (s : CoreState) → s.temps ≡ temps.now → Gave result s ≡ world.temp_found (temp t s) s }
 {
-    match m.temps.get(t as usize) {
+    match temps.get(t as usize) {
         Some(Some(v)) => *v,
         _ => Value::None,
     }
+}
+
+/// The value of a temporary of the machine.
+pub fn temp_value(m: &Machine, t: u32) -> Value
+    ensures { Gave result (state_of m.now) ≡ world.temp_found (temp t (state_of m.now)) (state_of m.now) }
+{
+    temp_in(&m.temps, t)
 }

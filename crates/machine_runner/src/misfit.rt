@@ -10,7 +10,7 @@ ghost use Rattle.machine_state.specs.Places.{arguments_in};
 ghost use Rattle.machine_state.specs.Frames.{state_of, world_of};
 ghost use Rattle.machine_runner.specs.Begun.{Begins, Fits, FitsCall, FitsNames};
 
-use machine_call::arguments::{arguments_for, with_first};
+use machine_arguments::arguments::{arguments_for, with_first};
 use machine_load::{Ended, Outcome, Thrown, Trace, TraceFrame};
 use machine_state::arguments::CallArguments;
 use machine_state::locals::Locals;

@@ -12,7 +12,7 @@ ghost use Rattle.machine_state.specs.Frames.{world_of};
 ghost use Rattle.machine_runner.specs.Openings.{opening_rest};
 
 use crate::misfit::{Misfit, frame_of};
-use machine_call::arguments::{fitting, with_first};
+use machine_arguments::arguments::{fitting, with_first};
 use machine_state::code::Code;
 use machine_state::locals::Locals;
 use machine_state::machine::Machine;

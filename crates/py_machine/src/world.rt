@@ -45,7 +45,7 @@ impl Drop for World {
 
 impl Model for World {
     ghost use Rattle.lower_law.specs.source_meaning.Meaning.{SourceWorld};
-    ghost use Rattle.lower_law.proofs.Codes.{world_code};
+    ghost use Rattle.source_meaning.proofs.Codes.{world_code};
 
     ghost Value = { SourceWorld };
 

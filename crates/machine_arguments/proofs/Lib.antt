@@ -1,0 +1,2 @@
+pub mod NamedParameters
+pub mod Shapes
