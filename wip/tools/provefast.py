@@ -5,7 +5,7 @@
 import sys,json,os
 src=open('/work/h/bin/prove.py').read().split("words=sys.argv[1:]")
 exec(src[0])
-J={'py_values':2,'py_kinds':2,'py_operands':2,'py_ops':2,'py_compare':2,'py_repr':2,'call_products':2,'text_methods':2,'pytest_calls':2,'py_calls':2,'machine_state':3,'machine_names':2,'machine_items':2,'machine_expr':4,'machine_store':4,'machine_unwind':3,'machine_flow':2,'machine_define':2,'machine_import':2,'machine_call':2,'machine_load':2,'machine_simple':2,'machine_stmt':4,'py_machine':4,'tracebacks':2,'py_load':2,'runtest_rules':3,'fixture_world':2,'run_items':3,'collect_items':3,'collect_tree':3,'pytest_core':4,'program_tests':2,'acceptance':2}
+J={}
 from concurrent.futures import ThreadPoolExecutor, wait, FIRST_COMPLETED
 MOST=int(os.environ.get('MOST','9'))
 J.update((w.split('=')[0],int(w.split('=')[1])) for w in os.environ.get('JOBS','').split())
@@ -33,9 +33,11 @@ def in_lanes(tasks):
             if not ready and not running:
                 import time; time.sleep(5); continue
             ready.sort(key=lambda k:u.get(k[0],0))
+            try: most=int(open(os.environ.get('MOSTFILE','/work/h/most')).read())
+            except Exception: most=MOST
             for key in ready:
                 n=u.get(key[0],0)
-                if len(running)>=MOST+(4 if n<=-16 else 0) and running: break
+                if len(running)>=most and running: break
                 left.remove(key); running[pool.submit(tasks[key][3],given,J.get(key[0],1))]=key
             for it in wait(running,timeout=20,return_when=FIRST_COMPLETED).done: given[running.pop(it)]=it.result()
     return given

@@ -21,7 +21,7 @@ def stamp(self):
     return stamps[k]
 lib.Crate.stamp=stamp
 lib.Crate=Crate
-root='/work/h/fast'; os.chdir(root)
+root=sys.argv.pop(1); os.chdir(root)
 name=sys.argv[1]; flags=sys.argv[2:]
 KIT=lib.KIT
 crates={c.name:c for c in lib.crates_below(root)}
@@ -40,7 +40,7 @@ for d in ext: words+=["--extern",f"{d.name}={d.rlib}"]
 for d in srcs:
     uses=dict.fromkeys(["core",*d.of_kit,*[it.name for it in d.deps]])
     words+=["--lib",f"{d.name}:{','.join(uses)}={d.folder}/src/lib.rt"]
-words+=["--antt-project",f"{KIT}/rattle/logic/antt-project.json","--logic-built",f"{KIT}/logic_built","--jobs","1","--links",f"{name}=","--incremental","/work/h/fasttool/inc",*flags]
+words+=["--antt-project",f"{KIT}/rattle/logic/antt-project.json","--logic-built",f"{KIT}/logic_built","--jobs","1","--links",f"{name}=","--incremental","/work/h/inc",*flags]
 print('sources:',' '.join(d.name for d in srcs),flush=True)
-os.makedirs('/work/h/fasttool/inc',exist_ok=True)
-sys.exit(subprocess.run(['nice','-n','4','/opt/rattle/bin/rattle','check',*words]).returncode)
+os.makedirs('/work/h/inc',exist_ok=True)
+sys.exit(subprocess.run(['nice','-n','0','/opt/rattle/bin/rattle','check',*words]).returncode)
