@@ -1,25 +1,28 @@
-//! Reads rows on sources of expressions, and says which of them give something else than what they want.
+//! Reads rows on sources, and says which of them give something else than what they want.
 //!
 //! # What it is for
 //!
-//! The tree of each form of expression is CPython's, with the line and the column of each part, and the first faults of texts that are none
-//! stand where a plain model has them. Each form that holds another of its own is read a hundred levels deep, also inside a hundred
-//! blocks, and refused at its token with one level more. Rows that begin with `wrong` want what isn't given, and must be told, so that
-//! a check that passes everything is seen.
+//! The tree of each form of statement and of expression is CPython's, with the line and the column of each part, and the first faults of
+//! texts that have none stand where a plain model has them. Each form of expression that holds another of its own is read a hundred levels
+//! deep, also inside a hundred blocks, and refused at its token with one level more; and so are blocks. Rows that begin with `wrong` want
+//! what isn't given, and must be told, so that a check that passes everything is seen.
 //!
 //! A line of `stdin` is a row: what is done, a text and what is wanted, with a tab between them. `read` reads the text, in which `␊` is a
-//! line end: it gives the trees of the expressions that it has, or its fault with line and column. `nest` and a number reads a name
-//! with so many times before it what stands before `…`, and behind it what stands behind. `nest`, a number, `in` and another one does so
-//! inside as many blocks: the text has first the line that begins a block, then what stands before the nested name on the last line.
-//! Lines that begin with `#`, and empty ones, are no rows. `wip/checks/expressions/rows.py` makes them. Each is read on a thread of its
-//! own, on the stack that threads have.
+//! line end: it gives the trees of its statements, or its fault with line and column. `repeat` and a number reads the text so many times
+//! in a row. `nest` and a number reads a name with so many times before it what stands before `…`, and behind it what stands behind.
+//! `nest`, a number, `in` and another one does so inside as many blocks: the text has first the line that begins a block, then what stands
+//! before the nested name on the last line. `blocks` and a number parses the tokens of as many blocks that the word begins, since no text
+//! has so many indents. Lines that begin with `#`, and empty ones, are no rows. `wip/checks/expressions/rows.py` makes them. Each is read
+//! on a thread of its own, on the stack that threads have.
 //!
 //! # What is proved
 //!
 //! That the program is safe and ends.
 #![tactic(auto)]
 
+mod blocks;
 mod row;
+mod statement;
 mod told;
 mod writer;
 

@@ -5,7 +5,7 @@ use py_source::{Pos, SrcText};
 use py_tree::{ArgName, BinOp, CmpOp, Expr, ExprKind, UnOp};
 use std::rc::Rc;
 
-fn binary(op: BinOp) -> &'static str {
+pub fn binary(op: BinOp) -> &'static str {
     match op {
         BinOp::Add => "+",
         BinOp::Sub => "-",
@@ -52,7 +52,7 @@ pub fn place(out: &mut Writer, at: Pos) {
     out.put_number(i128::from(at.column));
 }
 
-fn characters(out: &mut Writer, all: &SrcText) {
+pub fn characters(out: &mut Writer, all: &SrcText) {
     for c in all.chars() {
         out.put_char(*c);
     }
@@ -157,14 +157,14 @@ pub fn tree(out: &mut Writer, e: &Expr) {
 }
 
 #[cycle(tree)]
-fn trees(out: &mut Writer, all: &[Rc<Expr>]) {
+pub fn trees(out: &mut Writer, all: &[Rc<Expr>]) {
     for e in all {
         tree(out, e);
     }
 }
 
 #[cycle(tree)]
-fn maybe(out: &mut Writer, e: &Option<Rc<Expr>>) {
+pub fn maybe(out: &mut Writer, e: &Option<Rc<Expr>>) {
     match e {
         Some(e) => tree(out, e),
         None => out.put(" _"),

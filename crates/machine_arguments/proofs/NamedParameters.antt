@@ -106,3 +106,12 @@ module _ (ps : List Param) (vs : List Value) (i : ℕ) (named acc : Locals) wher
   -- none is left
   pub fits_all : length ps ≡ i → length vs ≤ length ps → nothing_named named ≡ true → Some acc ≡ fitted (drop i ps) (drop i vs) named acc
   fits_all e h n = ends_at (λ qs ws. Some acc ≡ fitted qs ws named acc) e h (sym (none_all named acc n))
+
+-- A PARAMETER FOR WHICH THERE IS NO ARGUMENT: its default, where it has one
+module _ (ps : List Param) (i : ℕ) (p : Param) (acc : Locals) where
+  pub fits_default : (v : Value) → i < length ps → p ≡ get_or ps i p → p.default ≡ Some v → fitted (drop i ps) [] [] acc ≡ fitted (drop (i + 1) ps) [] [] (bind_name p.name v acc)
+  fits_default v w h d = rw (add-one, next_of ps i p w h, d) refl
+
+-- no parameter is left
+pub fits_bare : (ps : List Param) (i : ℕ) (acc : Locals) → length ps ≤ i → fitted (drop i ps) [] [] acc ≡ Some acc
+fits_bare ps i acc past = rw (drop_of_length-le ps past) refl

@@ -1,9 +1,10 @@
 // The arguments of calls.
 
-ghost use Rattle.std.specs.Prelude.{◌≡◌, [], ◌∷◌, IfOk, slice_get};
+ghost use Rattle.std.specs.Prelude.{◌≡◌, [], ◌∷◌, IfOk, Some, drop, slice_get, take};
 ghost use Rattle.machine_state.specs.py_world.Arguments.{fitted, with_plain};
 ghost use Rattle.machine_state.specs.py_world.Calls as world;
 ghost use Rattle.machine_state.specs.Places.{arguments_in};
+ghost use Rattle.machine_state.specs.Found.{OnTrue};
 ghost use Rattle.machine_arguments.specs.Given.{given_at};
 
 use machine_state::arguments::CallArguments;
@@ -69,6 +70,22 @@ fn fit(
         return Ok(None);
     }
     Ok(Some(names))
+}
+
+/// Binds the parameters from a place on, for which there is no argument, to their defaults, in the place of the names behind the first
+/// ones; tells whether each has one.
+#[tactic(auto, using(crate::proofs::NamedParameters::fits_default, crate::proofs::NamedParameters::fits_bare))]
+pub fn bind_defaults(params: &[Param], at: usize, bound: &mut Locals) -> Result<bool, OutOfMemory>
+    ensures { IfOk result (λ all. OnTrue all (fitted (drop at params.now) [] [] (take at bound.old) ≡ Some bound.new)) }
+{
+    bound.truncate(at);
+    for i in at..params.len() {
+        let Some(v) = params[i].default else {
+            return Ok(false);
+        };
+        bound.bind(&params[i].name, v)?;
+    }
+    Ok(true)
 }
 
 /// A raise for arguments that don't fit a function or a class.

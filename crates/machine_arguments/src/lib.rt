@@ -2,9 +2,10 @@
 //!
 //! # What it is for
 //!
-//! `shape` tells the arguments of a call by position from those by name. `arguments_for` makes the local names with which a function begins,
-//! `fitting` those of a function that may yield, `with_first` and `with_receiver` put a value before the arguments, and `raise_misfit` is
-//! what is raised where arguments don't fit.
+//! `shape` tells the arguments of a call by position from those by name, where `has_names` says that there are any. `arguments_for` makes the
+//! local names with which a function begins, `fitting` those of a function that may yield, `bind_defaults` those of the parameters that have
+//! no argument, `with_first` and `with_receiver` put a value before the arguments, and `raise_misfit` is what is raised where arguments don't
+//! fit.
 //!
 //! # What is proved
 //!
@@ -12,6 +13,8 @@
 //! - `arguments_for` gives the local names with which a function begins, or what is raised in their place: each parameter has its argument
 //!   by position, its argument by name or its default, and a function that yields is not called. `fitting` gives them whether or not it
 //!   yields.
+//! - `has_names` says whether an argument has a name; `bind_defaults` binds what the meaning binds where no argument is left, and says where a
+//!   parameter has no default.
 //! - `with_first` and `with_receiver` give the same arguments behind the value.
 //!
 //! # What tests alone show

@@ -12,8 +12,8 @@ use py_text::OutOfMemory;
 use py_values::value::Value;
 use std::alloc::Global;
 
-/// Whether an argument has a name.
-fn has_names(names: &[Option<ArgName>]) -> bool
+/// Whether an argument of a call has a name.
+pub fn has_names(names: &[Option<ArgName>]) -> bool
     ensures { result ≡ list_any (λ n. is_some n) names.now }
 {
     names.iter().any(|name| name.is_some())

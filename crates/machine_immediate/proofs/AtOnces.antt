@@ -1,6 +1,7 @@
 -- Values that are there at once.
-use Rattle.std.proofs.Common.{◌≡◌, ◌≤◌, ◌∙◌, ◌+◌, ◌++◌, ℕ, ℤ, List, [], ◌∷◌, map, Option, Some, None, Bool, true, false, IfSome, refl, sym, ap, subst, arith, drop, get_or, length, length-append, ◌<◌}
-use Rattle.std.specs.Prelude.{not}
+use Rattle.std.proofs.Common.{◌≡◌, ◌≤◌, ◌∙◌, ◌+◌, ◌++◌, ℕ, suc, ℤ, List, [], ◌∷◌, map, Option, Some, Bool, true, false, IfSome, refl, sym, ap, subst, arith, drop, get_or, length, append_assoc, append-nil, add-one, drop-cons, ◌<◌}
+use Rattle.std.specs.Prelude.{is_some, not}
+use Rattle.std.specs.List.{list_any}
 use Rattle.std.specs.declared.alloc.Global.{Global}
 use Rattle.std.specs.declared.rc.Rc.{Rc}
 use Rattle.std.specs.declared.vec.Vec.{Vec}
@@ -13,7 +14,10 @@ use Rattle.py_tree.specs.declared.op.BinOp.{BinOp}
 use Rattle.py_tree.specs.declared.op.CmpOp.{CmpOp}
 use Rattle.py_tree.specs.declared.op.UnOp.{UnOp}
 use Rattle.py_values.specs.declared.end.Effect.{Effect}
+use Rattle.py_values.specs.declared.object.FunctionObj.{FunctionObj}
+use Rattle.py_values.specs.declared.rows.Param.{Param}
 use Rattle.py_values.specs.declared.value.Value.{Value}
+use Rattle.py_values.specs.Names.{bind_name}
 use Rattle.py_values.specs.declared.value.Value.TheVariants as val
 use Rattle.py_kinds.specs.Truth.{truth}
 use Rattle.py_ops.specs.Binary.{binary_of}
@@ -21,33 +25,48 @@ use Rattle.py_ops.specs.Compare.{compare_of}
 use Rattle.py_ops.specs.Unary.{unary_of}
 use Rattle.machine_state.specs.py_world.declared.trace.TraceFrame.{TraceFrame}
 use Rattle.machine_state.specs.py_world.declared.ended.Thrown.{Thrown}
-use Rattle.machine_state.specs.py_world.World.{Locals, heap_of, state, temp}
+use Rattle.machine_state.specs.py_core.declared.stmt.CoreFn.{CoreFn}
+use Rattle.machine_state.specs.py_world.World.{Locals, Stored, heap_of, state, temp}
 use Rattle.machine_state.specs.py_world.Site.{trace_of}
-use Rattle.machine_state.specs.py_world.Outcome.{Gave, made, on_value, operated}
-use Rattle.machine_state.specs.py_world.Arguments.{Arguments, arguments_of}
+use Rattle.machine_state.specs.py_world.Outcome.{Gave, call_end, made, on_value, operated}
+use Rattle.machine_state.specs.py_world.Arguments.{Arguments, arguments_of, fitted, positional_arguments}
 use Rattle.machine_state.specs.py_world.Expressions.{arguments, call_on, call_part, called, noted, name_part, constant, unary_part, binary_part, compare_part, compare_on, not_part, temp_part, temp_found, right_operand}
+use Rattle.machine_state.specs.Found.{OnTrue}
+use Rattle.machine_arguments.proofs.Shapes.{without_names}
 use Rattle.machine_state.specs.core_meaning.Expressions.{CorePart, eval, eval_at}
 use Rattle.machine_state.specs.declared.machine.Machine.{Machine}
 use Rattle.machine_state.specs.declared.place.Here.{Here}
 use Rattle.machine_state.specs.Places.{CoreState, CoreThen, at_line, ends, parts_from, site_of}
 use Rattle.machine_state.specs.Frames.{handled_exception, machine_rest, outer_of, site_now, state_of, world_of}
 use Rattle.machine_state.proofs.Costs.{ends_note}
-use Rattle.machine_immediate.specs.declared.immediate.ArgumentValues.{ArgumentValues}
 use Rattle.machine_immediate.specs.declared.immediate.Immediate.{Immediate}
-use Rattle.machine_immediate.specs.AtOnce.{AreThere, IsCalledNow, IsImmediate, IsNameNow, IsOperated, IsThere, ended_at}
+use Rattle.machine_immediate.specs.AtOnce.{AreBound, HasValueIn, IsImmediate, IsNameNow, IsOperated, IsRunNow, ended_at}
+use Rattle.machine_immediate.specs.Opened.{IsCallee}
+use Rattle.machine_immediate.proofs.Openings.{call_opened}
 use Rattle.machine_immediate.proofs.Parts.{next_some, next_none, parts_items}
+
+-- what follows where something was found
+pub on_true : {P Q : Type 0} → (is : Bool) → (P → Q) → OnTrue is P → OnTrue is Q
+on_true true f h = f h
+on_true false f h = tt
+
+pub when_true : {P : Type 0} → (is : Bool) → is ≡ true → OnTrue is P → P
+when_true true e h = h
+when_true false e h = absurd cc
+
+param_at : (ps : List Param) (i : ℕ) (p : Param) → i < length ps → p ≡ get_or ps i p → drop i ps ≡ p ∷ drop (i + 1) ps
+param_at ps i p w h = rw add-one (drop-cons ps i p w ∙ ap (λ q. q ∷ drop (suc i) ps) (sym h))
 
 -- in a place with names and temporaries
 module _ (m : Machine) (here : Here) (names : Locals) (temps : List (Option Value)) where
   abbrev There : CorePart → ℕ → Immediate → Type 0
-  There part left d = IsThere part left d m here names temps
+  There part left d = HasValueIn part left d m here names temps
 
   abbrev the_state : CoreState
   the_state = state names temps (world_of m)
 
-  pub operated_there : (what : Effect) (left : ℕ) (r : Option Immediate) → IfSome r (IsOperated what left) → IfSome r (There (operated what) left)
-  operated_there what left None h = tt
-  operated_there what left (Some d) h = record { fewer = h.fewer; goes_on = λ outer handled line k. h.goes_on (site_of (at_line line here) outer handled) the_state k }
+  operated_there : (what : Effect) (left : ℕ) (d : Immediate) → IsOperated what left d → There (operated what) left d
+  operated_there what left d h = record { fewer = h.fewer; goes_on = λ outer handled line k. h.goes_on (site_of (at_line line here) outer handled) the_state k }
 
   -- parts without parts
   name_there : (name : List ℕ) (left : ℕ) (d : Immediate) → IsNameNow name left d m here names → There (name_part name) left d
@@ -58,10 +77,6 @@ module _ (m : Machine) (here : Here) (names : Locals) (temps : List (Option Valu
         goes_on = λ outer handled line k.
             ap (λ (x : Effect). ends left (k (made x (trace_of (site_of (at_line line here) outer handled)) the_state))) h.bound ∙ ap (λ (n : ℕ). ends n (k (Gave d.value the_state))) (sym free);
       }
-
-  names_there : (name : List ℕ) (left : ℕ) (r : Option Immediate) → IfSome r (λ d. IsNameNow name left d m here names) → IfSome r (There (name_part name) left)
-  names_there name left None h = tt
-  names_there name left (Some d) h = name_there name left d h
 
   constant_there : (v : Value) (left : ℕ) → There (constant v) left (ended_at v left)
   constant_there v left = record { fewer = omega arith; goes_on = λ outer handled line k. refl }
@@ -78,58 +93,61 @@ module _ (m : Machine) (here : Here) (names : Locals) (temps : List (Option Valu
             ap (λ (x : CorePart). ends left (x (site_of (at_line line here) outer handled) the_state k)) e ∙ ends_note left at (part (site_of (at_line line here) outer handled) the_state k) ∙ h.goes_on outer handled line k;
       }
 
-  noted_now : (at : Pos) (part other : CorePart) (left : ℕ) (r : Option Immediate) → other ≡ noted at part → IfSome r (There part left) → IfSome r (There other left)
-  noted_now at part other left None e h = tt
-  noted_now at part other left (Some d) e h = noted_one at part other left d e h
+  noted_now : (at : Pos) (part other : CorePart) (left : ℕ) (is : Bool) (d : Immediate) → other ≡ noted at part → OnTrue is (There part left d) → OnTrue is (There other left d)
+  noted_now at part other left is d e h = on_true is (noted_one at part other left d e) h
 
-  module _ (at : Pos) (kind : CoreExprKind) (left : ℕ) where
-    pub name_form : (name : List ℕ) (r : Option Immediate) → kind ≡ v.Name name → IfSome r (λ d. IsNameNow name left d m here names) → IfSome r (There (eval_at at kind) left)
-    name_form name r is h = noted_now at (name_part name) (eval_at at kind) left r (ap (eval_at at) is) (names_there name left r h)
+  -- what is there at no cost, in the place where it was put
+  put_there : (part : CorePart) (left : ℕ) (is : Bool) (d : Immediate) (v : Value) → is ≡ true → d ≡ ended_at v left → There part left (ended_at v left) → OnTrue is (There part left d)
+  put_there part left true d v e same h = subst (λ (x : Immediate). There part left x) (sym same) h
+  put_there part left false d v e same h = tt
 
-    pub number_form : (n : ℤ) → kind ≡ v.Number n → There (eval_at at kind) left (ended_at (val.Int n) left)
-    number_form n is = noted_one at (constant (val.Int n)) (eval_at at kind) left _ (ap (eval_at at) is) (constant_there (val.Int n) left)
+  module _ (at : Pos) (kind : CoreExprKind) (left : ℕ) (is : Bool) (d : Immediate) where
+    pub name_form : (name : List ℕ) → kind ≡ v.Name name → OnTrue is (IsNameNow name left d m here names) → OnTrue is (There (eval_at at kind) left d)
+    name_form name form h = noted_now at (name_part name) (eval_at at kind) left is d (ap (eval_at at) form) (on_true is (name_there name left d) h)
 
-    pub true_form : kind ≡ v.True → There (eval_at at kind) left (ended_at (val.Bool true) left)
-    true_form is = noted_one at (constant (val.Bool true)) (eval_at at kind) left _ (ap (eval_at at) is) (constant_there (val.Bool true) left)
+    pub number_form : (n : ℤ) → kind ≡ v.Number n → is ≡ true → d ≡ ended_at (val.Int n) left → OnTrue is (There (eval_at at kind) left d)
+    number_form n form sure same = put_there (eval_at at kind) left is d (val.Int n) sure same (noted_one at (constant (val.Int n)) (eval_at at kind) left _ (ap (eval_at at) form) (constant_there (val.Int n) left))
 
-    pub false_form : kind ≡ v.False → There (eval_at at kind) left (ended_at (val.Bool false) left)
-    false_form is = noted_one at (constant (val.Bool false)) (eval_at at kind) left _ (ap (eval_at at) is) (constant_there (val.Bool false) left)
+    pub true_form : kind ≡ v.True → is ≡ true → d ≡ ended_at (val.Bool true) left → OnTrue is (There (eval_at at kind) left d)
+    true_form form sure same = put_there (eval_at at kind) left is d (val.Bool true) sure same (noted_one at (constant (val.Bool true)) (eval_at at kind) left _ (ap (eval_at at) form) (constant_there (val.Bool true) left))
 
-    pub none_form : kind ≡ v.None → There (eval_at at kind) left (ended_at val.None left)
-    none_form is = noted_one at (constant val.None) (eval_at at kind) left _ (ap (eval_at at) is) (constant_there val.None left)
+    pub false_form : kind ≡ v.False → is ≡ true → d ≡ ended_at (val.Bool false) left → OnTrue is (There (eval_at at kind) left d)
+    false_form form sure same = put_there (eval_at at kind) left is d (val.Bool false) sure same (noted_one at (constant (val.Bool false)) (eval_at at kind) left _ (ap (eval_at at) form) (constant_there (val.Bool false) left))
 
-    pub temp_form : (t : ℕ) (x : Value) → kind ≡ v.Temp t → ((s : CoreState) → s.temps ≡ temps → Gave x s ≡ temp_found (temp t s) s) → There (eval_at at kind) left (ended_at x left)
-    temp_form t x is h = rw is (temp_there t x left h)
+    pub none_form : kind ≡ v.None → is ≡ true → d ≡ ended_at val.None left → OnTrue is (There (eval_at at kind) left d)
+    none_form form sure same = put_there (eval_at at kind) left is d val.None sure same (noted_one at (constant val.None) (eval_at at kind) left _ (ap (eval_at at) form) (constant_there val.None left))
 
-    pub paren_form : (a : Rc CoreExpr Global) (r : Option Immediate) → kind ≡ v.Paren a → IfSome r (There (eval a.value) left) → IfSome r (There (eval_at at kind) left)
-    paren_form a r is h = noted_now at (eval a.value) (eval_at at kind) left r (ap (eval_at at) is) h
+    pub temp_form : (t : ℕ) (x : Value) → kind ≡ v.Temp t → ((s : CoreState) → s.temps ≡ temps → Gave x s ≡ temp_found (temp t s) s) → is ≡ true → d ≡ ended_at x left → OnTrue is (There (eval_at at kind) left d)
+    temp_form t x form h sure same = put_there (eval_at at kind) left is d x sure same (rw form (temp_there t x left h))
 
-    pub unary_form : (op : UnOp) (a : Rc CoreExpr Global) (r : Option Immediate) → kind ≡ v.Unary op a → IfSome r (There (unary_part op (eval a.value)) left) → IfSome r (There (eval_at at kind) left)
-    unary_form op a r is h = noted_now at (unary_part op (eval a.value)) (eval_at at kind) left r (ap (eval_at at) is) h
+    pub paren_form : (a : Rc CoreExpr Global) → kind ≡ v.Paren a → OnTrue is (There (eval a.value) left d) → OnTrue is (There (eval_at at kind) left d)
+    paren_form a form h = noted_now at (eval a.value) (eval_at at kind) left is d (ap (eval_at at) form) h
 
-    pub binary_form : (a b : Rc CoreExpr Global) (op : BinOp) (r : Option Immediate) → kind ≡ v.Binary a op b → IfSome r (There (binary_part (eval a.value) op (eval b.value)) left) → IfSome r (There (eval_at at kind) left)
-    binary_form a b op r is h = noted_now at (binary_part (eval a.value) op (eval b.value)) (eval_at at kind) left r (ap (eval_at at) is) h
+    pub unary_form : (op : UnOp) (a : Rc CoreExpr Global) → kind ≡ v.Unary op a → OnTrue is (There (unary_part op (eval a.value)) left d) → OnTrue is (There (eval_at at kind) left d)
+    unary_form op a form h = noted_now at (unary_part op (eval a.value)) (eval_at at kind) left is d (ap (eval_at at) form) h
 
-    pub compare_form : (a : Rc CoreExpr Global) (ops : Rc (Vec CmpOp Global) Global) (es : Rc (Vec (Rc CoreExpr Global) Global) Global) (r : Option Immediate) → kind ≡ v.Compare a ops es → IfSome r (There (compare_part (eval a.value) ops.value.items (parts_from 0 es)) left) → IfSome r (There (eval_at at kind) left)
-    compare_form a ops es r is h =
-        noted_now at (compare_part (eval a.value) ops.value.items (parts_from 0 es)) (eval_at at kind) left r
-        (ap (eval_at at) is ∙ ap (λ (ps : List CorePart). noted at (compare_part (eval a.value) ops.value.items ps)) (parts_items es.value)) h
+    pub binary_form : (a b : Rc CoreExpr Global) (op : BinOp) → kind ≡ v.Binary a op b → OnTrue is (There (binary_part (eval a.value) op (eval b.value)) left d) → OnTrue is (There (eval_at at kind) left d)
+    binary_form a b op form h = noted_now at (binary_part (eval a.value) op (eval b.value)) (eval_at at kind) left is d (ap (eval_at at) form) h
 
-    pub not_form : (a : Rc CoreExpr Global) (r : Option Immediate) → kind ≡ v.Not a → IfSome r (There (not_part (eval a.value)) left) → IfSome r (There (eval_at at kind) left)
-    not_form a r is h = noted_now at (not_part (eval a.value)) (eval_at at kind) left r (ap (eval_at at) is) h
+    pub compare_form : (a : Rc CoreExpr Global) (ops : Rc (Vec CmpOp Global) Global) (es : Rc (Vec (Rc CoreExpr Global) Global) Global) → kind ≡ v.Compare a ops es → OnTrue is (There (compare_part (eval a.value) ops.value.items (parts_from 0 es)) left d) → OnTrue is (There (eval_at at kind) left d)
+    compare_form a ops es form h =
+        noted_now at (compare_part (eval a.value) ops.value.items (parts_from 0 es)) (eval_at at kind) left is d
+        (ap (eval_at at) form ∙ ap (λ (ps : List CorePart). noted at (compare_part (eval a.value) ops.value.items ps)) (parts_items es.value)) h
 
-    pub call_form : (f : Rc CoreExpr Global) (es : Rc (Vec (Rc CoreExpr Global) Global) Global) (ns : Rc (Vec (Option ArgName) Global) Global) (r : Option Immediate) → kind ≡ v.Call f es ns
-        → IfSome r (There (call_part (eval f.value) (arguments_of ns.value.items) (parts_from 0 es)) left) → IfSome r (There (eval_at at kind) left)
-    call_form f es ns r is h =
-        noted_now at (call_part (eval f.value) (arguments_of ns.value.items) (parts_from 0 es)) (eval_at at kind) left r
-        (ap (eval_at at) is ∙ ap (λ (ps : List CorePart). noted at (call_part (eval f.value) (arguments_of ns.value.items) ps)) (parts_items es.value)) h
+    pub not_form : (a : Rc CoreExpr Global) → kind ≡ v.Not a → OnTrue is (There (not_part (eval a.value)) left d) → OnTrue is (There (eval_at at kind) left d)
+    not_form a form h = noted_now at (not_part (eval a.value)) (eval_at at kind) left is d (ap (eval_at at) form) h
+
+    pub call_form : (f : Rc CoreExpr Global) (es : Rc (Vec (Rc CoreExpr Global) Global) Global) (ns : Rc (Vec (Option ArgName) Global) Global) → kind ≡ v.Call f es ns
+        → OnTrue is (There (call_part (eval f.value) (arguments_of ns.value.items) (parts_from 0 es)) left d) → OnTrue is (There (eval_at at kind) left d)
+    call_form f es ns form h =
+        noted_now at (call_part (eval f.value) (arguments_of ns.value.items) (parts_from 0 es)) (eval_at at kind) left is d
+        (ap (eval_at at) form ∙ ap (λ (ps : List CorePart). noted at (call_part (eval f.value) (arguments_of ns.value.items) ps)) (parts_items es.value)) h
 
   -- parts behind one another
-  behind : (part other whole : CorePart) (left : ℕ) (x : Immediate) → There part left x
+  behind : (part other whole : CorePart) (left : ℕ) (x d : Immediate) → There part left x
       → ((outer : List TraceFrame) (handled : Option Thrown) (line : ℕ) (k : CoreThen) → (l : CoreThen) × (ends left (whole (site_of (at_line line here) outer handled) the_state k) ≡ ends left (part (site_of (at_line line here) outer handled) the_state l)) × (l (Gave x.value the_state) ≡ other (site_of (at_line line here) outer handled) the_state k))
-      → (r : Option Immediate) → IfSome r (There other x.left) → IfSome r (There whole left)
-  behind part other whole left x h f None g = tt
-  behind part other whole left x h f (Some d) g =
+      → There other x.left d → There whole left d
+  behind part other whole left x d h f g =
       let a : x.left ≤ left = h.fewer in
       let b : d.left ≤ x.left = g.fewer in
       record {
@@ -137,132 +155,143 @@ module _ (m : Machine) (here : Here) (names : Locals) (temps : List (Option Valu
         goes_on = λ outer handled line k. (f outer handled line k).1 ∙ h.goes_on outer handled line (f outer handled line k).0 ∙ ap (ends x.left) (f outer handled line k).2 ∙ g.goes_on outer handled line k;
       }
 
-  unary_there : (op : UnOp) (a : CorePart) (left : ℕ) (x : Immediate) (r : Option Immediate) → There a left x → IfSome r (IsOperated (unary_of op m.heap x.value) x.left) → IfSome r (There (unary_part op a) left)
-  unary_there op a left x r h g =
-      behind a (operated (unary_of op m.heap x.value)) (unary_part op a) left x h (λ outer handled line k. (λ o. on_value o k (λ y s. operated (unary_of op (heap_of s) y) (site_of (at_line line here) outer handled) s k), refl, refl)) r
-      (operated_there (unary_of op m.heap x.value) x.left r g)
+  unary_there : (op : UnOp) (a : CorePart) (left : ℕ) (x d : Immediate) → There a left x → IsOperated (unary_of op m.heap x.value) x.left d → There (unary_part op a) left d
+  unary_there op a left x d h g =
+      behind a (operated (unary_of op m.heap x.value)) (unary_part op a) left x d h (λ outer handled line k. (λ o. on_value o k (λ y s. operated (unary_of op (heap_of s) y) (site_of (at_line line here) outer handled) s k), refl, refl))
+      (operated_there (unary_of op m.heap x.value) x.left d g)
 
-  right_there : (op : BinOp) (v : Value) (b : CorePart) (left : ℕ) (y : Immediate) (r : Option Immediate) → There b left y → IfSome r (IsOperated (binary_of op m.heap v y.value) y.left) → IfSome r (There (right_operand v op b) left)
-  right_there op v b left y r h g =
-      behind b (operated (binary_of op m.heap v y.value)) (right_operand v op b) left y h (λ outer handled line k. (λ o. on_value o k (λ z s. operated (binary_of op (heap_of s) v z) (site_of (at_line line here) outer handled) s k), refl, refl)) r
-      (operated_there (binary_of op m.heap v y.value) y.left r g)
+  right_there : (op : BinOp) (v : Value) (b : CorePart) (left : ℕ) (y d : Immediate) → There b left y → IsOperated (binary_of op m.heap v y.value) y.left d → There (right_operand v op b) left d
+  right_there op v b left y d h g =
+      behind b (operated (binary_of op m.heap v y.value)) (right_operand v op b) left y d h (λ outer handled line k. (λ o. on_value o k (λ z s. operated (binary_of op (heap_of s) v z) (site_of (at_line line here) outer handled) s k), refl, refl))
+      (operated_there (binary_of op m.heap v y.value) y.left d g)
 
-  binary_there : (op : BinOp) (a b : CorePart) (left : ℕ) (x y : Immediate) (r : Option Immediate) → There a left x → There b x.left y → IfSome r (IsOperated (binary_of op m.heap x.value y.value) y.left) → IfSome r (There (binary_part a op b) left)
-  binary_there op a b left x y r h i g =
-      behind a (right_operand x.value op b) (binary_part a op b) left x h (λ outer handled line k. (λ o. on_value o k (λ z s. right_operand z op b (site_of (at_line line here) outer handled) s k), refl, refl)) r
-      (right_there op x.value b x.left y r i g)
+  binary_there : (op : BinOp) (a b : CorePart) (left : ℕ) (x y d : Immediate) → There a left x → There b x.left y → IsOperated (binary_of op m.heap x.value y.value) y.left d → There (binary_part a op b) left d
+  binary_there op a b left x y d h i g =
+      behind a (right_operand x.value op b) (binary_part a op b) left x d h (λ outer handled line k. (λ o. on_value o k (λ z s. right_operand z op b (site_of (at_line line here) outer handled) s k), refl, refl))
+      (right_there op x.value b x.left y d i g)
 
-  compared_there : (op : CmpOp) (ops : List CmpOp) (a b : CorePart) (left : ℕ) (x y : Immediate) (r : Option Immediate) → There a left x → There b x.left y → IfSome r (IsOperated (compare_of op m.heap x.value y.value) y.left) → IfSome r (There (compare_part a (op ∷ ops) (b ∷ [])) left)
-  compared_there op ops a b left x y r h i g =
-      behind a (compare_on (op ∷ ops) (b ∷ []) x.value) (compare_part a (op ∷ ops) (b ∷ [])) left x h (λ outer handled line k. (λ o. on_value o k (λ z s. compare_on (op ∷ ops) (b ∷ []) z (site_of (at_line line here) outer handled) s k), refl, refl)) r
-      (behind b (operated (compare_of op m.heap x.value y.value)) (compare_on (op ∷ ops) (b ∷ []) x.value) x.left y i
-      (λ outer handled line k. (λ o. on_value o k (λ z s. operated (compare_of op (heap_of s) x.value z) (site_of (at_line line here) outer handled) s k), refl, refl)) r (operated_there (compare_of op m.heap x.value y.value) y.left r g))
+  compared_there : (op : CmpOp) (ops : List CmpOp) (a b : CorePart) (left : ℕ) (x y d : Immediate) → There a left x → There b x.left y → IsOperated (compare_of op m.heap x.value y.value) y.left d → There (compare_part a (op ∷ ops) (b ∷ [])) left d
+  compared_there op ops a b left x y d h i g =
+      behind a (compare_on (op ∷ ops) (b ∷ []) x.value) (compare_part a (op ∷ ops) (b ∷ [])) left x d h (λ outer handled line k. (λ o. on_value o k (λ z s. compare_on (op ∷ ops) (b ∷ []) z (site_of (at_line line here) outer handled) s k), refl, refl))
+      (behind b (operated (compare_of op m.heap x.value y.value)) (compare_on (op ∷ ops) (b ∷ []) x.value) x.left y d i
+      (λ outer handled line k. (λ o. on_value o k (λ z s. operated (compare_of op (heap_of s) x.value z) (site_of (at_line line here) outer handled) s k), refl, refl)) (operated_there (compare_of op m.heap x.value y.value) y.left d g))
 
-  negated_there : (a : CorePart) (left : ℕ) (x : Immediate) → There a left x → (b : Bool) → b ≡ truth m.heap x.value → There (not_part a) left (record { value = val.Bool (not b); left = x.left })
-  negated_there a left x h b e = record { fewer = h.fewer; goes_on = λ outer handled line k. h.goes_on outer handled line _ ∙ ap (λ (t : Bool). ends x.left (k (Gave (val.Bool (not t)) the_state))) (sym e) }
+  negated_there : (a : CorePart) (left : ℕ) (x d : Immediate) → There a left x → (b : Bool) → b ≡ truth m.heap x.value → d ≡ record { value = val.Bool (not b); left = x.left } → There (not_part a) left d
+  negated_there a left x d h b e same =
+      subst (λ (y : Immediate). There (not_part a) left y) (sym same)
+      (record { fewer = h.fewer; goes_on = λ outer handled line k. h.goes_on outer handled line _ ∙ ap (λ (t : Bool). ends x.left (k (Gave (val.Bool (not t)) the_state))) (sym e) })
 
-  -- what helpers found
-  pub found_there : (part : CorePart) (left : ℕ) (r : Option Immediate) (x : Immediate) → r ≡ Some x → IfSome r (There part left) → There part left x
-  found_there part left r x is h = subst (λ (o : Option Immediate). IfSome o (There part left)) is h
+  -- the steps of helpers, from what they found
+  pub unary_step : (op : UnOp) (a : Rc CoreExpr Global) (a' : CoreExpr) (left : ℕ) (ix : Bool) (x : Immediate) (is : Bool) (d : Immediate) → a' ≡ a.value → ix ≡ true → OnTrue ix (There (eval a') left x)
+      → OnTrue is (IsOperated (unary_of op m.heap x.value) x.left d) → OnTrue is (There (unary_part op (eval a.value)) left d)
+  unary_step op a a' left ix x is d ea sure h g =
+      subst (λ (e : CoreExpr). OnTrue is (There (unary_part op (eval e)) left d)) ea (on_true is (unary_there op (eval a') left x d (when_true ix sure h)) g)
 
-  pub unary_step : (op : UnOp) (a : Rc CoreExpr Global) (a' : CoreExpr) (left : ℕ) (rx : Option Immediate) (x : Immediate) (r : Option Immediate) → a' ≡ a.value → rx ≡ Some x → IfSome rx (There (eval a') left)
-      → IfSome r (IsOperated (unary_of op m.heap x.value) x.left) → IfSome r (There (unary_part op (eval a.value)) left)
-  unary_step op a a' left rx x r ea is h g =
-      subst (λ (e : CoreExpr). IfSome r (There (unary_part op (eval e)) left)) ea (unary_there op (eval a') left x r (found_there (eval a') left rx x is h) g)
+  pub binary_step : (op : BinOp) (a b : Rc CoreExpr Global) (a' b' : CoreExpr) (left : ℕ) (ix : Bool) (x : Immediate) (iy : Bool) (y : Immediate) (is : Bool) (d : Immediate) → a' ≡ a.value → b' ≡ b.value
+      → ix ≡ true → OnTrue ix (There (eval a') left x) → iy ≡ true → OnTrue iy (There (eval b') x.left y)
+      → OnTrue is (IsOperated (binary_of op m.heap x.value y.value) y.left d) → OnTrue is (There (binary_part (eval a.value) op (eval b.value)) left d)
+  binary_step op a b a' b' left ix x iy y is d ea eb xs h ys i g =
+      subst (λ (e : CoreExpr). OnTrue is (There (binary_part (eval a.value) op (eval e)) left d)) eb
+      (subst (λ (e : CoreExpr). OnTrue is (There (binary_part (eval e) op (eval b')) left d)) ea
+      (on_true is (binary_there op (eval a') (eval b') left x y d (when_true ix xs h) (when_true iy ys i)) g))
 
-  pub binary_step : (op : BinOp) (a b : Rc CoreExpr Global) (a' b' : CoreExpr) (left : ℕ) (rx : Option Immediate) (x : Immediate) (ry : Option Immediate) (y : Immediate) (r : Option Immediate) → a' ≡ a.value → b' ≡ b.value
-      → rx ≡ Some x → IfSome rx (There (eval a') left) → ry ≡ Some y → IfSome ry (There (eval b') x.left)
-      → IfSome r (IsOperated (binary_of op m.heap x.value y.value) y.left) → IfSome r (There (binary_part (eval a.value) op (eval b.value)) left)
-  binary_step op a b a' b' left rx x ry y r ea eb is h js i g =
-      subst (λ (e : CoreExpr). IfSome r (There (binary_part (eval a.value) op (eval e)) left)) eb
-      (subst (λ (e : CoreExpr). IfSome r (There (binary_part (eval e) op (eval b')) left)) ea
-      (binary_there op (eval a') (eval b') left x y r (found_there (eval a') left rx x is h) (found_there (eval b') x.left ry y js i) g))
-
-  pub comparison_step : (op : CmpOp) (ops more : List CmpOp) (a b : Rc CoreExpr Global) (es : Rc (Vec (Rc CoreExpr Global) Global) Global) (a' b' : CoreExpr) (left : ℕ) (rx : Option Immediate) (x : Immediate) (ry : Option Immediate) (y : Immediate) (r : Option Immediate)
+  pub comparison_step : (op : CmpOp) (ops more : List CmpOp) (a b : Rc CoreExpr Global) (es : Rc (Vec (Rc CoreExpr Global) Global) Global) (a' b' : CoreExpr) (left : ℕ) (ix : Bool) (x : Immediate) (iy : Bool) (y : Immediate) (is : Bool) (d : Immediate)
       → a' ≡ a.value → b' ≡ b.value → ops ≡ op ∷ more → parts_from 0 es ≡ eval b.value ∷ []
-      → rx ≡ Some x → IfSome rx (There (eval a') left) → ry ≡ Some y → IfSome ry (There (eval b') x.left)
-      → IfSome r (IsOperated (compare_of op m.heap x.value y.value) y.left) → IfSome r (There (compare_part (eval a.value) ops (parts_from 0 es)) left)
-  comparison_step op ops more a b es a' b' left rx x ry y r ea eb eo one is h js i g =
-      subst (λ (ps : List CorePart). IfSome r (There (compare_part (eval a.value) ops ps) left)) (sym one)
-      (subst (λ (os : List CmpOp). IfSome r (There (compare_part (eval a.value) os (eval b.value ∷ [])) left)) (sym eo)
-      (subst (λ (e : CoreExpr). IfSome r (There (compare_part (eval a.value) (op ∷ more) (eval e ∷ [])) left)) eb
-      (subst (λ (e : CoreExpr). IfSome r (There (compare_part (eval e) (op ∷ more) (eval b' ∷ [])) left)) ea
-      (compared_there op more (eval a') (eval b') left x y r (found_there (eval a') left rx x is h) (found_there (eval b') x.left ry y js i) g))))
+      → ix ≡ true → OnTrue ix (There (eval a') left x) → iy ≡ true → OnTrue iy (There (eval b') x.left y)
+      → OnTrue is (IsOperated (compare_of op m.heap x.value y.value) y.left d) → OnTrue is (There (compare_part (eval a.value) ops (parts_from 0 es)) left d)
+  comparison_step op ops more a b es a' b' left ix x iy y is d ea eb eo one xs h ys i g =
+      subst (λ (ps : List CorePart). OnTrue is (There (compare_part (eval a.value) ops ps) left d)) (sym one)
+      (subst (λ (os : List CmpOp). OnTrue is (There (compare_part (eval a.value) os (eval b.value ∷ [])) left d)) (sym eo)
+      (subst (λ (e : CoreExpr). OnTrue is (There (compare_part (eval a.value) (op ∷ more) (eval e ∷ [])) left d)) eb
+      (subst (λ (e : CoreExpr). OnTrue is (There (compare_part (eval e) (op ∷ more) (eval b' ∷ [])) left d)) ea
+      (on_true is (compared_there op more (eval a') (eval b') left x y d (when_true ix xs h) (when_true iy ys i)) g))))
 
-  pub negation_step : (a : Rc CoreExpr Global) (a' : CoreExpr) (left : ℕ) (rx : Option Immediate) (x : Immediate) (b : Bool) → a' ≡ a.value → rx ≡ Some x → IfSome rx (There (eval a') left) → b ≡ truth m.heap x.value
-      → There (not_part (eval a.value)) left (record { value = val.Bool (not b); left = x.left })
-  negation_step a a' left rx x b ea is h e =
-      subst (λ (y : CoreExpr). There (not_part (eval y)) left (record { value = val.Bool (not b); left = x.left })) ea (negated_there (eval a') left x (found_there (eval a') left rx x is h) b e)
+  pub negation_step : (a : Rc CoreExpr Global) (a' : CoreExpr) (left : ℕ) (ix : Bool) (x : Immediate) (b : Bool) (d : Immediate) → a' ≡ a.value → ix ≡ true → OnTrue ix (There (eval a') left x) → b ≡ truth m.heap x.value
+      → d ≡ record { value = val.Bool (not b); left = x.left } → There (not_part (eval a.value)) left d
+  negation_step a a' left ix x b d ea sure h e same =
+      subst (λ (y : CoreExpr). There (not_part (eval y)) left d) ea (negated_there (eval a') left x d (when_true ix sure h) b e same)
 
-  -- ARGUMENTS one after another
-  pub arguments_over : (parts : List CorePart) (vs : List Value) (g : ArgumentValues) (left : ℕ) → parts ≡ [] → g.values.items ≡ vs → g.left ≡ left → AreThere parts vs left g m here names temps
-  arguments_over parts vs g left none same free =
+  -- PARAMETERS, one after another: the rest have no arguments
+  bound_over : (parts : List CorePart) (params : List Param) (so_far bound : Locals) (left : ℕ) → parts ≡ [] → fitted params [] [] so_far ≡ Some bound → AreBound parts params so_far bound left left m here names temps
+  bound_over parts params so_far bound left none fits =
       record {
-        fewer = omega (arith, free);
-        goes_on = λ outer handled line k go.
-            ap (λ (ps : List CorePart). ends left (arguments ps vs (site_of (at_line line here) outer handled) the_state k go)) none ∙ ap (λ (ws : List Value). ends left (go ws the_state)) (sym same)
-            ∙ ap (λ (n : ℕ). ends n (go g.values.items the_state)) (sym free);
+        values = [];
+        fits = fits;
+        fewer = omega arith;
+        goes_on = λ before outer handled line k go.
+            ap (λ (ps : List CorePart). ends left (arguments ps before (site_of (at_line line here) outer handled) the_state k go)) none
+            ∙ ap (λ (vs : List Value). ends left (go vs the_state)) (sym (append-nil before));
       }
 
-  argument_more : (e : CorePart) (parts rest : List CorePart) (vs : List Value) (left : ℕ) (x : Immediate) (g : ArgumentValues) → parts ≡ e ∷ rest → There e left x → AreThere rest (vs ++ x.value ∷ []) x.left g m here names temps → AreThere parts vs left g m here names temps
-  argument_more e parts rest vs left x g is h more =
+  pub defaults_bound : (es : Rc (Vec (Rc CoreExpr Global) Global) Global) (at : ℕ) (params : List Param) (so_far bound : Locals) (left : ℕ) (is : Bool) → length es.value.items ≤ at → OnTrue is (fitted params [] [] so_far ≡ Some bound)
+      → OnTrue is (AreBound (parts_from at es) params so_far bound left left m here names temps)
+  defaults_bound es at params so_far bound left is past h = on_true is (bound_over (parts_from at es) params so_far bound left (next_none es at past)) h
+
+  -- one more has its argument
+  bound_more : (e : CorePart) (parts rest : List CorePart) (p : Param) (params more : List Param) (so_far now bound : Locals) (left behind : ℕ) (x : Immediate) → parts ≡ e ∷ rest → params ≡ p ∷ more → There e left x → now ≡ bind_name p.name x.value so_far
+      → AreBound rest more now bound x.left behind m here names temps → AreBound parts params so_far bound left behind m here names temps
+  bound_more e parts rest p params more so_far now bound left behind x is first h put further =
       let a : x.left ≤ left = h.fewer in
-      let b : g.left ≤ x.left = more.fewer in
+      let b : behind ≤ x.left = further.fewer in
       record {
+        values = x.value ∷ further.values;
+        fits = ap (λ (ps : List Param). fitted ps (x.value ∷ further.values) [] so_far) first ∙ ap (fitted more further.values []) (sym put) ∙ further.fits;
         fewer = omega arith;
-        goes_on = λ outer handled line k go.
-            ap (λ (ps : List CorePart). ends left (arguments ps vs (site_of (at_line line here) outer handled) the_state k go)) is
-            ∙ h.goes_on outer handled line (λ o. on_value o k (λ v s. arguments rest (vs ++ v ∷ []) (site_of (at_line line here) outer handled) s k go)) ∙ more.goes_on outer handled line k go;
+        goes_on = λ before outer handled line k go.
+            ap (λ (ps : List CorePart). ends left (arguments ps before (site_of (at_line line here) outer handled) the_state k go)) is
+            ∙ h.goes_on outer handled line (λ o. on_value o k (λ v s. arguments rest (before ++ v ∷ []) (site_of (at_line line here) outer handled) s k go))
+            ∙ further.goes_on (before ++ x.value ∷ []) outer handled line k go
+            ∙ ap (λ (vs : List Value). ends behind (go vs the_state)) (append_assoc before (x.value ∷ []) further.values);
       }
 
-  pub arguments_more : (es : Rc (Vec (Rc CoreExpr Global) Global) Global) (e : Rc CoreExpr Global) (e' : CoreExpr) (vs now : List Value) (left : ℕ) (rx : Option Immediate) (x : Immediate) (r : Option ArgumentValues)
-      → length vs < length es.value.items → e ≡ get_or es.value.items (length vs) e → e' ≡ e.value → rx ≡ Some x → IfSome rx (There (eval e') left) → now ≡ vs ++ x.value ∷ []
-      → IfSome r (λ g. AreThere (parts_from (length now) es) now x.left g m here names temps) → IfSome r (λ g. AreThere (parts_from (length vs) es) vs left g m here names temps)
-  arguments_more es e e' vs now left rx x None within is same there h pushed more = tt
-  arguments_more es e e' vs now left rx x (Some g) within is same there h pushed more =
-      argument_more (eval e.value) (parts_from (length vs) es) (parts_from (length vs + 1) es) vs left x g (next_some es (length vs) e e within is refl).0
-      (subst (λ (y : CoreExpr). There (eval y) left x) same (found_there (eval e') left rx x there h))
-      (subst (λ (n : ℕ). AreThere (parts_from n es) (vs ++ x.value ∷ []) x.left g m here names temps) (length-append vs (x.value ∷ []))
-      (subst (λ (ws : List Value). AreThere (parts_from (length ws) es) ws x.left g m here names temps) pushed more))
+  pub argument_bound : (es : Rc (Vec (Rc CoreExpr Global) Global) Global) (e : Rc CoreExpr Global) (e' : CoreExpr) (at : ℕ) (ps : List Param) (p : Param) (so_far now bound : Locals) (left behind : ℕ) (ix : Bool) (x : Immediate) (is : Bool)
+      → at < length es.value.items → e ≡ get_or es.value.items at e → e' ≡ e.value → at < length ps → p ≡ get_or ps at p → ix ≡ true → OnTrue ix (There (eval e') left x) → now ≡ bind_name p.name x.value so_far
+      → OnTrue is (AreBound (parts_from (at + 1) es) (drop (at + 1) ps) now bound x.left behind m here names temps) → OnTrue is (AreBound (parts_from at es) (drop at ps) so_far bound left behind m here names temps)
+  argument_bound es e e' at ps p so_far now bound left behind ix x is within same there within_params param sure h put further =
+      on_true is
+      (bound_more (eval e.value) (parts_from at es) (parts_from (at + 1) es) p (drop at ps) (drop (at + 1) ps) so_far now bound left behind x (next_some es at e e within same refl).0
+      (param_at ps at p within_params param) (subst (λ (y : CoreExpr). There (eval y) left x) there (when_true ix sure h)) put)
+      further
 
-  -- A CALL: what is called, the arguments, and the call
-  call_there : (f : CorePart) (shape : List Value → Arguments) (parts : List CorePart) (args : Arguments) (left : ℕ) (x : Immediate) (g : ArgumentValues) (d : Immediate)
-      → There f left x → AreThere parts [] x.left g m here names temps → args ≡ shape g.values.items → IsCalledNow x.value args g.left d m here → There (call_part f shape parts) left d
-  call_there f shape parts args left x g d hf hg is hd =
+  -- A CALL: what is called, the arguments, and the run of its code
+  call_there : (f : CorePart) (ns : List (Option ArgName)) (parts : List CorePart) (left n : ℕ) (x d : Immediate) (o : FunctionObj) (st : Stored CoreFn) (around : ℕ) (bound : Locals)
+      → There f left x → list_any (λ n. is_some n) ns ≡ false → IsCallee x.value o st around m here → AreBound parts o.params [] bound x.left n m here names temps → IsRunNow st around bound n d m → There (call_part f (arguments_of ns) parts) left d
+  call_there f ns parts left n x d o st around bound hf plain callee given run =
       let a : x.left ≤ left = hf.fewer in
-      let b : g.left ≤ x.left = hg.fewer in
-      let c : d.left ≤ g.left = hd.fewer in
+      let b : n ≤ x.left = given.fewer in
+      let paid : n ≡ suc run.behind = run.paid in
+      let c : d.left ≤ run.behind = run.fewer in
       record {
-        fewer = omega arith;
+        fewer = omega (arith, a, b, c, paid);
         goes_on = λ outer handled line k.
-            hf.goes_on outer handled line (λ o. on_value o k (λ c s. call_on c shape parts [] (site_of (at_line line here) outer handled) s k))
-            ∙ hg.goes_on outer handled line k (λ vs s. called x.value (shape vs) (site_of (at_line line here) outer handled) s k)
-            ∙ ap (λ (y : Arguments). ends g.left (called x.value y (site_of (at_line line here) outer handled) the_state k)) (sym is) ∙ hd.goes_on outer handled line names temps k;
+            let p = site_of (at_line line here) outer handled in
+            hf.goes_on outer handled line (λ o. on_value o k (λ c s. call_on c (arguments_of ns) parts [] p s k))
+            ∙ given.goes_on [] outer handled line k (λ vs s. called x.value (arguments_of ns vs) p s k)
+            ∙ ap (λ (y : Arguments). ends n (called x.value y p the_state k)) (sym (without_names ns given.values plain))
+            ∙ ap (λ (l : ℕ). ends l (called x.value (positional_arguments given.values) p the_state k)) paid
+            ∙ ap (ends run.behind) (call_opened m here x.value (positional_arguments given.values) o st around bound callee given.fits outer handled line names temps (λ o. k (call_end the_state o)))
+            ∙ run.goes_on the_state (trace_of p) handled k refl;
       }
 
-  found_values : (parts : List CorePart) (vs : List Value) (left : ℕ) (r : Option ArgumentValues) (g : ArgumentValues) → r ≡ Some g → IfSome r (λ g. AreThere parts vs left g m here names temps) → AreThere parts vs left g m here names temps
-  found_values parts vs left r g is h = subst (λ (o : Option ArgumentValues). IfSome o (λ g. AreThere parts vs left g m here names temps)) is h
-
-  pub call_step : (shape : List Value → Arguments) (f : Rc CoreExpr Global) (f' : CoreExpr) (es : Rc (Vec (Rc CoreExpr Global) Global) Global) (args : Arguments) (left : ℕ) (rx : Option Immediate) (x : Immediate) (none : List Value) (rg : Option ArgumentValues) (g : ArgumentValues) (r : Option Immediate)
-      → f' ≡ f.value → rx ≡ Some x → IfSome rx (There (eval f') left) → none ≡ [] → rg ≡ Some g → IfSome rg (λ g. AreThere (parts_from (length none) es) none x.left g m here names temps) → args ≡ shape g.values.items
-      → IfSome r (λ d. IsCalledNow x.value args g.left d m here) → IfSome r (There (call_part (eval f.value) shape (parts_from 0 es)) left)
-  call_step shape f f' es args left rx x none rg g None ef is h empty js i shaped c = tt
-  call_step shape f f' es args left rx x none rg g (Some d) ef is h empty js i shaped c =
-      subst (λ (e : CoreExpr). There (call_part (eval e) shape (parts_from 0 es)) left d) ef
-      (call_there (eval f') shape (parts_from 0 es) args left x g d (found_there (eval f') left rx x is h)
-      (subst (λ (vs : List Value). AreThere (parts_from (length vs) es) vs x.left g m here names temps) empty (found_values (parts_from (length none) es) none x.left rg g js i)) shaped c)
+  pub call_step : (ns : List (Option ArgName)) (f : Rc CoreExpr Global) (f' : CoreExpr) (es : Rc (Vec (Rc CoreExpr Global) Global) Global) (left n : ℕ) (ix : Bool) (x : Immediate) (o : FunctionObj) (st : Stored CoreFn) (around : ℕ) (params : List Param) (none bound : Locals) (ib : Bool) (is : Bool) (d : Immediate)
+      → f' ≡ f.value → ix ≡ true → OnTrue ix (There (eval f') left x) → list_any (λ n. is_some n) ns ≡ false → IsCallee x.value o st around m here → params ≡ o.params → none ≡ []
+      → ib ≡ true → OnTrue ib (AreBound (parts_from 0 es) params none bound x.left n m here names temps) → OnTrue is (IsRunNow st around bound n d m)
+      → OnTrue is (There (call_part (eval f.value) (arguments_of ns) (parts_from 0 es)) left d)
+  call_step ns f f' es left n ix x o st around params none bound ib is d ef sure h plain callee same empty given b run =
+      subst (λ (e : CoreExpr). OnTrue is (There (call_part (eval e) (arguments_of ns) (parts_from 0 es)) left d)) ef
+      (on_true is
+      (call_there (eval f') ns (parts_from 0 es) left n x d o st around bound (when_true ix sure h) plain callee
+      (subst (λ (ps : List Param). AreBound (parts_from 0 es) ps [] bound x.left n m here names temps) same (subst (λ (ls : Locals). AreBound (parts_from 0 es) params ls bound x.left n m here names temps) empty (when_true ib given b)))) run)
 
 -- where the machine is
-there_now : (m : Machine) (part : CorePart) (left : ℕ) (r : Option Immediate) → IfSome r (λ d. IsThere part left d m m.here m.locals m.temps.items) → IfSome r (λ d. IsImmediate part left d m)
-there_now m part left None h = tt
-there_now m part left (Some d) h = record { fewer = h.fewer; goes_on = λ k. h.goes_on (outer_of m.stack) (handled_exception m.stack) m.here.line k }
+there_now : (m : Machine) (part : CorePart) (left : ℕ) (d : Immediate) → HasValueIn part left d m m.here m.locals m.temps.items → IsImmediate part left d m
+there_now m part left d h = record { fewer = h.fewer; goes_on = λ k. h.goes_on (outer_of m.stack) (handled_exception m.stack) m.here.line k }
 
-pub now_of_there : (m : Machine) (e : CoreExpr) (left : ℕ) (r : Option Immediate) → IfSome r (λ d. IsThere (eval e) left d m m.here m.locals m.temps.items) → IfSome r (λ d. IsImmediate (eval e) left d m)
-now_of_there m e left r h = there_now m (eval e) left r h
+pub now_of_there : (m : Machine) (e : CoreExpr) (left : ℕ) (is : Bool) (d : Immediate) → is ≡ true → OnTrue is (HasValueIn (eval e) left d m m.here m.locals m.temps.items) → IsImmediate (eval e) left d m
+now_of_there m e left is d sure h = there_now m (eval e) left d (when_true is sure h)
 
-pub now_of_operated : (m : Machine) (what : Effect) (left : ℕ) (r : Option Immediate) → IfSome r (IsOperated what left) → IfSome r (λ d. IsImmediate (operated what) left d m)
-now_of_operated m what left None h = tt
-now_of_operated m what left (Some d) h = record { fewer = h.fewer; goes_on = λ k. h.goes_on (site_now m) (state_of m) k }
+pub now_of_operated : (m : Machine) (what : Effect) (left : ℕ) (is : Bool) (d : Immediate) → is ≡ true → OnTrue is (IsOperated what left d) → IsImmediate (operated what) left d m
+now_of_operated m what left is d sure h = let i : IsOperated what left d = when_true is sure h in record { fewer = i.fewer; goes_on = λ k. i.goes_on (site_now m) (state_of m) k }
 
 -- the steps of helpers, from what they found
 module _ (m : Machine) where

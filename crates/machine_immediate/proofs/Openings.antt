@@ -1,5 +1,5 @@
 -- Calls of functions of the sources are their bodies.
-use Rattle.std.proofs.Common.{◌≡◌, ◌∙◌, [], Option, Some, None, true, sym, ap}
+use Rattle.std.proofs.Common.{◌≡◌, ◌∙◌, ℕ, List, [], Option, Some, None, true, false, refl, sym, ap}
 use Rattle.std.specs.Prelude.{Result, Ok, nat_lt, slice_get}
 use Rattle.py_values.specs.declared.object.ClassObj.{ClassObj}
 use Rattle.py_values.specs.declared.object.FunctionObj.{FunctionObj}
@@ -12,15 +12,17 @@ use Rattle.py_kinds.specs.Kinds.{kind_name}
 use Rattle.machine_state.specs.py_core.declared.stmt.CoreFn.{CoreFn}
 use Rattle.machine_state.specs.py_world.World.{Locals, Stored, heap_of, state}
 use Rattle.machine_state.specs.py_world.Site.{Around, around_of, trace_of}
-use Rattle.machine_state.specs.py_world.Arguments.{Arguments}
+use Rattle.machine_state.specs.py_world.declared.trace.TraceFrame.{TraceFrame}
+use Rattle.machine_state.specs.py_world.declared.ended.Thrown.{Thrown}
+use Rattle.machine_state.specs.py_world.Arguments.{Arguments, fitted}
 use Rattle.machine_state.specs.py_world.Calls.{arguments_for, called_or, class_called, entered, function_called, function_of_object, invoke, most_open, not_callable, scene_of}
-use Rattle.machine_state.specs.core_meaning.Statements.{CoreBody, core_block_body, entry}
+use Rattle.machine_state.specs.core_meaning.Statements.{entry}
 use Rattle.machine_state.specs.declared.machine.Machine.{Machine}
 use Rattle.machine_state.specs.declared.place.Here.{Here}
-use Rattle.machine_state.specs.Places.{CoreRest, CoreState, CoreThen, at_line, depth_of, scene_in, site_of}
+use Rattle.machine_state.specs.declared.place.Place.TheVariants.{Function}
+use Rattle.machine_state.specs.Places.{CoreRest, CoreState, CoreThen, at_line, scene_in, site_of}
 use Rattle.machine_state.specs.Frames.{world_of}
-use Rattle.machine_immediate.specs.declared.opening.OpenedCall.{OpenedCall}
-use Rattle.machine_immediate.specs.Opened.{function_called_by, IsCallOf, Opens}
+use Rattle.machine_immediate.specs.Opened.{function_called_by, IsCallee}
 
 -- a call of a function
 called_function : (o : Option Obj) (f : FunctionObj) (none : Raise) (args : Arguments) (a : Around) (s : CoreState) (k : CoreThen) (class : ClassObj → CoreRest)
@@ -56,20 +58,24 @@ value_called_function val.None f args a s k is = absurd cc
 value_called_function (val.Bool b) f args a s k is = absurd cc
 value_called_function (val.Int n) f args a s k is = absurd cc
 
--- its body runs, where the arguments fit and one more function may be open
-entered_body : (st : Stored CoreFn) (body : CoreBody) (names : Locals) (a : Around) (s : CoreState) (k : CoreThen) → nat_lt a.depth most_open ≡ true → body ≡ (entry st.code).body
-    → entered entry st (Ok names) a s k ≡ body (scene_of entry st a) (state names [] s.world) k
-entered_body st body names a s k room is = rw room (ap (λ (b : CoreBody). b (scene_of entry st a) (state names [] s.world) k) (sym is))
+-- its arguments fit, since it doesn't yield
+arguments_fit : (f : FunctionObj) (args : Arguments) (names : Locals) → f.yields ≡ false → fitted f.params args.plain args.named [] ≡ Some names → arguments_for f args ≡ Ok names
+arguments_fit f args names plain fits = rw (plain, fits) refl
 
-pub call_opened : (m : Machine) (here : Here) (callee : Value) (args : Arguments) (f : FunctionObj) (st : Stored CoreFn) (names : Locals) (o : OpenedCall)
-    → function_called_by m.heap callee ≡ Some f → slice_get m.codes.items f.code ≡ Some st → arguments_for f args ≡ Ok names → nat_lt (depth_of here) most_open ≡ true → IsCallOf o st names (depth_of here)
-    → Opens o callee args m here
-call_opened m here callee args f st names o called coded fits room is = λ outer handled line ns temps k.
+-- its body runs, where one more function may be open
+entered_body : (st : Stored CoreFn) (names : Locals) (a : Around) (s : CoreState) (k : CoreThen) → nat_lt a.depth most_open ≡ true → entered entry st (Ok names) a s k ≡ (entry st.code).body (scene_of entry st a) (state names [] s.world) k
+entered_body st names a s k room = rw room refl
+
+-- A CALL IS THE BODY of the function's code, in a place of its own with its own names
+pub call_opened : (m : Machine) (here : Here) (callee : Value) (args : Arguments) (f : FunctionObj) (st : Stored CoreFn) (around : ℕ) (bound : Locals) → IsCallee callee f st around m here → fitted f.params args.plain args.named [] ≡ Some bound
+    → (outer : List TraceFrame) (handled : Option Thrown) (line : ℕ) (names : Locals) (temps : List (Option Value)) (k : CoreThen)
+    → invoke entry callee args (around_of (site_of (at_line line here) outer handled)) (state names temps (world_of m)) k
+    ≡ (entry st.code).body (scene_in (Function st) around (trace_of (site_of (at_line line here) outer handled)) handled) (state bound [] (world_of m)) k
+call_opened m here callee args f st around bound is fits outer handled line names temps k =
     let p = site_of (at_line line here) outer handled in
-    let s = state ns temps (world_of m) in
-    value_called_function callee f args (around_of p) s k called
-    ∙ ap (λ (x : Option (Stored CoreFn)). function_called entry x f (not_callable (kind_name m.heap callee)) args (around_of p) s k) coded
-    ∙ ap (λ (x : Result Locals Raise). entered entry st x (around_of p) s k) fits
-    ∙ entered_body st (core_block_body [] o.body.value) names (around_of p) s k room is.body_said
-    ∙ ap (λ (h : Here). core_block_body [] o.body.value (scene_in h.place h.around (trace_of p) handled) (state names [] (world_of m)) k) (sym is.where_it_runs)
-    ∙ ap (λ (ls : Locals). core_block_body [] o.body.value (scene_in o.here.place o.here.around (trace_of p) handled) (state ls [] (world_of m)) k) (sym is.names_given)
+    let s = state names temps (world_of m) in
+    value_called_function callee f args (around_of p) s k is.called
+    ∙ ap (λ (x : Option (Stored CoreFn)). function_called entry x f (not_callable (kind_name m.heap callee)) args (around_of p) s k) is.coded
+    ∙ ap (λ (x : Result Locals Raise). entered entry st x (around_of p) s k) (arguments_fit f args bound is.returns fits)
+    ∙ entered_body st bound (around_of p) s k is.room
+    ∙ ap (λ (n : ℕ). (entry st.code).body (scene_in (Function st) n (trace_of p) handled) (state bound [] (world_of m)) k) (sym is.inside)

@@ -1,9 +1,11 @@
 // Values that are there at once: those of expressions that make no object and raise nothing within the steps that are left, and that
-// call functions alone whose bodies only choose and return.
+// call functions alone whose bodies only choose and return. Each function is lent a value and the steps that are left, puts the value that
+// it found there and takes the steps that were paid away, and tells whether it found one; where it didn't, what is there means nothing.
 
-ghost use Rattle.std.specs.Prelude.{◌≡◌, ◌∷◌, [], IfOk, IfSome, drop, length};
+ghost use Rattle.std.specs.Prelude.{◌≡◌, ◌∷◌, [], IfOk, IfSome, Some, drop, take, true};
 ghost use Rattle.py_core.specs.Blocks.{stmts_in};
 ghost use Rattle.py_ops.specs.Binary.{binary_of};
+ghost use Rattle.machine_state.specs.Found.{OnTrue};
 ghost use Rattle.machine_state.specs.py_world.Arguments.{arguments_of};
 ghost use Rattle.machine_state.specs.py_world.Expressions as world;
 ghost use Rattle.machine_state.specs.py_world.Outcome.{operated};
@@ -11,25 +13,28 @@ ghost use Rattle.machine_state.specs.py_world.Site.{site};
 ghost use Rattle.machine_state.specs.py_world.Statements.{branches_on, return_value};
 ghost use Rattle.machine_state.specs.core_meaning.Expressions.{eval};
 ghost use Rattle.machine_state.specs.core_meaning.Statements.{begun, block_from, choices, core_block_body};
-ghost use Rattle.machine_state.specs.Places.{arguments_in, parts_from};
-ghost use Rattle.machine_immediate.specs.AtOnce.{AreThere, BodyEnds, IsCalledNow, IsImmediate, IsNameNow, IsThere, PartEnds, ended_at, returned_value};
+ghost use Rattle.machine_state.specs.Places.{parts_from};
+ghost use Rattle.machine_immediate.specs.AtOnce.{AreBound, BodyEnds, HasValueIn, IsImmediate, IsNameNow, IsRunNow, PartEnds, ended_at, value_of_end};
 
 use crate::named::bound_in;
-use crate::opening::open_call;
+use crate::opening::callee_at;
 use crate::operations::{binary_now, comparison_now, unary_now};
 use crate::part::{op_at, temp_in};
-use machine_arguments::shape::shape;
-use machine_state::arguments::CallArguments;
+use machine_arguments::arguments::bind_defaults;
+use machine_arguments::shape::has_names;
+use machine_state::code::Code;
 use machine_state::locals::Locals;
 use machine_state::machine::Machine;
-use machine_state::place::Here;
+use machine_state::place::{Here, Place};
 use py_core::{
     ArgName, BinOp, CmpOp, CoreBlock, CoreBranch, CoreExpr, CoreExprKind, CoreStmt, CoreStmtKind,
     SrcText, UnOp,
 };
 use py_kinds::truth::truth;
 use py_text::OutOfMemory;
+use py_values::rows::Param;
 use py_values::value::Value;
+use std::alloc::Global;
 use std::rc::Rc;
 
 /// A value that is there at once, and the steps that are left behind it.
@@ -39,18 +44,20 @@ pub struct Immediate {
     pub left: u64,
 }
 
-/// The values of arguments that are there at once, and the steps that are left behind them.
-#[derive(Drop)]
-struct ArgumentValues {
-    values: Vec<Value>,
-    left: u64,
+/// Where an expression is evaluated: a place with its local names and temporaries, over the objects and functions of a machine.
+#[derive(Clone, Copy)]
+struct Scope<'s> {
+    m: &'s Machine,
+    here: &'s Here,
+    locals: &'s Locals,
+    temps: &'s [Option<Value>],
 }
 
-/// The end of a body that is there at once, and the steps that are left behind it: what it returns, or nothing where it is over.
+/// How a body ends that is there at once: it is over, or returns the value that was found.
 #[derive(Clone, Copy)]
-struct BodyEnd {
-    returned: Option<Value>,
-    left: u64,
+enum BodyEnd {
+    Over,
+    Returned,
 }
 
 /// How deep an expression is looked into for a value that is there at once.
@@ -62,7 +69,7 @@ const DEEPEST_WITH_CALLS: u32 = 96;
 const LEAST_FOR_CALLS: u32 = 16;
 
 /// In how many open functions one looks into the calls of its expressions. What is looked into in vain is run then, and an expression looks
-/// as deep as the bodies of twice as many calls: so no body is looked into in vain more than twice.
+/// as deep as the bodies of twice as many calls. Each operator and each parenthesis around a call looks into it again.
 const LOOKS: usize = 8;
 
 /// The value of an operator between two values, where it is there at once.
@@ -75,33 +82,33 @@ pub fn operate_now(
 ) -> Result<Option<Immediate>, OutOfMemory>
     ensures { IfOk result (λ r. IfSome r (λ d. IsImmediate (operated (binary_of op m.now.heap x y)) left d m.now)) }
 {
-    binary_now(m, op, x, y, left)
-}
-
-/// What a call gives whose body ends so.
-fn value_of(returned: Option<Value>) -> Value
-    ensures { result ≡ returned_value returned }
-{
-    match returned {
-        Some(v) => v,
-        None => Value::None,
+    let mut found = Immediate { value: y, left };
+    if binary_now(m, op, x, &mut found)? {
+        return Ok(Some(found));
     }
+    Ok(None)
 }
 
 /// The value of a name that is bound.
-fn name_now(
-    m: &Machine,
-    here: &Here,
-    locals: &Locals,
-    name: &SrcText,
-    left: u64,
-) -> Result<Option<Immediate>, OutOfMemory>
-    ensures { IfOk result (λ r. IfSome r (λ d. IsNameNow name.now left d m.now here.now locals.now)) }
+fn name_now(scope: &Scope<'_>, name: &SrcText, found: &mut Immediate) -> Result<bool, OutOfMemory>
+    ensures { IfOk result (λ is. OnTrue is (IsNameNow name.now found.old.left found.new scope.now.m.now scope.now.here.now scope.now.locals.now)) }
 {
-    match bound_in(m.alloc, &m.heap, here, locals, name)? {
-        Some(value) => Ok(Some(Immediate { value, left })),
-        None => Ok(None),
+    match bound_in(scope.m.alloc, &scope.m.heap, scope.here, scope.locals, name)? {
+        Some(value) => {
+            found.value = value;
+            Ok(true)
+        }
+        None => Ok(false),
     }
+}
+
+/// A value that is there at no cost.
+fn there(found: &mut Immediate, value: Value) -> bool
+    ensures is { result ≡ true }
+    ensures there { found.new ≡ ended_at value found.old.left }
+{
+    found.value = value;
+    true
 }
 
 /// The one part of a list that has no other.
@@ -114,37 +121,29 @@ fn only_part(es: &Rc<Vec<Rc<CoreExpr>>>) -> Option<&Rc<CoreExpr>>
     }
 }
 
-fn there(value: Value, left: u64) -> Immediate
-    ensures { result ≡ ended_at value left }
-{
-    Immediate { value, left }
-}
-
 /// The value of an expression.
 #[cycle(value)]
 fn find_value(
-    m: &Machine,
-    here: &Here,
-    locals: &Locals,
-    temps: &[Option<Value>],
+    scope: &Scope<'_>,
     e: &CoreExpr,
-    left: u64,
     room: u32,
-) -> Result<Option<Immediate>, OutOfMemory>
-    ensures { IfOk result (λ r. IfSome r (λ d. IsThere (eval e.now) left d m.now here.now locals.now temps.now)) }
+    found: &mut Immediate,
+    spare: &mut Vec<Locals>,
+) -> Result<bool, OutOfMemory>
+    ensures { IfOk result (λ is. OnTrue is (HasValueIn (eval e.now) found.old.left found.new scope.now.m.now scope.now.here.now scope.now.locals.now scope.now.temps.now)) }
 {
     match &e.kind {
-        CoreExprKind::Name(name) => name_now(m, here, locals, name, left),
-        CoreExprKind::Number(n) => Ok(Some(there(Value::Int(*n), left))),
-        CoreExprKind::True => Ok(Some(there(Value::Bool(true), left))),
-        CoreExprKind::False => Ok(Some(there(Value::Bool(false), left))),
-        CoreExprKind::None => Ok(Some(there(Value::None, left))),
-        CoreExprKind::Temp(t) => Ok(Some(there(temp_in(temps, *t), left))),
+        CoreExprKind::Name(name) => name_now(scope, name, found),
+        CoreExprKind::Number(n) => Ok(there(found, Value::Int(*n))),
+        CoreExprKind::True => Ok(there(found, Value::Bool(true))),
+        CoreExprKind::False => Ok(there(found, Value::Bool(false))),
+        CoreExprKind::None => Ok(there(found, Value::None)),
+        CoreExprKind::Temp(t) => Ok(there(found, temp_in(scope.temps, *t))),
         _ => {
             if room == 0 {
-                return Ok(None);
+                return Ok(false);
             }
-            compound(m, here, locals, temps, e, left, room - 1)
+            compound(scope, e, room - 1, found, spare)
         }
     }
 }
@@ -152,277 +151,271 @@ fn find_value(
 /// The value of an expression that has parts.
 #[cycle(value)]
 fn compound(
-    m: &Machine,
-    here: &Here,
-    locals: &Locals,
-    temps: &[Option<Value>],
+    scope: &Scope<'_>,
     e: &CoreExpr,
-    left: u64,
     room: u32,
-) -> Result<Option<Immediate>, OutOfMemory>
-    ensures { IfOk result (λ r. IfSome r (λ d. IsThere (eval e.now) left d m.now here.now locals.now temps.now)) }
+    found: &mut Immediate,
+    spare: &mut Vec<Locals>,
+) -> Result<bool, OutOfMemory>
+    ensures { IfOk result (λ is. OnTrue is (HasValueIn (eval e.now) found.old.left found.new scope.now.m.now scope.now.here.now scope.now.locals.now scope.now.temps.now)) }
 {
     match &e.kind {
-        CoreExprKind::Paren(a) => find_value(m, here, locals, temps, a, left, room),
-        CoreExprKind::Unary(op, a) => unary(m, here, locals, temps, *op, a, left, room),
-        CoreExprKind::Binary(a, op, b) => binary(m, here, locals, temps, a, *op, b, left, room),
-        CoreExprKind::Compare(a, ops, es) => {
-            comparison(m, here, locals, temps, a, ops, es, left, room)
-        }
-        CoreExprKind::Not(a) => negation(m, here, locals, temps, a, left, room),
+        CoreExprKind::Paren(a) => find_value(scope, a, room, found, spare),
+        CoreExprKind::Unary(op, a) => unary(scope, *op, a, room, found, spare),
+        CoreExprKind::Binary(a, op, b) => binary(scope, a, *op, b, room, found, spare),
+        CoreExprKind::Compare(a, ops, es) => { comparison(scope, a, ops, es, room, found, spare) }
+        CoreExprKind::Not(a) => negation(scope, a, room, found, spare),
         CoreExprKind::Call(f, es, names) => {
             if room < LEAST_FOR_CALLS {
-                return Ok(None);
+                return Ok(false);
             }
-            call(m, here, locals, temps, f, es, names, left, room)
+            call(scope, f, es, names, room, found, spare)
         }
-        _ => Ok(None),
+        _ => Ok(false),
     }
 }
 
 /// The value of an operator before an operand.
 #[cycle(value)]
 fn unary(
-    m: &Machine,
-    here: &Here,
-    locals: &Locals,
-    temps: &[Option<Value>],
+    scope: &Scope<'_>,
     op: UnOp,
     a: &Rc<CoreExpr>,
-    left: u64,
     room: u32,
-) -> Result<Option<Immediate>, OutOfMemory>
-    ensures { IfOk result (λ r. IfSome r (λ d. IsThere (world.unary_part op (eval a.now.value)) left d m.now here.now locals.now temps.now)) }
+    found: &mut Immediate,
+    spare: &mut Vec<Locals>,
+) -> Result<bool, OutOfMemory>
+    ensures { IfOk result (λ is. OnTrue is (HasValueIn (world.unary_part op (eval a.now.value)) found.old.left found.new scope.now.m.now scope.now.here.now scope.now.locals.now scope.now.temps.now)) }
 {
-    match find_value(m, here, locals, temps, a, left, room)? {
-        Some(x) => unary_now(m, op, x.value, x.left),
-        None => Ok(None),
+    if !find_value(scope, a, room, found, spare)? {
+        return Ok(false);
     }
+    unary_now(scope.m, op, found)
 }
 
 /// The value of an operator between two operands.
 #[cycle(value)]
 fn binary(
-    m: &Machine,
-    here: &Here,
-    locals: &Locals,
-    temps: &[Option<Value>],
+    scope: &Scope<'_>,
     a: &Rc<CoreExpr>,
     op: BinOp,
     b: &Rc<CoreExpr>,
-    left: u64,
     room: u32,
-) -> Result<Option<Immediate>, OutOfMemory>
-    ensures { IfOk result (λ r. IfSome r (λ d. IsThere (world.binary_part (eval a.now.value) op (eval b.now.value)) left d m.now here.now locals.now temps.now)) }
+    found: &mut Immediate,
+    spare: &mut Vec<Locals>,
+) -> Result<bool, OutOfMemory>
+    ensures { IfOk result (λ is. OnTrue is (HasValueIn (world.binary_part (eval a.now.value) op (eval b.now.value)) found.old.left found.new scope.now.m.now scope.now.here.now scope.now.locals.now scope.now.temps.now)) }
 {
-    let Some(x) = find_value(m, here, locals, temps, a, left, room)? else {
-        return Ok(None);
-    };
-    let Some(y) = find_value(m, here, locals, temps, b, x.left, room)? else {
-        return Ok(None);
-    };
-    binary_now(m, op, x.value, y.value, y.left)
+    if !find_value(scope, a, room, found, spare)? {
+        return Ok(false);
+    }
+    let x = found.value;
+    if !find_value(scope, b, room, found, spare)? {
+        return Ok(false);
+    }
+    binary_now(scope.m, op, x, found)
 }
 
 /// The value of a comparison that is no chain.
 #[cycle(value)]
 fn comparison(
-    m: &Machine,
-    here: &Here,
-    locals: &Locals,
-    temps: &[Option<Value>],
+    scope: &Scope<'_>,
     a: &Rc<CoreExpr>,
     ops: &Rc<Vec<CmpOp>>,
     es: &Rc<Vec<Rc<CoreExpr>>>,
-    left: u64,
     room: u32,
-) -> Result<Option<Immediate>, OutOfMemory>
-    ensures { IfOk result (λ r. IfSome r (λ d. IsThere (world.compare_part (eval a.now.value) ops.now.value.items (parts_from 0 es.now)) left d m.now here.now locals.now temps.now)) }
+    found: &mut Immediate,
+    spare: &mut Vec<Locals>,
+) -> Result<bool, OutOfMemory>
+    ensures { IfOk result (λ is. OnTrue is (HasValueIn (world.compare_part (eval a.now.value) ops.now.value.items (parts_from 0 es.now)) found.old.left found.new scope.now.m.now scope.now.here.now scope.now.locals.now scope.now.temps.now)) }
 {
     let Some(b) = only_part(es) else {
-        return Ok(None);
+        return Ok(false);
     };
     let Some(op) = op_at(ops, 0) else {
-        return Ok(None);
+        return Ok(false);
     };
-    let Some(x) = find_value(m, here, locals, temps, a, left, room)? else {
-        return Ok(None);
-    };
-    let Some(y) = find_value(m, here, locals, temps, b, x.left, room)? else {
-        return Ok(None);
-    };
-    comparison_now(m, op, x.value, y.value, y.left)
+    if !find_value(scope, a, room, found, spare)? {
+        return Ok(false);
+    }
+    let x = found.value;
+    if !find_value(scope, b, room, found, spare)? {
+        return Ok(false);
+    }
+    comparison_now(scope.m, op, x, found)
 }
 
 /// The value of a negation.
 #[cycle(value)]
 fn negation(
-    m: &Machine,
-    here: &Here,
-    locals: &Locals,
-    temps: &[Option<Value>],
+    scope: &Scope<'_>,
     a: &Rc<CoreExpr>,
-    left: u64,
     room: u32,
-) -> Result<Option<Immediate>, OutOfMemory>
-    ensures { IfOk result (λ r. IfSome r (λ d. IsThere (world.not_part (eval a.now.value)) left d m.now here.now locals.now temps.now)) }
+    found: &mut Immediate,
+    spare: &mut Vec<Locals>,
+) -> Result<bool, OutOfMemory>
+    ensures { IfOk result (λ is. OnTrue is (HasValueIn (world.not_part (eval a.now.value)) found.old.left found.new scope.now.m.now scope.now.here.now scope.now.locals.now scope.now.temps.now)) }
 {
-    match find_value(m, here, locals, temps, a, left, room)? {
-        Some(x) => {
-            let value = Value::Bool(!truth(&m.heap, x.value));
-            Ok(Some(Immediate {
-                value,
-                left: x.left,
-            }))
-        }
-        None => Ok(None),
+    if !find_value(scope, a, room, found, spare)? {
+        return Ok(false);
     }
+    found.value = Value::Bool(!truth(&scope.m.heap, found.value));
+    Ok(true)
 }
 
-/// The values of arguments behind those so far.
+/// Binds the parameters from a place on: each to the value of its argument, or to its default behind the last argument.
 #[cycle(value)]
-fn argument_values(
-    m: &Machine,
-    here: &Here,
-    locals: &Locals,
-    temps: &[Option<Value>],
+fn bind_arguments(
+    scope: &Scope<'_>,
     es: &Rc<Vec<Rc<CoreExpr>>>,
-    so_far: Vec<Value>,
-    left: u64,
+    params: &[Param],
+    at: usize,
+    bound: &mut Locals,
     room: u32,
-) -> Result<Option<ArgumentValues>, OutOfMemory>
-    ensures { IfOk result (λ r. IfSome r (λ d. AreThere (parts_from (length so_far.items) es.now) so_far.items left d m.now here.now locals.now temps.now)) }
+    found: &mut Immediate,
+    spare: &mut Vec<Locals>,
+) -> Result<bool, OutOfMemory>
+    ensures { IfOk result (λ is. OnTrue is (AreBound (parts_from at es.now) (drop at params.now) (take at bound.old) bound.new found.old.left found.new.left scope.now.m.now scope.now.here.now scope.now.locals.now scope.now.temps.now)) }
 {
-    if so_far.len() >= es.len() {
-        let values = so_far;
-        return Ok(Some(ArgumentValues { values, left }));
+    if at >= es.len() {
+        return bind_defaults(params, at, bound);
     }
-    if room == 0 {
-        return Ok(None);
+    if at >= params.len() || room == 0 {
+        return Ok(false);
     }
-    let e = &es[so_far.len()];
-    match find_value(m, here, locals, temps, e, left, room - 1)? {
-        Some(x) => {
-            let mut so_far = so_far;
-            so_far.push(x.value)?;
-            argument_values(m, here, locals, temps, es, so_far, x.left, room - 1)
-        }
-        None => Ok(None),
+    if !find_value(scope, &es[at], room - 1, found, spare)? {
+        return Ok(false);
+    }
+    if !bound.rebind(at, &params[at].name, found.value)? {
+        return Ok(false);
+    }
+    bind_arguments(scope, es, params, at + 1, bound, room - 1, found, spare)
+}
+
+/// Local names that are used no more, where there are some.
+fn reused(alloc: Global, spare: &mut Vec<Locals>) -> Locals {
+    match spare.pop() {
+        Some(names) => names,
+        None => Locals::new(alloc),
     }
 }
 
-/// The value of a call.
+/// The value of a call whose arguments have no names.
 #[cycle(value)]
 fn call(
-    m: &Machine,
-    here: &Here,
-    locals: &Locals,
-    temps: &[Option<Value>],
+    scope: &Scope<'_>,
     f: &Rc<CoreExpr>,
     es: &Rc<Vec<Rc<CoreExpr>>>,
     names: &Rc<Vec<Option<ArgName>>>,
-    left: u64,
     room: u32,
-) -> Result<Option<Immediate>, OutOfMemory>
-    ensures { IfOk result (λ r. IfSome r (λ d. IsThere (world.call_part (eval f.now.value) (arguments_of names.now.value.items) (parts_from 0 es.now)) left d m.now here.now locals.now temps.now)) }
+    found: &mut Immediate,
+    spare: &mut Vec<Locals>,
+) -> Result<bool, OutOfMemory>
+    ensures { IfOk result (λ is. OnTrue is (HasValueIn (world.call_part (eval f.now.value) (arguments_of names.now.value.items) (parts_from 0 es.now)) found.old.left found.new scope.now.m.now scope.now.here.now scope.now.locals.now scope.now.temps.now)) }
 {
-    let Some(x) = find_value(m, here, locals, temps, f, left, room)? else {
-        return Ok(None);
+    if has_names(names) || !find_value(scope, f, room, found, spare)? {
+        return Ok(false);
+    }
+    let Some((function, code, around)) = callee_at(scope.m, scope.here, found.value) else {
+        return Ok(false);
     };
-    let none = Vec::new(m.alloc);
-    let Some(given) = argument_values(m, here, locals, temps, es, none, x.left, room)? else {
-        return Ok(None);
-    };
-    let args = shape(m.alloc, names, given.values)?;
-    called(m, here, x.value, &args, given.left, room)
+    let mut bound = reused(scope.m.alloc, spare);
+    let params = function.params.items();
+    if !bind_arguments(scope, es, params, 0, &mut bound, room, found, spare)? {
+        return Ok(false);
+    }
+    let is = run_code(scope.m, code, around, &bound, room, found, spare)?;
+    spare.push(bound)?;
+    Ok(is)
 }
 
-/// The value of a call of a function, whose step is paid.
+/// The value that a call of a code gives with these local names, where this many functions are open around it, whose step is paid first.
 #[cycle(value)]
-fn called(
+fn run_code(
     m: &Machine,
-    here: &Here,
-    callee: Value,
-    args: &CallArguments,
-    left: u64,
+    code: &Code,
+    around: usize,
+    bound: &Locals,
     room: u32,
-) -> Result<Option<Immediate>, OutOfMemory>
-    ensures { IfOk result (λ r. IfSome r (λ d. IsCalledNow callee (arguments_in args.now) left d m.now here.now)) }
+    found: &mut Immediate,
+    spare: &mut Vec<Locals>,
+) -> Result<bool, OutOfMemory>
+    ensures { IfOk result (λ is. OnTrue is (IsRunNow code.now around bound.now found.old.left found.new m.now)) }
 {
-    if left == 0 || room == 0 {
-        return Ok(None);
+    if found.left == 0 || room == 0 {
+        return Ok(false);
     }
-    let Some(open) = open_call(m, here, callee, args)? else {
-        return Ok(None);
+    found.left -= 1;
+    let here = Here {
+        place: Place::Function(code.share()?),
+        around,
+        line: 0,
     };
-    match block_end(
+    let scope = Scope {
         m,
-        &open.here,
-        &open.locals,
-        &open.body,
-        0,
-        left - 1,
-        room - 1,
-    )? {
-        Some(end) => Ok(Some(Immediate {
-            value: value_of(end.returned),
-            left: end.left,
-        })),
-        None => Ok(None),
+        here: &here,
+        locals: bound,
+        temps: &[],
+    };
+    match block_end(&scope, code.block(), 0, room - 1, found, spare)? {
+        Some(BodyEnd::Returned) => Ok(true),
+        Some(BodyEnd::Over) => {
+            found.value = Value::None;
+            Ok(true)
+        }
+        None => Ok(false),
     }
 }
 
 /// The end of a block from a statement on.
 #[cycle(value)]
 fn block_end(
-    m: &Machine,
-    here: &Here,
-    locals: &Locals,
+    scope: &Scope<'_>,
     b: &CoreBlock,
     at: usize,
-    left: u64,
     room: u32,
+    found: &mut Immediate,
+    spare: &mut Vec<Locals>,
 ) -> Result<Option<BodyEnd>, OutOfMemory>
-    ensures { IfOk result (λ r. IfSome r (λ d. BodyEnds (λ ls. block_from ls b.now at (drop at (stmts_in b.now))) left d m.now here.now locals.now)) }
+    requires { scope.now.temps.now ≡ [] }
+    ensures { IfOk result (λ r. IfSome r (λ end. BodyEnds (λ ls. block_from ls b.now at (drop at (stmts_in b.now))) found.old.left (value_of_end end found.new.value) found.new.left scope.now.m.now scope.now.here.now scope.now.locals.now)) }
 {
     if at >= b.len() {
-        let returned = None;
-        return Ok(Some(BodyEnd { returned, left }));
+        return Ok(Some(BodyEnd::Over));
     }
     if room == 0 {
         return Ok(None);
     }
-    let Some(end) = statement_end(m, here, locals, b.stmt(at), left, room - 1)? else {
-        return Ok(None);
-    };
-    if end.returned.is_some() {
-        return Ok(Some(end));
+    match statement_end(scope, b.stmt(at), room - 1, found, spare)? {
+        Some(BodyEnd::Over) => block_end(scope, b, at + 1, room - 1, found, spare),
+        Some(BodyEnd::Returned) => Ok(Some(BodyEnd::Returned)),
+        None => Ok(None),
     }
-    block_end(m, here, locals, b, at + 1, end.left, room - 1)
 }
 
 /// The end of a statement, whose step is paid: a choice, or a return.
 #[cycle(value)]
 fn statement_end(
-    m: &Machine,
-    here: &Here,
-    locals: &Locals,
+    scope: &Scope<'_>,
     statement: &CoreStmt,
-    left: u64,
     room: u32,
+    found: &mut Immediate,
+    spare: &mut Vec<Locals>,
 ) -> Result<Option<BodyEnd>, OutOfMemory>
-    ensures { IfOk result (λ r. IfSome r (λ d. BodyEnds (λ ls scene. begun ls statement.now (site scene statement.now.at.line)) left d m.now here.now locals.now)) }
+    requires { scope.now.temps.now ≡ [] }
+    ensures { IfOk result (λ r. IfSome r (λ end. BodyEnds (λ ls scene. begun ls statement.now (site scene statement.now.at.line)) found.old.left (value_of_end end found.new.value) found.new.left scope.now.m.now scope.now.here.now scope.now.locals.now)) }
 {
-    if left == 0 {
+    if found.left == 0 {
         return Ok(None);
     }
+    found.left -= 1;
     match &statement.kind {
         CoreStmtKind::Return(value) => match value {
-            Some(e) => return_end(m, here, locals, e, left - 1, room),
+            Some(e) => return_end(scope, e, room, found, spare),
             None => Ok(None),
         },
         CoreStmtKind::If(branches, other) => {
-            choice_end(m, here, locals, branches, 0, other, left - 1, room)
+            choice_end(scope, branches, 0, other, room, found, spare)
         }
         _ => Ok(None),
     }
@@ -431,52 +424,50 @@ fn statement_end(
 /// The end of a return of a value.
 #[cycle(value)]
 fn return_end(
-    m: &Machine,
-    here: &Here,
-    locals: &Locals,
+    scope: &Scope<'_>,
     e: &Rc<CoreExpr>,
-    left: u64,
     room: u32,
+    found: &mut Immediate,
+    spare: &mut Vec<Locals>,
 ) -> Result<Option<BodyEnd>, OutOfMemory>
-    ensures { IfOk result (λ r. IfSome r (λ d. PartEnds (return_value (Some (eval e.now.value))) left d m.now here.now locals.now)) }
+    requires { scope.now.temps.now ≡ [] }
+    ensures { IfOk result (λ r. IfSome r (λ end. PartEnds (return_value (Some (eval e.now.value))) found.old.left (value_of_end end found.new.value) found.new.left scope.now.m.now scope.now.here.now scope.now.locals.now)) }
 {
-    match find_value(m, here, locals, &[], e, left, room)? {
-        Some(x) => Ok(Some(BodyEnd {
-            returned: Some(x.value),
-            left: x.left,
-        })),
-        None => Ok(None),
+    if find_value(scope, e, room, found, spare)? {
+        Ok(Some(BodyEnd::Returned))
+    } else {
+        Ok(None)
     }
 }
 
 /// The end of a choice from a branch on.
 #[cycle(value)]
 fn choice_end(
-    m: &Machine,
-    here: &Here,
-    locals: &Locals,
+    scope: &Scope<'_>,
     branches: &Rc<Vec<CoreBranch>>,
     at: usize,
     other: &Rc<CoreBlock>,
-    left: u64,
     room: u32,
+    found: &mut Immediate,
+    spare: &mut Vec<Locals>,
 ) -> Result<Option<BodyEnd>, OutOfMemory>
-    ensures { IfOk result (λ r. IfSome r (λ d. BodyEnds (λ ls. branches_on (choices ls (drop at branches.now.value.items)) (core_block_body ls other.now.value)) left d m.now here.now locals.now)) }
+    requires { scope.now.temps.now ≡ [] }
+    ensures { IfOk result (λ r. IfSome r (λ end. BodyEnds (λ ls. branches_on (choices ls (drop at branches.now.value.items)) (core_block_body ls other.now.value)) found.old.left (value_of_end end found.new.value) found.new.left scope.now.m.now scope.now.here.now scope.now.locals.now)) }
 {
     if at >= branches.len() {
-        return block_end(m, here, locals, other, 0, left, room);
+        return block_end(scope, other, 0, room, found, spare);
     }
     if room == 0 {
         return Ok(None);
     }
     let branch = &branches[at];
-    let Some(x) = find_value(m, here, locals, &[], &branch.condition, left, room - 1)? else {
+    if !find_value(scope, &branch.condition, room - 1, found, spare)? {
         return Ok(None);
-    };
-    if truth(&m.heap, x.value) {
-        return block_end(m, here, locals, &branch.body, 0, x.left, room - 1);
     }
-    choice_end(m, here, locals, branches, at + 1, other, x.left, room - 1)
+    if truth(&scope.m.heap, found.value) {
+        return block_end(scope, &branch.body, 0, room - 1, found, spare);
+    }
+    choice_end(scope, branches, at + 1, other, room - 1, found, spare)
 }
 
 fn is_call(e: &CoreExpr) -> bool {
@@ -507,5 +498,19 @@ pub fn at_once(m: &Machine, e: &CoreExpr) -> Result<Option<Immediate>, OutOfMemo
     ensures { IfOk result (λ r. IfSome r (λ d. IsImmediate (eval e.now) m.now.left d m.now)) }
 {
     let room = room_for(m.here.around);
-    find_value(m, &m.here, &m.locals, &m.temps, e, m.left, room)
+    let scope = Scope {
+        m,
+        here: &m.here,
+        locals: &m.locals,
+        temps: &m.temps,
+    };
+    let mut found = Immediate {
+        value: Value::None,
+        left: m.left,
+    };
+    let mut spare = Vec::new(m.alloc);
+    if find_value(&scope, e, room, &mut found, &mut spare)? {
+        return Ok(Some(found));
+    }
+    Ok(None)
 }

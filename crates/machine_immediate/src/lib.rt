@@ -5,9 +5,9 @@
 //! What makes no object and raises nothing within the steps that are left is evaluated where it stands (`at_once`), without a frame and a
 //! turn, and pays each step that the meaning says: constants, bound names, temporaries, and operators and comparisons of what is there at
 //! once. In every eighth of the functions that are open one within another, this holds of calls too, of functions whose bodies only choose
-//! and return: a recursion of these is evaluated so from there on, sixteen calls deep or so. What is looked into in vain is run then; since
-//! seven functions out of eight don't look, no body is looked into in vain more than twice. `at_once_unless_call` leaves out a call, which
-//! was looked into with what it is an operand of.
+//! and return, with arguments by position: a recursion of these is evaluated so from there on, sixteen calls deep or so. What is looked into
+//! in vain is run then, by functions of which seven out of eight don't look into calls; but each operator and each parenthesis around a call
+//! looks into it again. `at_once_unless_call` leaves out a call, which was looked into with what it is an operand of.
 //!
 //! `value_by` and `answer_by` tell the value of an operator or a comparison that is a number or a boolean and is made of two values alone;
 //! `operate_now` looks there first. The parts of an expression are handed out by their places (`part_at`, `op_at`, `next_argument`).

@@ -1,29 +1,14 @@
 // Functions of the sources whose call is looked into for a value that is there at once.
 
-ghost use Rattle.std.specs.Prelude.{◌≡◌, IfOk, IfSome, option_copied, slice_get};
-ghost use Rattle.machine_state.specs.Places.{arguments_in};
-ghost use Rattle.machine_immediate.specs.Opened.{function_called_by, IsCallOf, Opens};
+ghost use Rattle.std.specs.Prelude.{◌≡◌, IfSome, option_copied, slice_get};
+ghost use Rattle.machine_immediate.specs.Opened.{function_called_by, IsCallee};
 
-use machine_arguments::arguments::arguments_for;
-use machine_state::arguments::CallArguments;
 use machine_state::code::Code;
-use machine_state::locals::Locals;
 use machine_state::machine::Machine;
-use machine_state::place::{Here, Place};
-use py_core::CoreBlock;
-use py_text::OutOfMemory;
+use machine_state::place::Here;
 use py_values::heap::Heap;
 use py_values::object::{FunctionObj, Obj};
 use py_values::value::Value;
-use std::rc::Rc;
-
-/// A call of a function: where its body runs, its local names, and the body.
-#[derive(Drop)]
-pub(crate) struct OpenedCall {
-    pub(crate) here: Here,
-    pub(crate) locals: Locals,
-    pub(crate) body: Rc<CoreBlock>,
-}
 
 /// The function that a value is.
 fn function_of(heap: &Heap, callee: Value) -> Option<&FunctionObj>
@@ -67,40 +52,26 @@ fn code_at(codes: &[Code], at: usize) -> Option<&Code>
     codes.get(at)
 }
 
-/// The call of a code with local names, where this many functions are open around it.
-fn open_code(code: &Code, locals: Locals, around: usize) -> Result<OpenedCall, OutOfMemory>
-    ensures { IfOk result (λ o. IsCallOf o code.now locals around) }
-{
-    let body = code.body()?;
-    let place = Place::Function(code.share()?);
-    let here = Here {
-        place,
-        around,
-        line: 0,
-    };
-    Ok(OpenedCall { here, locals, body })
-}
-
-/// The call of a function of the sources from a place, where its arguments fit and one more may be open.
-pub(crate) fn open_call(
-    m: &Machine,
+/// The function that a value is, its code, and how many functions are open around a call of it from a place: it doesn't yield, and one more
+/// may be open.
+pub(crate) fn callee_at<'m>(
+    m: &'m Machine,
     here: &Here,
     callee: Value,
-    args: &CallArguments,
-) -> Result<Option<OpenedCall>, OutOfMemory>
-    ensures { IfOk result (λ r. IfSome r (λ o. Opens o callee (arguments_in args.now) m.now here.now)) }
+) -> Option<(&'m FunctionObj, &'m Code, usize)>
+    ensures { IfSome result (λ x. IsCallee callee x.0.now x.1.now x.2 m.now here.now) }
 {
     let Some(function) = function_of(&m.heap, callee) else {
-        return Ok(None);
+        return None;
     };
+    if function.yields {
+        return None;
+    }
     let Some(code) = code_at(&m.codes, function.code) else {
-        return Ok(None);
+        return None;
     };
-    let Some(around) = here.room() else {
-        return Ok(None);
-    };
-    match arguments_for(m.alloc, function, args)? {
-        Ok(locals) => Ok(Some(open_code(code, locals, around)?)),
-        Err(_) => Ok(None),
+    match here.room() {
+        Some(around) => Some((function, code, around)),
+        None => None,
     }
 }

@@ -16,7 +16,7 @@ use py_values::value::Value;
 
 /// The number that an operator gives of two others, where it is told at once: a sum, a difference, a product, a quotient or its rest.
 #[tactic(auto, using(crate::proofs::Numbers::added, crate::proofs::Numbers::subtracted, crate::proofs::Numbers::multiplied, crate::proofs::Numbers::floored, crate::proofs::Numbers::left_over))]
-fn number_by(op: BinOp, x: i128, y: i128) -> Option<i128>
+pub(crate) fn number_by(op: BinOp, x: i128, y: i128) -> Option<i128>
     ensures { IfSome result (λ z. numbers_by op x y ≡ Give (Int z) 0) }
 {
     match op {

@@ -1,9 +1,11 @@
 -- The place of a name among those of a call.
-use Rattle.std.proofs.Common.{◌≡◌, ◌<◌, ◌+◌, ◌∙◌, ℕ, zero, suc, List, [], ◌∷◌, ◌++◌, length, get_or, Some, None, true, false, refl, sym, ap, subst, arith, add-one}
-use Rattle.std.specs.Prelude.{slice_set, take, drop}
+use Rattle.std.proofs.Common.{◌≡◌, ◌<◌, ◌≤◌, ◌+◌, ◌∙◌, ℕ, zero, suc, List, [], ◌∷◌, ◌++◌, length, get_or, Some, None, true, false, refl, sym, ap, subst, arith, add-one}
+use Rattle.std.specs.Prelude.{Bool, slice_set, take, drop}
+use Rattle.std.specs.Cmp.Lexicographic.{same_text}
 use Rattle.py_values.specs.declared.value.Value.{Value}
 use Rattle.py_values.specs.Names.{bind_name, find_name, unbind_name, name_eq}
-use Rattle.machine_state.specs.LocalNames.{Bindings, IsPlaceOf, NoneBefore}
+use Rattle.machine_state.specs.Found.{OnTrue}
+use Rattle.machine_state.specs.LocalNames.{Bindings, IsAt, IsPlaceOf, NoneBefore}
 
 module _ (name : List ℕ) where
   none_suc : (es : Bindings) (i : ℕ) (e : List ℕ × Value) → i < length es → e ≡ get_or es i e → name_eq name e.0 ≡ false → NoneBefore name i es → NoneBefore name (suc i) es
@@ -69,3 +71,46 @@ module _ (name : List ℕ) where
   place_nowhere es i e n =
       let m : NoneBefore name (length es) es = subst (λ (j : ℕ). NoneBefore name j es) e n in
       (find_nowhere es m, (λ v. bind_last v es m, unbind_none es m))
+
+-- A NAME BEHIND THE FIRST ONES, of which it is none
+module _ (name : List ℕ) where
+  -- the first names are all, where there are fewer
+  pub none_behind : (es : Bindings) (i at : ℕ) → length es ≤ i → NoneBefore name i es → NoneBefore name at es
+  none_behind es i zero past n = tt
+  none_behind [] i (suc at) past n = tt
+  none_behind (e ∷ es) zero (suc at) past n = absurd (omega arith)
+  none_behind (e ∷ es) (suc i) (suc at) past n = (n.0, none_behind es i at (omega arith) n.1)
+
+  pub none_fewer : (es : Bindings) (i at : ℕ) → at ≤ i → NoneBefore name i es → NoneBefore name at es
+  none_fewer es i zero few n = tt
+  none_fewer [] i (suc at) few n = tt
+  none_fewer (e ∷ es) zero (suc at) few n = absurd (omega arith)
+  none_fewer (e ∷ es) (suc i) (suc at) few n = (n.0, none_fewer es i at (omega arith) n.1)
+
+  bind_behind : (v : Value) (es : Bindings) (at : ℕ) → NoneBefore name at es → bind_name name v (take at es) ≡ take at es ++ (name, v) ∷ []
+  bind_behind v es zero n = refl
+  bind_behind v [] (suc at) n = refl
+  bind_behind v (e ∷ es) (suc at) n = rw n.0 (ap (λ (ys : Bindings). e ∷ ys) (bind_behind v es at n.1))
+
+  -- it stands where the text there is the same
+  pub at_place : (es : Bindings) (at : ℕ) (e : List ℕ × Value) (b : Bool) → at < length es → e ≡ get_or es at e → b ≡ name_eq name e.0 → OnTrue b (IsAt name at es)
+  at_place es at e true w h t = (w, λ d g. ap (λ (y : List ℕ × Value). y.0) (same_at name es at d e w g h) ∙ sym (same_text name e.0 t))
+  at_place es at e false w h t = tt
+
+  -- its value is put in the place of the one that is there
+  set_at : (v : Value) (es : Bindings) (at : ℕ) (x : List ℕ) → at < length es → x ≡ name → take (suc at) (slice_set es at (x, v)) ≡ take at es ++ (name, v) ∷ []
+  set_at v [] at x w same = absurd (omega arith)
+  set_at v (e ∷ es) zero x w same = ap (λ (y : List ℕ). (y, v) ∷ []) same
+  set_at v (e ∷ es) (suc at) x w same = ap (λ (ys : Bindings). e ∷ ys) (set_at v es at x (omega arith) same)
+
+  pub rebound_there : (v : Value) (es : Bindings) (at : ℕ) (e : List ℕ × Value) → IsAt name at es → e ≡ get_or es at e → NoneBefore name at es → take (at + 1) (slice_set es at (e.0, v)) ≡ bind_name name v (take at es)
+  rebound_there v es at e is h n = rw add-one (set_at v es at e.0 is.0 (is.1 e h) ∙ sym (bind_behind v es at n))
+
+  -- it is put behind them
+  taken_all : (v : Value) (es : Bindings) (at : ℕ) → take (suc at) (take at es ++ (name, v) ∷ []) ≡ take at es ++ (name, v) ∷ []
+  taken_all v es zero = refl
+  taken_all v [] (suc at) = refl
+  taken_all v (e ∷ es) (suc at) = ap (λ (ys : Bindings). e ∷ ys) (taken_all v es at)
+
+  pub rebound_last : (v : Value) (es : Bindings) (at : ℕ) (now : Bindings) → NoneBefore name at es → now ≡ take at es ++ (name, v) ∷ [] → take (at + 1) now ≡ bind_name name v (take at es)
+  rebound_last v es at now n is = rw (add-one, is) (taken_all v es at ∙ sym (bind_behind v es at n))

@@ -20,3 +20,7 @@ IsPlaceOf name es (Some i) =
     × (((e : List ℕ × Value) → e ≡ get_or es i e → (find_name name es ≡ Some e.1) × ((v : Value) → bind_name name v es ≡ slice_set es i (e.0, v)))
     × (unbind_name name es ≡ remove es i))
 IsPlaceOf name es None = (find_name name es ≡ None) × (((v : Value) → bind_name name v es ≡ es ++ (name, v) ∷ []) × (unbind_name name es ≡ es))
+
+-- a name stands at a place
+abbrev pub IsAt : List ℕ → ℕ → Bindings → Type 0
+IsAt name at es = (at < length es) × ((e : List ℕ × Value) → e ≡ get_or es at e → e.0 ≡ name)

@@ -1,9 +1,10 @@
 // The names of a call.
 
-ghost use Rattle.std.specs.Prelude.{◌≡◌, ◌++◌, ◌∷◌, [], OnOk};
+ghost use Rattle.std.specs.Prelude.{◌≡◌, ◌+◌, ◌++◌, ◌∷◌, [], IfOk, OnOk, take};
 ghost use Rattle.core_meaning.specs.py_world.Calls.{nothing_named};
 ghost use Rattle.py_values.specs.Names.{bind_name, find_name, unbind_name};
-ghost use Rattle.machine_state.specs.LocalNames.{IsPlaceOf};
+ghost use Rattle.machine_state.specs.Found.{OnTrue};
+ghost use Rattle.machine_state.specs.LocalNames.{IsAt, IsPlaceOf, NoneBefore};
 
 use py_core::SrcText;
 use py_text::OutOfMemory;
@@ -73,6 +74,30 @@ impl Locals {
         }
     }
 
+    /// Binds a name behind the first names, in the place of what stands behind these, whose memory is taken over; tells whether it is none
+    /// of them, and binds none that is.
+    pub fn rebind(&mut self, at: usize, name: &SrcText, v: Value) -> Result<bool, OutOfMemory>
+        ensures { IfOk result (λ is. OnTrue is (take (at + 1) self.new ≡ bind_name name.now v (take at self.old))) }
+    {
+        if !is_none_of(&self.entries, at, name) {
+            return Ok(false);
+        }
+        if is_at(&self.entries, at, name) {
+            self.entries[at].1 = v;
+        } else {
+            self.entries.truncate(at);
+            self.entries.push((name.clone()?, v))?;
+        }
+        Ok(true)
+    }
+
+    /// Leaves the first names.
+    pub fn truncate(&mut self, names: usize)
+        ensures { self.new ≡ take names self.old }
+    {
+        self.entries.truncate(names);
+    }
+
     /// Puts a name behind the others, whether or not it is there.
     pub fn push(&mut self, name: &SrcText, v: Value) -> Result<(), OutOfMemory>
         ensures { OnOk result (self.new ≡ self.old ++ (name.now, v) ∷ []) }
@@ -109,4 +134,31 @@ fn place_of(entries: &[(SrcText, Value)], name: &SrcText) -> Option<usize>
         }
     }
     None
+}
+
+/// Whether a name is none of the first ones.
+#[tactic(auto, using(crate::proofs::LocalPlaces::none_more))]
+fn is_none_of(entries: &[(SrcText, Value)], at: usize, name: &SrcText) -> bool
+    ensures { OnTrue result (NoneBefore name.now at entries.now) }
+{
+    for i in 0..entries.len() {
+        if i >= at {
+            return true;
+        }
+        if name.chars() == entries[i].0.chars() {
+            return false;
+        }
+    }
+    true
+}
+
+/// Whether a name stands at a place.
+#[tactic(auto, using(crate::proofs::LocalPlaces::at_place))]
+fn is_at(entries: &[(SrcText, Value)], at: usize, name: &SrcText) -> bool
+    ensures { OnTrue result (IsAt name.now at entries.now) }
+{
+    if at >= entries.len() {
+        return false;
+    }
+    name.chars() == entries[at].0.chars()
 }

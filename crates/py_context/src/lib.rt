@@ -10,7 +10,7 @@
 //!
 //! # What tests alone show
 //!
-//! Each kind of such a fault at its place, as CPython and a plain model have it (`statement_tests`); that with ample memory it answers.
+//! Each kind of such a fault at its place, as CPython and a plain model have it (`expression_tests`); that with ample memory it answers.
 //!
 //! # What neither shows
 //!

@@ -15,7 +15,7 @@
 //!
 //! # What tests alone show
 //!
-//! That trees and places are those of CPython (`statement_tests`, as far as its sources go); that with ample memory no call answers `Stop::Memory`.
+//! That trees and places are those of CPython (`expression_tests`, as far as its sources go); that with ample memory no call answers `Stop::Memory`.
 //!
 //! # What neither shows
 //!

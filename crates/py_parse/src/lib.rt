@@ -17,7 +17,7 @@
 //!
 //! # What tests alone show
 //!
-//! Trees are those of CPython, and places those of a plain model (`statement_tests`); with ample memory every text is answered.
+//! Trees are those of CPython, and places those of a plain model (`expression_tests`); with ample memory every text is answered.
 //!
 //! # What neither shows
 //!

@@ -13,7 +13,7 @@
 //!
 //! # What tests alone show
 //!
-//! With ample memory each node is made (`statement_tests`).
+//! With ample memory each node is made (`expression_tests`).
 #![tactic(auto)]
 
 mod compound;

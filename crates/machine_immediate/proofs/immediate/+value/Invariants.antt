@@ -19,14 +19,14 @@ decreases-comparison l = l.room * 8 + 1
 abbrev pub decreases-negation : goal.decreases-negation
 decreases-negation l = l.room * 8 + 1
 
-abbrev pub decreases-argument_values : goal.decreases-argument_values
-decreases-argument_values l = l.room * 8 + 2
+abbrev pub decreases-bind_arguments : goal.decreases-bind_arguments
+decreases-bind_arguments l = l.room * 8 + 2
 
 abbrev pub decreases-call : goal.decreases-call
 decreases-call l = l.room * 8 + 6
 
-abbrev pub decreases-called : goal.decreases-called
-decreases-called l = l.room * 8 + 2
+abbrev pub decreases-run_code : goal.decreases-run_code
+decreases-run_code l = l.room * 8 + 2
 
 abbrev pub decreases-block_end : goal.decreases-block_end
 decreases-block_end l = l.room * 8 + 1

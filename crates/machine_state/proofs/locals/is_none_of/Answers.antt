@@ -1,0 +1,20 @@
+use Rattle.std.proofs.Common.{◌≡◌, ◌≤◌, false, length, rules, arith}
+use Rattle.py_values.specs.Names.{name_eq}
+use Rattle.machine_state.proofs.LocalPlaces.{none_behind, none_fewer, none_more}
+use Rattle.machine_state.proofs.locals.is_none_of.Goals as goal
+
+pub returns-then-i-at : goal.returns-then-i-at
+returns-then-i-at c =
+    let few : c.args.at ≤ c.loop-i.i = omega (arith, c.if-i-at.true) in
+    none_fewer c.args.name.now c.args.entries.now c.loop-i.i c.args.at few c.loop-i.invariant
+
+pub loop-i-preserved : goal.loop-i-preserved
+loop-i-preserved c =
+    let e = c.index-entries-i.result in
+    let differs : name_eq c.args.name.now e.0 ≡ false = search rules in
+    none_more c.args.name.now c.args.entries.now c.loop-i.i e c.loop-i-test.true c.index-entries-i.is differs c.loop-i.invariant
+
+pub returns : goal.returns
+returns c =
+    let past : length c.args.entries.now ≤ c.loop-i.i = omega arith in
+    none_behind c.args.name.now c.args.entries.now c.loop-i.i c.args.at past c.loop-i.invariant
