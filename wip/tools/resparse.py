@@ -23,7 +23,7 @@ def below(g):
         return memo[n]
     return {n:b(n) for n in g}
 bel_now=below(now)
-anew={n for n in now if n=='py_world' or 'py_world' in bel_now[n]}|{'py_parse','file_source','statement_tests','setup_stack','item_stack','demand_tests'}&repo
+anew={n for n in now if n=='py_world' or 'py_world' in bel_now[n]}|{'py_parse','file_source','setup_stack','item_stack','demand_tests'}&repo
 print('anew',len(anew),sorted(repo-anew))
 def files(n):
     for at,fo,fs in os.walk(f'crates/{n}'):

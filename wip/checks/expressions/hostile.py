@@ -4,8 +4,8 @@
 Sources are those of `python3 -m model.langfuzz --tokens COUNT SEED`: mutated programs, odd numbers and literals, brackets, blanks, nesting
 at 97 to 103. MODEL is the folder that has the package `model`; PROGRAM is crates/expression_tests, as `rt try` or `rt run` builds it.
 Compared is whether a source has a tree, and if not the kind of its first fault with line and column. A source that is no UTF-8 is left
-out, and one without a line end at its end gets one, for a row of the program is a line. `python3 -m model.langfuzz --tokens COUNT SEED
---program pytest_run` compares the whole program's reports of the same sources, byte by byte, in which a fault has no column."""
+out. `python3 -m model.langfuzz --tokens COUNT SEED --program pytest_run` compares the whole program's reports of the same sources, byte by
+byte, in which a fault has no column."""
 import collections
 import os
 import subprocess
@@ -54,10 +54,10 @@ def main():
         if "␊" in text:
             left_out += 1
             continue
-        cases.append((k, case, text[:-1] if text.endswith("\n") else text))
+        cases.append((k, case, text))
     kinds, differing, later = collections.Counter(), 0, 0
     for (k, case, text), given in zip(cases, by_program([text for _, _, text in cases])):
-        want = by_model((text + "\n").encode())
+        want = by_model(text.encode())
         kinds[want.split("@")[0]] += 1
         if given == want:
             continue
