@@ -1,10 +1,11 @@
-//! Runs the worked cases of its folder, and says which of them differ from what they want.
+//! Runs the worked cases of its folder and the rows of its input, and says which of them differ from what they want.
 //!
 //! # What it is for
 //!
 //! Each file `NAME.case` has words, files, and what a run over them must write and answer; where it tells so, a call of the tree or the
 //! sink fails. Those named `wrong_..` want what no run writes or answers, and must be told as wrong, so that a checker that passes
-//! everything is seen.
+//! everything is seen. The rows of `stdin` are programs for the machine alone, under exact budgets; `machine_tests` reads and runs them,
+//! and its page says what a row is.
 //!
 //! # What is proved
 //!
@@ -17,6 +18,7 @@ mod check;
 
 use case::read_case;
 use check::check;
+use machine_tests::run_rows;
 use std::alloc::{AllocError, Global};
 use std::rt::Files;
 use std::thread::Threads;
@@ -43,7 +45,9 @@ fn fault_of<R: Threads + Sync>(rt: &R, alloc: Global, text: &str) -> Result<Stri
     }
 }
 
-fn run<R: Threads + Sync + Files + Print + AllocGlobal + Clone + Drop>(rt: &R) -> io::Result<()> {
+fn run_cases<R: Threads + Sync + Files + Print + AllocGlobal + Clone + Drop>(
+    rt: &R,
+) -> io::Result<()> {
     let names = case_names(rt)?;
     let mut differing = 0u64;
     for name in &names {
@@ -58,5 +62,6 @@ fn run<R: Threads + Sync + Files + Print + AllocGlobal + Clone + Drop>(rt: &R) -
 }
 
 fn main(rt: HostRuntime) -> io::Result<()> {
-    run(&rt)
+    run_cases(&rt)?;
+    run_rows(&rt)
 }

@@ -24,9 +24,6 @@
 //! How long a call takes.
 #![tactic(auto)]
 
-pub use py_operands;
-pub use py_operands::py_kinds;
-
 pub mod arguments;
 pub mod elements;
 pub mod product;

@@ -24,9 +24,6 @@
 //! Time.
 #![tactic(auto)]
 
-pub use collect_names;
-pub use collect_names::py_kinds;
-
 pub mod given;
 pub mod names;
 pub mod says;

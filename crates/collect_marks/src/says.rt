@@ -8,7 +8,7 @@ ghost use Rattle.collect_marks.specs.Says as says;
 use crate::given::mark_in;
 use crate::xfail::Xfail;
 use collect_names::objects::object_in;
-use collect_names::py_kinds::truth::truth;
+use py_kinds::truth::truth;
 use py_text::{OutOfMemory, PyText};
 use py_values::heap::Heap;
 use py_values::names::Name;

@@ -6,7 +6,7 @@ ghost use Rattle.collect_marks.specs.Verdicts as verdicts;
 
 use crate::xfail::Xfail;
 use collect_names::objects::object_in;
-use collect_names::py_kinds::classes::{is_a, root_of};
+use py_kinds::classes::{is_a, root_of};
 use py_values::class::{ClassRef, ExcClass};
 use py_values::heap::Heap;
 use py_values::object::Obj;

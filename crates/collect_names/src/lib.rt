@@ -22,8 +22,6 @@
 //! Time.
 #![tactic(auto)]
 
-pub use py_kinds;
-
 pub mod found;
 pub mod ids;
 pub mod names;

@@ -8,7 +8,7 @@ use crate::keyed::{get, key_args, pop, setdefault};
 use crate::views::{items, keys, values};
 use call_products::arguments::{has_none, pair, sole};
 use call_products::product::{Product, plain, wrong};
-use call_products::py_kinds::builtins::builtin_name;
+use py_kinds::builtins::builtin_name;
 use py_values::builtin::{Builtin, DictMethod};
 use py_values::change::Change;
 use py_values::dict::Dict;

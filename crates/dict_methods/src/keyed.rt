@@ -4,8 +4,8 @@ ghost use Rattle.std.specs.Prelude.{◌≡◌, IfOk};
 ghost use Rattle.dict_methods.specs.Keyed as keyed;
 
 use call_products::product::{Product, failed, plain, wrong};
-use call_products::py_kinds::keys::{KeyFault, KeyResult, key};
-use call_products::py_operands::faults::{key_fault, no_key};
+use py_kinds::keys::{KeyFault, KeyResult, key};
+use py_operands::faults::{key_fault, no_key};
 use py_values::OutOfMemory;
 use py_values::change::Change;
 use py_values::class::ExcClass;

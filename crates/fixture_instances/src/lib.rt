@@ -32,8 +32,6 @@
 //! the types stand for), `specs/Resting.antt` (frozen frames), `specs/Joined.antt` (the list with what is kept).
 #![tactic(auto)]
 
-pub use live_chains;
-
 mod ends;
 mod executor;
 mod items;

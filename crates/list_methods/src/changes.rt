@@ -5,8 +5,10 @@ ghost use Rattle.std.specs.List.{insert as inserted};
 ghost use Rattle.py_items.specs.Items as items;
 ghost use Rattle.list_methods.specs.Lists as lists;
 
+use call_products::elements::{Elements, ElementsResult, elements_of};
+use call_products::product::{Product, failed, plain, wrong};
 use py_items::index::{place_of, value_at};
-use py_items::py_kinds::length::length_of;
+use py_kinds::length::length_of;
 use py_values::change::Change;
 use py_values::class::ExcClass;
 use py_values::end::Effect;
@@ -17,8 +19,6 @@ use py_values::object::Obj;
 use py_values::rows::Values;
 use py_values::value::{ObjId, Value};
 use py_values::{OutOfMemory, PyText};
-use sorting::call_products::elements::{Elements, ElementsResult, elements_of};
-use sorting::call_products::product::{Product, failed, plain, wrong};
 use std::alloc::Global;
 
 fn changed_list(alloc: Global, id: ObjId, change: Change, cost: u64) -> Product

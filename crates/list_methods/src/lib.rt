@@ -22,8 +22,6 @@
 //! How long a call takes: a list that is changed but at its end is copied.
 #![tactic(auto)]
 
-pub use sorting;
-
 pub mod changes;
 pub mod list;
 pub mod search;

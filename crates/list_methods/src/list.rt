@@ -7,8 +7,10 @@ ghost use Rattle.list_methods.specs.Lists as lists;
 
 use crate::changes::{append, clear, extend, insert, pop, reverse, without};
 use crate::search::{Search, Tally, count_equal, find_equal};
-use py_items::py_kinds::builtins::builtin_name;
-use py_items::py_operands::faults::too_deep;
+use call_products::arguments::{has_none, pair, sole};
+use call_products::product::{Product, failed, plain, product_within, wrong};
+use py_kinds::builtins::builtin_name;
+use py_operands::faults::too_deep;
 use py_values::builtin::{Builtin, ListMethod};
 use py_values::class::ExcClass;
 use py_values::end::Effect;
@@ -17,8 +19,6 @@ use py_values::object::Obj;
 use py_values::rows::Values;
 use py_values::value::{ObjId, Value};
 use py_values::{OutOfMemory, PyText};
-use sorting::call_products::arguments::{has_none, pair, sole};
-use sorting::call_products::product::{Product, failed, plain, product_within, wrong};
 use sorting::calls::sort;
 use std::alloc::Global;
 

@@ -5,14 +5,14 @@ ghost use Rattle.sorting.specs.call_products.Products.{product_within};
 ghost use Rattle.list_methods.specs.Lists as lists;
 
 use crate::list::{count, index, wrong_within};
-use py_items::py_kinds::builtins::builtin_name;
+use call_products::arguments::sole;
+use call_products::product::Product;
+use py_kinds::builtins::builtin_name;
 use py_values::builtin::{Builtin, TupleMethod};
 use py_values::heap::Heap;
 use py_values::object::Obj;
 use py_values::value::{ObjId, Value};
 use py_values::{OutOfMemory, PyText};
-use sorting::call_products::arguments::sole;
-use sorting::call_products::product::Product;
 use std::alloc::Global;
 
 fn tuple_called(

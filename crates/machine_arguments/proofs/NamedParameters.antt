@@ -112,6 +112,9 @@ module _ (ps : List Param) (i : ℕ) (p : Param) (acc : Locals) where
   pub fits_default : (v : Value) → i < length ps → p ≡ get_or ps i p → p.default ≡ Some v → fitted (drop i ps) [] [] acc ≡ fitted (drop (i + 1) ps) [] [] (bind_name p.name v acc)
   fits_default v w h d = rw (add-one, next_of ps i p w h, d) refl
 
+  pub fits_undefaulted : i < length ps → p ≡ get_or ps i p → p.default ≡ None → fitted (drop i ps) [] [] acc ≡ None
+  fits_undefaulted w h d = rw (next_of ps i p w h, d) refl
+
 -- no parameter is left
 pub fits_bare : (ps : List Param) (i : ℕ) (acc : Locals) → length ps ≤ i → fitted (drop i ps) [] [] acc ≡ Some acc
 fits_bare ps i acc past = rw (drop_of_length-le ps past) refl

@@ -1,6 +1,6 @@
 // The arguments of calls.
 
-ghost use Rattle.std.specs.Prelude.{◌≡◌, [], ◌∷◌, IfOk, Some, drop, slice_get, take};
+ghost use Rattle.std.specs.Prelude.{◌≡◌, [], ◌∷◌, IfOk, None, Some, drop, false, slice_get, take};
 ghost use Rattle.machine_state.specs.py_world.Arguments.{fitted, with_plain};
 ghost use Rattle.machine_state.specs.py_world.Calls as world;
 ghost use Rattle.machine_state.specs.Places.{arguments_in};
@@ -74,9 +74,10 @@ fn fit(
 
 /// Binds the parameters from a place on, for which there is no argument, to their defaults, in the place of the names behind the first
 /// ones; tells whether each has one.
-#[tactic(auto, using(crate::proofs::NamedParameters::fits_default, crate::proofs::NamedParameters::fits_bare))]
+#[tactic(auto, using(crate::proofs::NamedParameters::fits_default, crate::proofs::NamedParameters::fits_undefaulted, crate::proofs::NamedParameters::fits_bare))]
 pub fn bind_defaults(params: &[Param], at: usize, bound: &mut Locals) -> Result<bool, OutOfMemory>
-    ensures { IfOk result (λ all. OnTrue all (fitted (drop at params.now) [] [] (take at bound.old) ≡ Some bound.new)) }
+    ensures all { IfOk result (λ all. OnTrue all (fitted (drop at params.now) [] [] (take at bound.old) ≡ Some bound.new)) }
+    ensures not_all { IfOk result (λ all. all ≡ false → fitted (drop at params.now) [] [] (take at bound.old) ≡ None) }
 {
     bound.truncate(at);
     for i in at..params.len() {

@@ -13,8 +13,8 @@
 //! - `arguments_for` gives the local names with which a function begins, or what is raised in their place: each parameter has its argument
 //!   by position, its argument by name or its default, and a function that yields is not called. `fitting` gives them whether or not it
 //!   yields.
-//! - `has_names` says whether an argument has a name; `bind_defaults` binds what the meaning binds where no argument is left, and says where a
-//!   parameter has no default.
+//! - `has_names` says whether an argument has a name; `bind_defaults` binds what the meaning binds where no argument is left, and tells whether
+//!   each parameter has a default; where one has none, the meaning has no local names.
 //! - `with_first` and `with_receiver` give the same arguments behind the value.
 //!
 //! # What tests alone show

@@ -1,6 +1,6 @@
 -- The place of a name among those of a call.
 use Rattle.std.proofs.Common.{◌≡◌, ◌<◌, ◌≤◌, ◌+◌, ◌∙◌, ℕ, zero, suc, List, [], ◌∷◌, ◌++◌, length, get_or, Some, None, true, false, refl, sym, ap, subst, arith, add-one}
-use Rattle.std.specs.Prelude.{Bool, slice_set, take, drop}
+use Rattle.std.specs.Prelude.{Bool, is_some, slice_set, take, drop}
 use Rattle.std.specs.Cmp.Lexicographic.{same_text}
 use Rattle.py_values.specs.declared.value.Value.{Value}
 use Rattle.py_values.specs.Names.{bind_name, find_name, unbind_name, name_eq}
@@ -86,6 +86,13 @@ module _ (name : List ℕ) where
   none_fewer [] i (suc at) few n = tt
   none_fewer (e ∷ es) zero (suc at) few n = absurd (omega arith)
   none_fewer (e ∷ es) (suc i) (suc at) few n = (n.0, none_fewer es i at (omega arith) n.1)
+
+  -- the first names have it, where it stands at one of their places
+  pub found_before : (es : Bindings) (at i : ℕ) (e : List ℕ × Value) → i < length es → i < at → e ≡ get_or es i e → name_eq name e.0 ≡ true → NoneBefore name i es → is_some (find_name name (take at es)) ≡ true
+  found_before es zero i e w u h t n = absurd (omega arith)
+  found_before [] (suc at) i e w u h t n = absurd (omega arith)
+  found_before (x ∷ xs) (suc at) zero e w u h t n = let same : name_eq name x.0 ≡ true = ap (λ (y : List ℕ × Value). name_eq name y.0) (sym h) ∙ t in rw same refl
+  found_before (x ∷ xs) (suc at) (suc i) e w u h t n = rw n.0 (found_before xs at i e (omega arith) (omega arith) h t n.1)
 
   bind_behind : (v : Value) (es : Bindings) (at : ℕ) → NoneBefore name at es → bind_name name v (take at es) ≡ take at es ++ (name, v) ∷ []
   bind_behind v es zero n = refl

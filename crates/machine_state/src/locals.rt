@@ -1,6 +1,6 @@
 // The names of a call.
 
-ghost use Rattle.std.specs.Prelude.{◌≡◌, ◌+◌, ◌++◌, ◌∷◌, [], IfOk, OnOk, take};
+ghost use Rattle.std.specs.Prelude.{◌≡◌, ◌+◌, ◌++◌, ◌∷◌, [], IfOk, OnOk, false, is_some, take, true};
 ghost use Rattle.core_meaning.specs.py_world.Calls.{nothing_named};
 ghost use Rattle.py_values.specs.Names.{bind_name, find_name, unbind_name};
 ghost use Rattle.machine_state.specs.Found.{OnTrue};
@@ -77,7 +77,8 @@ impl Locals {
     /// Binds a name behind the first names, in the place of what stands behind these, whose memory is taken over; tells whether it is none
     /// of them, and binds none that is.
     pub fn rebind(&mut self, at: usize, name: &SrcText, v: Value) -> Result<bool, OutOfMemory>
-        ensures { IfOk result (λ is. OnTrue is (take (at + 1) self.new ≡ bind_name name.now v (take at self.old))) }
+        ensures bound { IfOk result (λ is. OnTrue is (take (at + 1) self.new ≡ bind_name name.now v (take at self.old))) }
+        ensures there { IfOk result (λ is. is ≡ false → is_some (find_name name.now (take at self.old)) ≡ true) }
     {
         if !is_none_of(&self.entries, at, name) {
             return Ok(false);
@@ -137,9 +138,10 @@ fn place_of(entries: &[(SrcText, Value)], name: &SrcText) -> Option<usize>
 }
 
 /// Whether a name is none of the first ones.
-#[tactic(auto, using(crate::proofs::LocalPlaces::none_more))]
+#[tactic(auto, using(crate::proofs::LocalPlaces::none_more, crate::proofs::LocalPlaces::found_before))]
 fn is_none_of(entries: &[(SrcText, Value)], at: usize, name: &SrcText) -> bool
-    ensures { OnTrue result (NoneBefore name.now at entries.now) }
+    ensures none { OnTrue result (NoneBefore name.now at entries.now) }
+    ensures there { result ≡ false → is_some (find_name name.now (take at entries.now)) ≡ true }
 {
     for i in 0..entries.len() {
         if i >= at {

@@ -21,7 +21,7 @@
 //!
 //! # What tests alone show
 //!
-//! That the answers are CPython's, row by row, and that the calls succeed with ample memory.
+//! That the answers are CPython's, row by row, and that the calls succeed with ample memory (`value_tests`).
 //!
 //! # What neither shows
 //!
@@ -33,8 +33,6 @@ mod matching;
 mod pattern;
 mod reading;
 mod searching;
-#[cfg(test)]
-mod tests;
 
 pub use fault::PatternFault;
 pub use pattern::{Atom, Item, Pattern, Times};

@@ -22,8 +22,6 @@
 //! How long a call takes.
 #![tactic(auto)]
 
-pub use text_methods;
-
 pub mod best;
 pub mod numbers;
 pub mod sums;

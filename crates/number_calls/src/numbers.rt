@@ -3,6 +3,10 @@
 ghost use Rattle.std.specs.Prelude.{◌≡◌, IfOk, option_copied};
 ghost use Rattle.number_calls.specs.Numbers as numbers;
 
+use call_products::arguments::{pair, sole, sole_text};
+use call_products::product::{Product, failed, plain, wrong};
+use py_kinds::truth::truth;
+use py_operands::numbers::{floor_div, floor_mod, itself, negative, number_made};
 use py_values::class::ExcClass;
 use py_values::end::Effect;
 use py_values::heap::Heap;
@@ -12,10 +16,6 @@ use py_values::rows::Values;
 use py_values::value::Value;
 use py_values::{OutOfMemory, PyText};
 use std::alloc::Global;
-use text_methods::call_products::arguments::{pair, sole, sole_text};
-use text_methods::call_products::product::{Product, failed, plain, wrong};
-use text_methods::py_kinds::truth::truth;
-use text_methods::py_operands::numbers::{floor_div, floor_mod, itself, negative, number_made};
 
 /// A number without its sign, where it has its 128 bits.
 fn size(n: i128) -> Option<i128>

@@ -5,6 +5,12 @@ ghost use Rattle.text_methods.specs.py_operands.Numbers.{fitting};
 ghost use Rattle.py_values.specs.Numbers.{int_value};
 ghost use Rattle.number_calls.specs.Sums as sums;
 
+use call_products::arguments::sole;
+use call_products::elements::{Elements, ElementsResult, elements_of};
+use call_products::product::{Product, failed, plain, wrong};
+use py_kinds::kinds::kind_name;
+use py_operands::faults::kinds_error;
+use py_operands::numbers::sum as added;
 use py_values::class::ExcClass;
 use py_values::end::{Effect, Raise};
 use py_values::heap::Heap;
@@ -12,12 +18,6 @@ use py_values::number::number;
 use py_values::value::Value;
 use py_values::{OutOfMemory, PyText};
 use std::alloc::Global;
-use text_methods::call_products::arguments::sole;
-use text_methods::call_products::elements::{Elements, ElementsResult, elements_of};
-use text_methods::call_products::product::{Product, failed, plain, wrong};
-use text_methods::py_kinds::kinds::kind_name;
-use text_methods::py_operands::faults::kinds_error;
-use text_methods::py_operands::numbers::sum as added;
 
 /// A sum that can't go on: the kind of what is added isn't a number's, or the number is out of range.
 fn no_sum(alloc: Global, kind: &[char]) -> Result<Raise, OutOfMemory>

@@ -4,6 +4,10 @@ ghost use Rattle.std.specs.Prelude.{◌≡◌, ◌≤◌, ◌^◌, IfOk, option_
 ghost use Rattle.text_methods.specs.py_operands.Numbers.{fitting};
 ghost use Rattle.number_calls.specs.Texts as texts;
 
+use call_products::arguments::sole;
+use call_products::product::{Product, failed, plain, wrong};
+use py_operands::numbers::number_made;
+use py_operands::texts::text_of;
 use py_values::class::ExcClass;
 use py_values::end::Effect;
 use py_values::heap::Heap;
@@ -11,11 +15,7 @@ use py_values::number::number;
 use py_values::value::Value;
 use py_values::{OutOfMemory, PyText};
 use std::alloc::Global;
-use text_methods::call_products::arguments::sole;
-use text_methods::call_products::product::{Product, failed, plain, wrong};
 use text_methods::chars::{is_digits, stripped};
-use text_methods::py_operands::numbers::number_made;
-use text_methods::py_operands::texts::text_of;
 
 /// The size of the greatest number below zero.
 const MOST: u128 = 1 << 127;

@@ -6,7 +6,7 @@ ghost use Rattle.object_calls.specs.Attributes as attributes;
 use crate::kinds::answered;
 use call_products::arguments::pair;
 use call_products::product::{Product, plain};
-use call_products::py_operands::texts::text_of;
+use py_operands::texts::text_of;
 use py_values::end::Effect;
 use py_values::heap::Heap;
 use py_values::value::Value;

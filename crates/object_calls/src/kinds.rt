@@ -6,7 +6,7 @@ ghost use Rattle.object_calls.specs.Kinds as kinds;
 
 use call_products::arguments::{pair, sole};
 use call_products::product::{Product, plain, wrong};
-use call_products::py_kinds::classes::is_a;
+use py_kinds::classes::is_a;
 use py_values::end::Effect;
 use py_values::heap::Heap;
 use py_values::object::Obj;

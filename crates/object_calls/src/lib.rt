@@ -22,9 +22,6 @@
 //! How long a call takes.
 #![tactic(auto)]
 
-pub use call_products::py_kinds;
-pub use py_repr;
-
 pub mod attributes;
 pub mod kinds;
 pub mod reprs;

@@ -22,9 +22,6 @@
 //! How long a call takes; that classes are walked without recursion (a reader sees it).
 #![tactic(auto)]
 
-pub use py_items;
-pub use py_items::py_operands;
-
 pub mod attributes;
 pub mod classes;
 mod kinds;

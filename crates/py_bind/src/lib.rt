@@ -17,14 +17,12 @@
 //!
 //! # What tests alone show
 //!
-//! That calls are bound as in CPython, row by row, and that `bind` succeeds with ample memory.
+//! That calls are bound as in CPython, row by row, and that `bind` succeeds with ample memory (`value_tests`).
 #![tactic(auto)]
 
 mod binding;
 mod fault;
 mod modules;
-#[cfg(test)]
-mod tests;
 
 pub use binding::bind;
 pub use fault::BindFault;

@@ -9,14 +9,14 @@ use crate::functions::{len_made, number_call, object_call, sequence_call, str_ma
 use crate::line::{print_text, push_bytes};
 use crate::made::TextMade;
 use crate::methods::{dict_call, list_call, text_call, tuple_call};
+use call_products::arguments::sole;
+use call_products::product::{Product, finish_product, plain, product_within};
 use py_values::builtin::Builtin;
 use py_values::end::{Effect, OpEnd};
 use py_values::heap::Heap;
 use py_values::value::Value;
 use py_values::{OutOfMemory, PyText};
 use pytest_calls::calls::{addfinalizer_called, pytest_called};
-use sequence_calls::call_products::arguments::sole;
-use sequence_calls::call_products::product::{Product, finish_product, plain, product_within};
 use std::alloc::Global;
 
 /// Prints a text, where the budget suffices for its length.

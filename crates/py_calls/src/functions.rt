@@ -6,28 +6,28 @@ ghost use Rattle.py_calls.specs.Functions as functions;
 
 use crate::made::TextMade;
 use crate::text::text_of;
+use call_products::product::{Product, plain, product_within, wrong};
 use dict_methods::dict::dict;
-use list_methods::sorting::calls::sorted;
 use number_calls::best::best;
 use number_calls::numbers::{abs, bool_of, chr, divmod, ord};
 use number_calls::sums::sum;
 use number_calls::texts::int;
 use object_calls::attributes::{getattr_asked, getattr_told, hasattr_asked, hasattr_told};
 use object_calls::kinds::{callable, isinstance};
-use object_calls::py_kinds::length::length_of;
 use object_calls::reprs::repr;
 use py_attributes::attributes::attribute_made;
-use py_attributes::py_operands::faults::not_iterable;
+use py_kinds::length::length_of;
+use py_operands::faults::not_iterable;
 use py_values::builtin::{NumberCall, ObjectCall, SequenceCall};
 use py_values::end::Effect;
 use py_values::heap::Heap;
 use py_values::object::Obj;
 use py_values::value::Value;
 use py_values::{OutOfMemory, PyText};
-use sequence_calls::call_products::product::{Product, plain, product_within, wrong};
 use sequence_calls::ranges::range;
 use sequence_calls::sequences::{enumerate, list, reversed, tuple, zip};
 use sequence_calls::truths::{all, any};
+use sorting::calls::sorted;
 use std::alloc::Global;
 
 /// A call of `str`, with its one argument.

@@ -24,12 +24,6 @@
 //! How long a call takes.
 #![tactic(auto)]
 
-pub use object_calls::{py_kinds, py_repr};
-pub use py_attributes;
-pub use py_attributes::{py_items, py_operands};
-pub use pytest_calls;
-pub use sequence_calls::call_products;
-
 pub mod call;
 mod functions;
 mod line;

@@ -4,17 +4,17 @@ ghost use Rattle.std.specs.Prelude.{◌≡◌, IfOk};
 ghost use Rattle.sequence_calls.specs.call_products.Products.{product_within as within_steps};
 ghost use Rattle.py_calls.specs.Methods as methods;
 
+use call_products::product::{Product, wrong};
 use dict_methods::dict::dict_method;
 use list_methods::list::{list_method, wrong_within};
 use list_methods::tuple::tuple_method;
-use number_calls::text_methods::call::text_method;
-use object_calls::py_kinds::builtins::builtin_name;
+use py_kinds::builtins::builtin_name;
 use py_values::builtin::{Builtin, DictMethod, ListMethod, TextMethod, TupleMethod};
 use py_values::heap::Heap;
 use py_values::value::Value;
 use py_values::{OutOfMemory, PyText};
-use sequence_calls::call_products::product::{Product, wrong};
 use std::alloc::Global;
+use text_methods::call::text_method;
 
 /// A call of a method of a text.
 pub(crate) fn text_call(

@@ -4,9 +4,9 @@ ghost use Rattle.std.specs.Prelude.{◌≡◌, IfOk};
 ghost use Rattle.py_calls.specs.Texts as texts;
 
 use crate::made::TextMade;
-use object_calls::py_kinds::builtins::builtin_name;
-use object_calls::py_repr::repr::str;
-use object_calls::py_repr::shown::Shown;
+use py_kinds::builtins::builtin_name;
+use py_repr::repr::str;
+use py_repr::shown::Shown;
 use py_values::OutOfMemory;
 use py_values::builtin::Builtin;
 use py_values::class::ExcClass;

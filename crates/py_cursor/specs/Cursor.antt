@@ -1,8 +1,8 @@
--- What a function that reads tokens gives.
-use Rattle.std.specs.Prelude.{◌≡◌, ℕ, Bool, true, false, List, [], ◌∷◌, Result, Ok, Err}
+-- Sets of tokens, tables of operators, and where reading stops.
+use Rattle.std.specs.Prelude.{◌≡◌, ℕ, Bool, true, false, List, [], ◌∷◌}
 use Rattle.py_tokens.specs.declared.op.Op.{Op}
 use Rattle.py_tokens.specs.declared.token.Token.{Token}
-use Rattle.parsing.specs.Reading.{Read, Found, Bad, Deep}
+use Rattle.parsing.specs.Reading.{Read, Bad, Deep}
 use Rattle.py_expressions.specs.token_kinds.Kinds.{op_number}
 use Rattle.py_cursor.specs.declared.cursor.Sign.{Sign}
 use Rattle.py_cursor.specs.declared.cursor.Sign.TheVariants as sign
@@ -29,15 +29,11 @@ abbrev pub rows_of : {V : Type 0} → List (Op × V) → List (ℕ × V)
 rows_of [] = []
 rows_of (r ∷ rows) = (op_number r.0, r.1) ∷ rows_of rows
 
--- What a function returned is what the reader gives, unless memory ran out: the value and the tokens behind it, or the tokens from the fault on.
+-- Where reading stopped is where the reader stops, unless memory ran out: the tokens from the fault on, whether wrong or too deep.
 abbrev pub FailsAs : {A : Type 0} → Stop → Read Token A → Type 0
 FailsAs (stops.Bad s) read = read ≡ Bad s.now
 FailsAs (stops.Deep s) read = read ≡ Deep s.now
 FailsAs stops.Memory read = Unit {0}
-
-abbrev pub Gives : {X A : Type 0} → (X → A × List Token) → Result X Stop → Read Token A → Type 0
-Gives seen (Ok x) read = read ≡ Found (seen x).0 (seen x).1
-Gives seen (Err e) read = FailsAs e read
 
 -- the fault where no level is left: the first token is too deep, where it begins what is read; else it is wrong
 abbrev pub IsBlocked : Bool → List Token → Stop → Type 0

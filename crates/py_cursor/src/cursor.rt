@@ -1,9 +1,9 @@
 ghost use Rattle.std.specs.Prelude.{◌≡◌, ◌∷◌, [], MatchOption, None, Some};
 ghost use Rattle.parsing.specs.Reading.{has};
-ghost use Rattle.grammar_code.specs.Walk.{first_of, first_meant, starts_with, wanted};
+ghost use Rattle.grammar_code.specs.Walk.{first_of, first_meant, starts_with};
 ghost use Rattle.grammar.specs.Table.{lookup_key};
 ghost use Rattle.py_expressions.specs.token_kinds.Kinds.{kind, op_number, text_of};
-ghost use Rattle.py_cursor.specs.Cursor.{number_on, kinds_of, rows_of, Gives, IsBlocked};
+ghost use Rattle.py_cursor.specs.Cursor.{number_on, kinds_of, rows_of, IsBlocked};
 
 use crate::stop::Stop;
 use py_tokens::{Op, Token, TokenKind};
@@ -89,16 +89,6 @@ pub fn begins(tokens: &[Token], set: &[Sign]) -> bool
     match tokens {
         [first, ..] => is_among(first, set),
         [] => false,
-    }
-}
-
-/// The first token, which has to be of a kind in the set, and those behind it.
-pub fn expect<'t>(tokens: &'t [Token], set: &[Sign]) -> Result<(&'t Token, &'t [Token]), Stop<'t>>
-    ensures { Gives (λ x. (x.0.now, x.1.now)) result (wanted kind (kinds_of set.now) tokens.now) }
-{
-    match first_of(tokens, set) {
-        Some(found) => Ok(found),
-        None => Err(Stop::Bad(tokens)),
     }
 }
 

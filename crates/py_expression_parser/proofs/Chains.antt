@@ -1,28 +1,27 @@
 -- CHAINS: comparisons, `and`, `or`.
-use Rattle.std.proofs.Common.{◌≡◌, ℕ, zero, ◌-◌, ◌+◌, ◌<◌, ◌≤◌, max, nat_le, Bool, true, false, cond, Option, Some, None, List, [], ◌∷◌, length, refl, sym, ap, ◌∙◌, subst, arith}
+use Rattle.std.proofs.Common.{◌≡◌, ℕ, ◌-◌, ◌+◌, ◌<◌, ◌≤◌, max, true, false, cond, Option, List, [], ◌∷◌, length, refl, sym, ap, ◌∙◌, subst, arith}
 use Rattle.py_tokens.specs.declared.token.Token.{Token}
-use Rattle.parsing.specs.Reading.{Read, Found, Bad, Deep, ◌>>=◌}
+use Rattle.parsing.specs.Reading.{Read, Found, Deep, ◌>>=◌}
 use Rattle.parsing.proofs.Loops.{bind_assoc}
 use Rattle.grammar.specs.Levels.{readers, fits}
-use Rattle.grammar_code.specs.Walk.{Up, ground, up, tall, above, pick, first_of, first_meant, starts_with, wanted, walk, whole}
-use Rattle.py_cursor.specs.token_kinds.Kinds.{kind, text_of}
+use Rattle.grammar_code.specs.Walk.{up, tall, above, pick, first_of, first_meant, starts_with, wanted, whole}
+use Rattle.py_cursor.specs.token_kinds.Kinds.{kind}
 use Rattle.py_cursor.specs.token_kinds.Numbers as k
 use Rattle.py_cursor.specs.py_expressions.Values as v
-use Rattle.py_cursor.specs.py_expressions.Values.{at_of}
 use Rattle.py_cursor.specs.declared.stop.Stop.{Stop}
 use Rattle.py_cursor.specs.Cursor.{FailsAs}
 use Rattle.grammar_code.proofs.Walk.{bind_eq, pick_bind, pick_eq, round_once, part_eats, chain_read, walk_one_of, walked}
 use Rattle.grammar.specs.Table.{room, give, node, many, ◌⨾◌, ◌∣◌}
 use Rattle.py_tree.specs.declared.op.CmpOp.{CmpOp}
 use Rattle.py_tree.specs.declared.op.CmpOp.TheVariants as comparison
-use Rattle.py_tree.specs.Trees.{Tree, Compare, And, Or}
+use Rattle.py_tree.specs.Trees.{Tree}
 use Rattle.py_cursor.specs.py_expressions.Sorts.{tree, chain, compare, negation, conjunct, disjunct, bitor}
 use Rattle.py_cursor.specs.py_expressions.Lines.{P, expressions, no_reader, compared, worded, part, comparisons}
 use Rattle.py_nodes.specs.Parts.{with_op}
 use Rattle.py_cursor.proofs.Loops.{begun_over, begun_fails, begun_next, fails_on}
 use Rattle.py_expression_parser.specs.declared.links.Link.{Link}
 use Rattle.py_expression_parser.specs.declared.links.Link.TheVariants as link
-use Rattle.py_expression_parser.specs.Reads.{reads, reads_part, reads_all, operator_list}
+use Rattle.py_expression_parser.specs.Reads.{reads, reads_part, operator_list}
 use Rattle.py_expression_parser.specs.Pieces.{operand_of, linkage, links_of, comparison_on, link_on, link_step, links_more, chain_tree}
 use Rattle.py_expression_parser.proofs.Lines.{line, takes, all_eat, room_goes, room_stays}
 

@@ -1,27 +1,24 @@
 -- ITEMS with commas between them: expressions, pairs of a dictionary, arguments.
-use Rattle.std.proofs.Common.{◌≡◌, ℕ, zero, ◌-◌, ◌+◌, ◌<◌, ◌≤◌, max, nat_le, Bool, true, false, cond, not, Option, Some, None, List, [], ◌∷◌, length, refl, sym, ap, ◌∙◌, subst, arith}
+use Rattle.std.proofs.Common.{◌≡◌, ℕ, ◌-◌, ◌+◌, ◌<◌, ◌≤◌, max, true, false, cond, not, Option, Some, None, List, [], ◌∷◌, length, refl, sym, ap, ◌∙◌, arith}
 use Rattle.py_tokens.specs.declared.token.Token.{Token}
-use Rattle.parsing.specs.Reading.{Read, Found, Bad, Deep, ◌>>=◌, seen_or}
-use Rattle.parsing.proofs.Loops.{bind_assoc}
-use Rattle.grammar.specs.Levels.{readers, fits}
-use Rattle.grammar_code.specs.Walk.{Up, ground, up, tall, pick, first_of, first_meant, starts_with, wanted, walk, whole}
-use Rattle.py_cursor.specs.token_kinds.Kinds.{kind, text_of}
+use Rattle.parsing.specs.Reading.{Read, Found, ◌>>=◌, seen_or}
+use Rattle.grammar.specs.Levels.{readers}
+use Rattle.grammar_code.specs.Walk.{ground, up, pick, first_of, starts_with, wanted, whole}
+use Rattle.py_cursor.specs.token_kinds.Kinds.{kind}
 use Rattle.py_cursor.specs.token_kinds.Numbers as k
 use Rattle.py_cursor.specs.py_expressions.Values as v
-use Rattle.py_cursor.specs.py_expressions.Values.{at_of}
 use Rattle.py_cursor.specs.declared.stop.Stop.{Stop}
 use Rattle.py_cursor.specs.Cursor.{FailsAs}
 use Rattle.grammar_code.proofs.Walk.{bind_eq, pick_eq, part_eats, round_commas, walked, walked_on}
 use Rattle.py_tree.specs.declared.expr.ArgName.{ArgName}
 use Rattle.py_tree.specs.Trees as t
 use Rattle.py_tree.specs.Trees.{Tree}
-use Rattle.py_cursor.specs.py_expressions.Sorts.{expr, row, pairs, args, tree, finished, arguments}
+use Rattle.py_cursor.specs.py_expressions.Sorts.{expr, row, pairs, args, finished, arguments}
 use Rattle.py_cursor.specs.py_expressions.Lines.{expressions, no_reader, part, pair, no_more, arg, E1}
-use Rattle.py_nodes.specs.Parts.{more_pairs}
 use Rattle.py_cursor.proofs.Loops.{items_over, items_end, items_fails, items_next, fails_on}
-use Rattle.py_expression_parser.specs.Reads.{reads, reads_part, reads_all}
+use Rattle.py_expression_parser.specs.Reads.{reads, reads_part}
 use Rattle.py_expression_parser.specs.Pieces.{items, pairs_more, pair_on, args_more, arg_on, assigned_on}
-use Rattle.py_expression_parser.proofs.Lines.{line, all_eat, takes}
+use Rattle.py_expression_parser.proofs.Lines.{line, all_eat}
 use Rattle.py_expression_parser.proofs.Shapes.{pair_is}
 
 -- an expression behind others

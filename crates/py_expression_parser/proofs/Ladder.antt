@@ -1,13 +1,12 @@
 -- THE LADDER of binary operators: one loop for all ranks.
-use Rattle.std.proofs.Common.{◌≡◌, ℕ, ◌-◌, ◌+◌, ◌<◌, ◌≤◌, max, Bool, true, false, cond, Option, Some, None, List, [], ◌∷◌, length, refl, sym, ap, ◌∙◌, subst, arith}
+use Rattle.std.proofs.Common.{◌≡◌, ℕ, ◌-◌, ◌+◌, ◌<◌, ◌≤◌, max, cond, Some, None, List, [], ◌∷◌, length, refl, sym, ap, ◌∙◌, subst}
 use Rattle.py_tokens.specs.declared.token.Token.{Token}
 use Rattle.py_tree.specs.declared.op.BinOp.{BinOp}
-use Rattle.py_tree.specs.declared.op.BinOp.TheVariants as binary
 use Rattle.py_tree.specs.Trees.{Tree, Binary}
-use Rattle.parsing.specs.Reading.{Read, Found, Bad, Deep, ◌>>=◌}
+use Rattle.parsing.specs.Reading.{Read, Found, Deep, ◌>>=◌}
 use Rattle.grammar.specs.Table.{room, inner, ◌⨾◌}
 use Rattle.grammar.specs.Levels.{readers, fits}
-use Rattle.grammar_code.specs.Walk.{Up, up, tall, above, pick, first_meant, first_of, walk, whole, onto, round}
+use Rattle.grammar_code.specs.Walk.{up, tall, above, pick, first_meant, whole, onto}
 use Rattle.grammar_code.proofs.Walk.{round_walk, walk_one_of, bind_found_same}
 use Rattle.py_cursor.specs.token_kinds.Kinds.{kind}
 use Rattle.py_cursor.specs.py_expressions.Values.{at_of}

@@ -1,11 +1,11 @@
 -- What all lines have: each is read as code goes along it, and takes a token.
-use Rattle.std.proofs.Common.{◌≡◌, ℕ, ◌-◌, ◌<◌, ◌≤◌, max, nat_le, Bool, true, false, List, length, refl, sym, ap, ◌∙◌, None, arith}
+use Rattle.std.proofs.Common.{◌≡◌, ℕ, ◌-◌, ◌<◌, ◌≤◌, max, nat_le, true, false, List, length, ◌∙◌, None, arith}
 use Rattle.std.proofs.lemmas.Bool.Decides.{nat_tests}
 use Rattle.py_tokens.specs.declared.token.Token.{Token}
-use Rattle.parsing.specs.Reading.{Read, Found, ◌>>=◌}
+use Rattle.parsing.specs.Reading.{Found, ◌>>=◌}
 use Rattle.grammar.specs.Levels.{readers, fits}
 use Rattle.grammar.proofs.Along.{reader_takes}
-use Rattle.grammar_code.specs.Walk.{Up, ground, up, walk, whole}
+use Rattle.grammar_code.specs.Walk.{ground, walk, whole}
 use Rattle.grammar_code.proofs.Walk.{Eats, line_walk}
 use Rattle.py_cursor.specs.py_expressions.Sorts.{El, sort, Name}
 use Rattle.py_cursor.specs.py_expressions.Lines.{expressions, no_fars, no_reader, body}

@@ -1,11 +1,10 @@
 -- THE LINES without a loop of their own, as the code goes along them; m levels are left.
-use Rattle.std.proofs.Common.{◌≡◌, ℕ, zero, ◌-◌, ◌+◌, ◌<◌, ◌≤◌, max, nat_le, Bool, true, false, cond, not, Option, Some, None, List, [], ◌∷◌, ◌++◌, length, refl, sym, ap, ◌∙◌, subst, arith}
+use Rattle.std.proofs.Common.{◌≡◌, ℕ, ◌-◌, ◌+◌, ◌<◌, ◌≤◌, max, nat_le, Bool, true, false, cond, not, Option, Some, None, List, [], ◌∷◌, ◌++◌, refl, sym, ap, ◌∙◌, subst, arith}
 use Rattle.py_source.specs.declared.pos.Pos.{Pos}
 use Rattle.py_tokens.specs.declared.token.Token.{Token}
-use Rattle.parsing.specs.Reading.{Read, Found, Bad, Deep, ◌>>=◌, deep_at, seen_or, has}
-use Rattle.parsing.proofs.Loops.{bind_assoc}
-use Rattle.grammar.specs.Levels.{readers, fits, read}
-use Rattle.grammar_code.specs.Walk.{round, Up, ground, up, tall, above, pick, first_of, first_meant, starts_with, wanted, walk, whole}
+use Rattle.parsing.specs.Reading.{Read, Found, Deep, ◌>>=◌, deep_at, has}
+use Rattle.grammar.specs.Levels.{readers, fits}
+use Rattle.grammar_code.specs.Walk.{round, ground, up, tall, above, pick, first_of, first_meant, starts_with, wanted, walk}
 use Rattle.py_cursor.specs.token_kinds.Kinds.{kind, text_of}
 use Rattle.py_cursor.specs.token_kinds.Numbers as k
 use Rattle.py_cursor.specs.py_expressions.Values as v
@@ -14,9 +13,9 @@ use Rattle.py_cursor.specs.declared.stop.Stop.{Stop}
 use Rattle.py_cursor.specs.Cursor.{FailsAs, IsBlocked}
 use Rattle.py_cursor.proofs.Loops.{blocked_as, fails_on}
 use Rattle.grammar.proofs.Along.{no_levels}
-use Rattle.grammar_code.proofs.Walk.{bind_eq, bind_found_same, walk_one_of, walked, walked_on, pick_begins, pick_bind, pick_wanted, pick_eq, round_walk}
+use Rattle.grammar_code.proofs.Walk.{bind_eq, bind_found_same, walk_one_of, walked, walked_on, pick_begins, pick_wanted, round_walk}
 use Rattle.py_tree.specs.declared.op.BinOp.TheVariants as binary
-use Rattle.py_tree.specs.Trees.{Tree, Empty, Text, Dict, Name, Number, True, False, NoneTree, Paren, Tuple, Unary, Binary, Not, IfElse}
+use Rattle.py_tree.specs.Trees.{Tree, Empty, Text, Dict, Name, Number, True, False, NoneTree, Tuple, Unary, Binary, Not, IfElse}
 use Rattle.py_cursor.specs.py_expressions.Sorts.{other, atom, primary, power, unary, negation, compare, disjunct, expr, exprs, nothing, prefix, tree, quoted, row, pairs}
 use Rattle.grammar.specs.Table.{when, give, ◌⨾◌, ◌∣◌}
 use Rattle.py_cursor.specs.py_expressions.Lines.{expressions, no_reader, prefixes, pair, key, mark, part, E1, A0}

@@ -1,9 +1,9 @@
 -- Texts side by side.
-use Rattle.std.proofs.Common.{◌≡◌, ℕ, ◌-◌, ◌+◌, ◌<◌, true, cond, Some, None, List, [], ◌∷◌, ◌++◌, length, refl, sym, ap, ◌∙◌}
+use Rattle.std.proofs.Common.{◌≡◌, ℕ, ◌-◌, ◌+◌, ◌<◌, true, cond, Some, None, List, [], ◌∷◌, ◌++◌, refl, sym, ap, ◌∙◌}
 use Rattle.py_source.specs.declared.pos.Pos.{Pos}
 use Rattle.py_tokens.specs.declared.token.Token.{Token}
 use Rattle.py_tree.specs.Trees.{Tree, Text}
-use Rattle.parsing.specs.Reading.{Read, Found, Bad, Deep, ◌>>=◌}
+use Rattle.parsing.specs.Reading.{Read, Found, Deep, ◌>>=◌}
 use Rattle.grammar.specs.Levels.{readers}
 use Rattle.grammar_code.specs.Walk.{pick, first_of}
 use Rattle.grammar_code.proofs.Walk.{round_walk}
@@ -12,7 +12,6 @@ use Rattle.py_cursor.specs.token_kinds.Numbers as k
 use Rattle.py_cursor.specs.py_expressions.Sorts.{quoted, tree}
 use Rattle.py_cursor.specs.py_expressions.Lines.{expressions, no_reader, mark}
 use Rattle.py_cursor.proofs.Loops.{steps_over, steps_next}
-use Rattle.py_expression_parser.specs.Reads.{reads_all}
 use Rattle.py_expression_parser.specs.Pieces.{texts_more}
 use Rattle.py_expression_parser.proofs.Lines.{all_eat}
 

@@ -1,10 +1,10 @@
 -- WHAT STANDS BEHIND A VALUE: attributes, calls, subscripts; slices.
-use Rattle.std.proofs.Common.{◌≡◌, ℕ, zero, ◌-◌, ◌+◌, ◌<◌, ◌≤◌, max, nat_le, Bool, true, false, cond, Option, Some, None, List, [], ◌∷◌, length, refl, sym, ap, ◌∙◌, subst, arith}
+use Rattle.std.proofs.Common.{◌≡◌, ℕ, ◌-◌, ◌+◌, ◌<◌, ◌≤◌, max, true, false, cond, List, [], ◌∷◌, length, refl, sym, ap, ◌∙◌, arith}
 use Rattle.py_tokens.specs.declared.token.Token.{Token}
-use Rattle.parsing.specs.Reading.{Read, Found, Bad, Deep, ◌>>=◌}
+use Rattle.parsing.specs.Reading.{Read, Found, Deep, ◌>>=◌}
 use Rattle.parsing.proofs.Loops.{bind_assoc}
 use Rattle.grammar.specs.Levels.{readers, fits}
-use Rattle.grammar_code.specs.Walk.{Up, ground, up, tall, pick, first_of, first_meant, starts_with, wanted, walk, whole}
+use Rattle.grammar_code.specs.Walk.{ground, up, pick, first_of, starts_with, wanted, whole}
 use Rattle.py_cursor.specs.token_kinds.Kinds.{kind, text_of}
 use Rattle.py_cursor.specs.token_kinds.Numbers as k
 use Rattle.py_cursor.specs.py_expressions.Values as v
@@ -17,7 +17,7 @@ use Rattle.py_cursor.specs.py_expressions.Sorts.{tree, primary, atom, arguments,
 use Rattle.grammar.specs.Table.{room, inner, join, ◌⨾◌, ◌∣◌}
 use Rattle.py_cursor.specs.py_expressions.Lines.{expressions, no_reader, attribute, subscript, second}
 use Rattle.py_cursor.proofs.Loops.{begun_over, begun_deep, begun_fails, begun_next}
-use Rattle.py_expression_parser.specs.Reads.{reads, reads_part, reads_all}
+use Rattle.py_expression_parser.specs.Reads.{reads, reads_all}
 use Rattle.py_expression_parser.specs.Pieces.{trailer_on, index_on, slice_more}
 use Rattle.py_expression_parser.proofs.Lines.{line, all_eat, room_goes, room_stays}
 

@@ -1,5 +1,5 @@
 -- Parts of lines, as code has them: what is read behind a token or a value.
-use Rattle.std.specs.Prelude.{◌≡◌, ℕ, ◌-◌, ◌+◌, max, cond, not, List, [], ◌∷◌, ◌++◌, Option, Some, None, Result, Ok, Err}
+use Rattle.std.specs.Prelude.{◌≡◌, ℕ, ◌-◌, ◌+◌, max, cond, not, List, [], ◌∷◌, ◌++◌, Option, Some, None}
 use Rattle.py_source.specs.declared.pos.Pos.{Pos}
 use Rattle.py_tokens.specs.declared.token.Token.{Token}
 use Rattle.py_tree.specs.declared.expr.ArgName.{ArgName}
@@ -16,8 +16,10 @@ use Rattle.py_cursor.specs.py_expressions.Values.{at_of, number_in}
 use Rattle.py_cursor.specs.py_expressions.Sorts.{row, chain, pairs, args, quoted, upto, tree, exprs, expr, slice, arguments, bitor, compare, negation, conjunct, disjunct}
 use Rattle.py_cursor.specs.py_expressions.Lines.{key, mark, part, pair, no_more, arg, second, slice_of, attribute, subscript, comparisons, compared, worded}
 use Rattle.py_nodes.specs.Parts.{no_pairs, more_pairs, with_op}
+use Rattle.py_cursor.specs.declared.parser.Parser.{Parser}
 use Rattle.py_cursor.specs.declared.stop.Stop.{Stop}
 use Rattle.py_cursor.specs.declared.stop.Stop.TheVariants as stops
+use Rattle.py_cursor.specs.Parser.{Takes}
 use Rattle.py_expression_parser.specs.declared.links.Link.{Link}
 use Rattle.py_expression_parser.specs.declared.links.Link.TheVariants as link
 use Rattle.py_expression_parser.specs.Reads.{reads, reads_part, reads_all, operator_list}
@@ -46,17 +48,15 @@ FailsMaybe (stops.Bad s) read = read ≡ Some (Bad s.now)
 FailsMaybe (stops.Deep s) read = read ≡ Some (Deep s.now)
 FailsMaybe stops.Memory read = Unit {0}
 
-abbrev pub GivesMaybe : {X A : Type 0} → (X → A × List Token) → Result (Option X) Stop → Option (Read Token A) → Type 0
-GivesMaybe seen (Ok None) read = read ≡ None
-GivesMaybe seen (Ok (Some x)) read = read ≡ Some (Found (seen x).0 (seen x).1)
-GivesMaybe seen (Err e) read = FailsMaybe e read
+abbrev pub ReadsMaybe : {X A : Type 0} → (X → A) → Option (Option X) → Parser → Parser → Option (Read Token A) → Type 0
+ReadsMaybe seen (Some None) old p read = (read ≡ None) × (p.rest.now ≡ old.rest.now)
+ReadsMaybe seen (Some (Some x)) old p read = read ≡ Some (Found (seen x) p.rest.now)
+ReadsMaybe seen None old p read = FailsMaybe p.stop read
 
--- what was made, with the tokens behind it; or memory ran out
-abbrev pub Beside : {X E Y : Type 0} → (Y → X × List Token) → Result X E → List Token → Result Y Stop → Type 0
-Beside seen (Ok x) ts (Ok y) = seen y ≡ (x, ts)
-Beside seen (Ok x) ts (Err stop) = ⊥
-Beside seen (Err e) ts (Ok y) = ⊥
-Beside seen (Err e) ts (Err stop) = stop ≡ stops.Memory
+-- what is found at the next tokens and taken, or nothing is; or memory ran out
+abbrev pub Finds : {X : Type 0} → Option (X × List Token) → Option (Option X) → Parser → Parser → Type 0
+Finds look (Some found) old p = Takes (λ x. x) look found old p
+Finds look None old p = p.stop ≡ stops.Memory
 
 -- ITEMS with commas between them, behind the first
 abbrev pub items : ℕ → v.Row × ℕ → List Token → Read Token (v.Row × ℕ)

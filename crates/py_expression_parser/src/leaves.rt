@@ -1,13 +1,12 @@
-ghost use Rattle.std.specs.Prelude.{◌≡◌, ◌<◌, ◌≤◌, ◌+◌, IfOk, IfSome, MatchOption, None, Some};
+ghost use Rattle.std.specs.Prelude.{◌≡◌, ◌<◌, ◌≤◌, ◌+◌, IfOk, IfSome};
 ghost use Rattle.py_tree.specs.Trees.{tree, tree_at};
 ghost use Rattle.py_cursor.specs.py_expressions.Values.{at_of, item, number_in, height, row};
 ghost use Rattle.py_cursor.specs.token_kinds.Kinds.{text_of};
-ghost use Rattle.py_cursor.specs.Cursor.{Gives};
+ghost use Rattle.py_cursor.specs.Parser.{Reads, Takes};
 ghost use Rattle.py_nodes.specs.Parts.{row_of};
-ghost use Rattle.py_expression_parser.specs.Pieces.{assigned_on, attribute_on, constant_on, leaf_on, name_on, texts_on, Beside, GivesMaybe};
+ghost use Rattle.py_expression_parser.specs.Pieces.{assigned_on, attribute_on, constant_on, leaf_on, name_on, texts_on, Finds, ReadsMaybe};
 
-use crate::marks::first_op;
-use py_cursor::{Sign, Stop, begins, chars_of, expect, first_of};
+use py_cursor::{Parser, Sign, chars_of};
 use py_nodes::{Node, Row, add_item, attribute_node, leaf_node, name_in, row_at};
 use py_source::SrcText;
 use py_tokens::{Op, Token, TokenKind};
@@ -39,104 +38,106 @@ fn number_of(token: &Token) -> i128
 }
 
 /// `True`, `False` or `None`.
-fn constant(tokens: &[Token]) -> Option<(&Token, ExprKind, &[Token])>
-    ensures { MatchOption result (constant_on tokens.now ≡ None) (λ x. (constant_on tokens.now ≡ Some (tree_at x.0.now.at x.1, x.2.now)) × (height (tree_at x.0.now.at x.1) ≡ 1)) }
+fn constant<'t>(p: &mut Parser<'t>) -> Option<(&'t Token, ExprKind)>
+    ensures takes { Takes (λ x. tree_at x.0.now.at x.1) (constant_on p.old.rest.now) result p.old p.new }
+    ensures height { IfSome result (λ x. height (tree_at x.0.now.at x.1) ≡ 1) }
 {
-    if let Some((token, after)) = first_op(tokens, Op::True) {
-        return Some((token, ExprKind::True, after));
+    if let Some(token) = p.take_op(Op::True) {
+        return Some((token, ExprKind::True));
     }
-    if let Some((token, after)) = first_op(tokens, Op::False) {
-        return Some((token, ExprKind::False, after));
+    if let Some(token) = p.take_op(Op::False) {
+        return Some((token, ExprKind::False));
     }
-    match first_op(tokens, Op::None) {
-        Some((token, after)) => Some((token, ExprKind::None, after)),
+    match p.take_op(Op::None) {
+        Some(token) => Some((token, ExprKind::None)),
         None => None,
     }
 }
 
 /// Texts side by side are one.
 #[tactic(auto, using(crate::proofs::Texts::texts_over, py_cursor::proofs::Loops::first_takes))]
-fn texts(alloc: Global, tokens: &[Token]) -> Result<(Node, &[Token]), Stop<'_>>
-    ensures reads { Gives (λ x. ((tree x.0.expr.value, x.0.height), x.1.now)) result (texts_on tokens.now) }
-    ensures fits { IfOk result (λ x. x.0.height ≤ 1) }
+fn texts(p: &mut Parser<'_>) -> Option<Node>
+    ensures reads { Reads (λ x. (tree x.expr.value, x.height)) result p.new (texts_on p.old.rest.now) }
+    ensures fits { IfSome result (λ x. x.height ≤ 1) }
 {
-    let (first, mut rest) = expect(tokens, &[Sign::Text])?;
-    let mut chars = Vec::from_slice(alloc, chars_of(first))?;
-    while let Some((next, after)) = first_of(rest, &[Sign::Text]) {
-        chars.extend_from_slice(chars_of(next))?;
-        rest = after;
+    let Some(first) = p.expect(Sign::Text) else {
+        return None;
+    };
+    let Some(mut chars) = p.made(Vec::from_slice(p.alloc, chars_of(first))) else {
+        return None;
+    };
+    while let Some(next) = p.take(Sign::Text) {
+        let Some(_added) = p.made(chars.extend_from_slice(chars_of(next))) else {
+            return None;
+        };
     }
     let kind = ExprKind::Text(SrcText::from_vec(chars));
-    Ok((leaf_node(alloc, first.at, kind)?, rest))
+    p.made(leaf_node(p.alloc, first.at, kind))
 }
 
 /// A number, a constant, or texts side by side, where one stands first.
-pub fn leaf(alloc: Global, tokens: &[Token]) -> Result<Option<(Node, &[Token])>, Stop<'_>>
-    ensures reads { GivesMaybe (λ x. ((tree x.0.expr.value, x.0.height), x.1.now)) result (leaf_on tokens.now) }
-    ensures fits { IfOk result (λ found. IfSome found (λ x. x.0.height ≤ 1)) }
+pub fn leaf(p: &mut Parser<'_>) -> Option<Option<Node>>
+    ensures reads { ReadsMaybe (λ x. (tree x.expr.value, x.height)) result p.old p.new (leaf_on p.old.rest.now) }
+    ensures fits { IfSome result (λ found. IfSome found (λ x. x.height ≤ 1)) }
 {
-    if let Some((number, after)) = first_of(tokens, &[Sign::Number]) {
+    let made = if let Some(number) = p.take(Sign::Number) {
         let kind = ExprKind::Number(number_of(number));
-        return Ok(Some((leaf_node(alloc, number.at, kind)?, after)));
-    }
-    if let Some((token, kind, after)) = constant(tokens) {
-        return Ok(Some((leaf_node(alloc, token.at, kind)?, after)));
-    }
-    if begins(tokens, &[Sign::Text]) {
-        return Ok(Some(texts(alloc, tokens)?));
-    }
-    Ok(None)
-}
-
-/// What was made, with the tokens behind it.
-pub fn with_rest<'t, T: Drop>(
-    made: Result<T, AllocError>,
-    rest: &'t [Token],
-) -> Result<(T, &'t [Token]), Stop<'t>>
-    ensures { Beside (λ x. (x.0, x.1.now)) made rest.now result }
-{
+        p.made(leaf_node(p.alloc, number.at, kind))
+    } else if let Some((token, kind)) = constant(p) {
+        p.made(leaf_node(p.alloc, token.at, kind))
+    } else if p.at(Sign::Text) {
+        texts(p)
+    } else {
+        return Some(None);
+    };
     match made {
-        Ok(made) => Ok((made, rest)),
-        Err(_) => Err(Stop::Memory),
+        Some(node) => Some(Some(node)),
+        None => None,
     }
 }
 
-/// A name's node, with the tokens behind its token.
-pub fn name_leaf<'t>(
-    alloc: Global,
-    name: &Token,
-    rest: &'t [Token],
-) -> Result<(Node, &'t [Token]), Stop<'t>>
-    ensures reads { Gives (λ x. ((tree x.0.expr.value, x.0.height), x.1.now)) result (name_on name.now rest.now) }
-    ensures fits { IfOk result (λ x. x.0.height ≡ 1) }
+/// A name's node.
+pub fn name_leaf(p: &mut Parser<'_>, name: &Token) -> Option<Node>
+    ensures reads { Reads (λ x. (tree x.expr.value, x.height)) result p.new (name_on name.now p.old.rest.now) }
+    ensures fits { IfSome result (λ x. x.height ≡ 1) }
 {
-    let kind = ExprKind::Name(name_of(alloc, name)?);
-    Ok((leaf_node(alloc, name.at, kind)?, rest))
+    let Some(text) = p.made(name_of(p.alloc, name)) else {
+        return None;
+    };
+    p.made(leaf_node(p.alloc, name.at, ExprKind::Name(text)))
 }
 
 /// The attribute of a value, behind `.`.
-pub fn attribute(alloc: Global, of: Node, tokens: &[Token]) -> Result<(Node, &[Token]), Stop<'_>>
+pub fn attribute(p: &mut Parser<'_>, of: Node) -> Option<Node>
     requires { of.height < u32.MAX }
-    ensures reads { Gives (λ x. ((tree x.0.expr.value, x.0.height), x.1.now)) result (attribute_on (tree of.expr.value, of.height) tokens.now) }
-    ensures fits { IfOk result (λ x. x.0.height ≡ 1 + of.height) }
+    ensures reads { Reads (λ x. (tree x.expr.value, x.height)) result p.new (attribute_on (tree of.expr.value, of.height) p.old.rest.now) }
+    ensures fits { IfSome result (λ x. x.height ≡ 1 + of.height) }
 {
-    let (name, after) = expect(tokens, &[Sign::Name])?;
-    Ok((attribute_node(alloc, of, name_of(alloc, name)?)?, after))
+    let Some(name) = p.expect(Sign::Name) else {
+        return None;
+    };
+    let Some(text) = p.made(name_of(p.alloc, name)) else {
+        return None;
+    };
+    p.made(attribute_node(p.alloc, of, text))
 }
 
-/// The name that a value is, where `=` stands behind it, and the tokens behind that.
-pub fn assigned<'t>(
-    value: &Node,
-    tokens: &'t [Token],
-) -> Result<Option<(ArgName, &'t [Token])>, AllocError>
-    ensures { IfOk result (λ found. MatchOption found (assigned_on (tree value.now.expr.value) tokens.now ≡ None) (λ x. assigned_on (tree value.now.expr.value) tokens.now ≡ Some (x.0, x.1.now))) }
+/// Takes the `=` behind a value that is a name: the name.
+pub fn assigned(p: &mut Parser<'_>, value: &Node) -> Option<Option<ArgName>>
+    ensures { Finds (assigned_on (tree value.now.expr.value) p.old.rest.now) result p.old p.new }
 {
-    let Some((_equal, after)) = first_op(tokens, Op::Equal) else {
-        return Ok(None);
+    if !p.at_op(Op::Equal) {
+        return Some(None);
+    }
+    let Some(found) = p.made(name_in(&value.expr)) else {
+        return None;
     };
-    match name_in(&value.expr)? {
-        Some(name) => Ok(Some((name, after))),
-        None => Ok(None),
+    let Some(name) = found else {
+        return Some(None);
+    };
+    match p.take_op(Op::Equal) {
+        Some(_equal) => Some(Some(name)),
+        None => Some(None),
     }
 }
 

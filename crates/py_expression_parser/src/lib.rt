@@ -29,5 +29,5 @@ mod ranks;
 mod reader;
 
 pub use leaves::name_of;
-pub use marks::{BEGINS_EXPRESSION, BEGINS_TARGET};
+pub use marks::{BEGINS_EXPRESSION, BEGINS_TARGET, begins_expression};
 pub use reader::{arguments, expression, expressions, other_atom, slice};

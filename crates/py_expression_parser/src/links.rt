@@ -3,13 +3,13 @@ ghost use Rattle.py_tree.specs.Trees.{tree};
 ghost use Rattle.grammar_code.specs.Walk.{starts_with};
 ghost use Rattle.py_nodes.specs.Parts.{chain_of};
 ghost use Rattle.py_cursor.specs.token_kinds.Kinds.{kind};
-ghost use Rattle.py_cursor.specs.Cursor.{kinds_of, Gives};
+ghost use Rattle.py_cursor.specs.Cursor.{kinds_of};
+ghost use Rattle.py_cursor.specs.Parser.{Reads};
 ghost use Rattle.py_expression_parser.specs.Pieces.{comparison_on, link_on, links_of, chain_tree};
 
-use crate::marks::{expect_op, first_op};
-use py_cursor::{Sign, Stop, begins, first_meant};
+use py_cursor::{Parser, Sign};
 use py_nodes::{Chain, Node, and_node, compare_node, or_node};
-use py_tokens::{Op, Token};
+use py_tokens::Op;
 use py_tree::CmpOp;
 use std::alloc::{AllocError, Global};
 
@@ -43,15 +43,15 @@ fn link_signs(link: Link) -> &'static [Sign]
 }
 
 /// Whether a link begins with the first token.
-pub fn begins_link(link: Link, tokens: &[Token]) -> bool
-    ensures { result ≡ starts_with kind (links_of link) tokens.now }
+pub fn begins_link(p: &Parser<'_>, link: Link) -> bool
+    ensures { result ≡ starts_with kind (links_of link) p.now.rest.now }
 {
-    begins(tokens, link_signs(link))
+    p.at_any(link_signs(link))
 }
 
 /// A comparison, of one word or two.
-fn comparison(tokens: &[Token]) -> Result<(CmpOp, &[Token]), Stop<'_>>
-    ensures { Gives (λ x. (x.0, x.1.now)) result (comparison_on tokens.now) }
+fn comparison(p: &mut Parser<'_>) -> Option<CmpOp>
+    ensures { Reads (λ x. x) result p.new (comparison_on p.old.rest.now) }
 {
     let rows = [
         (Op::EqualEqual, CmpOp::Equal),
@@ -62,34 +62,42 @@ fn comparison(tokens: &[Token]) -> Result<(CmpOp, &[Token]), Stop<'_>>
         (Op::GreaterEqual, CmpOp::GreaterEqual),
         (Op::In, CmpOp::In),
     ];
-    if let Some((_token, op, after)) = first_meant(tokens, &rows) {
-        return Ok((op, after));
+    if let Some((_token, op)) = p.take_meant(&rows) {
+        return Some(op);
     }
-    if let Some((_not, after)) = first_op(tokens, Op::Not) {
-        let (_in, after) = expect_op(after, Op::In)?;
-        return Ok((CmpOp::NotIn, after));
+    if let Some(_not) = p.take_op(Op::Not) {
+        let Some(_in) = p.expect_op(Op::In) else {
+            return None;
+        };
+        return Some(CmpOp::NotIn);
     }
-    let (_is, after) = expect_op(tokens, Op::Is)?;
-    match first_op(after, Op::Not) {
-        Some((_not, after)) => Ok((CmpOp::IsNot, after)),
-        None => Ok((CmpOp::Is, after)),
+    let Some(_is) = p.expect_op(Op::Is) else {
+        return None;
+    };
+    match p.take_op(Op::Not) {
+        Some(_not) => Some(CmpOp::IsNot),
+        None => Some(CmpOp::Is),
     }
 }
 
 /// What joins the next operand, and the comparison that it is.
-pub fn link_at(link: Link, tokens: &[Token]) -> Result<(Option<CmpOp>, &[Token]), Stop<'_>>
-    ensures { Gives (λ x. (x.0, x.1.now)) result (link_on link tokens.now) }
+pub fn link_at(p: &mut Parser<'_>, link: Link) -> Option<Option<CmpOp>>
+    ensures { Reads (λ x. x) result p.new (link_on link p.old.rest.now) }
 {
     let word = match link {
         Link::Compare => {
-            let (op, after) = comparison(tokens)?;
-            return Ok((Some(op), after));
+            let Some(op) = comparison(p) else {
+                return None;
+            };
+            return Some(Some(op));
         }
         Link::And => Op::And,
         Link::Or => Op::Or,
     };
-    let (_word, after) = expect_op(tokens, word)?;
-    Ok((None, after))
+    let Some(_word) = p.expect_op(word) else {
+        return None;
+    };
+    Some(None)
 }
 
 /// The node of a chain.

@@ -1,11 +1,12 @@
-ghost use Rattle.std.specs.Prelude.{◌≡◌, ◌∷◌, MatchOption, None, Some};
+ghost use Rattle.std.specs.Prelude.{◌≡◌};
 ghost use Rattle.grammar_code.specs.Walk.{first_meant};
 ghost use Rattle.py_cursor.specs.token_kinds.Kinds.{kind};
 ghost use Rattle.py_cursor.specs.py_expressions.Lines.{prefixes};
 ghost use Rattle.py_cursor.specs.Cursor.{rows_of};
+ghost use Rattle.py_cursor.specs.Parser.{Takes};
 ghost use Rattle.py_expression_parser.specs.Reads.{operator_list, lower_of, operators_of};
 
-use py_cursor::first_meant;
+use py_cursor::Parser;
 use py_tokens::{Op, Token};
 use py_tree::{BinOp, UnOp};
 
@@ -56,21 +57,21 @@ fn operators(rank: Rank) -> &'static [(Op, BinOp)]
     }
 }
 
-/// The first token, where it is an operator of the rank, the operator, and the tokens behind it.
-pub fn operator_at(rank: Rank, tokens: &[Token]) -> Option<(&Token, BinOp, &[Token])>
-    ensures { MatchOption result (first_meant kind (operators_of rank) tokens.now ≡ None) (λ x. first_meant kind (operators_of rank) tokens.now ≡ Some ((x.0.now, x.1), x.2.now)) }
+/// Takes the first token, where it is an operator of the rank: the token and the operator.
+pub fn take_operator<'t>(p: &mut Parser<'t>, rank: Rank) -> Option<(&'t Token, BinOp)>
+    ensures { Takes (λ x. (x.0.now, x.1)) (first_meant kind (operators_of rank) p.old.rest.now) result p.old p.new }
 {
-    first_meant(tokens, operators(rank))
+    p.take_meant(operators(rank))
 }
 
-/// The first token, where it is a sign, the sign, and the tokens behind it.
-pub fn prefix_at(tokens: &[Token]) -> Option<(&Token, UnOp, &[Token])>
-    ensures { MatchOption result (first_meant kind (operator_list prefixes) tokens.now ≡ None) (λ x. first_meant kind (operator_list prefixes) tokens.now ≡ Some ((x.0.now, x.1), x.2.now)) }
+/// Takes the first token, where it is a sign: the token and the sign.
+pub fn take_prefix<'t>(p: &mut Parser<'t>) -> Option<(&'t Token, UnOp)>
+    ensures { Takes (λ x. (x.0.now, x.1)) (first_meant kind (operator_list prefixes) p.old.rest.now) result p.old p.new }
 {
     let signs = [
         (Op::Minus, UnOp::Minus),
         (Op::Plus, UnOp::Plus),
         (Op::Tilde, UnOp::Invert),
     ];
-    first_meant(tokens, &signs)
+    p.take_meant(&signs)
 }

@@ -21,9 +21,6 @@
 //! How long a call takes.
 #![tactic(auto)]
 
-pub use py_operands;
-pub use py_operands::py_kinds;
-
 pub mod index;
 pub mod iter;
 pub mod slice;

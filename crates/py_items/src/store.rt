@@ -11,8 +11,8 @@ ghost use Rattle.py_operands.specs.Faults as faults;
 ghost use Rattle.py_items.specs.Items as items;
 
 use crate::index::{IndexPlace, find_place};
+use py_kinds::keys::{KeyResult, key};
 use py_operands::faults::{key_fault, no_index, no_key, not_subscriptable, out_of_range, too_long};
-use py_operands::py_kinds::keys::{KeyResult, key};
 use py_values::OutOfMemory;
 use py_values::change::Change;
 use py_values::dict::Dict;

@@ -10,8 +10,8 @@ ghost use Rattle.py_operands.specs.Faults as faults;
 
 use crate::index::{char_item, range_item, value_item};
 use crate::slice::{list_slice, parts_of, text_slice, tuple_slice};
+use py_kinds::keys::{KeyResult, key};
 use py_operands::faults::{key_fault, no_key, not_subscriptable};
-use py_operands::py_kinds::keys::{KeyResult, key};
 use py_values::OutOfMemory;
 use py_values::dict::{Dict, Pair};
 use py_values::end::{Effect, OpEnd, finish, made_within};

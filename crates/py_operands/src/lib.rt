@@ -23,8 +23,6 @@
 //! How long a call takes.
 #![tactic(auto)]
 
-pub use py_kinds;
-
 pub mod attempt;
 pub mod faults;
 pub mod laws;

@@ -9,13 +9,13 @@ ghost use Rattle.py_values.specs.Ends.{finished, payable, steps_of};
 ghost use Rattle.py_operands.specs.py_kinds.Kinds as kinds;
 ghost use Rattle.py_values.specs.declared.value.Value.TheVariants as val;
 
+use py_kinds::kinds::kind_name;
 use py_operands::attempt::{Attempt, attempt_within};
 use py_operands::faults::{failed, kinds_error};
 use py_operands::numbers::{
     difference, floor_div, floor_mod, int_and, int_or, int_xor, itself, number_made, power,
     product, shift_left, shift_right, sum,
 };
-use py_operands::py_kinds::kinds::kind_name;
 use py_operands::sequences::{obj_times, objs_added};
 use py_tree::BinOp;
 use py_values::OutOfMemory;

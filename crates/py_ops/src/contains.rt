@@ -16,9 +16,9 @@ ghost use Rattle.py_operands.specs.Texts as texts;
 
 use py_compare::equal::equal;
 use py_compare::tested::Tested;
+use py_kinds::keys::{KeyResult, key};
+use py_kinds::kinds::kind_name;
 use py_operands::faults::{key_fault, kinds_error, not_iterable, too_deep};
-use py_operands::py_kinds::keys::{KeyResult, key};
-use py_operands::py_kinds::kinds::kind_name;
 use py_operands::ranges::nth;
 use py_operands::texts::text_of;
 use py_values::OutOfMemory;

@@ -21,9 +21,6 @@
 //! How long a call takes.
 #![tactic(auto)]
 
-pub use py_operands;
-pub use py_operands::py_kinds;
-
 pub mod binary;
 pub mod compare;
 mod contains;

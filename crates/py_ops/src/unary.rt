@@ -4,9 +4,9 @@ ghost use Rattle.std.specs.Prelude.{◌≡◌, ◌≤◌, IfOk};
 ghost use Rattle.py_ops.specs.Unary as unary;
 ghost use Rattle.py_values.specs.Ends.{finished, payable, steps_of};
 
+use py_kinds::kinds::kind_name;
 use py_operands::faults::kind_error;
 use py_operands::numbers::{inverted, itself, negative, number_made};
-use py_operands::py_kinds::kinds::kind_name;
 use py_tree::UnOp;
 use py_values::OutOfMemory;
 use py_values::end::{Effect, OpEnd, finish, made_within};

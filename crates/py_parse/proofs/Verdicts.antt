@@ -28,10 +28,10 @@ plain_finish (Deep ts) = refl
 read_is : (ts : List Token) → plain (source_read most_levels ts) ≡ finish (source ts)
 read_is ts = plain_finish (readers statements (expression_readers 100) 101 v.source ts) ∙ ap finish (source_is ts)
 
-pub found_verdict : (ts : List Token) (b : Block) → finish (source ts) ≡ Found b [] → verdict_by (source_read most_levels ts) ≡ Some (verdict_on b (misplaced in_module b))
-found_verdict ts b e = go (source_read most_levels ts) (read_is ts ∙ e)
+pub found_verdict : (ts : List Token) (b : Block) (left : List Token) → finish (source ts) ≡ Found b left → verdict_by (source_read most_levels ts) ≡ Some (verdict_on b (misplaced in_module b))
+found_verdict ts b left e = go (source_read most_levels ts) (read_is ts ∙ e)
   where
-    go : (r : Read Token (Block × ℕ)) → plain r ≡ Found b [] → verdict_by r ≡ Some (verdict_on b (misplaced in_module b))
+    go : (r : Read Token (Block × ℕ)) → plain r ≡ Found b left → verdict_by r ≡ Some (verdict_on b (misplaced in_module b))
     go (Found x rest) i = let j : x.0 ≡ b = cc in ap (λ b. Some (verdict_on b (misplaced in_module b))) j
     go (Bad rest) i = absurd (cc)
     go (Deep rest) i = absurd (cc)

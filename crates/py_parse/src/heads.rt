@@ -1,141 +1,156 @@
 ghost use Rattle.std.specs.Prelude.{◌≡◌};
 ghost use Rattle.py_tree.specs.Trees.{tree, trees, some_tree};
 ghost use Rattle.py_tree.specs.Statements.{parameters};
-ghost use Rattle.py_cursor.specs.Cursor.{Gives};
+ghost use Rattle.py_cursor.specs.Parser.{Reads};
 ghost use Rattle.statement_readers.specs.Words.{param, params_on, params, base, decorator, decorators_on, decorators, handler_head};
 
-use crate::parts::{LEVELS, alias_behind, expression_behind, text_of};
-use py_cursor::{Sign, Stop, begins, expect, first_of};
-use py_expression_parser::{BEGINS_EXPRESSION, expression};
+use crate::parts::{LEVELS, alias_behind, expression_behind};
+use py_cursor::{Parser, Sign};
+use py_expression_parser::{begins_expression, expression, name_of};
 use py_source::SrcText;
 use py_statement_nodes::{add_decorator, add_param};
-use py_tokens::{Op, Token};
+use py_tokens::Op;
 use py_tree::{Expr, Param};
-use std::alloc::Global;
 use std::rc::Rc;
 
 /// The parameters, and one more behind them, with its annotation and its default.
 #[tactic(auto, unfolding(statement_readers::specs::Words::param))]
-fn param<'t>(
-    alloc: Global,
-    before: Vec<Param>,
-    tokens: &'t [Token],
-) -> Result<(Vec<Param>, &'t [Token]), Stop<'t>>
-    ensures { Gives (λ x. (parameters x.0.items, x.1.now)) result (param (parameters before.items) tokens.now) }
+fn param(p: &mut Parser<'_>, before: Vec<Param>) -> Option<Vec<Param>>
+    ensures { Reads (λ x. parameters x.items) result p.new (param (parameters before.items) p.old.rest.now) }
 {
-    let (first, rest) = expect(tokens, &[Sign::Name])?;
-    let name = text_of(alloc, first)?;
-    let (annotation, rest) = expression_behind(alloc, Op::Colon, rest)?;
-    let (default, rest) = expression_behind(alloc, Op::Equal, rest)?;
-    Ok((
-        add_param(before, first.at, name, annotation, default)?,
-        rest,
-    ))
+    let Some(first) = p.expect(Sign::Name) else {
+        return None;
+    };
+    let Some(annotation) = expression_behind(p, Op::Colon) else {
+        return None;
+    };
+    let Some(default) = expression_behind(p, Op::Equal) else {
+        return None;
+    };
+    let Some(name) = p.made(name_of(p.alloc, first)) else {
+        return None;
+    };
+    p.made(add_param(before, first.at, name, annotation, default))
 }
 
 /// The parameters, and those behind each comma; one may stand at the end.
 #[tactic(auto, using(statement_readers::proofs::Signatures::param_rules))]
-fn further_params<'t>(
-    alloc: Global,
-    first: Vec<Param>,
-    tokens: &'t [Token],
-) -> Result<(Vec<Param>, &'t [Token]), Stop<'t>>
-    ensures { Gives (λ x. (parameters x.0.items, x.1.now)) result (params_on (parameters first.items, tokens.now)) }
+fn further_params(p: &mut Parser<'_>, first: Vec<Param>) -> Option<Vec<Param>>
+    ensures { Reads (λ x. parameters x.items) result p.new (params_on (parameters first.items, p.old.rest.now)) }
 {
     let mut all = first;
-    let mut rest = tokens;
-    while let Some((_comma, after)) = first_of(rest, &[Sign::Op(Op::Comma)]) {
-        if !begins(after, &[Sign::Name]) {
-            return Ok((all, after));
+    while let Some(_comma) = p.take_op(Op::Comma) {
+        if !p.at(Sign::Name) {
+            return Some(all);
         }
-        let (more, after) = param(alloc, all, after)?;
+        let Some(more) = param(p, all) else {
+            return None;
+        };
         all = more;
-        rest = after;
     }
-    Ok((all, rest))
+    Some(all)
 }
 
 /// The parameters of a function, up to the parenthesis behind them, and with it.
 #[tactic(auto, unfolding(statement_readers::specs::Words::params))]
-pub fn params(alloc: Global, tokens: &[Token]) -> Result<(Vec<Param>, &[Token]), Stop<'_>>
-    ensures { Gives (λ x. (parameters x.0.items, x.1.now)) result (params tokens.now) }
+pub fn params(p: &mut Parser<'_>) -> Option<Vec<Param>>
+    ensures { Reads (λ x. parameters x.items) result p.new (params p.old.rest.now) }
 {
-    if let Some((_close, rest)) = first_of(tokens, &[Sign::Op(Op::RightParen)]) {
-        return Ok((Vec::new(alloc), rest));
+    if let Some(_close) = p.take_op(Op::RightParen) {
+        return Some(Vec::new(p.alloc));
     }
-    let (first, rest) = param(alloc, Vec::new(alloc), tokens)?;
-    let (all, rest) = further_params(alloc, first, rest)?;
-    let (_close, rest) = expect(rest, &[Sign::Op(Op::RightParen)])?;
-    Ok((all, rest))
+    let none = Vec::new(p.alloc);
+    let Some(first) = param(p, none) else {
+        return None;
+    };
+    let Some(all) = further_params(p, first) else {
+        return None;
+    };
+    match p.expect_op(Op::RightParen) {
+        Some(_close) => Some(all),
+        None => None,
+    }
 }
 
 /// The base of a class in parentheses, where these stand.
 #[tactic(auto, unfolding(statement_readers::specs::Words::base))]
-pub fn base(alloc: Global, tokens: &[Token]) -> Result<(Option<Rc<Expr>>, &[Token]), Stop<'_>>
-    ensures { Gives (λ x. (some_tree x.0, x.1.now)) result (base tokens.now) }
+pub fn base(p: &mut Parser<'_>) -> Option<Option<Rc<Expr>>>
+    ensures { Reads (λ x. some_tree x) result p.new (base p.old.rest.now) }
 {
-    let Some((_open, after)) = first_of(tokens, &[Sign::Op(Op::LeftParen)]) else {
-        return Ok((None, tokens));
+    let Some(_open) = p.take_op(Op::LeftParen) else {
+        return Some(None);
     };
-    if let Some((_close, after)) = first_of(after, &[Sign::Op(Op::RightParen)]) {
-        return Ok((None, after));
+    if let Some(_close) = p.take_op(Op::RightParen) {
+        return Some(None);
     }
-    let (base, after) = expression(alloc, LEVELS, after)?;
-    let (_close, after) = expect(after, &[Sign::Op(Op::RightParen)])?;
-    Ok((Some(base.expr), after))
+    let Some(base) = expression(p, LEVELS) else {
+        return None;
+    };
+    match p.expect_op(Op::RightParen) {
+        Some(_close) => Some(Some(base.expr)),
+        None => None,
+    }
 }
 
 /// The expression of a decorator, up to the end of its line, and with it.
 #[tactic(auto, unfolding(statement_readers::specs::Words::decorator))]
-fn decorator(alloc: Global, tokens: &[Token]) -> Result<(Rc<Expr>, &[Token]), Stop<'_>>
-    ensures { Gives (λ x. (tree x.0.value, x.1.now)) result (decorator tokens.now) }
+fn decorator(p: &mut Parser<'_>) -> Option<Rc<Expr>>
+    ensures { Reads (λ x. tree x.value) result p.new (decorator p.old.rest.now) }
 {
-    let (value, rest) = expression(alloc, LEVELS, tokens)?;
-    let (_newline, rest) = expect(rest, &[Sign::Newline])?;
-    Ok((value.expr, rest))
+    let Some(value) = expression(p, LEVELS) else {
+        return None;
+    };
+    match p.expect(Sign::Newline) {
+        Some(_newline) => Some(value.expr),
+        None => None,
+    }
 }
 
 /// The decorators, and those behind each further `@`.
 #[tactic(auto, using(statement_readers::proofs::Signatures::decorator_rules))]
-fn further_decorators<'t>(
-    alloc: Global,
-    first: Vec<Rc<Expr>>,
-    tokens: &'t [Token],
-) -> Result<(Vec<Rc<Expr>>, &'t [Token]), Stop<'t>>
-    ensures { Gives (λ x. (trees x.0.items, x.1.now)) result (decorators_on (trees first.items, tokens.now)) }
+fn further_decorators(p: &mut Parser<'_>, first: Vec<Rc<Expr>>) -> Option<Vec<Rc<Expr>>>
+    ensures { Reads (λ x. trees x.items) result p.new (decorators_on (trees first.items, p.old.rest.now)) }
 {
     let mut all = first;
-    let mut rest = tokens;
-    while let Some((_at, after)) = first_of(rest, &[Sign::Op(Op::At)]) {
-        let (next, after) = decorator(alloc, after)?;
-        all = add_decorator(all, next)?;
-        rest = after;
+    while let Some(_at) = p.take_op(Op::At) {
+        let Some(next) = decorator(p) else {
+            return None;
+        };
+        let Some(more) = p.made(add_decorator(all, next)) else {
+            return None;
+        };
+        all = more;
     }
-    Ok((all, rest))
+    Some(all)
 }
 
 /// The decorators behind the first `@`.
 #[tactic(auto, unfolding(statement_readers::specs::Words::decorators))]
-pub fn decorators(alloc: Global, tokens: &[Token]) -> Result<(Vec<Rc<Expr>>, &[Token]), Stop<'_>>
-    ensures { Gives (λ x. (trees x.0.items, x.1.now)) result (decorators tokens.now) }
+pub fn decorators(p: &mut Parser<'_>) -> Option<Vec<Rc<Expr>>>
+    ensures { Reads (λ x. trees x.items) result p.new (decorators p.old.rest.now) }
 {
-    let (first, rest) = decorator(alloc, tokens)?;
-    let all = add_decorator(Vec::new(alloc), first)?;
-    further_decorators(alloc, all, rest)
+    let Some(first) = decorator(p) else {
+        return None;
+    };
+    let Some(all) = p.made(add_decorator(Vec::new(p.alloc), first)) else {
+        return None;
+    };
+    further_decorators(p, all)
 }
 
 /// What a handler catches, and the name behind `as`.
 #[tactic(auto, unfolding(statement_readers::specs::Words::handler_head))]
-pub fn caught(
-    alloc: Global,
-    tokens: &[Token],
-) -> Result<(Option<Rc<Expr>>, Option<SrcText>, &[Token]), Stop<'_>>
-    ensures { Gives (λ x. ((some_tree x.0, x.1), x.2.now)) result (handler_head tokens.now) }
+pub fn caught(p: &mut Parser<'_>) -> Option<(Option<Rc<Expr>>, Option<SrcText>)>
+    ensures { Reads (λ x. (some_tree x.0, x.1)) result p.new (handler_head p.old.rest.now) }
 {
-    if !begins(tokens, &BEGINS_EXPRESSION) {
-        return Ok((None, None, tokens));
+    if !begins_expression(p) {
+        return Some((None, None));
     }
-    let (class, rest) = expression(alloc, LEVELS, tokens)?;
-    let (name, rest) = alias_behind(alloc, rest)?;
-    Ok((Some(class.expr), name, rest))
+    let Some(class) = expression(p, LEVELS) else {
+        return None;
+    };
+    match alias_behind(p) {
+        Some(name) => Some((Some(class.expr), name)),
+        None => None,
+    }
 }

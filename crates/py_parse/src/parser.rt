@@ -1,4 +1,4 @@
-ghost use Rattle.std.specs.Prelude.{◌≡◌, [], Some, Err};
+ghost use Rattle.std.specs.Prelude.{◌≡◌, Some, Err};
 ghost use Rattle.parsing.specs.Answer.{finish};
 ghost use Rattle.parsing.specs.Reading.{Bad, Deep};
 ghost use Rattle.py_source.specs.Limits.{most_levels};
@@ -7,14 +7,14 @@ ghost use Rattle.py_tree.specs.Statements.{block};
 ghost use Rattle.statement_readers.specs.py_grammar.Context.{misplaced, in_module};
 ghost use Rattle.statement_readers.specs.py_grammar.Sources.{source_read};
 ghost use Rattle.statement_readers.specs.py_grammar.Verdict.{Verdict, IsVerdict, verdict_on, verdict_by};
-ghost use Rattle.py_cursor.specs.Cursor.{Gives};
+ghost use Rattle.py_cursor.specs.Parser.{Reads};
 ghost use Rattle.statement_readers.specs.Words.{source};
 ghost use Rattle.py_parse.specs.Judged.{verdict_of, IsJudged, Answers};
 
 use crate::blocks::source;
 use crate::fault::SyntaxFault;
 use py_context::first_misplaced;
-use py_cursor::{Sign, Stop, begins};
+use py_cursor::{Parser, Sign, Stop, begins};
 use py_tokens::{Op, Token};
 use py_tree::{Module, Stmt};
 use std::alloc::Global;
@@ -40,14 +40,17 @@ const UNSUPPORTED: [Sign; 15] = [
 ];
 
 /// The statements that all the tokens are.
-fn whole(alloc: Global, tokens: &[Token]) -> Result<Vec<Stmt>, Stop<'_>>
-    ensures { Gives (λ stmts. (block stmts.items, [])) result (finish (source tokens.now)) }
+fn whole(p: &mut Parser<'_>) -> Option<Vec<Stmt>>
+    ensures { Reads (λ stmts. block stmts.items) result p.new (finish (source p.old.rest.now)) }
 {
-    let (stmts, rest) = source(alloc, tokens)?;
-    if !rest.is_empty() {
-        return Err(Stop::Bad(rest));
+    let Some(stmts) = source(p) else {
+        return None;
+    };
+    if !p.rest.is_empty() {
+        p.stop = Stop::Bad(p.rest);
+        return None;
     }
-    Ok(stmts)
+    Some(stmts)
 }
 
 /// The fault at the first of the tokens. There is one: the tokens of a text end with its end.
@@ -93,11 +96,14 @@ fn placed(alloc: Global, stmts: Vec<Stmt>) -> Result<Module, SyntaxFault>
 fn judged(alloc: Global, tokens: &[Token]) -> Result<Module, SyntaxFault>
     ensures { Answers (verdict_by (source_read most_levels tokens.now)) result }
 {
-    match whole(alloc, tokens) {
-        Ok(stmts) => placed(alloc, stmts),
-        Err(Stop::Bad(rest)) => Err(fault_at(rest)),
-        Err(Stop::Deep(rest)) => Err(too_deep_at(rest)),
-        Err(Stop::Memory) => Err(SyntaxFault::OutOfMemory),
+    let mut p = Parser::new(alloc, tokens);
+    if let Some(stmts) = whole(&mut p) {
+        return placed(alloc, stmts);
+    }
+    match p.stop {
+        Stop::Bad(rest) => Err(fault_at(rest)),
+        Stop::Deep(rest) => Err(too_deep_at(rest)),
+        Stop::Memory => Err(SyntaxFault::OutOfMemory),
     }
 }
 

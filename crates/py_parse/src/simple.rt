@@ -1,16 +1,14 @@
-ghost use Rattle.std.specs.Prelude.{◌≡◌, [], None, Some, IfOk, MatchOption};
+ghost use Rattle.std.specs.Prelude.{◌≡◌, ◌∷◌, [], IfOk};
 ghost use Rattle.py_tree.specs.Trees.{tree};
 ghost use Rattle.py_tree.specs.Statements.{statement, block, takers};
-ghost use Rattle.py_cursor.specs.token_kinds.Numbers as k;
-ghost use Rattle.py_cursor.specs.Cursor.{Gives};
-ghost use Rattle.statement_readers.specs.Words.{two, return_behind, assert_behind, raise_behind, yield_behind, global_behind, del_behind, import_behind, from_behind, alias, aliases_on, listed_on, imported, assignment, yield_to, assigns, value_statement, word_statement, simple, simples_on, simples};
+ghost use Rattle.py_cursor.specs.Parser.{Reads};
+ghost use Rattle.statement_readers.specs.Words.{return_behind, assert_behind, raise_behind, yield_behind, global_behind, del_behind, import_behind, from_behind, alias, aliases_on, listed_on, imported, assignment, yield_to, assigns, value_statement, word_statement, simple, simples_on, simples};
 
 use crate::parts::{
     LEVELS, alias_behind, expression_behind, names, optional_expression, optional_expressions,
-    text_of,
 };
-use py_cursor::{Sign, Stop, begins, expect, first_meant, first_of};
-use py_expression_parser::{BEGINS_EXPRESSION, expression, expressions};
+use py_cursor::{Parser, Sign};
+use py_expression_parser::{begins_expression, expression, expressions, name_of};
 use py_nodes::single_in;
 use py_source::Pos;
 use py_statement_nodes::{
@@ -19,7 +17,7 @@ use py_statement_nodes::{
     return_yield_stmt, target_in, word_stmt, yield_stmt,
 };
 use py_target_parser::single;
-use py_tokens::{Op, Token};
+use py_tokens::Op;
 use py_tree::{Alias, BinOp, Expr, Stmt, StmtKind, Target};
 use std::alloc::{AllocError, Global};
 use std::rc::Rc;
@@ -67,167 +65,204 @@ pub const BEGINS_SIMPLE: [Sign; 24] = [
     Sign::Op(Op::LeftBrace),
 ];
 
-/// The `yield` of `(yield`, and the tokens behind it.
-fn yield_in_parentheses(tokens: &[Token]) -> Option<(&Token, &[Token])>
-    ensures { MatchOption result (two k.left_paren k.yield tokens.now ≡ None) (λ x. two k.left_paren k.yield tokens.now ≡ Some (x.0.now, x.1.now)) }
-{
-    match first_of(tokens, &[Sign::Op(Op::LeftParen)]) {
-        Some((_open, after)) => first_of(after, &[Sign::Op(Op::Yield)]),
-        None => None,
-    }
-}
-
 /// What stands behind `return`.
 #[tactic(auto, unfolding(statement_readers::specs::Words::return_behind))]
-fn returning(alloc: Global, at: Pos, tokens: &[Token]) -> Result<(Stmt, &[Token]), Stop<'_>>
-    ensures { Gives (λ x. (statement x.0, x.1.now)) result (return_behind at tokens.now) }
+fn returning(p: &mut Parser<'_>, at: Pos) -> Option<Stmt>
+    ensures { Reads (λ x. statement x) result p.new (return_behind at p.old.rest.now) }
 {
-    let Some((word, after)) = yield_in_parentheses(tokens) else {
-        let (value, rest) = optional_expressions(alloc, tokens)?;
-        return Ok((return_stmt(at, value), rest));
+    let before = p.rest;
+    if let Some(_open) = p.take_op(Op::LeftParen) {
+        if let Some(word) = p.take_op(Op::Yield) {
+            let Some(value) = optional_expressions(p) else {
+                return None;
+            };
+            return match p.expect_op(Op::RightParen) {
+                Some(_close) => Some(return_yield_stmt(at, word.at, value)),
+                None => None,
+            };
+        }
+        p.rest = before;
+    }
+    let Some(value) = optional_expressions(p) else {
+        return None;
     };
-    let (value, after) = optional_expressions(alloc, after)?;
-    let (_close, after) = expect(after, &[Sign::Op(Op::RightParen)])?;
-    Ok((return_yield_stmt(at, word.at, value), after))
+    Some(return_stmt(at, value))
 }
 
 /// What stands behind `raise`.
 #[tactic(auto, unfolding(statement_readers::specs::Words::raise_behind))]
-fn raising(alloc: Global, at: Pos, tokens: &[Token]) -> Result<(Stmt, &[Token]), Stop<'_>>
-    ensures { Gives (λ x. (statement x.0, x.1.now)) result (raise_behind at tokens.now) }
+fn raising(p: &mut Parser<'_>, at: Pos) -> Option<Stmt>
+    ensures { Reads (λ x. statement x) result p.new (raise_behind at p.old.rest.now) }
 {
-    let (value, rest) = optional_expression(alloc, tokens)?;
-    Ok((raise_stmt(at, value), rest))
+    let Some(value) = optional_expression(p) else {
+        return None;
+    };
+    Some(raise_stmt(at, value))
 }
 
 /// What stands behind `assert`.
 #[tactic(auto, unfolding(statement_readers::specs::Words::assert_behind))]
-fn asserting(alloc: Global, at: Pos, tokens: &[Token]) -> Result<(Stmt, &[Token]), Stop<'_>>
-    ensures { Gives (λ x. (statement x.0, x.1.now)) result (assert_behind at tokens.now) }
+fn asserting(p: &mut Parser<'_>, at: Pos) -> Option<Stmt>
+    ensures { Reads (λ x. statement x) result p.new (assert_behind at p.old.rest.now) }
 {
-    let (condition, rest) = expression(alloc, LEVELS, tokens)?;
-    let (message, rest) = expression_behind(alloc, Op::Comma, rest)?;
-    Ok((assert_stmt(at, condition.expr, message), rest))
+    let Some(condition) = expression(p, LEVELS) else {
+        return None;
+    };
+    let Some(message) = expression_behind(p, Op::Comma) else {
+        return None;
+    };
+    Some(assert_stmt(at, condition.expr, message))
 }
 
 /// What stands behind `del`.
 #[tactic(auto, unfolding(statement_readers::specs::Words::del_behind))]
-fn deleting(alloc: Global, at: Pos, tokens: &[Token]) -> Result<(Stmt, &[Token]), Stop<'_>>
-    ensures { Gives (λ x. (statement x.0, x.1.now)) result (del_behind at tokens.now) }
+fn deleting(p: &mut Parser<'_>, at: Pos) -> Option<Stmt>
+    ensures { Reads (λ x. statement x) result p.new (del_behind at p.old.rest.now) }
 {
-    let (target, rest) = single(alloc, LEVELS, tokens)?;
-    Ok((del_stmt(at, target.single), rest))
+    let Some(target) = single(p, LEVELS) else {
+        return None;
+    };
+    Some(del_stmt(at, target.single))
 }
 
 /// The names behind `global`.
 #[tactic(auto, unfolding(statement_readers::specs::Words::global_behind))]
-fn declaring(alloc: Global, at: Pos, tokens: &[Token]) -> Result<(Stmt, &[Token]), Stop<'_>>
-    ensures { Gives (λ x. (statement x.0, x.1.now)) result (global_behind at tokens.now) }
+fn declaring(p: &mut Parser<'_>, at: Pos) -> Option<Stmt>
+    ensures { Reads (λ x. statement x) result p.new (global_behind at p.old.rest.now) }
 {
-    let (all, rest) = names(alloc, Op::Comma, tokens)?;
-    Ok((global_stmt(alloc, at, all)?, rest))
+    let Some(all) = names(p, Op::Comma) else {
+        return None;
+    };
+    p.made(global_stmt(p.alloc, at, all))
 }
 
 /// What stands behind `yield`.
 #[tactic(auto, unfolding(statement_readers::specs::Words::yield_behind))]
-fn yielding(alloc: Global, at: Pos, tokens: &[Token]) -> Result<(Stmt, &[Token]), Stop<'_>>
-    ensures { Gives (λ x. (statement x.0, x.1.now)) result (yield_behind at tokens.now) }
+fn yielding(p: &mut Parser<'_>, at: Pos) -> Option<Stmt>
+    ensures { Reads (λ x. statement x) result p.new (yield_behind at p.old.rest.now) }
 {
-    let (value, rest) = optional_expressions(alloc, tokens)?;
-    Ok((yield_stmt(at, value), rest))
+    let Some(value) = optional_expressions(p) else {
+        return None;
+    };
+    Some(yield_stmt(at, value))
 }
 
 /// What stands behind `import`.
 #[tactic(auto, unfolding(statement_readers::specs::Words::import_behind))]
-fn importing(alloc: Global, at: Pos, tokens: &[Token]) -> Result<(Stmt, &[Token]), Stop<'_>>
-    ensures { Gives (λ x. (statement x.0, x.1.now)) result (import_behind at tokens.now) }
+fn importing(p: &mut Parser<'_>, at: Pos) -> Option<Stmt>
+    ensures { Reads (λ x. statement x) result p.new (import_behind at p.old.rest.now) }
 {
-    let (dotted, rest) = names(alloc, Op::Dot, tokens)?;
-    let (alias, rest) = alias_behind(alloc, rest)?;
-    Ok((import_stmt(alloc, at, dotted, alias)?, rest))
+    let Some(dotted) = names(p, Op::Dot) else {
+        return None;
+    };
+    let Some(alias) = alias_behind(p) else {
+        return None;
+    };
+    p.made(import_stmt(p.alloc, at, dotted, alias))
 }
 
 /// A name that is imported, with the name behind `as`, where that stands.
 #[tactic(auto, unfolding(statement_readers::specs::Words::alias))]
-fn alias(alloc: Global, tokens: &[Token]) -> Result<(Alias, &[Token]), Stop<'_>>
-    ensures { Gives (λ x. (x.0, x.1.now)) result (alias tokens.now) }
+fn alias(p: &mut Parser<'_>) -> Option<Alias>
+    ensures { Reads (λ x. x) result p.new (alias p.old.rest.now) }
 {
-    let (first, rest) = expect(tokens, &[Sign::Name])?;
-    let name = text_of(alloc, first)?;
-    let (alias, rest) = alias_behind(alloc, rest)?;
+    let Some(first) = p.expect(Sign::Name) else {
+        return None;
+    };
+    let Some(alias) = alias_behind(p) else {
+        return None;
+    };
+    let Some(name) = p.made(name_of(p.alloc, first)) else {
+        return None;
+    };
     let at = first.at;
-    Ok((Alias { at, name, alias }, rest))
+    Some(Alias { at, name, alias })
 }
 
-/// The imported names, and those behind each comma.
+/// The first imported name, and those behind each comma.
 #[tactic(auto, using(statement_readers::proofs::Loops::alias_rules))]
-fn further_aliases<'t>(
-    alloc: Global,
-    first: Vec<Alias>,
-    tokens: &'t [Token],
-) -> Result<(Vec<Alias>, &'t [Token]), Stop<'t>>
-    ensures { Gives (λ x. (x.0.items, x.1.now)) result (aliases_on (first.items, tokens.now)) }
+fn further_aliases(p: &mut Parser<'_>, first: Alias) -> Option<Vec<Alias>>
+    ensures { Reads (λ x. x.items) result p.new (aliases_on (first ∷ [], p.old.rest.now)) }
 {
-    let mut all = first;
-    let mut rest = tokens;
-    while let Some((_comma, after)) = first_of(rest, &[Sign::Op(Op::Comma)]) {
-        let (next, after) = alias(alloc, after)?;
-        all.push(next)?;
-        rest = after;
+    let mut all = Vec::new(p.alloc);
+    let Some(_added) = p.made(all.push(first)) else {
+        return None;
+    };
+    while let Some(_comma) = p.take_op(Op::Comma) {
+        let Some(next) = alias(p) else {
+            return None;
+        };
+        let Some(_added) = p.made(all.push(next)) else {
+            return None;
+        };
     }
-    Ok((all, rest))
+    Some(all)
 }
 
-/// The imported names, and those behind each comma; a comma may stand at the end.
+/// The first imported name, and those behind each comma; a comma may stand at the end.
 #[tactic(auto, using(statement_readers::proofs::Loops::listed_rules))]
-fn further_listed<'t>(
-    alloc: Global,
-    first: Vec<Alias>,
-    tokens: &'t [Token],
-) -> Result<(Vec<Alias>, &'t [Token]), Stop<'t>>
-    ensures { Gives (λ x. (x.0.items, x.1.now)) result (listed_on (first.items, tokens.now)) }
+fn further_listed(p: &mut Parser<'_>, first: Alias) -> Option<Vec<Alias>>
+    ensures { Reads (λ x. x.items) result p.new (listed_on (first ∷ [], p.old.rest.now)) }
 {
-    let mut all = first;
-    let mut rest = tokens;
-    while let Some((_comma, after)) = first_of(rest, &[Sign::Op(Op::Comma)]) {
-        if !begins(after, &[Sign::Name]) {
-            return Ok((all, after));
+    let mut all = Vec::new(p.alloc);
+    let Some(_added) = p.made(all.push(first)) else {
+        return None;
+    };
+    while let Some(_comma) = p.take_op(Op::Comma) {
+        if !p.at(Sign::Name) {
+            return Some(all);
         }
-        let (next, after) = alias(alloc, after)?;
-        all.push(next)?;
-        rest = after;
+        let Some(next) = alias(p) else {
+            return None;
+        };
+        let Some(_added) = p.made(all.push(next)) else {
+            return None;
+        };
     }
-    Ok((all, rest))
+    Some(all)
 }
 
 /// What is imported from a module.
 #[tactic(auto, unfolding(statement_readers::specs::Words::imported))]
-fn imported(alloc: Global, tokens: &[Token]) -> Result<(Vec<Alias>, &[Token]), Stop<'_>>
-    ensures { Gives (λ x. (x.0.items, x.1.now)) result (imported tokens.now) }
+fn imported(p: &mut Parser<'_>) -> Option<Vec<Alias>>
+    ensures { Reads (λ x. x.items) result p.new (imported p.old.rest.now) }
 {
-    let mut all = Vec::new(alloc);
-    if begins(tokens, &[Sign::Name]) {
-        let (first, rest) = alias(alloc, tokens)?;
-        all.push(first)?;
-        return further_aliases(alloc, all, rest);
+    if p.at(Sign::Name) {
+        let Some(first) = alias(p) else {
+            return None;
+        };
+        return further_aliases(p, first);
     }
-    let (_open, after) = expect(tokens, &[Sign::Op(Op::LeftParen)])?;
-    let (first, after) = alias(alloc, after)?;
-    all.push(first)?;
-    let (all, after) = further_listed(alloc, all, after)?;
-    let (_close, after) = expect(after, &[Sign::Op(Op::RightParen)])?;
-    Ok((all, after))
+    let Some(_open) = p.expect_op(Op::LeftParen) else {
+        return None;
+    };
+    let Some(first) = alias(p) else {
+        return None;
+    };
+    let Some(all) = further_listed(p, first) else {
+        return None;
+    };
+    match p.expect_op(Op::RightParen) {
+        Some(_close) => Some(all),
+        None => None,
+    }
 }
 
 /// What stands behind `from`.
 #[tactic(auto, unfolding(statement_readers::specs::Words::from_behind))]
-fn taking(alloc: Global, at: Pos, tokens: &[Token]) -> Result<(Stmt, &[Token]), Stop<'_>>
-    ensures { Gives (λ x. (statement x.0, x.1.now)) result (from_behind at tokens.now) }
+fn taking(p: &mut Parser<'_>, at: Pos) -> Option<Stmt>
+    ensures { Reads (λ x. statement x) result p.new (from_behind at p.old.rest.now) }
 {
-    let (dotted, rest) = names(alloc, Op::Dot, tokens)?;
-    let (_import, rest) = expect(rest, &[Sign::Op(Op::Import)])?;
-    let (all, rest) = imported(alloc, rest)?;
-    Ok((import_from_stmt(alloc, at, dotted, all)?, rest))
+    let Some(dotted) = names(p, Op::Dot) else {
+        return None;
+    };
+    let Some(_import) = p.expect_op(Op::Import) else {
+        return None;
+    };
+    let Some(all) = imported(p) else {
+        return None;
+    };
+    p.made(import_from_stmt(p.alloc, at, dotted, all))
 }
 
 /// An expression alone, or its assignment to the targets.
@@ -248,148 +283,163 @@ fn assignment(
 
 /// The assignment of the `yield` at `word` to the targets.
 #[tactic(auto, unfolding(statement_readers::specs::Words::yield_to))]
-fn assigned_yield<'t>(
-    alloc: Global,
-    at: Pos,
-    targets: Vec<Target>,
-    word: Pos,
-    tokens: &'t [Token],
-) -> Result<(Stmt, &'t [Token]), Stop<'t>>
-    ensures { Gives (λ x. (statement x.0, x.1.now)) result (yield_to at (takers targets.items) word tokens.now) }
+fn assigned_yield(p: &mut Parser<'_>, at: Pos, targets: Vec<Target>, word: Pos) -> Option<Stmt>
+    ensures { Reads (λ x. statement x) result p.new (yield_to at (takers targets.items) word p.old.rest.now) }
 {
-    let (value, rest) = optional_expressions(alloc, tokens)?;
-    Ok((assign_yield_stmt(alloc, at, targets, word, value)?, rest))
+    let Some(value) = optional_expressions(p) else {
+        return None;
+    };
+    p.made(assign_yield_stmt(p.alloc, at, targets, word, value))
 }
 
 /// An expression, and the targets in it where values are assigned to them.
 #[tactic(auto, using(statement_readers::proofs::Loops::assign_rules))]
-fn assigning<'t>(
-    alloc: Global,
-    at: Pos,
-    first: Rc<Expr>,
-    tokens: &'t [Token],
-) -> Result<(Stmt, &'t [Token]), Stop<'t>>
-    ensures { Gives (λ x. (statement x.0, x.1.now)) result (assigns at (([], tree first.value), tokens.now)) }
+fn assigning(p: &mut Parser<'_>, at: Pos, first: Rc<Expr>) -> Option<Stmt>
+    ensures { Reads (λ x. statement x) result p.new (assigns at (([], tree first.value), p.old.rest.now)) }
 {
-    let mut targets = Vec::new(alloc);
+    let mut targets = Vec::new(p.alloc);
     let mut last = first;
-    let mut rest = tokens;
-    while let Some((_equal, after)) = first_of(rest, &[Sign::Op(Op::Equal)]) {
-        let Some(target) = target_in(alloc, &last)? else {
-            return Ok((assignment(alloc, at, targets, last)?, rest));
+    loop {
+        let before = p.rest;
+        let Some(_equal) = p.take_op(Op::Equal) else {
+            return p.made(assignment(p.alloc, at, targets, last));
         };
-        targets = add_target(targets, target)?;
-        if !begins(after, &BEGINS_EXPRESSION) {
-            let (word, after) = expect(after, &[Sign::Op(Op::Yield)])?;
-            return assigned_yield(alloc, at, targets, word.at, after);
+        let Some(found) = p.made(target_in(p.alloc, &last)) else {
+            return None;
+        };
+        let Some(target) = found else {
+            p.rest = before;
+            return p.made(assignment(p.alloc, at, targets, last));
+        };
+        let Some(more) = p.made(add_target(targets, target)) else {
+            return None;
+        };
+        targets = more;
+        if !begins_expression(p) {
+            let Some(word) = p.expect_op(Op::Yield) else {
+                return None;
+            };
+            return assigned_yield(p, at, targets, word.at);
         }
-        let (value, after) = expressions(alloc, LEVELS, after)?;
+        let Some(value) = expressions(p, LEVELS) else {
+            return None;
+        };
         last = value.expr;
-        rest = after;
     }
-    Ok((assignment(alloc, at, targets, last)?, rest))
 }
 
 /// An expression, or an assignment.
 #[tactic(auto, using(py_nodes::proofs::Forms::place_is), unfolding(statement_readers::specs::Words::value_statement))]
-fn valued(alloc: Global, tokens: &[Token]) -> Result<(Stmt, &[Token]), Stop<'_>>
-    ensures { Gives (λ x. (statement x.0, x.1.now)) result (value_statement tokens.now) }
+fn valued(p: &mut Parser<'_>) -> Option<Stmt>
+    ensures { Reads (λ x. statement x) result p.new (value_statement p.old.rest.now) }
 {
-    let (first, rest) = expressions(alloc, LEVELS, tokens)?;
+    let Some(first) = expressions(p, LEVELS) else {
+        return None;
+    };
     let at = first.expr.at;
-    let Some((_word, op, after)) = first_meant(rest, &CHANGES) else {
-        return assigning(alloc, at, first.expr, rest);
+    let before = p.rest;
+    let Some((_word, op)) = p.take_meant(&CHANGES) else {
+        return assigning(p, at, first.expr);
     };
-    let Some(place) = single_in(&first.expr)? else {
-        return assigning(alloc, at, first.expr, rest);
+    let Some(found) = p.made(single_in(&first.expr)) else {
+        return None;
     };
-    let (value, after) = expression(alloc, LEVELS, after)?;
-    Ok((aug_assign_stmt(at, place, op, value.expr), after))
+    let Some(place) = found else {
+        p.rest = before;
+        return assigning(p, at, first.expr);
+    };
+    let Some(value) = expression(p, LEVELS) else {
+        return None;
+    };
+    Some(aug_assign_stmt(at, place, op, value.expr))
 }
 
 /// A statement that begins with one of further words, or with an expression.
 #[tactic(auto, unfolding(statement_readers::specs::Words::word_statement))]
-fn worded(alloc: Global, tokens: &[Token]) -> Result<(Stmt, &[Token]), Stop<'_>>
-    ensures { Gives (λ x. (statement x.0, x.1.now)) result (word_statement tokens.now) }
+fn worded(p: &mut Parser<'_>) -> Option<Stmt>
+    ensures { Reads (λ x. statement x) result p.new (word_statement p.old.rest.now) }
 {
-    if let Some((word, rest)) = first_of(tokens, &[Sign::Op(Op::Global)]) {
-        return declaring(alloc, word.at, rest);
+    if let Some(word) = p.take_op(Op::Global) {
+        return declaring(p, word.at);
     }
-    if let Some((word, rest)) = first_of(tokens, &[Sign::Op(Op::Yield)]) {
-        return yielding(alloc, word.at, rest);
+    if let Some(word) = p.take_op(Op::Yield) {
+        return yielding(p, word.at);
     }
-    if let Some((word, rest)) = first_of(tokens, &[Sign::Op(Op::Import)]) {
-        return importing(alloc, word.at, rest);
+    if let Some(word) = p.take_op(Op::Import) {
+        return importing(p, word.at);
     }
-    if let Some((word, rest)) = first_of(tokens, &[Sign::Op(Op::From)]) {
-        return taking(alloc, word.at, rest);
+    if let Some(word) = p.take_op(Op::From) {
+        return taking(p, word.at);
     }
-    valued(alloc, tokens)
+    valued(p)
 }
 
 /// A simple statement (Language Reference, simple statements).
 #[tactic(auto, unfolding(statement_readers::specs::Words::simple))]
-fn simple(alloc: Global, tokens: &[Token]) -> Result<(Stmt, &[Token]), Stop<'_>>
-    ensures { Gives (λ x. (statement x.0, x.1.now)) result (simple tokens.now) }
+fn simple(p: &mut Parser<'_>) -> Option<Stmt>
+    ensures { Reads (λ x. statement x) result p.new (simple p.old.rest.now) }
 {
-    if let Some((word, rest)) = first_of(tokens, &[Sign::Op(Op::Pass)]) {
-        return Ok((word_stmt(word.at, StmtKind::Pass), rest));
+    if let Some(word) = p.take_op(Op::Pass) {
+        return Some(word_stmt(word.at, StmtKind::Pass));
     }
-    if let Some((word, rest)) = first_of(tokens, &[Sign::Op(Op::Break)]) {
-        return Ok((word_stmt(word.at, StmtKind::Break), rest));
+    if let Some(word) = p.take_op(Op::Break) {
+        return Some(word_stmt(word.at, StmtKind::Break));
     }
-    if let Some((word, rest)) = first_of(tokens, &[Sign::Op(Op::Continue)]) {
-        return Ok((word_stmt(word.at, StmtKind::Continue), rest));
+    if let Some(word) = p.take_op(Op::Continue) {
+        return Some(word_stmt(word.at, StmtKind::Continue));
     }
-    if let Some((word, rest)) = first_of(tokens, &[Sign::Op(Op::Return)]) {
-        return returning(alloc, word.at, rest);
+    if let Some(word) = p.take_op(Op::Return) {
+        return returning(p, word.at);
     }
-    if let Some((word, rest)) = first_of(tokens, &[Sign::Op(Op::Raise)]) {
-        return raising(alloc, word.at, rest);
+    if let Some(word) = p.take_op(Op::Raise) {
+        return raising(p, word.at);
     }
-    if let Some((word, rest)) = first_of(tokens, &[Sign::Op(Op::Assert)]) {
-        return asserting(alloc, word.at, rest);
+    if let Some(word) = p.take_op(Op::Assert) {
+        return asserting(p, word.at);
     }
-    if let Some((word, rest)) = first_of(tokens, &[Sign::Op(Op::Del)]) {
-        return deleting(alloc, word.at, rest);
+    if let Some(word) = p.take_op(Op::Del) {
+        return deleting(p, word.at);
     }
-    worded(alloc, tokens)
+    worded(p)
 }
 
 /// The statements of a line, and those behind each semicolon; one may stand at the end.
 #[tactic(auto, using(statement_readers::proofs::Loops::simple_rules))]
-fn further_simples<'t>(
-    alloc: Global,
-    first: Vec<Stmt>,
-    tokens: &'t [Token],
-) -> Result<(Vec<Stmt>, &'t [Token]), Stop<'t>>
-    ensures { Gives (λ x. (block x.0.items, x.1.now)) result (simples_on (block first.items, tokens.now)) }
+fn further_simples(p: &mut Parser<'_>, first: Vec<Stmt>) -> Option<Vec<Stmt>>
+    ensures { Reads (λ x. block x.items) result p.new (simples_on (block first.items, p.old.rest.now)) }
 {
     let mut all = first;
-    let mut rest = tokens;
-    while let Some((_semicolon, after)) = first_of(rest, &[Sign::Op(Op::Semicolon)]) {
-        if !begins(after, &BEGINS_SIMPLE) {
-            return Ok((all, after));
+    while let Some(_semicolon) = p.take_op(Op::Semicolon) {
+        if !p.at_any(&BEGINS_SIMPLE) {
+            return Some(all);
         }
-        let (next, after) = simple(alloc, after)?;
-        all = add_stmt(all, next)?;
-        rest = after;
+        let Some(next) = simple(p) else {
+            return None;
+        };
+        let Some(more) = p.made(add_stmt(all, next)) else {
+            return None;
+        };
+        all = more;
     }
-    Ok((all, rest))
+    Some(all)
 }
 
 /// The simple statements of a line, behind those of a block.
 #[tactic(auto, unfolding(statement_readers::specs::Words::simples))]
-pub fn simples(
-    alloc: Global,
-    before: Vec<Stmt>,
-    tokens: &[Token],
-) -> Result<(Vec<Stmt>, &[Token]), Stop<'_>>
-    ensures { Gives (λ x. (block x.0.items, x.1.now)) result (simples (block before.items) tokens.now) }
+pub fn simples(p: &mut Parser<'_>, before: Vec<Stmt>) -> Option<Vec<Stmt>>
+    ensures { Reads (λ x. block x.items) result p.new (simples (block before.items) p.old.rest.now) }
 {
-    let (first, rest) = simple(alloc, tokens)?;
-    let all = add_stmt(before, first)?;
-    let (all, rest) = further_simples(alloc, all, rest)?;
-    let (_newline, rest) = expect(rest, &[Sign::Newline])?;
-    Ok((all, rest))
+    let Some(first) = simple(p) else {
+        return None;
+    };
+    let Some(all) = p.made(add_stmt(before, first)) else {
+        return None;
+    };
+    let Some(all) = further_simples(p, all) else {
+        return None;
+    };
+    match p.expect(Sign::Newline) {
+        Some(_newline) => Some(all),
+        None => None,
+    }
 }

@@ -19,8 +19,6 @@
 //! That no more text is made than is given (a reader sees it: what is past the length is dropped character by character); time.
 #![tactic(auto)]
 
-pub use py_kinds;
-
 pub mod repr;
 mod show;
 mod shower;

@@ -1,5 +1,5 @@
 -- TARGETS, as the code goes along them.
-use Rattle.std.proofs.Common.{◌≡◌, ℕ, zero, suc, ◌-◌, ◌+◌, ◌<◌, ◌≤◌, max, nat_le, Bool, true, false, cond, not, Option, Some, None, MatchOption, List, [], ◌∷◌, ◌++◌, length, refl, sym, ap, ◌∙◌, subst, arith}
+use Rattle.std.proofs.Common.{◌≡◌, ℕ, suc, ◌-◌, ◌+◌, ◌<◌, ◌≤◌, max, nat_le, Bool, true, false, cond, not, Option, Some, None, MatchOption, List, [], ◌∷◌, ◌++◌, length, refl, sym, ap, ◌∙◌, subst, arith}
 use Rattle.std.proofs.lemmas.Bool.Decides.{nat_tests}
 use Rattle.py_source.specs.declared.pos.Pos.{Pos}
 use Rattle.py_tokens.specs.declared.token.Token.{Token}
@@ -10,22 +10,22 @@ use Rattle.py_tree.specs.Statements.{places as singles, place as place_of, Place
 use Rattle.parsing.specs.Reading.{Read, Found, Bad, Deep, ◌>>=◌, deep_at, has, seen_or, is_some}
 use Rattle.parsing.proofs.Loops.{bind_assoc}
 use Rattle.parsing.proofs.Chain.{bind_found}
-use Rattle.grammar.specs.Table.{less, taken, inner, when, give, ◌⨾◌, ◌∣◌}
-use Rattle.grammar.specs.Levels.{readers, fits, read, shown, takes}
+use Rattle.grammar.specs.Table.{less, taken, when, give, ◌⨾◌, ◌∣◌}
+use Rattle.grammar.specs.Levels.{readers, fits, shown, takes}
 use Rattle.grammar.proofs.Along.{no_levels}
-use Rattle.grammar_code.specs.Walk.{Up, ground, up, tall, pick, first_of, starts_with, wanted, walk, whole, onto}
+use Rattle.grammar_code.specs.Walk.{up, pick, first_of, starts_with, whole}
 use Rattle.grammar_code.proofs.Walk.{bind_eq, bind_found_same, pick_bind, pick_eq, pick_begins, part_eats, pursue_once, round_commas, round_walk, walked}
 use Rattle.py_cursor.specs.token_kinds.Kinds.{kind, text_of}
 use Rattle.py_cursor.specs.token_kinds.Numbers as k
 use Rattle.py_cursor.specs.py_expressions.Values as v
 use Rattle.py_cursor.specs.py_expressions.Values.{at_of, place_in, tree_of, Aim, Target, Carrier}
-use Rattle.py_cursor.specs.py_expressions.Sorts.{aim, place, places, tree, other, expr, slice, arguments, single, targets, taker}
+use Rattle.py_cursor.specs.py_expressions.Sorts.{aim, place, places, tree, other, single, targets, taker}
 use Rattle.py_cursor.specs.py_expressions.Lines.{expressions, no_reader, key, part, attribute_place, aim_step, A1}
 use Rattle.py_cursor.specs.declared.stop.Stop.{Stop}
 use Rattle.py_cursor.specs.Cursor.{FailsAs, IsBlocked}
 use Rattle.py_cursor.proofs.Loops.{blocked_as, begun_over, begun_deep, begun_fails, begun_next, items_over, items_end, items_fails, items_next, fails_on}
-use Rattle.py_expression_parser.specs.Reads.{reads, reads_part, reads_all}
-use Rattle.py_target_parser.specs.Aims.{as_target, aim_of, aim_tall, IsPlace, start_on, aims, aim_index_on, step_on, places_more}
+use Rattle.py_expression_parser.specs.Reads.{reads, reads_part}
+use Rattle.py_target_parser.specs.Aims.{as_target, aim_of, aim_tall, IsPlace, start_on, aims, step_on, places_more}
 use Rattle.py_expression_parser.proofs.Lines.{line, takes as line_takes, all_eat, room_goes, room_stays}
 
 pub single_none : (m : ℕ) (ts : List Token) → m ≡ 0 → reads m single ts ≡ deep_at (λ t. has (kind t) A1) ts

@@ -1,9 +1,9 @@
 -- TARGETS: what is read where a target may stand, as code has it.
-use Rattle.std.specs.Prelude.{◌≡◌, ℕ, ◌-◌, ◌+◌, max, nat_le, Bool, true, false, cond, not, List, [], ◌∷◌, ◌++◌, Option, Some, None}
+use Rattle.std.specs.Prelude.{◌≡◌, ℕ, ◌-◌, ◌+◌, max, nat_le, Bool, true, false, cond, not, List, [], ◌∷◌, Option, Some, None}
 use Rattle.py_tokens.specs.declared.token.Token.{Token}
 use Rattle.py_tree.specs.Trees.{Tree, Absent, Present}
 use Rattle.py_tree.specs.Statements.{Place, NamePlace, AttributePlace, SubscriptPlace}
-use Rattle.parsing.specs.Reading.{Read, Found, Bad, Deep, ◌>>=◌, deep_at, has, is_some}
+use Rattle.parsing.specs.Reading.{Read, Found, Deep, ◌>>=◌, deep_at, has, is_some}
 use Rattle.grammar.specs.Table.{give, ◌⨾◌, ◌∣◌, when}
 use Rattle.grammar.specs.Levels.{readers, fits}
 use Rattle.grammar_code.specs.Walk.{first_of, starts_with, wanted, pick, pursue}

@@ -1,20 +1,20 @@
-ghost use Rattle.std.specs.Prelude.{◌≡◌, ◌≤◌, ◌<◌, ◌+◌, max, false, IfOk};
+ghost use Rattle.std.specs.Prelude.{◌≡◌, ◌≤◌, ◌<◌, ◌+◌, max, false, IfOk, IfSome};
 ghost use Rattle.py_source.specs.Limits.{most_levels};
 ghost use Rattle.py_tree.specs.Trees.{tree};
 ghost use Rattle.py_tree.specs.Statements.{place, taker};
 ghost use Rattle.py_cursor.specs.py_expressions.Values.{places_from, one_place};
 ghost use Rattle.py_cursor.specs.py_expressions.Sorts.{single as single_line, targets as targets_line};
-ghost use Rattle.py_cursor.specs.Cursor.{Gives};
+ghost use Rattle.py_cursor.specs.Parser.{Reads};
 ghost use Rattle.py_expression_parser.specs.Reads.{reads};
 ghost use Rattle.py_target_parser.specs.Aims.{aim_of, aim_tall, IsPlace, start_on, step_on, aim_index_on, places_more, places_of};
 
-use py_cursor::{Sign, Stop, begins, blocked, expect, first_of};
+use py_cursor::{Parser, Sign, Stop};
 use py_expression_parser::{BEGINS_TARGET, arguments, expression, name_of, other_atom, slice};
 use py_nodes::{
     Node, SingleNode, TargetNode, attribute_node, call_node, leaf_node, single_in, slice_node,
     subscript_node,
 };
-use py_tokens::{Op, Token};
+use py_tokens::Op;
 use py_tree::{ExprKind, Single, Target};
 use std::alloc::{AllocError, Global};
 use std::rc::Rc;
@@ -43,200 +43,209 @@ const GOES_ON: [Sign; 3] = [
 
 /// A name, or another atom, which is no target.
 #[tactic(auto, using(crate::proofs::Aims::aim_rules))]
-fn start(alloc: Global, levels: u32, tokens: &[Token]) -> Result<(Aim, &[Token]), Stop<'_>>
+fn start(p: &mut Parser<'_>, levels: u32) -> Option<Aim>
     requires some { 0 < levels }
     requires few { levels ≤ most_levels }
-    ensures reads { Gives (λ x. ((aim_of x.0.is_target (tree x.0.node.expr.value), aim_tall x.0.is_target x.0.node.height), x.1.now)) result (start_on levels tokens.now) }
-    ensures place { IfOk result (λ x. IsPlace x.0.is_target (tree x.0.node.expr.value)) }
-    ensures fits { IfOk result (λ x. aim_tall x.0.is_target x.0.node.height ≤ levels) }
+    ensures reads { Reads (λ x. (aim_of x.is_target (tree x.node.expr.value), aim_tall x.is_target x.node.height)) result p.new (start_on levels p.old.rest.now) }
+    ensures place { IfSome result (λ x. IsPlace x.is_target (tree x.node.expr.value)) }
+    ensures fits { IfSome result (λ x. aim_tall x.is_target x.node.height ≤ levels) }
 {
-    if let Some((name, after)) = first_of(tokens, &[Sign::Name]) {
-        let kind = ExprKind::Name(name_of(alloc, name)?);
-        let node = leaf_node(alloc, name.at, kind)?;
-        return Ok((
-            Aim {
-                node,
-                is_target: true,
-            },
-            after,
-        ));
-    }
-    let (node, after) = other_atom(alloc, levels - 1, tokens)?;
-    Ok((
-        Aim {
+    if let Some(name) = p.take(Sign::Name) {
+        let Some(text) = p.made(name_of(p.alloc, name)) else {
+            return None;
+        };
+        let Some(node) = p.made(leaf_node(p.alloc, name.at, ExprKind::Name(text))) else {
+            return None;
+        };
+        return Some(Aim {
             node,
-            is_target: false,
-        },
-        after,
-    ))
+            is_target: true,
+        });
+    }
+    let Some(node) = other_atom(p, levels - 1) else {
+        return None;
+    };
+    Some(Aim {
+        node,
+        is_target: false,
+    })
 }
 
 /// `.name`, `[index]` or `(arguments)` behind an expression.
 #[tactic(auto, using(crate::proofs::Aims::aim_rules))]
-fn step(alloc: Global, levels: u32, of: Node, tokens: &[Token]) -> Result<(Aim, &[Token]), Stop<'_>>
+fn step(p: &mut Parser<'_>, levels: u32, of: Node) -> Option<Aim>
     requires few { levels ≤ most_levels }
     requires low { of.height < levels }
-    ensures reads { Gives (λ x. ((aim_of x.0.is_target (tree x.0.node.expr.value), aim_tall x.0.is_target x.0.node.height), x.1.now)) result (step_on levels (tree of.expr.value, of.height) tokens.now) }
-    ensures place { IfOk result (λ x. IsPlace x.0.is_target (tree x.0.node.expr.value)) }
-    ensures fits { IfOk result (λ x. aim_tall x.0.is_target x.0.node.height ≤ levels) }
+    ensures reads { Reads (λ x. (aim_of x.is_target (tree x.node.expr.value), aim_tall x.is_target x.node.height)) result p.new (step_on levels (tree of.expr.value, of.height) p.old.rest.now) }
+    ensures place { IfSome result (λ x. IsPlace x.is_target (tree x.node.expr.value)) }
+    ensures fits { IfSome result (λ x. aim_tall x.is_target x.node.height ≤ levels) }
 {
-    if let Some((_dot, after)) = first_of(tokens, &[Sign::Op(Op::Dot)]) {
-        let (name, after) = expect(after, &[Sign::Name])?;
-        let node = attribute_node(alloc, of, name_of(alloc, name)?)?;
-        return Ok((
-            Aim {
-                node,
-                is_target: true,
-            },
-            after,
-        ));
+    if let Some(_dot) = p.take_op(Op::Dot) {
+        let Some(name) = p.expect(Sign::Name) else {
+            return None;
+        };
+        let Some(text) = p.made(name_of(p.alloc, name)) else {
+            return None;
+        };
+        let Some(node) = p.made(attribute_node(p.alloc, of, text)) else {
+            return None;
+        };
+        return Some(Aim {
+            node,
+            is_target: true,
+        });
     }
-    if let Some((_open, after)) = first_of(tokens, &[Sign::Op(Op::LeftBracket)]) {
-        return index(alloc, levels, of, after);
+    if let Some(_open) = p.take_op(Op::LeftBracket) {
+        return index(p, levels, of);
     }
     if of.height + 1 >= levels {
-        return Err(blocked(tokens, &[Sign::Op(Op::LeftParen)]));
+        p.stop_blocked(&[Sign::Op(Op::LeftParen)]);
+        return None;
     }
-    let (arguments, after) = arguments(alloc, levels - 1, tokens)?;
-    let node = call_node(alloc, of, arguments)?;
-    Ok((
-        Aim {
-            node,
-            is_target: false,
-        },
-        after,
-    ))
+    let Some(arguments) = arguments(p, levels - 1) else {
+        return None;
+    };
+    let Some(node) = p.made(call_node(p.alloc, of, arguments)) else {
+        return None;
+    };
+    Some(Aim {
+        node,
+        is_target: false,
+    })
 }
 
 /// The index of an expression, behind `[`.
 #[tactic(auto, using(crate::proofs::Aims::aim_rules))]
-fn index(
-    alloc: Global,
-    levels: u32,
-    of: Node,
-    tokens: &[Token],
-) -> Result<(Aim, &[Token]), Stop<'_>>
+fn index(p: &mut Parser<'_>, levels: u32, of: Node) -> Option<Aim>
     requires few { levels ≤ most_levels }
     requires low { of.height < levels }
-    ensures reads { Gives (λ x. ((aim_of x.0.is_target (tree x.0.node.expr.value), aim_tall x.0.is_target x.0.node.height), x.1.now)) result (aim_index_on levels (tree of.expr.value, of.height) tokens.now) }
-    ensures place { IfOk result (λ x. IsPlace x.0.is_target (tree x.0.node.expr.value)) }
-    ensures fits { IfOk result (λ x. aim_tall x.0.is_target x.0.node.height ≤ levels) }
+    ensures reads { Reads (λ x. (aim_of x.is_target (tree x.node.expr.value), aim_tall x.is_target x.node.height)) result p.new (aim_index_on levels (tree of.expr.value, of.height) p.old.rest.now) }
+    ensures place { IfSome result (λ x. IsPlace x.is_target (tree x.node.expr.value)) }
+    ensures fits { IfSome result (λ x. aim_tall x.is_target x.node.height ≤ levels) }
 {
-    if begins(tokens, &[Sign::Op(Op::Colon)]) {
+    if p.at_op(Op::Colon) {
         if of.height + 1 >= levels {
-            return Err(Stop::Deep(tokens));
+            p.stop_deep(p.rest);
+            return None;
         }
-        let (bounds, after) = slice(alloc, levels - 1, tokens)?;
-        let node = slice_node(alloc, of, None, bounds)?;
-        return Ok((
-            Aim {
-                node,
-                is_target: false,
-            },
-            after,
-        ));
-    }
-    let (index, after) = expression(alloc, levels - 1, tokens)?;
-    if let Some((_close, after)) = first_of(after, &[Sign::Op(Op::RightBracket)]) {
-        let node = subscript_node(alloc, of, index)?;
-        return Ok((
-            Aim {
-                node,
-                is_target: true,
-            },
-            after,
-        ));
-    }
-    if of.height.max(index.height) + 1 >= levels {
-        return Err(blocked(after, &[Sign::Op(Op::Colon)]));
-    }
-    let (bounds, after) = slice(alloc, levels - 1, after)?;
-    let node = slice_node(alloc, of, Some(index), bounds)?;
-    Ok((
-        Aim {
+        let Some(bounds) = slice(p, levels - 1) else {
+            return None;
+        };
+        let Some(node) = p.made(slice_node(p.alloc, of, None, bounds)) else {
+            return None;
+        };
+        return Some(Aim {
             node,
             is_target: false,
-        },
-        after,
-    ))
+        });
+    }
+    let Some(index) = expression(p, levels - 1) else {
+        return None;
+    };
+    if let Some(_close) = p.take_op(Op::RightBracket) {
+        let Some(node) = p.made(subscript_node(p.alloc, of, index)) else {
+            return None;
+        };
+        return Some(Aim {
+            node,
+            is_target: true,
+        });
+    }
+    if of.height.max(index.height) + 1 >= levels {
+        p.stop_blocked(&[Sign::Op(Op::Colon)]);
+        return None;
+    }
+    let Some(bounds) = slice(p, levels - 1) else {
+        return None;
+    };
+    let Some(node) = p.made(slice_node(p.alloc, of, Some(index), bounds)) else {
+        return None;
+    };
+    Some(Aim {
+        node,
+        is_target: false,
+    })
 }
 
 /// What takes one value: a name, an attribute or a subscript.
 #[tactic(auto, using(crate::proofs::Aims::single_rules))]
-pub fn single(
-    alloc: Global,
-    levels: u32,
-    tokens: &[Token],
-) -> Result<(SingleNode, &[Token]), Stop<'_>>
+pub fn single(p: &mut Parser<'_>, levels: u32) -> Option<SingleNode>
     requires { levels ≤ most_levels }
-    ensures reads { Gives (λ x. ((place x.0.single, x.0.height), x.1.now)) result (reads levels single_line tokens.now) }
-    ensures fits { IfOk result (λ x. x.0.height ≤ levels) }
-    ensures some { IfOk result (λ x. 0 < x.0.height) }
+    ensures reads { Reads (λ x. (place x.single, x.height)) result p.new (reads levels single_line p.old.rest.now) }
+    ensures fits { IfSome result (λ x. x.height ≤ levels) }
+    ensures some { IfSome result (λ x. 0 < x.height) }
 {
     if levels == 0 {
-        return Err(blocked(tokens, &BEGINS_TARGET));
+        p.stop_blocked(&BEGINS_TARGET);
+        return None;
     }
-    let (mut aim, mut rest) = start(alloc, levels, tokens)?;
-    while begins(rest, &GOES_ON) {
+    let Some(mut aim) = start(p, levels) else {
+        return None;
+    };
+    while p.at_any(&GOES_ON) {
         if aim.is_target && aim.node.height >= levels {
-            return Err(Stop::Deep(rest));
+            p.stop_deep(p.rest);
+            return None;
         }
-        let (next, after) = step(alloc, levels, aim.node, rest)?;
+        let Some(next) = step(p, levels, aim.node) else {
+            return None;
+        };
         aim = next;
-        rest = after;
     }
     if !aim.is_target {
-        return Err(Stop::Bad(rest));
+        p.stop = Stop::Bad(p.rest);
+        return None;
     }
-    match single_in(&aim.node.expr)? {
-        Some(single) => Ok((
-            SingleNode {
-                single,
-                height: aim.node.height,
-            },
-            rest,
-        )),
-        None => Err(Stop::Bad(rest)),
-    }
+    let Some(found) = p.made(single_in(&aim.node.expr)) else {
+        return None;
+    };
+    let Some(single) = found else {
+        p.stop = Stop::Bad(p.rest);
+        return None;
+    };
+    Some(SingleNode {
+        single,
+        height: aim.node.height,
+    })
 }
 
 /// What takes a value, or several with commas between them, which unpack it.
 #[tactic(auto, using(crate::proofs::Aims::targets_rules))]
-pub fn targets(
-    alloc: Global,
-    levels: u32,
-    tokens: &[Token],
-) -> Result<(TargetNode, &[Token]), Stop<'_>>
+pub fn targets(p: &mut Parser<'_>, levels: u32) -> Option<TargetNode>
     requires { levels ≤ most_levels }
-    ensures reads { Gives (λ x. ((taker x.0.target, x.0.height), x.1.now)) result (reads levels targets_line tokens.now) }
-    ensures fits { IfOk result (λ x. x.0.height ≤ levels) }
+    ensures reads { Reads (λ x. (taker x.target, x.height)) result p.new (reads levels targets_line p.old.rest.now) }
+    ensures fits { IfSome result (λ x. x.height ≤ levels) }
 {
     if levels == 0 {
-        return Err(blocked(tokens, &BEGINS_TARGET));
+        p.stop_blocked(&BEGINS_TARGET);
+        return None;
     }
-    let (first, rest) = single(alloc, levels, tokens)?;
-    if !begins(rest, &[Sign::Op(Op::Comma)]) {
-        let target = Target::Single(first.single);
-        return Ok((
-            TargetNode {
-                target,
-                height: first.height,
-            },
-            rest,
-        ));
+    let Some(first) = single(p, levels) else {
+        return None;
+    };
+    if !p.at_op(Op::Comma) {
+        return Some(TargetNode {
+            target: Target::Single(first.single),
+            height: first.height,
+        });
     }
     if first.height >= levels {
-        return Err(Stop::Deep(rest));
+        p.stop_deep(p.rest);
+        return None;
     }
-    let (places, rest) = further(alloc, levels, first_place(alloc, first)?, rest)?;
-    let all = Rc::new(alloc, places.all)?;
-    Ok((
-        TargetNode {
-            target: Target::Unpack(all),
-            height: 1 + places.height,
-        },
-        rest,
-    ))
+    let Some(places) = p.made(first_place(p.alloc, first)) else {
+        return None;
+    };
+    let Some(places) = further(p, levels, places) else {
+        return None;
+    };
+    let Some(all) = p.made(Rc::new(p.alloc, places.all)) else {
+        return None;
+    };
+    Some(TargetNode {
+        target: Target::Unpack(all),
+        height: 1 + places.height,
+    })
 }
 
 /// The first of several targets.
@@ -271,40 +280,35 @@ fn add_place(places: Places, next: SingleNode) -> Result<Places, AllocError>
 
 /// Targets behind the first, and maybe a comma at the end.
 #[tactic(auto, using(crate::proofs::Aims::places_over))]
-fn further(
-    alloc: Global,
-    levels: u32,
-    places: Places,
-    tokens: &[Token],
-) -> Result<(Places, &[Token]), Stop<'_>>
+fn further(p: &mut Parser<'_>, levels: u32, places: Places) -> Option<Places>
     requires some { 0 < levels }
     requires few { levels ≤ most_levels }
     requires open { places.ended ≡ false }
     requires low { places.height < levels }
-    ensures reads { Gives (λ x. ((places_of x.0, x.0.height), x.1.now)) result (places_more levels (places_of places, places.height) tokens.now) }
-    ensures fits { IfOk result (λ x. x.0.height < levels) }
+    ensures reads { Reads (λ x. (places_of x, x.height)) result p.new (places_more levels (places_of places, places.height) p.old.rest.now) }
+    ensures fits { IfSome result (λ x. x.height < levels) }
 {
     let mut places = places;
-    let mut rest = tokens;
-    while let Some((_comma, after)) = first_of(rest, &[Sign::Op(Op::Comma)]) {
-        if !begins(after, &BEGINS_TARGET) {
+    while let Some(_comma) = p.take_op(Op::Comma) {
+        if !p.at_any(&BEGINS_TARGET) {
             let Places {
                 all,
                 height,
                 ended: _,
             } = places;
-            return Ok((
-                Places {
-                    all,
-                    height,
-                    ended: true,
-                },
-                after,
-            ));
+            return Some(Places {
+                all,
+                height,
+                ended: true,
+            });
         }
-        let (next, after) = single(alloc, levels - 1, after)?;
-        places = add_place(places, next)?;
-        rest = after;
+        let Some(next) = single(p, levels - 1) else {
+            return None;
+        };
+        let Some(more) = p.made(add_place(places, next)) else {
+            return None;
+        };
+        places = more;
     }
-    Ok((places, rest))
+    Some(places)
 }

@@ -4,7 +4,7 @@ ghost use Rattle.std.specs.Prelude.{◌≡◌, IfOk, map, option_copied};
 ghost use Rattle.std.specs.List.{list_all};
 ghost use Rattle.pytest_arguments.specs.Given as given;
 
-use call_products::py_operands::texts::text_of;
+use py_operands::texts::text_of;
 use py_values::heap::Heap;
 use py_values::object::Obj;
 use py_values::rows::{Texts, Values};

@@ -21,7 +21,5 @@
 //! How long a call takes.
 #![tactic(auto)]
 
-pub use call_products;
-
 pub mod form;
 pub mod given;

@@ -4,13 +4,13 @@ ghost use Rattle.std.specs.Prelude.{◌≡◌, IfOk, option_copied};
 ghost use Rattle.pytest_calls.specs.Fixtures as fixtures;
 ghost use Rattle.pytest_arguments.specs.Given as given;
 
+use call_products::product::{Product, plain};
+use py_operands::texts::text_of;
 use py_values::end::Effect;
 use py_values::heap::Heap;
 use py_values::object::{FixtureObj, FixtureScope, Obj};
 use py_values::value::Value;
 use py_values::{OutOfMemory, PyText};
-use pytest_arguments::call_products::product::{Product, plain};
-use pytest_arguments::call_products::py_operands::texts::text_of;
 use pytest_arguments::form::{Argument, bad, is_word, named_value};
 use pytest_arguments::given::{
     boolean_given, boolean_or_absent, no_other_than_row, no_other_than_text, no_other_than_texts,

@@ -3,11 +3,11 @@
 ghost use Rattle.std.specs.Prelude.{◌≡◌, IfOk, option_copied};
 ghost use Rattle.pytest_calls.specs.Hooks as hooks;
 
+use call_products::product::{Product, plain};
 use py_values::end::Effect;
 use py_values::object::{HookObj, Obj};
 use py_values::value::Value;
 use py_values::{OutOfMemory, PyText};
-use pytest_arguments::call_products::product::{Product, plain};
 use pytest_arguments::form::{Argument, bad_named, named_value};
 use pytest_arguments::given::{boolean_given, is_boolean};
 use std::alloc::Global;

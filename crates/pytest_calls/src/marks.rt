@@ -7,7 +7,9 @@ ghost use Rattle.pytest_arguments.specs.Forms.{unless_bad};
 ghost use Rattle.pytest_arguments.specs.Given as given;
 ghost use Rattle.pytest_calls.specs.Marks as marks;
 
-use py_repr::py_kinds::classes::are_exc_classes;
+use call_products::product::{Product, plain, wrong};
+use py_kinds::classes::are_exc_classes;
+use py_operands::texts::text_of;
 use py_values::end::Effect;
 use py_values::heap::Heap;
 use py_values::names::{Name, Names};
@@ -15,8 +17,6 @@ use py_values::object::{MarkObj, Obj};
 use py_values::rows::Values;
 use py_values::value::Value;
 use py_values::{OutOfMemory, PyText};
-use pytest_arguments::call_products::product::{Product, plain, wrong};
-use pytest_arguments::call_products::py_operands::texts::text_of;
 use pytest_arguments::form::{
     Argument, OwnMark, bad, mark_fits, named_value, own_mark, own_mark_name,
 };

@@ -5,13 +5,13 @@ ghost use Rattle.std.specs.List.{list_all};
 ghost use Rattle.pytest_arguments.specs.Given as given;
 ghost use Rattle.pytest_calls.specs.Params as params;
 
+use call_products::product::{Product, plain};
 use py_values::end::Effect;
 use py_values::heap::Heap;
 use py_values::object::{Obj, ParamObj};
 use py_values::rows::Values;
 use py_values::value::Value;
 use py_values::{OutOfMemory, PyText};
-use pytest_arguments::call_products::product::{Product, plain};
 use pytest_arguments::form::{Argument, bad, named_value};
 use pytest_arguments::given::{no_other_than_text, text_given, values_copied};
 use std::alloc::Global;

@@ -50,8 +50,6 @@
 //!    `specs/Placed.antt`: the places of reports; `specs/Headline.antt`: THE HEADLINE.
 #![tactic(auto)]
 
-pub use report_text;
-
 mod law;
 #[cfg(test)]
 mod tests;

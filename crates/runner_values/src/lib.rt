@@ -22,8 +22,6 @@
 //! Time and memory.
 #![tactic(auto)]
 
-pub use py_kinds;
-
 mod new;
 mod objects;
 mod requests;

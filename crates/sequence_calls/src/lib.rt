@@ -22,8 +22,6 @@
 //! How long a call takes.
 #![tactic(auto)]
 
-pub use call_products;
-
 pub mod ranges;
 pub mod sequences;
 pub mod truths;

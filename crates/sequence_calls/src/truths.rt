@@ -6,7 +6,7 @@ ghost use Rattle.sequence_calls.specs.Truths as truths;
 use call_products::arguments::sole;
 use call_products::elements::{ElementsResult, elements_of};
 use call_products::product::{Product, plain, wrong};
-use call_products::py_kinds::truth::truth;
+use py_kinds::truth::truth;
 use py_values::end::Effect;
 use py_values::heap::Heap;
 use py_values::value::Value;

@@ -6,7 +6,7 @@ ghost use Rattle.text_methods.specs.Pieces as pieces;
 
 use crate::pieces::singles;
 use call_products::elements::keys_of;
-use call_products::py_operands::texts::text_of;
+use py_operands::texts::text_of;
 use py_values::heap::Heap;
 use py_values::object::Obj;
 use py_values::value::{ObjId, Value};

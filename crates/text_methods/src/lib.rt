@@ -22,9 +22,6 @@
 //! How long a call takes: the search for a part looks at each place anew.
 #![tactic(auto)]
 
-pub use call_products;
-pub use call_products::{py_kinds, py_operands};
-
 pub mod call;
 pub mod chars;
 mod joined;

@@ -4,7 +4,7 @@
 use crate::shown::{cost, ended, repr_told};
 use crate::spelled::{Operands, Tried, characters, copied, count, text};
 use py_calls::call::builtin;
-use py_calls::py_kinds::builtins::{
+use py_kinds::builtins::{
     builtin_name, dict_method_named, list_method_named, text_method_named, tuple_method_named,
 };
 use py_values::PyText;

@@ -2,10 +2,10 @@
 
 use crate::shown::{cost, ended, raised, repr_told};
 use crate::spelled::{Operands, Tried, copied};
-use py_calls::py_items::iter::{IterAt, Turn};
-use py_calls::py_items::store::{delete_item, store_item};
-use py_calls::py_items::subscript::subscript;
-use py_calls::py_items::turn::{iterate, turn};
+use py_items::iter::{IterAt, Turn};
+use py_items::store::{delete_item, store_item};
+use py_items::subscript::subscript;
+use py_items::turn::{iterate, turn};
 use py_values::end::OpEnd;
 use py_values::heap::Heap;
 use py_values::index::Index;

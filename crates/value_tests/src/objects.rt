@@ -1,8 +1,8 @@
 // Objects that no operator makes.
 
 use crate::spelled::{Tried, text};
-use py_calls::py_kinds::builtins::builtin_name;
-use py_calls::py_kinds::kinds::class_name;
+use py_kinds::builtins::builtin_name;
+use py_kinds::kinds::class_name;
 use py_values::builtin::{BUILTINS, Builtin, EXCEPTIONS};
 use py_values::class::{ClassForm, ClassRef, ExcClass};
 use py_values::heap::Heap;

@@ -3,7 +3,7 @@
 use crate::collection::verdicts;
 use crate::spelled::{Operands, Tried, copied, count};
 use crate::steps::act_by;
-use crate::{calls, classes, collection, items, steps, values};
+use crate::{binding, calls, classes, collection, items, patterns, steps, values};
 use std::alloc::Global;
 
 /// What the picture of a control character stands for; any other character is itself.
@@ -62,7 +62,19 @@ fn of_operands(alloc: Global, word: &str, rest: &str, operands: &str) -> Tried<S
     of_values(alloc, word, rest, &mut on)
 }
 
-/// What is told of names and of modules, or of what has operands.
+/// What is told of arguments, imports and patterns, or of what has operands.
+fn of_texts(alloc: Global, word: &str, rest: &str, operands: &str) -> Tried<String> {
+    match word {
+        "arguments" => binding::arguments_bound(alloc, rest, operands),
+        "import" => binding::imported(alloc, rest, operands),
+        "pattern" => patterns::read(alloc, operands),
+        "found" => patterns::searched(alloc, None, operands),
+        "search" => patterns::searched(alloc, Some(count(rest) as u64), operands),
+        _ => of_operands(alloc, word, rest, operands),
+    }
+}
+
+/// What is told of names and of modules, or of other texts.
 fn of_names(alloc: Global, word: &str, rest: &str, operands: &str) -> Tried<String> {
     match word {
         "name" => values::named(alloc, operands),
@@ -71,7 +83,7 @@ fn of_names(alloc: Global, word: &str, rest: &str, operands: &str) -> Tried<Stri
         "under" => classes::under(alloc, operands),
         "collect" => collection::collected(alloc, operands),
         "phase" => verdicts::verdict(alloc, rest, operands),
-        _ => of_operands(alloc, word, rest, operands),
+        _ => of_texts(alloc, word, rest, operands),
     }
 }
 

@@ -1,10 +1,10 @@
 // What is told of values and of ends.
 
 use crate::spelled::{Tried, copied};
-use py_calls::py_kinds::kinds::{class_name, kind_name};
-use py_calls::py_kinds::truth::truth;
-use py_calls::py_repr::repr::{repr, str};
-use py_calls::py_repr::shown::Shown;
+use py_kinds::kinds::{class_name, kind_name};
+use py_kinds::truth::truth;
+use py_repr::repr::{repr, str};
+use py_repr::shown::Shown;
 use py_values::PyText;
 use py_values::end::{OpEnd, Raise};
 use py_values::heap::Heap;

@@ -4,7 +4,7 @@ use crate::objects::{
     added, builtin_class, builtin_function, class_by, exception_without_args, function, module,
 };
 use crate::special::{full_dict, nested, nested_exception, numbers, own_list, repeated, spaces};
-use py_calls::py_kinds::keys::{KeyResult, key};
+use py_kinds::keys::{KeyResult, key};
 use py_values::class::ClassRef;
 use py_values::dict::Dict;
 use py_values::heap::Heap;
@@ -42,7 +42,8 @@ pub fn count(spelled: &str) -> usize {
     spelled.parse::<usize>().unwrap_or(0)
 }
 
-fn whole(spelled: &str) -> i128 {
+/// A number with its sign, or 0.
+pub fn whole(spelled: &str) -> i128 {
     spelled.parse::<i128>().unwrap_or(0)
 }
 

@@ -2,11 +2,11 @@
 
 use crate::shown::{length_told, repr_told, value_told};
 use crate::spelled::{Operands, Tried, characters, copied, text};
-use py_calls::py_kinds::builtins::{builtin_value, first_heap};
-use py_calls::py_repr::repr::{message, repr};
 use py_compare::equal::equal;
 use py_compare::order::less;
 use py_compare::tested::Tested;
+use py_kinds::builtins::{builtin_value, first_heap};
+use py_repr::repr::{message, repr};
 use py_values::change::Change;
 use py_values::class::ExcClass;
 use py_values::end::Raise;

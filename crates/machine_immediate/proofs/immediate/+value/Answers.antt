@@ -243,7 +243,7 @@ bind_arguments-returns t c =
     let within : at < length es.value.items = search rules in
     let same : e ≡ get_or es.value.items at e = search rules in
     let within_params : at < length ps = search rules in
-    let put : now ≡ bind_name p.name x.value so_far = once.when_true c.in_ok-rebind.field-0 c.if-not-branch-2.false c.in_ok-rebind.ensures ∙ ap (λ (q : Param). bind_name q.name x.value so_far) (sym c.index-params-at.is) in
+    let put : now ≡ bind_name p.name x.value so_far = once.when_true c.in_ok-rebind.field-0 c.if-not-branch-2.false c.in_ok-rebind.ensures.bound ∙ ap (λ (q : Param). bind_name q.name x.value so_far) (sym c.index-params-at.is) in
     IfOk-weaker c.bind_arguments.result (λ (is : Bool). OnTrue is (AreBound (parts_from (at + 1) es) (drop (at + 1) ps) now bound x.left behind m here names temps)) (λ (is : Bool). OnTrue is (AreBound (parts_from at es) (drop at ps) so_far bound left behind m here names temps))
     (λ is h. once.argument_bound m here names temps es e c.deref-3.result.now at ps p so_far now bound left behind c.in_ok-find_value.field-0 x is within same c.deref-3.ensures within_params c.index-params-at.is c.if-not-branch.false c.in_ok-find_value.ensures put h)
     c.bind_arguments.ensures

@@ -85,57 +85,57 @@ decreases-further l = 40 * l.levels + 1
 
 abbrev pub invariant-binary-loop-token : goal.invariant-binary-loop-token
 invariant-binary-loop-token l = record {
-  reads : more l.levels l.rank (tree l.left.expr.value, l.left.height) l.rest ≡ ranked l.levels l.rank l.tokens;
+  reads : more l.levels l.rank (tree l.left.expr.value, l.left.height) l.p.rest.now ≡ ranked l.levels l.rank l.fn.p.rest.now;
   fits : l.left.height ≤ l.levels;
 }
 
 abbrev pub decreases-binary-loop-token : goal.decreases-binary-loop-token
-decreases-binary-loop-token l = length l.rest
+decreases-binary-loop-token l = length l.p.rest.now
 
-abbrev pub invariant-further-loop-alloc : goal.invariant-further-loop-alloc
-invariant-further-loop-alloc l = record {
-  reads : links_more l.levels l.link (chain_of l.chain, max l.chain.head.height l.chain.more.height) l.rest ≡ links_more l.levels l.link (chain_of l.fn.chain, max l.fn.chain.head.height l.fn.chain.more.height) l.tokens;
+abbrev pub invariant-further-loop-link : goal.invariant-further-loop-link
+invariant-further-loop-link l = record {
+  reads : links_more l.levels l.link (chain_of l.chain, max l.chain.head.height l.chain.more.height) l.p.rest.now ≡ links_more l.levels l.link (chain_of l.fn.chain, max l.fn.chain.head.height l.fn.chain.more.height) l.fn.p.rest.now;
   low : max l.chain.head.height l.chain.more.height < l.levels;
 }
 
-abbrev pub decreases-further-loop-alloc : goal.decreases-further-loop-alloc
-decreases-further-loop-alloc l = length l.rest
+abbrev pub decreases-further-loop-link : goal.decreases-further-loop-link
+decreases-further-loop-link l = length l.p.rest.now
 
 abbrev pub invariant-items-loop-comma : goal.invariant-items-loop-comma
 invariant-items-loop-comma l = record {
-  reads : items l.levels (row_of l.row, l.row.all.height) l.rest ≡ items l.levels (row_of l.fn.row, l.fn.row.all.height) l.tokens;
+  reads : items l.levels (row_of l.row, l.row.all.height) l.p.rest.now ≡ items l.levels (row_of l.fn.row, l.fn.row.all.height) l.fn.p.rest.now;
   unended : l.row.ended ≡ false;
   low : l.row.all.height < l.levels;
 }
 
 abbrev pub decreases-items-loop-comma : goal.decreases-items-loop-comma
-decreases-items-loop-comma l = length l.rest
+decreases-items-loop-comma l = length l.p.rest.now
 
 abbrev pub invariant-more_arguments-loop-comma : goal.invariant-more_arguments-loop-comma
 invariant-more_arguments-loop-comma l = record {
-  reads : args_more l.levels (args_of l.all, l.all.all.height) l.rest ≡ args_more l.levels (args_of l.fn.first, l.fn.first.all.height) l.tokens;
+  reads : args_more l.levels (args_of l.all, l.all.all.height) l.p.rest.now ≡ args_more l.levels (args_of l.fn.first, l.fn.first.all.height) l.fn.p.rest.now;
   unended : l.all.ended ≡ false;
   low : l.all.all.height < l.levels;
 }
 
 abbrev pub decreases-more_arguments-loop-comma : goal.decreases-more_arguments-loop-comma
-decreases-more_arguments-loop-comma l = length l.rest
+decreases-more_arguments-loop-comma l = length l.p.rest.now
 
 abbrev pub invariant-more_pairs-loop-comma : goal.invariant-more_pairs-loop-comma
 invariant-more_pairs-loop-comma l = record {
-  reads : pairs_more l.levels (pairs_of l.all, max l.all.names.height l.all.values.height) l.rest ≡ pairs_more l.levels (pairs_of l.fn.first, max l.fn.first.names.height l.fn.first.values.height) l.tokens;
+  reads : pairs_more l.levels (pairs_of l.all, max l.all.names.height l.all.values.height) l.p.rest.now ≡ pairs_more l.levels (pairs_of l.fn.first, max l.fn.first.names.height l.fn.first.values.height) l.fn.p.rest.now;
   unended : l.all.ended ≡ false;
   low : max l.all.names.height l.all.values.height < l.levels;
 }
 
 abbrev pub decreases-more_pairs-loop-comma : goal.decreases-more_pairs-loop-comma
-decreases-more_pairs-loop-comma l = length l.rest
+decreases-more_pairs-loop-comma l = length l.p.rest.now
 
-abbrev pub invariant-primary-loop-alloc : goal.invariant-primary-loop-alloc
-invariant-primary-loop-alloc l = record {
-  reads : trailers l.levels (tree l.left.expr.value, l.left.height) l.rest ≡ reads_line l.levels primary l.tokens;
+abbrev pub invariant-primary-loop-p : goal.invariant-primary-loop-p
+invariant-primary-loop-p l = record {
+  reads : trailers l.levels (tree l.left.expr.value, l.left.height) l.p.rest.now ≡ reads_line l.levels primary l.fn.p.rest.now;
   fits : l.left.height ≤ l.levels;
 }
 
-abbrev pub decreases-primary-loop-alloc : goal.decreases-primary-loop-alloc
-decreases-primary-loop-alloc l = length l.rest
+abbrev pub decreases-primary-loop-p : goal.decreases-primary-loop-p
+decreases-primary-loop-p l = length l.p.rest.now

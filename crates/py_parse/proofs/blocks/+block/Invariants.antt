@@ -64,19 +64,19 @@ abbrev pub decreases-statements : goal.decreases-statements
 decreases-statements l = 10 * l.levels + 9
 
 abbrev pub invariant-further_branches-loop-elif : goal.invariant-further_branches-loop-elif
-invariant-further_branches-loop-elif l = elifs_on (block_at l.levels) (branches l.all.items, l.rest) ≡ elifs_on (block_at l.levels) (branches l.fn.first.items, l.tokens)
+invariant-further_branches-loop-elif l = elifs_on (block_at l.levels) (branches l.all.items, l.p.rest.now) ≡ elifs_on (block_at l.levels) (branches l.fn.first.items, l.fn.p.rest.now)
 
 abbrev pub decreases-further_branches-loop-elif : goal.decreases-further_branches-loop-elif
-decreases-further_branches-loop-elif l = length l.rest
+decreases-further_branches-loop-elif l = length l.p.rest.now
 
 abbrev pub invariant-further_handlers-loop-except : goal.invariant-further_handlers-loop-except
-invariant-further_handlers-loop-except l = handlers_on (block_at l.levels) (handlers l.all.items, l.rest) ≡ handlers_on (block_at l.levels) (handlers l.fn.first.items, l.tokens)
+invariant-further_handlers-loop-except l = handlers_on (block_at l.levels) (handlers l.all.items, l.p.rest.now) ≡ handlers_on (block_at l.levels) (handlers l.fn.first.items, l.fn.p.rest.now)
 
 abbrev pub decreases-further_handlers-loop-except : goal.decreases-further_handlers-loop-except
-decreases-further_handlers-loop-except l = length l.rest
+decreases-further_handlers-loop-except l = length l.p.rest.now
 
 abbrev pub invariant-further_statements-loop-first : goal.invariant-further_statements-loop-first
-invariant-further_statements-loop-first l = stmts_on (block_at l.levels) (nat_le 1 l.levels) (block l.all.items, l.rest) ≡ stmts_on (block_at l.levels) (nat_le 1 l.levels) (block l.fn.first.items, l.tokens)
+invariant-further_statements-loop-first l = stmts_on (block_at l.levels) (nat_le 1 l.levels) (block l.all.items, l.p.rest.now) ≡ stmts_on (block_at l.levels) (nat_le 1 l.levels) (block l.fn.first.items, l.fn.p.rest.now)
 
 abbrev pub decreases-further_statements-loop-first : goal.decreases-further_statements-loop-first
-decreases-further_statements-loop-first l = length l.rest
+decreases-further_statements-loop-first l = length l.p.rest.now

@@ -1,5 +1,4 @@
-use Rattle.std.proofs.Common.{◌≡◌, ◌<◌, true, false, Some, sym, ap, ◌∙◌, arith}
-use Rattle.std.proofs.lemmas.Result.{err_from_is_err_and}
+use Rattle.std.proofs.Common.{◌≡◌, ◌<◌, true, false, sym, ap, ◌∙◌, arith}
 use Rattle.py_tree.specs.Trees.{tree}
 use Rattle.py_tree.specs.Statements.{place}
 use Rattle.grammar_code.specs.Walk.{starts_with}
@@ -11,25 +10,25 @@ use Rattle.py_target_parser.proofs.reader.single.Goals as goal
 use Rattle.py_target_parser.proofs.reader.single.Goals.{else-aim-via-then-aim+else-aim-levels, else-aim-via-else-aim}
 
 pub returns-then-aim-levels-clause-reads : goal.returns-then-aim-levels-clause-reads
-returns-then-aim-levels-clause-reads c = let n : starts_with kind goes_on c.loop-alloc.rest.now ≡ true = cc in let b : c.loop-alloc.aim.is_target ≡ true = cc in aims_deep_so c.args.levels c.loop-alloc.aim.is_target (tree c.loop-alloc.aim.node.expr.value) c.loop-alloc.aim.node.height c.loop-alloc.rest.now _ b c.loop-alloc.invariant.place c.loop-alloc.aim.node.some (omega arith) n c.loop-alloc.invariant.reads
+returns-then-aim-levels-clause-reads c = let n : starts_with kind goes_on c.loop-p.p.rest.now ≡ true = cc in let b : c.loop-p.aim.is_target ≡ true = cc in rw (c.stop_deep.ensures) (aims_deep_so c.args.levels c.loop-p.aim.is_target (tree c.loop-p.aim.node.expr.value) c.loop-p.aim.node.height c.loop-p.p.rest.now _ b c.loop-p.invariant.place c.loop-p.aim.node.some (omega arith) n c.loop-p.invariant.reads)
 
-pub returns-in_err-next-clause-reads : goal.returns-in_err-next-clause-reads
-returns-in_err-next-clause-reads c = let n : starts_with kind goes_on c.loop-alloc.rest.now ≡ true = cc in let l : c.loop-alloc.aim.node.height < c.args.levels = elim c.else-aim.branch [ else-aim-via-then-aim+else-aim-levels w ↦ omega arith | else-aim-via-else-aim w ↦ low_of c.loop-alloc.aim.is_target c.loop-alloc.aim.node.height c.args.levels (cc) c.loop-alloc.invariant.fits ] in
-    let p = err_from_is_err_and c.from_residual-in_err-next.result c.from_residual-in_err-next.ensures.1 in
-    rw (p.1, p.2) (aims_fails c.args.levels c.loop-alloc.aim.is_target (tree c.loop-alloc.aim.node.expr.value) c.loop-alloc.aim.node.height c.loop-alloc.rest.now c.in_err-next.field-0.0 _ c.loop-alloc.invariant.place l n c.in_err-next.ensures.reads c.loop-alloc.invariant.reads)
+pub returns-in_default-step-clause-reads : goal.returns-in_default-step-clause-reads
+returns-in_default-step-clause-reads c = let n : starts_with kind goes_on c.loop-p.p.rest.now ≡ true = cc in let l : c.loop-p.aim.node.height < c.args.levels = elim c.else-aim.branch [ else-aim-via-then-aim+else-aim-levels w ↦ omega arith | else-aim-via-else-aim w ↦ low_of c.loop-p.aim.is_target c.loop-p.aim.node.height c.args.levels (cc) c.loop-p.invariant.fits ] in
+    aims_fails c.args.levels c.loop-p.aim.is_target (tree c.loop-p.aim.node.expr.value) c.loop-p.aim.node.height c.loop-p.p.rest.now c.step.new.p.stop _ c.loop-p.invariant.place l n c.in_default-step.ensures.reads c.loop-p.invariant.reads
 
-pub loop-alloc-smaller : goal.loop-alloc-smaller
-loop-alloc-smaller c = step_takes c.args.levels (tree c.loop-alloc.aim.node.expr.value, c.loop-alloc.aim.node.height) c.loop-alloc.rest.now (aim_of c.in_ok-next.next.is_target (tree c.in_ok-next.next.node.expr.value), aim_tall c.in_ok-next.next.is_target c.in_ok-next.next.node.height) c.in_ok-next.after.now c.in_ok-next.ensures.reads
+pub loop-p-smaller : goal.loop-p-smaller
+loop-p-smaller c = step_takes c.args.levels (tree c.loop-p.aim.node.expr.value, c.loop-p.aim.node.height) c.loop-p.p.rest.now (aim_of c.in-Some-step.next.is_target (tree c.in-Some-step.next.node.expr.value), aim_tall c.in-Some-step.next.is_target c.in-Some-step.next.node.height) c.step.new.p.rest.now c.in-Some-step.ensures.reads
 
-pub loop-alloc-preserved : goal.loop-alloc-preserved
-loop-alloc-preserved c = let n : starts_with kind goes_on c.loop-alloc.rest.now ≡ true = cc in let l : c.loop-alloc.aim.node.height < c.args.levels = elim c.else-aim.branch [ else-aim-via-then-aim+else-aim-levels w ↦ omega arith | else-aim-via-else-aim w ↦ low_of c.loop-alloc.aim.is_target c.loop-alloc.aim.node.height c.args.levels (cc) c.loop-alloc.invariant.fits ] in record {
-  reads = aims_next c.args.levels c.loop-alloc.aim.is_target (tree c.loop-alloc.aim.node.expr.value) c.loop-alloc.aim.node.height c.loop-alloc.rest.now (aim_of c.in_ok-next.next.is_target (tree c.in_ok-next.next.node.expr.value), aim_tall c.in_ok-next.next.is_target c.in_ok-next.next.node.height) c.in_ok-next.after.now _ c.loop-alloc.invariant.place l n c.in_ok-next.ensures.reads c.loop-alloc.invariant.reads;
-  place = c.in_ok-next.ensures.place;
-  fits = c.in_ok-next.ensures.fits;
+pub loop-p-preserved : goal.loop-p-preserved
+loop-p-preserved c = let n : starts_with kind goes_on c.loop-p.p.rest.now ≡ true = cc in let l : c.loop-p.aim.node.height < c.args.levels = elim c.else-aim.branch [ else-aim-via-then-aim+else-aim-levels w ↦ omega arith | else-aim-via-else-aim w ↦ low_of c.loop-p.aim.is_target c.loop-p.aim.node.height c.args.levels (cc) c.loop-p.invariant.fits ] in record {
+  reads = aims_next c.args.levels c.loop-p.aim.is_target (tree c.loop-p.aim.node.expr.value) c.loop-p.aim.node.height c.loop-p.p.rest.now (aim_of c.in-Some-step.next.is_target (tree c.in-Some-step.next.node.expr.value), aim_tall c.in-Some-step.next.is_target c.in-Some-step.next.node.height) c.step.new.p.rest.now _ c.loop-p.invariant.place l n c.in-Some-step.ensures.reads c.loop-p.invariant.reads;
+  place = c.in-Some-step.ensures.place;
+  fits = c.in-Some-step.ensures.fits;
 }
 
 pub returns-then-not-aim-clause-reads : goal.returns-then-not-aim-clause-reads
-returns-then-not-aim-clause-reads c = let n : starts_with kind goes_on c.loop-alloc.rest.now ≡ false = cc in let b : c.loop-alloc.aim.is_target ≡ false = cc in aims_bad_so c.args.levels c.loop-alloc.aim.is_target (tree c.loop-alloc.aim.node.expr.value) c.loop-alloc.aim.node.height c.loop-alloc.rest.now _ b n c.loop-alloc.invariant.reads
+returns-then-not-aim-clause-reads c = let n : starts_with kind goes_on c.loop-p.p.rest.now ≡ false = cc in let b : c.loop-p.aim.is_target ≡ false = cc in aims_bad_so c.args.levels c.loop-p.aim.is_target (tree c.loop-p.aim.node.expr.value) c.loop-p.aim.node.height c.loop-p.p.rest.now _ b n c.loop-p.invariant.reads
 
-pub returns-in-Some-clause-reads : goal.returns-in-Some-clause-reads
-returns-in-Some-clause-reads c = let n : starts_with kind goes_on c.loop-alloc.rest.now ≡ false = cc in let b : c.loop-alloc.aim.is_target ≡ true = cc in aims_found_so c.args.levels c.loop-alloc.aim.is_target (tree c.loop-alloc.aim.node.expr.value) c.loop-alloc.aim.node.height c.loop-alloc.rest.now (place c.in-Some.single) _ b (ap (λ e. place_in (tree e)) (sym c.deref.ensures) ∙ single_found (tree c.deref.result.now) c.in_ok-single.field-0 c.in-Some.single c.in-Some.is c.in_ok-single.ensures) n c.loop-alloc.invariant.reads
+pub returns-clause-reads : goal.returns-clause-reads
+returns-clause-reads c = let n : starts_with kind goes_on c.loop-p.p.rest.now ≡ false = cc in let b : c.loop-p.aim.is_target ≡ true = cc in let f = rw c.in-Some-made.ensures.0 at c.single_in.ensures in
+    rw (c.in-Some-made.ensures.1) (aims_found_so c.args.levels c.loop-p.aim.is_target (tree c.loop-p.aim.node.expr.value) c.loop-p.aim.node.height c.loop-p.p.rest.now (place c.in-Some-found.single) _ b (ap (λ e. place_in (tree e)) (sym c.deref.ensures) ∙ single_found (tree c.deref.result.now) c.in-Some-made.found c.in-Some-found.single c.in-Some-found.is f) n c.loop-p.invariant.reads)

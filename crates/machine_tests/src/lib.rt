@@ -2,10 +2,11 @@
 //!
 //! # What it is for
 //!
-//! From texts to ends, the machine does what the language's rules say: each row of `stdin` is a program with what is done with it and
+//! From texts to ends, the machine does what the language's rules say: each row of the input is a program with what is done with it and
 //! what comes of that. Values, printed texts and exceptions are CPython's where the language is Python's; steps, traces and the texts
 //! that are this language's own are those of a plain model of it. Rows whose names begin with `wrong` want what doesn't come, and
-//! must be told, so that a check that passes everything is seen.
+//! must be told, so that a check that passes everything is seen. The rows stand in `stdin` of `acceptance`, which calls [`run_rows`]: a
+//! program of their own would state and link the whole machine once more.
 //!
 //! A row is a line `>>> row NAME`, its sources, each a line `>>> file PATH`, or `>>> explained PATH` where its asserts are explained,
 //! and its text, and then its acts in order, each a line:
@@ -28,7 +29,7 @@
 //!
 //! # What is proved
 //!
-//! That the program is safe and ends.
+//! That the call is safe and ends.
 #![tactic(auto)]
 
 mod act;
@@ -59,7 +60,7 @@ fn differs<R: Threads + Sync + Print + AllocGlobal>(rt: &R, row: &Row) -> io::Re
     }
 }
 
-/// The rows that `stdin` has, and those of them that are not as wanted.
+/// The rows that were read, and those of them that are not as wanted.
 #[derive(Drop)]
 struct Counts {
     rows: u64,
@@ -84,7 +85,8 @@ impl Counts {
     }
 }
 
-fn run<R: Threads + Sync + Input + Print + AllocGlobal>(rt: &R) -> io::Result<()> {
+/// Runs the rows of the input, and prints where one does something else than it wants, and how many there are.
+pub fn run_rows<R: Threads + Sync + Input + Print + AllocGlobal>(rt: &R) -> io::Result<()> {
     let mut counts = Counts {
         rows: 0,
         differing: 0,
@@ -102,8 +104,4 @@ fn run<R: Threads + Sync + Input + Print + AllocGlobal>(rt: &R) -> io::Result<()
     counts.count(rt, &row)?;
     let Counts { rows, differing } = counts;
     println!(rt; "{rows} rows, {differing} of them not as wanted")
-}
-
-fn main(rt: HostRuntime) -> io::Result<()> {
-    run(&rt)
 }
