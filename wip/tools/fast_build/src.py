@@ -40,7 +40,7 @@ for d in ext: words+=["--extern",f"{d.name}={d.rlib}"]
 for d in srcs:
     uses=dict.fromkeys(["core",*d.of_kit,*[it.name for it in d.deps]])
     words+=["--lib",f"{d.name}:{','.join(uses)}={d.folder}/src/lib.rt"]
-words+=["--antt-project",f"{KIT}/rattle/logic/antt-project.json","--logic-built",f"{KIT}/logic_built","--jobs","1","--links",f"{name}=","--incremental","/work/h/inc",*flags]
+words+=["--antt-project",f"{KIT}/rattle/logic/antt-project.json","--logic-built",f"{KIT}/logic_built","--jobs",os.environ.get("SRCJOBS","1"),"--links",f"{name}=","--incremental","/work/h/inc",*flags]
 print('sources:',' '.join(d.name for d in srcs),flush=True)
 os.makedirs('/work/h/inc',exist_ok=True)
 sys.exit(subprocess.run(['nice','-n','0','/opt/rattle/bin/rattle','check',*words]).returncode)
