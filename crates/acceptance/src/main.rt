@@ -1,11 +1,12 @@
-//! Runs the worked cases of its folder and the rows of its input, and says which of them differ from what they want.
+//! Runs the worked cases and the rows of its folder and of its input, and says which of them differ from what they want.
 //!
 //! # What it is for
 //!
 //! Each file `NAME.case` has words, files, and what a run over them must write and answer; where it tells so, a call of the tree or the
 //! sink fails. Those named `wrong_..` want what no run writes or answers, and must be told as wrong, so that a checker that passes
-//! everything is seen. The rows of `stdin` are programs for the machine alone, under exact budgets; `machine_tests` reads and runs them,
-//! and its page says what a row is.
+//! everything is seen. The rows of `expressions.rows` are sources for the front end alone, those of `values.rows` are on values, operators
+//! and calls, and those of `stdin` programs for the machine alone, under exact budgets; `expression_tests`, `value_tests` and
+//! `machine_tests` read and run them, and their pages say what a row is.
 //!
 //! # What is proved
 //!
@@ -63,5 +64,9 @@ fn run_cases<R: Threads + Sync + Files + Print + AllocGlobal + Clone + Drop>(
 
 fn main(rt: HostRuntime) -> io::Result<()> {
     run_cases(&rt)?;
+    let sources = fs::read_to_string(&rt, "expressions.rows")?;
+    expression_tests::read_rows(&rt, sources.as_str())?;
+    let values = fs::read_to_string(&rt, "values.rows")?;
+    value_tests::read_rows(&rt, values.as_str())?;
     run_rows(&rt)
 }

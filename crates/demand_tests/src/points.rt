@@ -1,12 +1,11 @@
 // A tree of four fixtures, in which each point raises in turn.
 
-use crate::benches::{Asking, How, Row, Told, row_of, told_of};
+use crate::benches::{Asking, How, Row, Told, told_of};
 use crate::logs::{Cause, Done, Part, Way};
 use crate::undoing::all_is_undone;
 use seq::{OutOfMemory, Seq};
 use session_types::Scope;
 use std::alloc::Global;
-use std::test::Fail;
 
 /// What happened in the tree: the functions and tests that were called, in order, the exceptions, and whether all was undone.
 #[derive(Drop)]
@@ -89,15 +88,6 @@ struct Case<'c> {
     times: usize,
 }
 
-fn case_of<'c>(def: u32, ways: &'c [Way], called: &'c [Done], times: usize) -> Case<'c> {
-    Case {
-        def,
-        ways,
-        called,
-        times,
-    }
-}
-
 /// Where nothing raises in the function, the finalizer does.
 fn fails(way: Way) -> bool {
     match way {
@@ -143,83 +133,136 @@ fn is_as_wanted(alloc: Global, case: Case, way: Way) -> Result<bool, OutOfMemory
     )
 }
 
+const IN_SET_UP: [Way; 3] = [Way::Raises, Way::NeverYields, Way::Loops];
+
+const IN_TEARDOWN: [Way; 5] = [
+    Way::RaisesBehind,
+    Way::YieldsTwice,
+    Way::LoopsBehind,
+    Way::YieldsOnce,
+    Way::Returns,
+];
+
+const WHOLE: [Done; 8] = [
+    Done::Begun(0),
+    Done::Begun(1),
+    Done::Begun(2),
+    Done::Begun(3),
+    Done::Called(2),
+    Done::Begun(2),
+    Done::Begun(3),
+    Done::Called(3),
+];
+
 /// pytest's fixture guide, "Fixture errors" and "Yield fixtures": what asks for a fixture that raised isn't set up, its test isn't called, and
 /// what is up goes down all the same; a teardown that raises stops no other. "Fixture scopes": a fixture of the session or of the file that
 /// raised is told to each item and isn't called again.
-#[test]
-fn each_point_raises_in_turn(rt: HostRuntime) -> Result<(), Fail> {
-    let alloc = rt.alloc();
-    let in_set_up = [Way::Raises, Way::NeverYields, Way::Loops];
-    let in_teardown = [
-        Way::RaisesBehind,
-        Way::YieldsTwice,
-        Way::LoopsBehind,
-        Way::YieldsOnce,
-        Way::Returns,
-    ];
-    let twice = [
-        Done::Begun(0),
-        Done::Begun(1),
-        Done::Begun(2),
-        Done::Begun(2),
-    ];
-    let uncalled = [
-        Done::Begun(0),
-        Done::Begun(1),
-        Done::Begun(2),
-        Done::Begun(3),
-        Done::Begun(2),
-        Done::Begun(3),
-    ];
-    let whole = [
-        Done::Begun(0),
-        Done::Begun(1),
-        Done::Begun(2),
-        Done::Begun(3),
-        Done::Called(2),
-        Done::Begun(2),
-        Done::Begun(3),
-        Done::Called(3),
-    ];
-    let cases = [
-        case_of(0, &in_set_up[..], &whole[..1], 2),
-        case_of(1, &in_set_up[..], &whole[..2], 2),
-        case_of(2, &in_set_up[..], &twice[..], 2),
-        case_of(3, &in_set_up[..], &uncalled[..], 2),
-        case_of(0, &in_teardown[..], &whole[..], 1),
-        case_of(1, &in_teardown[..], &whole[..], 1),
-        case_of(2, &in_teardown[..], &whole[..], 2),
-        case_of(3, &in_teardown[..], &whole[..], 2),
-    ];
-    for case in &cases {
-        for way in case.ways {
-            assert!(rt;
-                is_as_wanted(alloc, *case, *way)?,
-                "{:?}",
-                cause(*way, case.def)
-            );
+const CASES: [Case<'static>; 8] = [
+    Case {
+        def: 0,
+        ways: &IN_SET_UP,
+        called: &[Done::Begun(0)],
+        times: 2,
+    },
+    Case {
+        def: 1,
+        ways: &IN_SET_UP,
+        called: &[Done::Begun(0), Done::Begun(1)],
+        times: 2,
+    },
+    Case {
+        def: 2,
+        ways: &IN_SET_UP,
+        called: &[
+            Done::Begun(0),
+            Done::Begun(1),
+            Done::Begun(2),
+            Done::Begun(2),
+        ],
+        times: 2,
+    },
+    Case {
+        def: 3,
+        ways: &IN_SET_UP,
+        called: &[
+            Done::Begun(0),
+            Done::Begun(1),
+            Done::Begun(2),
+            Done::Begun(3),
+            Done::Begun(2),
+            Done::Begun(3),
+        ],
+        times: 2,
+    },
+    Case {
+        def: 0,
+        ways: &IN_TEARDOWN,
+        called: &WHOLE,
+        times: 1,
+    },
+    Case {
+        def: 1,
+        ways: &IN_TEARDOWN,
+        called: &WHOLE,
+        times: 1,
+    },
+    Case {
+        def: 2,
+        ways: &IN_TEARDOWN,
+        called: &WHOLE,
+        times: 2,
+    },
+    Case {
+        def: 3,
+        ways: &IN_TEARDOWN,
+        called: &WHOLE,
+        times: 2,
+    },
+];
+
+/// The first way of a case that comes out otherwise, by its exception.
+fn wrong_way(alloc: Global, case: Case) -> Result<Option<Cause>, OutOfMemory> {
+    for way in case.ways {
+        if !is_as_wanted(alloc, case, *way)? {
+            return Ok(Some(cause(*way, case.def)));
         }
     }
-    Ok(())
+    Ok(None)
+}
+
+/// The first of all cases that comes out otherwise, by its exception.
+fn wrong_case(alloc: Global) -> Result<Option<Cause>, OutOfMemory> {
+    for case in &CASES {
+        let wrong = wrong_way(alloc, *case)?;
+        if wrong.is_some() {
+            return Ok(wrong);
+        }
+    }
+    Ok(None)
+}
+
+#[test]
+fn each_point_raises_in_turn(rt: HostRuntime) {
+    assert_eq!(rt; wrong_case(rt.alloc()), Ok(None));
+}
+
+/// Whether these exceptions are told where all fixtures go this way and both tests raise: all is called and goes down as ever.
+fn are_told(alloc: Global, way: Way, fails: bool, raised: &[Cause]) -> Result<bool, OutOfMemory> {
+    let went = run_tree(alloc, all_go(way, fails), true)?;
+    Ok(went.undone && went.called.len() == 8 && went.raised.items() == raised)
 }
 
 /// The tests of both items raise: all goes down as ever.
 #[test]
-fn a_test_raises(rt: HostRuntime) -> Result<(), Fail> {
-    let went = run_tree(rt.alloc(), all_go(Way::YieldsOnce, false), true)?;
-    assert!(rt; went.undone);
-    assert_eq!(rt; went.called.len(), 8);
-    assert_eq!(rt;
-        went.raised.items(),
-        &[Cause::InTest(2), Cause::InTest(3)][..]
-    );
-    Ok(())
+fn a_test_raises(rt: HostRuntime) {
+    let raised = [Cause::InTest(2), Cause::InTest(3)];
+    let told = are_told(rt.alloc(), Way::YieldsOnce, false, &raised);
+    assert!(rt; matches!(told, Ok(true)));
 }
 
 /// Everything raises at once, and each exception is told: those of the item's own fixtures behind each test, the others at the end.
 #[test]
-fn all_raises(rt: HostRuntime) -> Result<(), Fail> {
-    let went = run_tree(rt.alloc(), all_go(Way::RaisesBehind, true), true)?;
+fn all_raises(rt: HostRuntime) {
     let raised = [
         Cause::InTest(2),
         Cause::InTeardown(3),
@@ -236,8 +279,6 @@ fn all_raises(rt: HostRuntime) -> Result<(), Fail> {
         Cause::InTeardown(0),
         Cause::InFinalizer(0),
     ];
-    assert!(rt; went.undone);
-    assert_eq!(rt; went.called.len(), 8);
-    assert_eq!(rt; went.raised.items(), &raised[..]);
-    Ok(())
+    let told = are_told(rt.alloc(), Way::RaisesBehind, true, &raised);
+    assert!(rt; matches!(told, Ok(true)));
 }

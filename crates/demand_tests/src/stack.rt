@@ -1,12 +1,13 @@
 // Demands and teardowns of two items that run one behind the other.
 
 use crate::benches::{
-    Asking, How, Row, Told, bench_of, both, deep, end, item, row_of, run, told_of, with_parameter,
+    Asking, How, Row, bench_of, both, deep, end, item, row_of, run, told_of, with_parameter,
 };
 use crate::logs::{Cause, Done, Part, Way};
 use crate::undoing::all_is_undone;
+use seq::OutOfMemory;
 use session_types::Scope;
-use std::test::Fail;
+use std::alloc::Global;
 
 /// Tests that pass and ask for these, each closure demanded in one call.
 fn asks_for<'h>(args: &'h [u32]) -> How<'h> {
@@ -17,68 +18,78 @@ fn asks_for<'h>(args: &'h [u32]) -> How<'h> {
     }
 }
 
-/// pytest's fixture guide, "Teardown/Cleanup": what came up last goes down first; scopes, "Fixture scopes".
-#[test]
-fn what_came_up_last_goes_down_first(rt: HostRuntime) -> Result<(), Fail> {
-    let alloc = rt.alloc();
+/// Whether these definitions leave this journal, and these exceptions are told.
+fn is_told(
+    alloc: Global,
+    rows: &[Row],
+    how: How,
+    lines: &[Done],
+    raised: &[Cause],
+) -> Result<bool, OutOfMemory> {
+    let told = told_of(alloc, rows, how)?;
+    Ok(told.world.lines.items() == lines && told.raised.items() == raised)
+}
+
+/// What a fixture of the session, one of the file that asks for it, and one of each item that asks for both leave in a journal.
+const NESTED: [Done; 18] = [
+    Done::Begun(0),
+    Done::Begun(1),
+    Done::Begun(2),
+    Done::Called(2),
+    Done::Closed(2),
+    Done::Resumed(2),
+    Done::Finalized(2),
+    Done::Begun(2),
+    Done::Called(3),
+    Done::Closed(2),
+    Done::Resumed(2),
+    Done::Finalized(2),
+    Done::Closed(1),
+    Done::Resumed(1),
+    Done::Finalized(1),
+    Done::Closed(0),
+    Done::Resumed(0),
+    Done::Finalized(0),
+];
+
+/// Whether they leave it where they are asked for so.
+fn is_nested(alloc: Global, asking: Asking) -> Result<bool, OutOfMemory> {
     let rows = [
         row_of(Scope::Session, &[], Way::YieldsOnce),
         row_of(Scope::Module, &[0], Way::YieldsOnce),
         row_of(Scope::Function, &[1, 0], Way::YieldsOnce),
     ];
-    let lines = [
-        Done::Begun(0),
-        Done::Begun(1),
-        Done::Begun(2),
-        Done::Called(2),
-        Done::Closed(2),
-        Done::Resumed(2),
-        Done::Finalized(2),
-        Done::Begun(2),
-        Done::Called(3),
-        Done::Closed(2),
-        Done::Resumed(2),
-        Done::Finalized(2),
-        Done::Closed(1),
-        Done::Resumed(1),
-        Done::Finalized(1),
-        Done::Closed(0),
-        Done::Resumed(0),
-        Done::Finalized(0),
-    ];
-    for way in [Asking::OneByOne, Asking::AtOnce] {
-        let how = How {
-            args: &[2],
-            asking: way,
-            raises: false,
-        };
-        let told = told_of(alloc, &rows, how)?;
-        assert_eq!(rt; told.world.lines.items(), &lines[..]);
-        assert!(rt; told.raised.is_empty());
+    let how = How {
+        args: &[2],
+        asking,
+        raises: false,
+    };
+    is_told(alloc, &rows, how, &NESTED, &[])
+}
+
+/// pytest's fixture guide, "Teardown/Cleanup": what came up last goes down first; scopes, "Fixture scopes".
+#[test]
+fn what_came_up_last_goes_down_first(rt: HostRuntime) {
+    for asking in [Asking::OneByOne, Asking::AtOnce] {
+        assert!(rt; matches!(is_nested(rt.alloc(), asking), Ok(true)));
     }
-    Ok(())
 }
 
 /// The exception of a broad fixture is kept, and given to each item of its scope; its function isn't called again.
 #[test]
-fn a_failure_is_kept(rt: HostRuntime) -> Result<(), Fail> {
+fn a_failure_is_kept(rt: HostRuntime) {
     let rows = [
         row_of(Scope::Session, &[], Way::Raises),
         row_of(Scope::Function, &[0], Way::YieldsOnce),
     ];
-    let told = told_of(rt.alloc(), &rows, asks_for(&[1]))?;
     let lines = [Done::Begun(0), Done::Closed(0), Done::Finalized(0)];
-    assert_eq!(rt; told.world.lines.items(), &lines[..]);
-    assert_eq!(rt;
-        told.raised.items(),
-        &[Cause::InSetUp(0), Cause::InSetUp(0)][..]
-    );
-    Ok(())
+    let raised = [Cause::InSetUp(0), Cause::InSetUp(0)];
+    let told = is_told(rt.alloc(), &rows, asks_for(&[1]), &lines, &raised);
+    assert!(rt; matches!(told, Ok(true)));
 }
 
-/// All teardowns run, whatever raises, and each exception is told.
-#[test]
-fn each_end_is_told(rt: HostRuntime) -> Result<(), Fail> {
+/// Whether what three definitions raise in their ends is told, the last one's first, behind each item.
+fn are_ends_told(alloc: Global) -> Result<bool, OutOfMemory> {
     let failing = Row {
         args: &[],
         part: Part {
@@ -92,7 +103,7 @@ fn each_end_is_told(rt: HostRuntime) -> Result<(), Fail> {
         row_of(Scope::Function, &[], Way::RaisesBehind),
         failing,
     ];
-    let told = told_of(rt.alloc(), &rows, asks_for(&[0, 1, 2]))?;
+    let told = told_of(alloc, &rows, asks_for(&[0, 1, 2]))?;
     let raised = [
         Cause::InFinalizer(2),
         Cause::InTeardown(1),
@@ -101,28 +112,52 @@ fn each_end_is_told(rt: HostRuntime) -> Result<(), Fail> {
         Cause::InTeardown(1),
         Cause::SecondYield(0),
     ];
-    assert_eq!(rt; told.raised.items(), &raised[..]);
-    assert_eq!(rt; told.world.lines.len(), 24);
-    assert!(rt; told.world.last == Some(0));
-    Ok(())
+    let is_logged = told.world.lines.len() == 24 && told.world.last == Some(0);
+    Ok(is_logged && told.raised.items() == &raised[..])
 }
 
+/// All teardowns run, whatever raises, and each exception is told.
 #[test]
-fn a_generator_must_yield(rt: HostRuntime) -> Result<(), Fail> {
+fn each_end_is_told(rt: HostRuntime) {
+    assert!(rt; matches!(are_ends_told(rt.alloc()), Ok(true)));
+}
+
+/// Whether it is told of a generator that it doesn't yield.
+fn is_lack_told(alloc: Global) -> Result<bool, OutOfMemory> {
     let rows = [row_of(Scope::Function, &[], Way::NeverYields)];
-    let told = told_of(rt.alloc(), &rows, asks_for(&[0]))?;
-    assert_eq!(rt;
-        told.raised.items(),
-        &[Cause::NoYield(0), Cause::NoYield(0)][..]
-    );
-    Ok(())
+    let told = told_of(alloc, &rows, asks_for(&[0]))?;
+    Ok(told.raised.items() == &[Cause::NoYield(0), Cause::NoYield(0)][..])
 }
 
-/// pytest's fixture guide, "Automatic grouping of tests by fixture instances": where the parameter changes, the old one goes down, and
-/// before it what depends on it; then the new one comes up.
 #[test]
-fn another_parameter_replaces(rt: HostRuntime) -> Result<(), Fail> {
-    let alloc = rt.alloc();
+fn a_generator_must_yield(rt: HostRuntime) {
+    assert!(rt; matches!(is_lack_told(rt.alloc()), Ok(true)));
+}
+
+/// What a fixture with another parameter for each item, and one that asks for it, leave in a journal.
+const REPLACED: [Done; 18] = [
+    Done::Begun(0),
+    Done::Begun(1),
+    Done::Called(2),
+    Done::Closed(1),
+    Done::Resumed(1),
+    Done::Finalized(1),
+    Done::Closed(0),
+    Done::Resumed(0),
+    Done::Finalized(0),
+    Done::Begun(0),
+    Done::Begun(1),
+    Done::Called(3),
+    Done::Closed(1),
+    Done::Resumed(1),
+    Done::Finalized(1),
+    Done::Closed(0),
+    Done::Resumed(0),
+    Done::Finalized(0),
+];
+
+/// Whether they leave it, all is undone, and nothing is raised.
+fn is_replaced(alloc: Global) -> Result<bool, OutOfMemory> {
     let rows = [
         row_of(Scope::Session, &[], Way::YieldsOnce),
         row_of(Scope::Module, &[0], Way::YieldsOnce),
@@ -133,36 +168,19 @@ fn another_parameter_replaces(rt: HostRuntime) -> Result<(), Fail> {
     let done = both(&mut made, &one, &other, asks_for(&[1]));
     let world = end(made);
     let raised = done?;
-    let lines = [
-        Done::Begun(0),
-        Done::Begun(1),
-        Done::Called(2),
-        Done::Closed(1),
-        Done::Resumed(1),
-        Done::Finalized(1),
-        Done::Closed(0),
-        Done::Resumed(0),
-        Done::Finalized(0),
-        Done::Begun(0),
-        Done::Begun(1),
-        Done::Called(3),
-        Done::Closed(1),
-        Done::Resumed(1),
-        Done::Finalized(1),
-        Done::Closed(0),
-        Done::Resumed(0),
-        Done::Finalized(0),
-    ];
-    assert_eq!(rt; world.lines.items(), &lines[..]);
-    assert!(rt; all_is_undone(alloc, &rows, &lines)?);
-    assert!(rt; raised.is_empty());
-    Ok(())
+    let is_undone = all_is_undone(alloc, &rows, &REPLACED)?;
+    Ok(is_undone && world.lines.items() == &REPLACED[..] && raised.is_empty())
 }
 
-/// Demands go deep, and the frames that are out are given up in order of set-up.
+/// pytest's fixture guide, "Automatic grouping of tests by fixture instances": where the parameter changes, the old one goes down, and
+/// before it what depends on it; then the new one comes up.
 #[test]
-fn frames_are_given_up(rt: HostRuntime) -> Result<(), Fail> {
-    let alloc = rt.alloc();
+fn another_parameter_replaces(rt: HostRuntime) {
+    assert!(rt; matches!(is_replaced(rt.alloc()), Ok(true)));
+}
+
+/// Whether sixty are set up, the deepest first, and given up, the deepest first too.
+fn are_given_up(alloc: Global) -> Result<bool, OutOfMemory> {
     let mut made = deep(alloc, 60)?;
     let how = How {
         args: &[0],
@@ -171,10 +189,13 @@ fn frames_are_given_up(rt: HostRuntime) -> Result<(), Fail> {
     };
     let done = run(&mut made, &item(alloc, 2), how);
     let world = end(made);
-    assert!(rt; done?.is_empty());
-    assert_eq!(rt; world.lines.len(), 61);
-    assert!(rt; world.lines.items().first() == Some(&Done::Begun(59)));
-    assert!(rt; world.last == Some(0));
-    assert!(rt; world.before == Some(1));
-    Ok(())
+    let is_begun = world.lines.len() == 61 && world.lines.items().first() == Some(&Done::Begun(59));
+    let are_given_up = world.last == Some(0) && world.before == Some(1);
+    Ok(done?.is_empty() && is_begun && are_given_up)
+}
+
+/// Demands go deep, and the frames that are out are given up in order of set-up.
+#[test]
+fn frames_are_given_up(rt: HostRuntime) {
+    assert!(rt; matches!(are_given_up(rt.alloc()), Ok(true)));
 }

@@ -8,8 +8,8 @@ use crate::keyed::{get, key_args, pop, setdefault};
 use crate::views::{items, keys, values};
 use call_products::arguments::{has_none, pair, sole};
 use call_products::product::{Product, plain, wrong};
-use py_kinds::builtins::builtin_name;
-use py_values::builtin::{Builtin, DictMethod};
+use py_kinds::builtins::dict_method_name;
+use py_values::builtin::DictMethod;
 use py_values::change::Change;
 use py_values::dict::Dict;
 use py_values::end::Effect;
@@ -142,7 +142,7 @@ pub fn dict_method(
 {
     match heap.get(id) {
         Some(Obj::Dict(dict)) => dict_called(alloc, heap, which, id, dict, args, named),
-        _ => wrong(alloc, builtin_name(Builtin::Dict(which)), 0),
+        _ => wrong(alloc, dict_method_name(which), 0),
     }
 }
 

@@ -6,7 +6,6 @@ use seq::OutOfMemory;
 use std::alloc::{AllocError, Global};
 use std::marker::Brand;
 use std::sync::ledger::{Blank, Ledger};
-use std::test::Fail;
 
 /// Appends the numbers from 0 on.
 fn fill<L: Ledger>(cells: &mut Cells<u32>, head: usize, count: u32, steps: &mut Steps<L>)
@@ -121,24 +120,35 @@ fn chain<L: Ledger>(
     })
 }
 
-#[test]
-fn chains_are_those_of_plain_lists(rt: HostRuntime) -> Result<(), Fail> {
-    let alloc = rt.alloc();
-    for (count, place) in [(1000, 499), (0, 0), (1, 0), (3, 0), (3, 2), (3, 3)] {
-        let mut plain = Vec::new(alloc);
-        for value in 0..count {
-            if value != place {
-                plain.push(value)?;
-            }
+/// The numbers below this one, but for one of them, and a 0 behind them.
+fn plain(alloc: Global, count: u32, place: u32) -> Result<Vec<u32>, OutOfMemory> {
+    let mut plain = Vec::new(alloc);
+    for value in 0..count {
+        if value != place {
+            plain.push(value)?;
         }
-        plain.push(0)?;
-        let seen = chain::<Brand>(alloc, Blank::new(1), count, place)?;
-        assert_eq!(rt; seen.gone, if place < count { Some(place) } else { None });
-        assert_eq!(rt;
-            seen.before,
-            if place < count { Some(place > 0) } else { None }
-        );
-        assert!(rt; seen.values.as_slice() == plain.as_slice());
     }
-    Ok(())
+    plain.push(0)?;
+    Ok(plain)
+}
+
+/// Whether a chain of so many numbers gives what a plain list gives.
+fn is_as_plain(alloc: Global, count: u32, place: u32) -> Result<bool, OutOfMemory>
+    requires few { count < 100000 }
+{
+    let plain = plain(alloc, count, place)?;
+    let seen = chain::<Brand>(alloc, Blank::new(1), count, place)?;
+    let (gone, before) = if place < count {
+        (Some(place), Some(place > 0))
+    } else {
+        (None, None)
+    };
+    Ok(seen.gone == gone && seen.before == before && seen.values.as_slice() == plain.as_slice())
+}
+
+#[test]
+fn chains_are_those_of_plain_lists(rt: HostRuntime) {
+    for (count, place) in [(1000, 499), (0, 0), (1, 0), (3, 0), (3, 2), (3, 3)] {
+        assert!(rt; matches!(is_as_plain(rt.alloc(), count, place), Ok(true)));
+    }
 }

@@ -8,7 +8,6 @@ use session_types::{DefId, Instance, Numbers, Scope};
 use std::alloc::Global;
 use std::marker::Brand;
 use std::sync::ledger::{Blank, Ledger};
-use std::test::Fail;
 
 /// A fixture to be set up; its definition is its number.
 #[derive(Clone, Copy)]
@@ -225,84 +224,111 @@ fn goes(
     Ok(seen.all_there && seen.down.is(down) && seen.left.is(left))
 }
 
-fn in_scope(scope: Scope, node: u32, bases: &'static [u64]) -> Row {
-    Row { scope, node, bases }
+const MIXED: [Row; 7] = [
+    Row {
+        scope: Scope::Session,
+        node: 0,
+        bases: &[],
+    },
+    Row {
+        scope: Scope::Module,
+        node: 2,
+        bases: &[0],
+    },
+    Row {
+        scope: Scope::Function,
+        node: 4,
+        bases: &[1, 0],
+    },
+    Row {
+        scope: Scope::Session,
+        node: 0,
+        bases: &[],
+    },
+    Row {
+        scope: Scope::Class,
+        node: 3,
+        bases: &[1, 0],
+    },
+    Row {
+        scope: Scope::Function,
+        node: 4,
+        bases: &[4, 1, 0],
+    },
+    Row {
+        scope: Scope::Module,
+        node: 2,
+        bases: &[3],
+    },
+];
+
+const MODULES: [Row; 2] = [
+    Row {
+        scope: Scope::Module,
+        node: 2,
+        bases: &[],
+    },
+    Row {
+        scope: Scope::Module,
+        node: 5,
+        bases: &[0],
+    },
+];
+
+const SESSIONS: [Row; 4] = [
+    Row {
+        scope: Scope::Session,
+        node: 0,
+        bases: &[],
+    },
+    Row {
+        scope: Scope::Session,
+        node: 0,
+        bases: &[0],
+    },
+    Row {
+        scope: Scope::Session,
+        node: 0,
+        bases: &[0, 1],
+    },
+    Row {
+        scope: Scope::Session,
+        node: 0,
+        bases: &[],
+    },
+];
+
+/// What is set up, what of it is torn down first, what is to go down, what goes down in order, and what is left.
+const GOES: [(&[Row], &[u64], Which<'static>, &[u64], &[u64]); 8] = [
+    (&MIXED, &[], Which::NotOn(&[]), &[5, 2, 4, 6, 1, 3, 0], &[]),
+    (&MIXED, &[], Which::NotOn(&[0]), &[5, 2, 4, 6, 1], &[3, 0]),
+    (
+        &MIXED,
+        &[],
+        Which::NotOn(&[0, 2]),
+        &[5, 2, 4],
+        &[6, 1, 3, 0],
+    ),
+    (&MIXED, &[], Which::Dependents(0), &[5, 2, 4, 1, 0], &[6, 3]),
+    (&MIXED, &[3], Which::Dependents(1), &[5, 2, 4, 1], &[6, 0]),
+    (&MODULES, &[], Which::NotOn(&[0, 5]), &[1, 0], &[]),
+    (&SESSIONS, &[1], Which::Dependents(0), &[2, 0], &[3]),
+    (&SESSIONS, &[0], Which::Dependents(1), &[2, 1], &[3]),
+];
+
+/// What is to go down in the first case that comes out otherwise.
+fn wrong_case(alloc: Global) -> Result<Option<&'static [u64]>, OutOfMemory> {
+    for (rows, gone, which, down, left) in &GOES {
+        if !goes(alloc, rows, gone, *which, down, left)? {
+            return Ok(Some(*down));
+        }
+    }
+    Ok(None)
 }
 
 #[test]
-fn what_goes_down_is_that_of_the_plain_list(rt: HostRuntime) -> Result<(), Fail> {
-    let alloc = rt.alloc();
-    let mixed = [
-        in_scope(Scope::Session, 0, &[]),
-        in_scope(Scope::Module, 2, &[0]),
-        in_scope(Scope::Function, 4, &[1, 0]),
-        in_scope(Scope::Session, 0, &[]),
-        in_scope(Scope::Class, 3, &[1, 0]),
-        in_scope(Scope::Function, 4, &[4, 1, 0]),
-        in_scope(Scope::Module, 2, &[3]),
-    ];
-    let all = Which::NotOn(&[]);
-    assert!(rt; goes(alloc, &mixed, &[], all, &[5, 2, 4, 6, 1, 3, 0], &[])?);
-    assert!(rt;
-        goes(
-            alloc,
-            &mixed,
-            &[],
-            Which::NotOn(&[0]),
-            &[5, 2, 4, 6, 1],
-            &[3, 0]
-        )?
-    );
-    assert!(rt;
-        goes(
-            alloc,
-            &mixed,
-            &[],
-            Which::NotOn(&[0, 2]),
-            &[5, 2, 4],
-            &[6, 1, 3, 0]
-        )?
-    );
-    assert!(rt;
-        goes(
-            alloc,
-            &mixed,
-            &[],
-            Which::Dependents(0),
-            &[5, 2, 4, 1, 0],
-            &[6, 3]
-        )?
-    );
-    assert!(rt;
-        goes(
-            alloc,
-            &mixed,
-            &[3],
-            Which::Dependents(1),
-            &[5, 2, 4, 1],
-            &[6, 0]
-        )?
-    );
-    Ok(())
-}
-
-#[test]
-fn what_goes_down_in_one_scope_is_that_of_the_plain_list(rt: HostRuntime) -> Result<(), Fail> {
-    let alloc = rt.alloc();
-    let modules = [
-        in_scope(Scope::Module, 2, &[]),
-        in_scope(Scope::Module, 5, &[0]),
-    ];
-    assert!(rt; goes(alloc, &modules, &[], Which::NotOn(&[0, 5]), &[1, 0], &[])?);
-    let sessions = [
-        in_scope(Scope::Session, 0, &[]),
-        in_scope(Scope::Session, 0, &[0]),
-        in_scope(Scope::Session, 0, &[0, 1]),
-        in_scope(Scope::Session, 0, &[]),
-    ];
-    assert!(rt; goes(alloc, &sessions, &[1], Which::Dependents(0), &[2, 0], &[3])?);
-    assert!(rt; goes(alloc, &sessions, &[0], Which::Dependents(1), &[2, 1], &[3])?);
-    Ok(())
+fn what_goes_down_is_that_of_the_plain_list(rt: HostRuntime) {
+    assert_eq!(rt; wrong_case(rt.alloc()), Ok(None));
 }
 
 /// A thousand of one scope, a hundred of which depend on the 500th.
@@ -310,26 +336,37 @@ fn thousand(alloc: Global) -> Result<Vec<Row>, OutOfMemory> {
     let mut rows = Vec::new(alloc);
     for order in 0..1000u32 {
         let bases: &'static [u64] = if order / 100 == 7 { &[499] } else { &[] };
-        rows.push(in_scope(Scope::Function, order, bases))?;
+        rows.push(Row {
+            scope: Scope::Function,
+            node: order,
+            bases,
+        })?;
     }
     Ok(rows)
 }
 
-#[test]
-fn a_long_chain_is_left_without_what_went_down(rt: HostRuntime) -> Result<(), Fail> {
-    let alloc = rt.alloc();
-    let rows = thousand(alloc)?;
-    let mut down = Vec::new(alloc);
-    let mut left = Vec::new(alloc);
+/// The 500th and those that depend on it where these are asked for, and all others where not, the latest first.
+fn thousand_of(alloc: Global, dependents: bool) -> Result<Vec<u64>, OutOfMemory> {
+    let mut numbers = Vec::new(alloc);
     for back in 0..1000u64 {
         let order = 999 - back;
-        if order / 100 == 7 || order == 499 {
-            down.push(order)?;
-        } else {
-            left.push(order)?;
+        if (order / 100 == 7 || order == 499) == dependents {
+            numbers.push(order)?;
         }
     }
-    assert_eq!(rt; down.len(), 101);
-    assert!(rt; goes(alloc, &rows, &[], Which::Dependents(499), &down, &left)?);
-    Ok(())
+    Ok(numbers)
+}
+
+/// Whether 101 of the thousand go down, and the others are left.
+fn is_long_chain_left(alloc: Global) -> Result<bool, OutOfMemory> {
+    let rows = thousand(alloc)?;
+    let down = thousand_of(alloc, true)?;
+    let left = thousand_of(alloc, false)?;
+    let goes = goes(alloc, &rows, &[], Which::Dependents(499), &down, &left)?;
+    Ok(goes && down.len() == 101)
+}
+
+#[test]
+fn a_long_chain_is_left_without_what_went_down(rt: HostRuntime) {
+    assert!(rt; matches!(is_long_chain_left(rt.alloc()), Ok(true)));
 }

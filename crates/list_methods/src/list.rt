@@ -9,9 +9,9 @@ use crate::changes::{append, clear, extend, insert, pop, reverse, without};
 use crate::search::{Search, Tally, count_equal, find_equal};
 use call_products::arguments::{has_none, pair, sole};
 use call_products::product::{Product, failed, plain, product_within, wrong};
-use py_kinds::builtins::builtin_name;
+use py_kinds::builtins::list_method_name;
 use py_operands::faults::too_deep;
-use py_values::builtin::{Builtin, ListMethod};
+use py_values::builtin::ListMethod;
 use py_values::class::ExcClass;
 use py_values::end::Effect;
 use py_values::heap::Heap;
@@ -267,6 +267,6 @@ pub fn list_method(
         Some(Obj::List(items)) => {
             list_called(alloc, heap, which, id, items.items(), args, named, budget)
         }
-        _ => wrong_within(alloc, builtin_name(Builtin::List(which)), 0, budget),
+        _ => wrong_within(alloc, list_method_name(which), 0, budget),
     }
 }

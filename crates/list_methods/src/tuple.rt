@@ -7,8 +7,8 @@ ghost use Rattle.list_methods.specs.Lists as lists;
 use crate::list::{count, index, wrong_within};
 use call_products::arguments::sole;
 use call_products::product::Product;
-use py_kinds::builtins::builtin_name;
-use py_values::builtin::{Builtin, TupleMethod};
+use py_kinds::builtins::tuple_method_name;
+use py_values::builtin::TupleMethod;
 use py_values::heap::Heap;
 use py_values::object::Obj;
 use py_values::value::{ObjId, Value};
@@ -48,6 +48,6 @@ pub fn tuple_method(
         Some(Obj::Tuple(items)) => {
             tuple_called(alloc, heap, which, items.items(), sole(args, named), budget)
         }
-        _ => wrong_within(alloc, builtin_name(Builtin::Tuple(which)), 0, budget),
+        _ => wrong_within(alloc, tuple_method_name(which), 0, budget),
     }
 }

@@ -4,7 +4,6 @@ use edge_io::{
 };
 use std::alloc::{AllocError, Global};
 use std::fmt::Write;
-use std::test::*;
 use std::{fs, io};
 
 fn files(alloc: Global, files: &[(&str, &[u8])]) -> Result<Vec<(String, Vec<u8>)>, AllocError> {
@@ -64,19 +63,16 @@ fn kept(alloc: Global, loaded: &Files) -> Result<String, AllocError> {
     Ok(told)
 }
 
-#[test]
-fn keeps_python_files_in_order(rt: HostRuntime) -> Result<(), Fail> {
-    let alloc = rt.alloc();
+const KEPT_PATHS: &str =
+    "a.b/test_d.py a/.hidden.py a/test_c.py build.py builds/a.py test_a.py test_b.py [98]";
+
+/// What is kept of the files.
+fn kept_of(alloc: Global) -> Result<String, AllocError> {
     let mut tree = SureTree::new(alloc, files(alloc, &KEPT)?);
-    let told = match load_files(alloc, &mut tree) {
-        Ok(loaded) => kept(alloc, &loaded)?,
-        Err(_) => String::new(alloc),
-    };
-    assert_eq!(rt;
-        told.as_str(),
-        "a.b/test_d.py a/.hidden.py a/test_c.py build.py builds/a.py test_a.py test_b.py [98]"
-    );
-    Ok(())
+    match load_files(alloc, &mut tree) {
+        Ok(loaded) => kept(alloc, &loaded),
+        Err(_) => String::from_str(alloc, "not loaded"),
+    }
 }
 
 fn sized(alloc: Global, path: &str, size: usize) -> Result<(String, Vec<u8>), AllocError> {
@@ -149,10 +145,21 @@ fn wrong_limit(alloc: Global) -> Result<String, AllocError> {
     Ok(String::new(alloc))
 }
 
+/// What is told of the files that are kept, or of a tree at a limit, where it isn't as wanted.
+fn wrong_tree(alloc: Global) -> Result<String, AllocError> {
+    let told = kept_of(alloc)?;
+    if told.as_str() == KEPT_PATHS {
+        return wrong_limit(alloc);
+    }
+    format!(in alloc; "kept: {told}")
+}
+
 #[test]
-fn refuses_a_tree_at_its_limits(rt: HostRuntime) -> Result<(), Fail> {
-    assert_eq!(rt; wrong_limit(rt.alloc())?.as_str(), "");
-    Ok(())
+fn keeps_python_files_in_order_and_refuses_a_tree_at_its_limits(rt: HostRuntime) {
+    match wrong_tree(rt.alloc()) {
+        Ok(told) => assert_eq!(rt; told.as_str(), ""),
+        Err(_) => assert!(rt; false, "no memory"),
+    }
 }
 
 /// Whether a tree of two files, whose call with this number fails, isn't loaded.
@@ -165,79 +172,96 @@ fn tree_fails(alloc: Global, failing: u64) -> Result<bool, AllocError> {
 #[test]
 fn fails_where_the_tree_fails(rt: HostRuntime) {
     for failing in [1u64, 2, 3] {
-        assert_eq!(rt; tree_fails(rt.alloc(), failing), Ok(true));
+        assert!(rt; matches!(tree_fails(rt.alloc(), failing), Ok(true)));
     }
 }
 
-#[test]
-fn fails_where_the_sink_fails(rt: HostRuntime) -> Result<(), Fail> {
-    let alloc = rt.alloc();
+/// Whether a sink takes ten bytes at two calls each, and fails at the third.
+fn sink_fails(alloc: Global) -> Result<bool, AllocError> {
     let mut sink = MemSink::new(alloc, 10, vec![in alloc; 3u64]?);
     let put = put_all(&mut sink, b"0123456789abcdefghijklmnopq");
-    assert_eq!(rt;
-        (put, sink.bytes(), sink.calls()),
-        (Err(SinkFail::Failed), b"0123456789abcdefghij".as_slice(), 3)
-    );
-    Ok(())
+    Ok(
+        put == Err(SinkFail::Failed)
+            && sink.bytes() == b"0123456789abcdefghij".as_slice()
+            && sink.calls() == 3,
+    )
+}
+
+#[test]
+fn fails_where_the_sink_fails(rt: HostRuntime) {
+    assert!(rt; matches!(sink_fails(rt.alloc()), Ok(true)));
 }
 
 #[test]
 fn a_sink_has_what_was_put(rt: HostRuntime) {
     let mut sink = SureSink::new(rt.alloc());
-    let (some, nothing) = (put_all(&mut sink, b"abc"), put_all(&mut sink, b""));
-    assert_eq!(rt;
-        (some, nothing, sink.bytes()),
-        (Ok(()), Ok(()), b"abc".as_slice())
+    assert!(rt;
+        put_all(&mut sink, b"abc").is_ok()
+            && put_all(&mut sink, b"").is_ok()
+            && sink.bytes() == b"abc".as_slice()
     );
 }
 
 const FOLDER: &str = "edge_io_folder";
 
-fn make_folder(rt: &HostRuntime) -> io::Result<()> {
-    fs::create_dir_all(rt, "edge_io_folder/sub")?;
-    fs::write(rt, "edge_io_folder/test_a.py", b"assert 1".as_slice())?;
-    fs::write(rt, "edge_io_folder/sub/b.txt", b"".as_slice())
+fn make_folder(rt: &HostRuntime) -> bool {
+    fs::create_dir_all(rt, "edge_io_folder/sub").is_ok()
+        && fs::write(rt, "edge_io_folder/test_a.py", b"assert 1".as_slice()).is_ok()
+        && fs::write(rt, "edge_io_folder/sub/b.txt", b"".as_slice()).is_ok()
 }
 
-fn remove_folder(rt: &HostRuntime) -> io::Result<()> {
-    fs::remove_file(rt, "edge_io_folder/test_a.py")?;
-    fs::remove_file(rt, "edge_io_folder/sub/b.txt")?;
-    fs::remove_dir(rt, "edge_io_folder/sub")?;
-    fs::remove_dir(rt, FOLDER)
+fn remove_folder(rt: &HostRuntime) -> bool {
+    fs::remove_file(rt, "edge_io_folder/test_a.py").is_ok()
+        && fs::remove_file(rt, "edge_io_folder/sub/b.txt").is_ok()
+        && fs::remove_dir(rt, "edge_io_folder/sub").is_ok()
+        && fs::remove_dir(rt, FOLDER).is_ok()
 }
 
-/// The paths of a tree in order, or that it isn't listed.
-fn listed<T: Tree>(alloc: Global, tree: &mut T) -> Result<String, AllocError> {
-    let Ok(mut listed) = tree.list() else {
-        return String::from_str(alloc, "not listed");
-    };
-    listed.sort()?;
-    let mut told = String::new(alloc);
-    for path in &listed {
-        write!(told, "{path} ")?;
+fn folder_tree(rt: &HostRuntime) -> Result<DirTree<HostRuntime>, AllocError> {
+    Ok(DirTree::new(rt.clone()?, String::from_str(rt.alloc(), FOLDER)?))
+}
+
+/// Whether the folder's two files are listed.
+fn is_listed(tree: &mut DirTree<HostRuntime>) -> bool {
+    match tree.list() {
+        Ok(mut paths) => {
+            paths.sort().is_ok()
+                && matches!(paths.as_slice(), [a, b] if a.as_str() == "sub/b.txt" && b.as_str() == "test_a.py")
+        }
+        Err(_) => false,
     }
-    Ok(told)
+}
+
+/// Whether the front of a file of the folder is read.
+fn is_front_read(tree: &mut DirTree<HostRuntime>) -> bool {
+    match tree.read("test_a.py", 6) {
+        Ok(front) => front.as_slice() == b"assert".as_slice(),
+        Err(_) => false,
+    }
+}
+
+/// Whether what the folder has is listed and read, and nothing else.
+fn is_folder_read(rt: &HostRuntime) -> Result<bool, AllocError> {
+    let mut tree = folder_tree(rt)?;
+    Ok(is_listed(&mut tree) && is_front_read(&mut tree) && tree.read("nothing.py", 6).is_err())
+}
+
+/// Whether the folder isn't listed.
+fn is_folder_gone(rt: &HostRuntime) -> Result<bool, AllocError> {
+    Ok(folder_tree(rt)?.list().is_err())
 }
 
 #[test]
-fn reads_a_folder(rt: HostRuntime) -> Result<(), Fail> {
-    let alloc = rt.alloc();
-    make_folder(&rt)?;
-    let mut tree = DirTree::new(rt.clone()?, String::from_str(alloc, FOLDER)?);
-    assert_eq!(rt; listed(alloc, &mut tree)?.as_str(), "sub/b.txt test_a.py ");
-    let front = tree.read("test_a.py", 6).map_err(|_| "not read")?;
-    assert_eq!(rt; front.as_slice(), b"assert".as_slice());
-    assert!(rt; tree.read("nothing.py", 6).is_err());
-    remove_folder(&rt)?;
-    let mut tree = DirTree::new(rt.clone()?, String::from_str(alloc, FOLDER)?);
-    assert_eq!(rt; listed(alloc, &mut tree)?.as_str(), "not listed");
-    Ok(())
+fn reads_a_folder(rt: HostRuntime) {
+    assert!(rt; make_folder(&rt));
+    assert!(rt; matches!(is_folder_read(&rt), Ok(true)));
+    assert!(rt; remove_folder(&rt));
+    assert!(rt; matches!(is_folder_gone(&rt), Ok(true)));
 }
 
 #[test]
-fn writes_to_the_standard_output(rt: HostRuntime) -> Result<(), Fail> {
+fn writes_to_the_standard_output(rt: HostRuntime) {
     let mut sink = StdSink::new(io::writer(&rt));
-    assert_eq!(rt; put_all(&mut sink, b"written\n"), Ok(()));
+    assert!(rt; put_all(&mut sink, b"written\n").is_ok());
     OpenGate.enter(0, 0);
-    Ok(())
 }

@@ -6,7 +6,7 @@ use Rattle.std.proofs.lemmas.Bool.{false≢true, true≢false, ltb-true, ltb-fal
 use Rattle.std.proofs.lemmas.Slice.Eq.{bytes_eq-Decides}
 use Rattle.py_values.specs.declared.value.Value.{Value}
 use Rattle.py_values.specs.Names.{name_eq}
-use Rattle.py_bind.specs.Binding.{Formal, Named, arguments_for, value_of, prepend_value, values_of, is_parameter, bound, IsParameter, IsWrong, TooMany, NoParameter, NoValue, TwoValues, IsBound}
+use Rattle.py_bind.specs.Binding.{Formal, Named, given_values, value_of, prepend_value, values_of, is_parameter, bound, IsParameter, IsWrong, TooMany, NoParameter, NoValue, TwoValues, IsBound}
 
 parameter_is : (params : List Formal) (name : List ℕ) → is_parameter params name ≡ true → IsParameter params name
 parameter_is [] name h = absurd (false≢true h)
@@ -40,14 +40,14 @@ get_behind (v ∷ args) at = refl
 
 -- the value at a place, and what is so where one or each has one
 abbrev value_at : List Value → List Named → ℕ → Formal → Option Value
-value_at args named at p = value_of p.1 (arguments_for p.0 (slice_get args at) named)
+value_at args named at p = value_of p.1 (given_values p.0 (slice_get args at) named)
 
 abbrev ValuesAre : List Formal → List Value → List Named → Option (List Value) → Type 0
 ValuesAre params args named None = (at : ℕ) × (p : Formal) × (slice_get params at ≡ Some p) × (value_at args named at p ≡ None)
 ValuesAre params args named (Some values) = (length values ≡ length params) × ((at : ℕ) (p : Formal) → slice_get params at ≡ Some p → slice_get values at ≡ value_at args named at p)
 
 value_behind : (args : List Value) (named : List Named) (at : ℕ) (p : Formal) → value_at (drop 1 args) named at p ≡ value_at args named (suc at) p
-value_behind args named at p = ap (λ (o : Option Value). value_of p.1 (arguments_for p.0 o named)) (get_behind args at)
+value_behind args named at p = ap (λ (o : Option Value). value_of p.1 (given_values p.0 o named)) (get_behind args at)
 
 each_more : (p : Formal) (params : List Formal) (args : List Value) (named : List Named) (v : Value) (values : List Value) → value_at args named 0 p ≡ Some v → ((at : ℕ) (q : Formal) → slice_get params at ≡ Some q → slice_get values at ≡ value_at (drop 1 args) named at q) → (at : ℕ) (q : Formal) → slice_get (p ∷ params) at ≡ Some q → slice_get (v ∷ values) at ≡ value_at args named at q
 each_more p params args named v values e each zero q h =
@@ -65,7 +65,7 @@ values_are [] args named = (refl, λ at p h. absurd (cc))
 values_are (p ∷ params) args named = values_by p params args named (value_at args named 0 p) (values_of params (drop 1 args) named) refl (values_are params (drop 1 args) named)
 
 -- why a parameter has no value
-cause : (params : List Formal) (args : List Value) (named : List Named) (at : ℕ) (p : Formal) (values : List Value) → slice_get params at ≡ Some p → arguments_for p.0 (slice_get args at) named ≡ values → value_of p.1 values ≡ None → IsWrong params args named
+cause : (params : List Formal) (args : List Value) (named : List Named) (at : ℕ) (p : Formal) (values : List Value) → slice_get params at ≡ Some p → given_values p.0 (slice_get args at) named ≡ values → value_of p.1 values ≡ None → IsWrong params args named
 cause params args named at p [] is g h = NoValue at p is g h
 cause params args named at p (v ∷ []) is g h = absurd (cc)
 cause params args named at p (v ∷ w ∷ more) is g h = TwoValues at p v w more is g
@@ -82,7 +82,7 @@ bound_by params args named true known values o k v = TooMany (ltb-true (length p
 bound_by params args named false false values o k v =
     let u = one_unknown (knows params) named k in
     NoParameter u.0 u.1 u.2 (λ h. false≢true (sym u.3 ∙ is_one params (u.1).0 h.at h.parameter h.is h.name_is))
-bound_by params args named false true None o k v = cause params args named v.0 v.1 (arguments_for (v.1).0 (slice_get args v.0) named) v.2 refl v.3
+bound_by params args named false true None o k v = cause params args named v.0 v.1 (given_values (v.1).0 (slice_get args v.0) named) v.2 refl v.3
 bound_by params args named false true (Some values) o k v = record {
   few = ltb-false (length params) (length args) o;
   known = λ at a h. parameter_is params a.0 (each_known (knows params) named k at a h);

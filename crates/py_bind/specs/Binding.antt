@@ -18,9 +18,9 @@ values_named name [] = []
 values_named name (argument ∷ named) = if name_eq name argument.0 then argument.1 ∷ values_named name named else values_named name named
 
 -- WHAT A PARAMETER IS GIVEN: the argument at its place, and each argument that has its name
-abbrev pub arguments_for : List ℕ → Option Value → List Named → List Value
-arguments_for name (Some v) named = v ∷ values_named name named
-arguments_for name None named = values_named name named
+abbrev pub given_values : List ℕ → Option Value → List Named → List Value
+given_values name (Some v) named = v ∷ values_named name named
+given_values name None named = values_named name named
 
 -- ITS VALUE: the one that it is given, or its default where it is given none; it has none where it is given two, or where it is given
 -- none and has no default
@@ -37,7 +37,7 @@ prepend_value (Some v) (Some values) = Some (v ∷ values)
 -- the values of parameters in order, where each has one
 abbrev pub values_of : List Formal → List Value → List Named → Option (List Value)
 values_of [] args named = Some []
-values_of (p ∷ params) args named = prepend_value (value_of p.1 (arguments_for p.0 (slice_get args 0) named)) (values_of params (drop 1 args) named)
+values_of (p ∷ params) args named = prepend_value (value_of p.1 (given_values p.0 (slice_get args 0) named)) (values_of params (drop 1 args) named)
 
 abbrev pub is_parameter : List Formal → List ℕ → Bool
 is_parameter params name = list_any (λ p. name_eq p.0 name) params
@@ -57,12 +57,12 @@ pub record IsParameter (params : List Formal) (name : List ℕ) : Type 0 where
 pub data IsWrong (params : List Formal) (args : List Value) (named : List Named) : Type 0 where
   TooMany : length params < length args → IsWrong params args named
   NoParameter : (at : ℕ) (argument : Named) → slice_get named at ≡ Some argument → ¬ IsParameter params argument.0 → IsWrong params args named
-  NoValue : (at : ℕ) (p : Formal) → slice_get params at ≡ Some p → arguments_for p.0 (slice_get args at) named ≡ [] → p.1 ≡ None → IsWrong params args named
-  TwoValues : (at : ℕ) (p : Formal) (v w : Value) (more : List Value) → slice_get params at ≡ Some p → arguments_for p.0 (slice_get args at) named ≡ v ∷ w ∷ more → IsWrong params args named
+  NoValue : (at : ℕ) (p : Formal) → slice_get params at ≡ Some p → given_values p.0 (slice_get args at) named ≡ [] → p.1 ≡ None → IsWrong params args named
+  TwoValues : (at : ℕ) (p : Formal) (v w : Value) (more : List Value) → slice_get params at ≡ Some p → given_values p.0 (slice_get args at) named ≡ v ∷ w ∷ more → IsWrong params args named
 
 -- ONE VALUE A PARAMETER
 pub record IsBound (params : List Formal) (args : List Value) (named : List Named) (values : List Value) : Type 0 where
   pub few : length args ≤ length params
   pub known : (at : ℕ) (argument : Named) → slice_get named at ≡ Some argument → IsParameter params argument.0
   pub count : length values ≡ length params
-  pub each : (at : ℕ) (p : Formal) → slice_get params at ≡ Some p → slice_get values at ≡ value_of p.1 (arguments_for p.0 (slice_get args at) named)
+  pub each : (at : ℕ) (p : Formal) → slice_get params at ≡ Some p → slice_get values at ≡ value_of p.1 (given_values p.0 (slice_get args at) named)

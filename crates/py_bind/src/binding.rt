@@ -2,7 +2,7 @@
 
 ghost use Rattle.std.specs.Prelude.{◌≡◌, IfOk, IsErrOf};
 ghost use Rattle.std.specs.List.{list_all};
-ghost use Rattle.py_bind.specs.Binding.{arguments_for, value_of, values_of, is_parameter, bound, IsWrong, IsBound};
+ghost use Rattle.py_bind.specs.Binding.{given_values, value_of, values_of, is_parameter, bound, IsWrong, IsBound};
 ghost use Rattle.py_bind.specs.Answers.{AnswersBound};
 
 use crate::fault::BindFault;
@@ -33,7 +33,7 @@ fn value_of(
     by_place: Option<Value>,
     named: &[(PyText, Value)],
 ) -> Option<Value>
-    ensures { result ≡ value_of param.now.1 (arguments_for param.now.0 by_place named.now) }
+    ensures { result ≡ value_of param.now.1 (given_values param.now.0 by_place named.now) }
 {
     let mut value = by_place;
     for argument in named {

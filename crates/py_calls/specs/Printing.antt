@@ -5,7 +5,6 @@ use Rattle.py_calls.specs.Texts.{text_of, append_text, wrong}
 use Rattle.py_calls.specs.declared.made.TextMade.{TextMade}
 use Rattle.py_calls.specs.declared.made.TextMade.TheVariants.{Text, Refused}
 use Rattle.py_calls.specs.declared.style.Style.{Style}
-use Rattle.py_values.specs.declared.builtin.Builtin.TheVariants as builtin
 use Rattle.py_values.specs.declared.object.Obj.{Obj}
 use Rattle.py_values.specs.declared.object.Obj.TheVariants as obj
 use Rattle.py_values.specs.declared.value.Value.{Value}
@@ -60,7 +59,7 @@ styled heap (Some s) (arg ∷ args) = styled heap (style_with heap s arg.0 arg.1
 
 abbrev pub line_by : List Obj → List Value → Option Style → TextMade
 line_by heap args (Some s) = line_of heap true s.sep s.end args
-line_by heap args None = Refused (wrong builtin.Print)
+line_by heap args None = Refused (wrong (codes "print"))
 
 -- what `print` writes
 abbrev pub print_text : List Obj → List Value → List (List ℕ × Value) → TextMade

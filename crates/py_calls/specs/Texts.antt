@@ -3,19 +3,18 @@ use Rattle.std.specs.Prelude.{ℕ, List, ◌++◌, if◌then◌else◌, codes, O
 use Rattle.py_values.specs.Limits.{most_elements}
 use Rattle.py_calls.specs.declared.made.TextMade.{TextMade}
 use Rattle.py_calls.specs.declared.made.TextMade.TheVariants.{Text, Refused}
-use Rattle.object_calls.specs.py_kinds.Builtins.{builtin_name}
 use Rattle.py_values.specs.Raises.{text_raise}
 use Rattle.object_calls.specs.py_repr.Repr.{str_of}
 use Rattle.object_calls.specs.py_repr.Symbols.{shown}
-use Rattle.py_values.specs.declared.builtin.Builtin.{Builtin}
 use Rattle.py_values.specs.declared.class.ExcClass.TheVariants.{TypeError, RecursionError, MemoryError}
 use Rattle.py_values.specs.declared.end.Raise.{Raise}
 use Rattle.py_values.specs.declared.object.Obj.{Obj}
 use Rattle.object_calls.specs.py_repr.declared.shown.Shown.{Shown}
 use Rattle.py_values.specs.declared.value.Value.{Value}
 
-abbrev pub wrong : Builtin → Raise
-wrong b = text_raise TypeError (codes "wrong arguments for " ++ builtin_name b)
+-- the arguments don't fit the call of a name
+abbrev pub wrong : List ℕ → Raise
+wrong name = text_raise TypeError (codes "wrong arguments for " ++ name)
 
 -- a text that lies too deep, or is longer than 65,536 characters, is refused
 abbrev pub text_by : Shown → TextMade

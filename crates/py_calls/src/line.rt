@@ -8,7 +8,6 @@ ghost use Rattle.py_calls.specs.declared.made.TextMade.TheVariants as text;
 use crate::made::TextMade;
 use crate::style::styled;
 use crate::text::{text_of, wrong};
-use py_values::builtin::Builtin;
 use py_values::end::Raise;
 use py_values::heap::Heap;
 use py_values::value::Value;
@@ -80,7 +79,7 @@ pub fn print_text(
     match styled(alloc, heap, named)? {
         Some(style) => line(alloc, heap, args, style.sep.chars(), style.end.chars()),
         None => {
-            let raise = wrong(alloc, Builtin::Print)?;
+            let raise = wrong(alloc, "print")?;
             Ok(TextMade::Refused(raise))
         }
     }

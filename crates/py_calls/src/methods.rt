@@ -8,8 +8,8 @@ use call_products::product::{Product, wrong};
 use dict_methods::dict::dict_method;
 use list_methods::list::{list_method, wrong_within};
 use list_methods::tuple::tuple_method;
-use py_kinds::builtins::builtin_name;
-use py_values::builtin::{Builtin, DictMethod, ListMethod, TextMethod, TupleMethod};
+use py_kinds::builtins::{dict_method_name, list_method_name, text_method_name, tuple_method_name};
+use py_values::builtin::{DictMethod, ListMethod, TextMethod, TupleMethod};
 use py_values::heap::Heap;
 use py_values::value::Value;
 use py_values::{OutOfMemory, PyText};
@@ -28,7 +28,7 @@ pub(crate) fn text_call(
 {
     match args.split_first() {
         Some((v, rest)) => text_method(alloc, heap, which, *v, rest, named),
-        None => wrong(alloc, builtin_name(Builtin::Text(which)), 0),
+        None => wrong(alloc, text_method_name(which), 0),
     }
 }
 
@@ -44,12 +44,12 @@ pub(crate) fn list_call(
     ensures { IfOk result (λ p. p ≡ within_steps budget (methods.list_call_of which heap.now args.now named.now)) }
 {
     let Some((v, rest)) = args.split_first() else {
-        return wrong_within(alloc, builtin_name(Builtin::List(which)), 0, budget);
+        return wrong_within(alloc, list_method_name(which), 0, budget);
     };
     match *v {
         Value::Ref(id) => list_method(alloc, heap, which, id, rest, named, budget),
         Value::None | Value::Bool(_) | Value::Int(_) => {
-            wrong_within(alloc, builtin_name(Builtin::List(which)), 0, budget)
+            wrong_within(alloc, list_method_name(which), 0, budget)
         }
     }
 }
@@ -66,12 +66,12 @@ pub(crate) fn tuple_call(
     ensures { IfOk result (λ p. p ≡ within_steps budget (methods.tuple_call_of which heap.now args.now named.now)) }
 {
     let Some((v, rest)) = args.split_first() else {
-        return wrong_within(alloc, builtin_name(Builtin::Tuple(which)), 0, budget);
+        return wrong_within(alloc, tuple_method_name(which), 0, budget);
     };
     match *v {
         Value::Ref(id) => tuple_method(alloc, heap, which, id, rest, named, budget),
         Value::None | Value::Bool(_) | Value::Int(_) => {
-            wrong_within(alloc, builtin_name(Builtin::Tuple(which)), 0, budget)
+            wrong_within(alloc, tuple_method_name(which), 0, budget)
         }
     }
 }
@@ -87,12 +87,10 @@ pub(crate) fn dict_call(
     ensures { IfOk result (λ p. p ≡ methods.dict_call_of which heap.now args.now named.now) }
 {
     let Some((v, rest)) = args.split_first() else {
-        return wrong(alloc, builtin_name(Builtin::Dict(which)), 0);
+        return wrong(alloc, dict_method_name(which), 0);
     };
     match *v {
         Value::Ref(id) => dict_method(alloc, heap, which, id, rest, named),
-        Value::None | Value::Bool(_) | Value::Int(_) => {
-            wrong(alloc, builtin_name(Builtin::Dict(which)), 0)
-        }
+        Value::None | Value::Bool(_) | Value::Int(_) => wrong(alloc, dict_method_name(which), 0),
     }
 }

@@ -4,11 +4,9 @@ ghost use Rattle.std.specs.Prelude.{◌≡◌, IfOk};
 ghost use Rattle.py_calls.specs.Texts as texts;
 
 use crate::made::TextMade;
-use py_kinds::builtins::builtin_name;
 use py_repr::repr::str;
 use py_repr::shown::Shown;
 use py_values::OutOfMemory;
-use py_values::builtin::Builtin;
 use py_values::class::ExcClass;
 use py_values::end::{Raise, push_ascii};
 use py_values::heap::Heap;
@@ -16,13 +14,13 @@ use py_values::limits::MOST_ELEMENTS;
 use py_values::value::Value;
 use std::alloc::Global;
 
-/// The error that a call's arguments don't fit it.
-pub fn wrong(alloc: Global, which: Builtin) -> Result<Raise, OutOfMemory>
-    ensures { IfOk result (λ r. r ≡ texts.wrong which) }
+/// The error that the arguments don't fit the call of a name.
+pub fn wrong(alloc: Global, name: &str) -> Result<Raise, OutOfMemory>
+    ensures { IfOk result (λ r. r ≡ texts.wrong name.now) }
 {
     let mut text = Vec::new(alloc);
     push_ascii(&mut text, "wrong arguments for ")?;
-    push_ascii(&mut text, builtin_name(which))?;
+    push_ascii(&mut text, name)?;
     Raise::from_chars(alloc, ExcClass::TypeError, &text)
 }
 

@@ -1,5 +1,5 @@
 -- What functions over a parser give.
-use Rattle.std.specs.Prelude.{◌≡◌, List, Option, Some, None, Result, Ok, Err}
+use Rattle.std.specs.Prelude.{◌≡◌, List, Option, Some, None, Result, Ok, Err, IfOk}
 use Rattle.py_tokens.specs.declared.token.Token.{Token}
 use Rattle.parsing.specs.Reading.{Read, Found}
 use Rattle.py_cursor.specs.declared.parser.Parser.{Parser}
@@ -21,3 +21,8 @@ Takes seen look None old p = (look ≡ None) × (p.rest.now ≡ old.rest.now)
 abbrev pub Makes : {X E : Type 0} → Result X E → List Token → Option X → Parser → Type 0
 Makes made ts (Some x) p = (made ≡ Ok x) × (p.rest.now ≡ ts)
 Makes made ts None p = p.stop ≡ stops.Memory
+
+-- where nothing was made, what was given is an error, and no token is taken
+abbrev pub Loses : {X E : Type 0} → Result X E → List Token → Option X → Parser → Type 0
+Loses made ts (Some x) p = Unit {0}
+Loses made ts None p = IfOk made (λ x. ⊥) × (p.rest.now ≡ ts)

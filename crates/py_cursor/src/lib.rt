@@ -12,7 +12,8 @@
 //! - `Parser::take`, `take_op`, `take_meant`: the first token where its kind is wanted, and the tokens behind it are left; or that
 //!   there is none, and nothing is taken. `expect`, `expect_op`: likewise, or the fault at the tokens as they are. `at`, `at_op`,
 //!   `at_any`: whether there is one. `stop_blocked`: where no level is left, tokens that could begin are too deep, and others wrong.
-//!   `stop_deep`: reading stops too deep, at these tokens. `made`: what was made, and no token is taken; or that memory ran out.
+//!   `stop_deep`: reading stops too deep, at these tokens. Neither takes a token. `made`: what was made; or, only where what is given is
+//!   an error, that memory ran out. No token is taken.
 //! - `chars_of`: the characters of a name or a text, and none of any other token.
 //!
 //! `specs/Parser.antt` has `Reads`, by which functions that are lent a parser say what they give: the value, with the tokens behind it

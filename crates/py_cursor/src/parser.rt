@@ -1,9 +1,9 @@
 ghost use Rattle.std.specs.Prelude.{◌≡◌, ◌∷◌, []};
 ghost use Rattle.grammar_code.specs.Walk.{first_of, first_meant, starts_with, wanted};
 ghost use Rattle.py_expressions.specs.token_kinds.Kinds.{kind, op_number};
-ghost use Rattle.py_cursor.specs.declared.stop.Stop.TheVariants.{Deep};
+ghost use Rattle.py_cursor.specs.declared.stop.Stop.TheVariants.{Bad, Deep};
 ghost use Rattle.py_cursor.specs.Cursor.{number_on, kinds_of, rows_of, IsBlocked};
-ghost use Rattle.py_cursor.specs.Parser.{Takes, Reads, Makes};
+ghost use Rattle.py_cursor.specs.Parser.{Takes, Reads, Makes, Loses};
 
 use crate::cursor::{Sign, begins, blocked, first_meant, first_of};
 use crate::stop::Stop;
@@ -22,7 +22,8 @@ pub struct Parser<'t> {
 impl<'t> Parser<'t> {
     /// Before the first token.
     pub fn new(alloc: Global, tokens: &'t [Token]) -> Self
-        ensures { result.rest.now ≡ tokens.now }
+        ensures left { result.rest.now ≡ tokens.now }
+        ensures stops { result.stop ≡ Bad tokens.entry }
     {
         Parser {
             alloc,
@@ -110,21 +111,24 @@ impl<'t> Parser<'t> {
 
     /// Reading stops where no level is left: the first token is too deep, where it is of a kind in the set.
     pub fn stop_blocked(&mut self, set: &[Sign])
-        ensures { IsBlocked (starts_with kind (kinds_of set.now) self.old.rest.now) self.old.rest.now self.new.stop }
+        ensures stops { IsBlocked (starts_with kind (kinds_of set.now) self.old.rest.now) self.old.rest.now self.new.stop }
+        ensures kept { self.new.rest.now ≡ self.old.rest.now }
     {
         self.stop = blocked(self.rest, set);
     }
 
     /// Reading stops at these tokens: with the first of them it would go on in more levels than are left.
     pub fn stop_deep(&mut self, tokens: &'t [Token])
-        ensures { self.new.stop ≡ Deep tokens.entry }
+        ensures stops { self.new.stop ≡ Deep tokens.entry }
+        ensures kept { self.new.rest.now ≡ self.old.rest.now }
     {
         self.stop = Stop::Deep(tokens);
     }
 
     /// What was made; where it wasn't, memory ran out.
     pub fn made<T: Drop, E: Drop>(&mut self, made: Result<T, E>) -> Option<T>
-        ensures { Makes made self.old.rest.now result self.new }
+        ensures makes { Makes made self.old.rest.now result self.new }
+        ensures failed { Loses made self.old.rest.now result self.new }
     {
         match made {
             Ok(made) => Some(made),

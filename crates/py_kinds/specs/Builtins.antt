@@ -1,13 +1,8 @@
 -- The tables of built-in names, and what follows from them.
 use Rattle.std.specs.Prelude.{ℕ, suc, Bool, true, false, List, [], ◌∷◌, ◌++◌, map, length, if◌then◌else◌, Option, Some, None, ◌+◌, option_map, codes}
+use Rattle.std.specs.Borrow.{Bor}
 use Rattle.py_values.specs.declared.builtin.Builtin.{Builtin}
 use Rattle.py_values.specs.declared.builtin.Builtin.TheVariants as builtin
-use Rattle.py_values.specs.declared.builtin.SequenceCall.{SequenceCall}
-use Rattle.py_values.specs.declared.builtin.SequenceCall.TheVariants as sequence
-use Rattle.py_values.specs.declared.builtin.NumberCall.{NumberCall}
-use Rattle.py_values.specs.declared.builtin.NumberCall.TheVariants as number
-use Rattle.py_values.specs.declared.builtin.ObjectCall.{ObjectCall}
-use Rattle.py_values.specs.declared.builtin.ObjectCall.TheVariants as object
 use Rattle.py_values.specs.declared.builtin.TextMethod.{TextMethod}
 use Rattle.py_values.specs.declared.builtin.TextMethod.TheVariants as text
 use Rattle.py_values.specs.declared.builtin.ListMethod.{ListMethod}
@@ -29,40 +24,10 @@ use Rattle.py_values.specs.declared.value.Value.{Value}
 use Rattle.py_values.specs.declared.value.Value.TheVariants.{Ref}
 use Rattle.py_values.specs.Ends.{id_at}
 use Rattle.py_values.specs.Names.{name_eq, bind_name}
-use Rattle.py_kinds.specs.Classes.{exc_base, exc_eq}
+use Rattle.py_kinds.specs.Classes.{exc_base, exc_eq, builtin_eq}
 use Rattle.py_kinds.specs.Kinds.{class_name}
 
--- THE NAMES of built-in functions, of methods of built-in kinds, and of the functions of pytest
-abbrev pub sequence_call_name : SequenceCall → List ℕ
-sequence_call_name sequence.All = codes "all"
-sequence_call_name sequence.Any = codes "any"
-sequence_call_name sequence.Dict = codes "dict"
-sequence_call_name sequence.Enumerate = codes "enumerate"
-sequence_call_name sequence.List = codes "list"
-sequence_call_name sequence.Range = codes "range"
-sequence_call_name sequence.Reversed = codes "reversed"
-sequence_call_name sequence.Sorted = codes "sorted"
-sequence_call_name sequence.Tuple = codes "tuple"
-sequence_call_name sequence.Zip = codes "zip"
-
-abbrev pub number_call_name : NumberCall → List ℕ
-number_call_name number.Abs = codes "abs"
-number_call_name number.Bool = codes "bool"
-number_call_name number.Chr = codes "chr"
-number_call_name number.DivMod = codes "divmod"
-number_call_name number.Int = codes "int"
-number_call_name number.Max = codes "max"
-number_call_name number.Min = codes "min"
-number_call_name number.Ord = codes "ord"
-number_call_name number.Sum = codes "sum"
-
-abbrev pub object_call_name : ObjectCall → List ℕ
-object_call_name object.Callable = codes "callable"
-object_call_name object.GetAttr = codes "getattr"
-object_call_name object.HasAttr = codes "hasattr"
-object_call_name object.IsInstance = codes "isinstance"
-object_call_name object.Repr = codes "repr"
-
+-- THE NAMES of methods of built-in kinds, and of the functions of pytest
 abbrev pub text_method_name : TextMethod → List ℕ
 text_method_name text.Count = codes "count"
 text_method_name text.EndsWith = codes "endswith"
@@ -112,27 +77,45 @@ pytest_call_name pytest.Param = codes "param"
 pytest_call_name pytest.Raises = codes "raises"
 pytest_call_name pytest.Skip = codes "skip"
 
-abbrev pub builtin_name : Builtin → List ℕ
-builtin_name builtin.Print = codes "print"
-builtin_name builtin.Len = codes "len"
-builtin_name builtin.Str = codes "str"
-builtin_name (builtin.Sequence c) = sequence_call_name c
-builtin_name (builtin.Number c) = number_call_name c
-builtin_name (builtin.Object c) = object_call_name c
-builtin_name (builtin.Text m) = text_method_name m
-builtin_name (builtin.List m) = list_method_name m
-builtin_name (builtin.Tuple m) = tuple_method_name m
-builtin_name (builtin.Dict m) = dict_method_name m
-builtin_name (builtin.Pytest c) = pytest_call_name c
-builtin_name builtin.AddFinalizer = codes "addfinalizer"
-
--- what a name stands for, and whether it is a class
+-- a name, what it stands for, and whether it is a class
 abbrev pub BuiltinEntry : Type 0
-BuiltinEntry = Builtin × Bool
+BuiltinEntry = List ℕ × Builtin × Bool
+
+-- a name that is lent
+abbrev pub lent_name : Bor (List ℕ) → List ℕ
+lent_name name = name.now
+
+-- a row of the table, whose name is lent
+abbrev pub entry_of : Bor (List ℕ) × Builtin × Bool → BuiltinEntry
+entry_of r = (lent_name r.0, r.1, r.2)
+
+-- a row of the constant table
+abbrev pub constant_entry : record { now : List ℕ } × Builtin × Bool → BuiltinEntry
+constant_entry r = (r.0.now, r.1, r.2)
 
 -- THE TABLE of built-in functions and kinds
 unfoldable pub rows : List BuiltinEntry
-rows = BUILTINS
+rows = map constant_entry BUILTINS
+
+-- the name of the first row that stands for a built-in function
+abbrev pub name_in : Builtin → List BuiltinEntry → Option (List ℕ)
+name_in b [] = None
+name_in b (r ∷ rs) = if builtin_eq r.1 b then Some r.0 else name_in b rs
+
+-- THE NAMES of built-in functions, which their rows have, of methods, and of the functions of pytest
+abbrev pub builtin_name : Builtin → Option (List ℕ)
+builtin_name builtin.Print = name_in builtin.Print rows
+builtin_name builtin.Len = name_in builtin.Len rows
+builtin_name builtin.Str = name_in builtin.Str rows
+builtin_name (builtin.Sequence c) = name_in (builtin.Sequence c) rows
+builtin_name (builtin.Number c) = name_in (builtin.Number c) rows
+builtin_name (builtin.Object c) = name_in (builtin.Object c) rows
+builtin_name (builtin.Text m) = Some (text_method_name m)
+builtin_name (builtin.List m) = Some (list_method_name m)
+builtin_name (builtin.Tuple m) = Some (tuple_method_name m)
+builtin_name (builtin.Dict m) = Some (dict_method_name m)
+builtin_name (builtin.Pytest c) = Some (pytest_call_name c)
+builtin_name builtin.AddFinalizer = Some (codes "addfinalizer")
 
 -- THE TABLE of the classes of exceptions that are bound to names
 unfoldable pub classes : List ExcClass
@@ -158,14 +141,19 @@ request_methods = REQUEST_METHODS
 unfoldable pub pytest_names : List Builtin
 pytest_names = PYTEST_NAMES
 
+-- whether a name is one that may be missing
+abbrev pub is_named : List ℕ → Option (List ℕ) → Bool
+is_named name (Some own) = name_eq name own
+is_named name None = false
+
 -- the one of a table that has a name
 abbrev pub method_in : List ℕ → List Builtin → Option Builtin
 method_in name [] = None
-method_in name (b ∷ bs) = if name_eq name (builtin_name b) then Some b else method_in name bs
+method_in name (b ∷ bs) = if is_named name (builtin_name b) then Some b else method_in name bs
 
 abbrev pub names_from : ℕ → List BuiltinEntry → List (List ℕ × Value)
 names_from n [] = []
-names_from n (r ∷ rs) = (builtin_name r.0, Ref (id_at n)) ∷ names_from (suc n) rs
+names_from n (r ∷ rs) = (r.0, Ref (id_at n)) ∷ names_from (suc n) rs
 
 abbrev pub index_of : ExcClass → List ExcClass → ℕ
 index_of c [] = 0
@@ -190,11 +178,11 @@ class_object name form base = obj.Class (record { path = []; name = name; line =
 abbrev pub function_object : Builtin → Obj
 function_object b = obj.Builtin (record { which = b; receiver = None })
 
-abbrev pub object_by : Builtin → Bool → Obj
-object_by b class = if class then class_object (builtin_name b) (Kind b) None else function_object b
+abbrev pub object_by : List ℕ → Builtin → Bool → Obj
+object_by name b class = if class then class_object name (Kind b) None else function_object b
 
 abbrev pub row_object : BuiltinEntry → Obj
-row_object r = object_by r.0 r.1
+row_object r = object_by r.0 r.1 r.2
 
 -- a class of exceptions, with the object of its base
 abbrev pub exception_class : ExcClass → Obj
@@ -210,10 +198,15 @@ mark_place = pytest_place + length pytest_names
 abbrev pub pytest_module : ObjId
 pytest_module = id_at (suc (suc mark_place))
 
+-- a name that may be missing, bound to a value where there is one
+abbrev pub bind_named : Option (List ℕ) → Value → List (List ℕ × Value) → List (List ℕ × Value)
+bind_named (Some name) v names = bind_name name v names
+bind_named None v names = names
+
 -- names bound to the objects of functions, the first of which stands at a place
 abbrev pub bound_functions : ℕ → List Builtin → List (List ℕ × Value) → List (List ℕ × Value)
 bound_functions at [] names = names
-bound_functions at (b ∷ bs) names = bound_functions (suc at) bs (bind_name (builtin_name b) (Ref (id_at at)) names)
+bound_functions at (b ∷ bs) names = bound_functions (suc at) bs (bind_named (builtin_name b) (Ref (id_at at)) names)
 
 -- THE NAMES OF THE MODULE `pytest` (pytest's reference)
 abbrev pub module_names : List (List ℕ × Value)

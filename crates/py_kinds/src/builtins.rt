@@ -3,15 +3,17 @@
 ghost use Rattle.std.specs.Prelude.{◌≡◌, ◌++◌, ◌≤◌, length, map, option_map, IfOk, OnOk};
 ghost use Rattle.py_kinds.specs.Builtins as builtins;
 ghost use Rattle.py_kinds.specs.Classes.{exc_base as exc_base_of};
+ghost use Rattle.py_values.specs.Ends.{id_at};
 ghost use Rattle.py_values.specs.Names.{find_name, name_eq};
+ghost use Rattle.py_values.specs.declared.value.Value.TheVariants.{Ref};
 
 use crate::classes::exc_base;
 use crate::kinds::class_name;
 use py_text::{OutOfMemory, PyText};
 use py_values::builtin::{
     BUILTINS, Builtin, BuiltinRow, DICT_METHODS, DictMethod, EXCEPTIONS, LIST_METHODS, ListMethod,
-    NumberCall, ObjectCall, PYTEST_NAMES, PytestCall, REQUEST_METHODS, SequenceCall, TEXT_METHODS,
-    TUPLE_METHODS, TextMethod, TupleMethod,
+    PYTEST_NAMES, PytestCall, REQUEST_METHODS, TEXT_METHODS, TUPLE_METHODS, TextMethod,
+    TupleMethod,
 };
 use py_values::class::{ClassForm, ExcClass};
 use py_values::end::push_ascii;
@@ -22,56 +24,8 @@ use py_values::rows::Values;
 use py_values::value::{ObjId, Value};
 use std::alloc::Global;
 
-/// The name of a call that makes sequences, or asks all elements.
-fn sequence_call_name(which: SequenceCall) -> &'static str
-    ensures { result.now ≡ builtins.sequence_call_name which }
-{
-    match which {
-        SequenceCall::All => "all",
-        SequenceCall::Any => "any",
-        SequenceCall::Dict => "dict",
-        SequenceCall::Enumerate => "enumerate",
-        SequenceCall::List => "list",
-        SequenceCall::Range => "range",
-        SequenceCall::Reversed => "reversed",
-        SequenceCall::Sorted => "sorted",
-        SequenceCall::Tuple => "tuple",
-        SequenceCall::Zip => "zip",
-    }
-}
-
-/// The name of a call on numbers.
-fn number_call_name(which: NumberCall) -> &'static str
-    ensures { result.now ≡ builtins.number_call_name which }
-{
-    match which {
-        NumberCall::Abs => "abs",
-        NumberCall::Bool => "bool",
-        NumberCall::Chr => "chr",
-        NumberCall::DivMod => "divmod",
-        NumberCall::Int => "int",
-        NumberCall::Max => "max",
-        NumberCall::Min => "min",
-        NumberCall::Ord => "ord",
-        NumberCall::Sum => "sum",
-    }
-}
-
-/// The name of a call that asks of any object.
-fn object_call_name(which: ObjectCall) -> &'static str
-    ensures { result.now ≡ builtins.object_call_name which }
-{
-    match which {
-        ObjectCall::Callable => "callable",
-        ObjectCall::GetAttr => "getattr",
-        ObjectCall::HasAttr => "hasattr",
-        ObjectCall::IsInstance => "isinstance",
-        ObjectCall::Repr => "repr",
-    }
-}
-
 /// The name of a method of texts.
-fn text_method_name(which: TextMethod) -> &'static str
+pub fn text_method_name(which: TextMethod) -> &'static str
     ensures { result.now ≡ builtins.text_method_name which }
 {
     match which {
@@ -90,7 +44,7 @@ fn text_method_name(which: TextMethod) -> &'static str
 }
 
 /// The name of a method of lists.
-fn list_method_name(which: ListMethod) -> &'static str
+pub fn list_method_name(which: ListMethod) -> &'static str
     ensures { result.now ≡ builtins.list_method_name which }
 {
     match which {
@@ -109,7 +63,7 @@ fn list_method_name(which: ListMethod) -> &'static str
 }
 
 /// The name of a method of tuples.
-fn tuple_method_name(which: TupleMethod) -> &'static str
+pub fn tuple_method_name(which: TupleMethod) -> &'static str
     ensures { result.now ≡ builtins.tuple_method_name which }
 {
     match which {
@@ -119,7 +73,7 @@ fn tuple_method_name(which: TupleMethod) -> &'static str
 }
 
 /// The name of a method of dicts.
-fn dict_method_name(which: DictMethod) -> &'static str
+pub fn dict_method_name(which: DictMethod) -> &'static str
     ensures { result.now ≡ builtins.dict_method_name which }
 {
     match which {
@@ -136,7 +90,7 @@ fn dict_method_name(which: DictMethod) -> &'static str
 }
 
 /// The name of a function of `pytest`.
-fn pytest_call_name(which: PytestCall) -> &'static str
+pub fn pytest_call_name(which: PytestCall) -> &'static str
     ensures { result.now ≡ builtins.pytest_call_name which }
 {
     match which {
@@ -149,23 +103,43 @@ fn pytest_call_name(which: PytestCall) -> &'static str
     }
 }
 
+/// The name of the first row of a table that stands for a built-in function.
+fn name_in(which: Builtin, table: &[BuiltinRow]) -> Option<&'static str>
+    ensures { option_map builtins.lent_name result ≡ builtins.name_in which (map builtins.entry_of table.now) }
+{
+    for row in table {
+        if row.1 == which {
+            return Some(row.0);
+        }
+    }
+    None
+}
+
+/// The name of a built-in function by its row.
+#[tactic(auto, unfolding(crate::specs::Builtins::rows))]
+fn row_name(which: Builtin) -> Option<&'static str>
+    ensures { option_map builtins.lent_name result ≡ builtins.name_in which builtins.rows }
+{
+    name_in(which, &BUILTINS)
+}
+
 /// The name of a built-in function, of a method of a built-in kind, or of a function of `pytest`.
-pub fn builtin_name(which: Builtin) -> &'static str
-    ensures { result.now ≡ builtins.builtin_name which }
+pub fn builtin_name(which: Builtin) -> Option<&'static str>
+    ensures { option_map builtins.lent_name result ≡ builtins.builtin_name which }
 {
     match which {
-        Builtin::Print => "print",
-        Builtin::Len => "len",
-        Builtin::Str => "str",
-        Builtin::Sequence(call) => sequence_call_name(call),
-        Builtin::Number(call) => number_call_name(call),
-        Builtin::Object(call) => object_call_name(call),
-        Builtin::Text(method) => text_method_name(method),
-        Builtin::List(method) => list_method_name(method),
-        Builtin::Tuple(method) => tuple_method_name(method),
-        Builtin::Dict(method) => dict_method_name(method),
-        Builtin::Pytest(call) => pytest_call_name(call),
-        Builtin::AddFinalizer => "addfinalizer",
+        Builtin::Print
+        | Builtin::Len
+        | Builtin::Str
+        | Builtin::Sequence(_)
+        | Builtin::Number(_)
+        | Builtin::Object(_) => row_name(which),
+        Builtin::Text(method) => Some(text_method_name(method)),
+        Builtin::List(method) => Some(list_method_name(method)),
+        Builtin::Tuple(method) => Some(tuple_method_name(method)),
+        Builtin::Dict(method) => Some(dict_method_name(method)),
+        Builtin::Pytest(call) => Some(pytest_call_name(call)),
+        Builtin::AddFinalizer => Some("addfinalizer"),
     }
 }
 
@@ -186,10 +160,10 @@ fn is_text(name: &[char], text: &str) -> bool
 
 /// The value of a name of a table of built-in functions and kinds, whose objects stand from the start.
 fn row_in(name: &[char], table: &[BuiltinRow]) -> Option<Value>
-    ensures { result ≡ find_name name.now (builtins.names_from 0 table.now) }
+    ensures { result ≡ find_name name.now (builtins.names_from 0 (map builtins.entry_of table.now)) }
 {
     for at in 0..table.len() {
-        if is_text(name, builtin_name(table[at].0)) {
+        if is_text(name, table[at].0) {
             return Some(Value::Ref(ObjId { at }));
         }
     }
@@ -204,12 +178,22 @@ fn row_value(name: &[char]) -> Option<Value>
     row_in(name, &BUILTINS)
 }
 
+/// Whether a name is that of a built-in function or method.
+fn is_named(name: &[char], which: Builtin) -> bool
+    ensures { result ≡ builtins.is_named name.now (builtins.builtin_name which) }
+{
+    match builtin_name(which) {
+        Some(own) => is_text(name, own),
+        None => false,
+    }
+}
+
 /// The one of a table that has a name.
 fn method_in(name: &[char], table: &[Builtin]) -> Option<Builtin>
     ensures { result ≡ builtins.method_in name.now table.now }
 {
     for which in table {
-        if is_text(name, builtin_name(*which)) {
+        if is_named(name, *which) {
             return Some(*which);
         }
     }
@@ -331,21 +315,21 @@ fn function_object(which: Builtin) -> Obj
     })
 }
 
-fn row_object(alloc: Global, which: Builtin, class: bool) -> Result<Obj, OutOfMemory>
-    ensures { IfOk result (λ o. o ≡ builtins.object_by which class) }
+fn row_object(alloc: Global, name: &str, which: Builtin, class: bool) -> Result<Obj, OutOfMemory>
+    ensures { IfOk result (λ o. o ≡ builtins.object_by name.now which class) }
 {
     if class {
-        return class_object(alloc, builtin_name(which), ClassForm::Kind(which), None);
+        return class_object(alloc, name, ClassForm::Kind(which), None);
     }
     Ok(function_object(which))
 }
 
 /// Puts the objects of a table of built-in functions and kinds behind others.
 fn add_rows(alloc: Global, heap: &mut Heap, table: &[BuiltinRow]) -> Result<(), OutOfMemory>
-    ensures { OnOk result (heap.new ≡ heap.old ++ map builtins.row_object table.now) }
+    ensures { OnOk result (heap.new ≡ heap.old ++ map builtins.row_object (map builtins.entry_of table.now)) }
 {
     for row in table {
-        let object = row_object(alloc, row.0, row.1)?;
+        let object = row_object(alloc, row.0, row.1, row.2)?;
         heap.add(object)?;
     }
     Ok(())
@@ -402,6 +386,22 @@ fn ascii_name(alloc: Global, text: &str) -> Result<Name, OutOfMemory>
     Name::from_chars(alloc, &chars)
 }
 
+/// Binds the name of a function to its object.
+fn bind_function(
+    alloc: Global,
+    names: &mut Names,
+    which: Builtin,
+    at: usize,
+) -> Result<(), OutOfMemory>
+    ensures { OnOk result (names.new ≡ builtins.bind_named (builtins.builtin_name which) (Ref (id_at at)) names.old) }
+{
+    if let Some(text) = builtin_name(which) {
+        let name = ascii_name(alloc, text)?;
+        names.bind(name, Value::Ref(ObjId { at }))?;
+    }
+    Ok(())
+}
+
 /// Binds names to the objects of functions, the first of which stands at a place.
 fn bind_functions(
     alloc: Global,
@@ -415,8 +415,7 @@ fn bind_functions(
         let Some(at) = from.checked_add(i) else {
             return Err(OutOfMemory);
         };
-        let name = ascii_name(alloc, builtin_name(table[i]))?;
-        names.bind(name, Value::Ref(ObjId { at }))?;
+        bind_function(alloc, names, table[i], at)?;
     }
     Ok(())
 }

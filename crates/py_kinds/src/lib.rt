@@ -10,7 +10,8 @@
 //! - `truth`, `kind_name`, `length_of`, `is_a`, `root_of`, `stands_on`, `is_exc_class`, `are_exc_classes` and `key` (with its steps, and why a value
 //!   is no key) equal the definitions of the same names.
 //! - `first_heap`, `builtin_value`, `builtin_name`, `pytest_module` and the methods by their names (`text_method_named` and its kin) follow from the
-//!   tables of built-in functions, of methods, of pytest's functions and of classes of exceptions.
+//!   tables of built-in functions, of methods, of pytest's functions and of classes of exceptions. A built-in function's name is that of its row, and
+//!   each of them has a row (`proofs/Named.antt`, by cases).
 //!
 //! # What tests alone show
 //!

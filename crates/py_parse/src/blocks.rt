@@ -1,5 +1,4 @@
-ghost use Rattle.std.specs.Prelude.{◌≡◌, ◌≤◌, ◌<◌, nat_le};
-ghost use Rattle.py_source.specs.Limits.{most_levels};
+ghost use Rattle.std.specs.Prelude.{◌≡◌, ◌<◌, nat_le};
 ghost use Rattle.py_tree.specs.Trees.{tree, trees, some_tree, Empty};
 ghost use Rattle.py_tree.specs.Statements.{statement, block, branches, handlers};
 ghost use Rattle.py_cursor.specs.Parser.{Reads};
@@ -73,7 +72,6 @@ const BEGINS_STATEMENT: [Sign; 32] = [
 #[tactic(auto, unfolding(statement_readers::specs::Words::suite))]
 #[cycle(block)]
 fn suite(p: &mut Parser<'_>, levels: u32) -> Option<Vec<Stmt>>
-    requires few { levels ≤ most_levels }
     requires some { 0 < levels }
     ensures { Reads (λ x. block x.items) result p.new (suite (block_at levels) p.old.rest.now) }
 {
@@ -87,7 +85,6 @@ fn suite(p: &mut Parser<'_>, levels: u32) -> Option<Vec<Stmt>>
 #[tactic(auto, unfolding(statement_readers::specs::Words::suite_behind))]
 #[cycle(block)]
 fn suite_behind(p: &mut Parser<'_>, levels: u32, word: Op) -> Option<Vec<Stmt>>
-    requires few { levels ≤ most_levels }
     requires some { 0 < levels }
     ensures { Reads (λ x. block x.items) result p.new (suite_behind (block_at levels) (op_number word) p.old.rest.now) }
 {
@@ -101,7 +98,6 @@ fn suite_behind(p: &mut Parser<'_>, levels: u32, word: Op) -> Option<Vec<Stmt>>
 #[tactic(auto, unfolding(statement_readers::specs::Words::arm))]
 #[cycle(block)]
 fn arm(p: &mut Parser<'_>, levels: u32) -> Option<(Rc<Expr>, Vec<Stmt>)>
-    requires few { levels ≤ most_levels }
     requires some { 0 < levels }
     ensures { Reads (λ x. (tree x.0.value, block x.1.items)) result p.new (arm (block_at levels) p.old.rest.now) }
 {
@@ -118,7 +114,6 @@ fn arm(p: &mut Parser<'_>, levels: u32) -> Option<(Rc<Expr>, Vec<Stmt>)>
 #[tactic(auto, using(statement_readers::proofs::Suites::elif_rules))]
 #[cycle(block)]
 fn further_branches(p: &mut Parser<'_>, levels: u32, first: Vec<Branch>) -> Option<Vec<Branch>>
-    requires few { levels ≤ most_levels }
     requires some { 0 < levels }
     ensures { Reads (λ x. branches x.items) result p.new (elifs_on (block_at levels) (branches first.items, p.old.rest.now)) }
 {
@@ -139,7 +134,6 @@ fn further_branches(p: &mut Parser<'_>, levels: u32, first: Vec<Branch>) -> Opti
 #[tactic(auto, unfolding(statement_readers::specs::Words::if_behind))]
 #[cycle(block)]
 fn choosing(p: &mut Parser<'_>, levels: u32, at: Pos) -> Option<Stmt>
-    requires few { levels ≤ most_levels }
     requires some { 0 < levels }
     ensures { Reads (λ x. statement x) result p.new (if_behind (block_at levels) at p.old.rest.now) }
 {
@@ -163,7 +157,6 @@ fn choosing(p: &mut Parser<'_>, levels: u32, at: Pos) -> Option<Stmt>
 #[tactic(auto, unfolding(statement_readers::specs::Words::while_behind))]
 #[cycle(block)]
 fn looping(p: &mut Parser<'_>, levels: u32, at: Pos) -> Option<Stmt>
-    requires few { levels ≤ most_levels }
     requires some { 0 < levels }
     ensures { Reads (λ x. statement x) result p.new (while_behind (block_at levels) at p.old.rest.now) }
 {
@@ -177,7 +170,6 @@ fn looping(p: &mut Parser<'_>, levels: u32, at: Pos) -> Option<Stmt>
 #[tactic(auto, unfolding(statement_readers::specs::Words::for_behind))]
 #[cycle(block)]
 fn running(p: &mut Parser<'_>, levels: u32, at: Pos) -> Option<Stmt>
-    requires few { levels ≤ most_levels }
     requires some { 0 < levels }
     ensures { Reads (λ x. statement x) result p.new (for_behind (block_at levels) at p.old.rest.now) }
 {
@@ -200,7 +192,6 @@ fn running(p: &mut Parser<'_>, levels: u32, at: Pos) -> Option<Stmt>
 #[tactic(auto, unfolding(statement_readers::specs::Words::with_behind))]
 #[cycle(block)]
 fn entering(p: &mut Parser<'_>, levels: u32, at: Pos) -> Option<Stmt>
-    requires few { levels ≤ most_levels }
     requires some { 0 < levels }
     ensures { Reads (λ x. statement x) result p.new (with_behind (block_at levels) at p.old.rest.now) }
 {
@@ -220,7 +211,6 @@ fn entering(p: &mut Parser<'_>, levels: u32, at: Pos) -> Option<Stmt>
 #[tactic(auto, unfolding(statement_readers::specs::Words::handler))]
 #[cycle(block)]
 fn handler(p: &mut Parser<'_>, levels: u32, before: Vec<Handler>, word: Pos) -> Option<Vec<Handler>>
-    requires few { levels ≤ most_levels }
     requires some { 0 < levels }
     ensures { Reads (λ x. handlers x.items) result p.new (handler (block_at levels) (handlers before.items) word p.old.rest.now) }
 {
@@ -237,7 +227,6 @@ fn handler(p: &mut Parser<'_>, levels: u32, before: Vec<Handler>, word: Pos) -> 
 #[tactic(auto, using(statement_readers::proofs::Suites::handler_rules))]
 #[cycle(block)]
 fn further_handlers(p: &mut Parser<'_>, levels: u32, first: Vec<Handler>) -> Option<Vec<Handler>>
-    requires few { levels ≤ most_levels }
     requires some { 0 < levels }
     ensures { Reads (λ x. handlers x.items) result p.new (handlers_on (block_at levels) (handlers first.items, p.old.rest.now)) }
 {
@@ -255,7 +244,6 @@ fn further_handlers(p: &mut Parser<'_>, levels: u32, first: Vec<Handler>) -> Opt
 #[tactic(auto, unfolding(statement_readers::specs::Words::handled))]
 #[cycle(block)]
 fn handling(p: &mut Parser<'_>, levels: u32, at: Pos, body: Vec<Stmt>, word: Pos) -> Option<Stmt>
-    requires few { levels ≤ most_levels }
     requires some { 0 < levels }
     ensures { Reads (λ x. statement x) result p.new (handled (block_at levels) at (block body.items) word p.old.rest.now) }
 {
@@ -279,7 +267,6 @@ fn handling(p: &mut Parser<'_>, levels: u32, at: Pos, body: Vec<Stmt>, word: Pos
 #[tactic(auto, unfolding(statement_readers::specs::Words::try_behind))]
 #[cycle(block)]
 fn trying(p: &mut Parser<'_>, levels: u32, at: Pos) -> Option<Stmt>
-    requires few { levels ≤ most_levels }
     requires some { 0 < levels }
     ensures { Reads (λ x. statement x) result p.new (try_behind (block_at levels) at p.old.rest.now) }
 {
@@ -309,7 +296,6 @@ fn defining(
     decorators: Vec<Rc<Expr>>,
     word: Pos,
 ) -> Option<Stmt>
-    requires few { levels ≤ most_levels }
     requires some { 0 < levels }
     ensures { Reads (λ x. statement x) result p.new (def_behind (block_at levels) at (trees decorators.items) word p.old.rest.now) }
 {
@@ -341,7 +327,6 @@ fn classing(
     decorators: Vec<Rc<Expr>>,
     word: Pos,
 ) -> Option<Stmt>
-    requires few { levels ≤ most_levels }
     requires some { 0 < levels }
     ensures { Reads (λ x. statement x) result p.new (class_behind (block_at levels) at (trees decorators.items) word p.old.rest.now) }
 {
@@ -361,7 +346,6 @@ fn classing(
 #[tactic(auto, unfolding(statement_readers::specs::Words::decorated_behind))]
 #[cycle(block)]
 fn decorated(p: &mut Parser<'_>, levels: u32, at: Pos) -> Option<Stmt>
-    requires few { levels ≤ most_levels }
     requires some { 0 < levels }
     ensures { Reads (λ x. statement x) result p.new (decorated_behind (block_at levels) at p.old.rest.now) }
 {
@@ -381,7 +365,6 @@ fn decorated(p: &mut Parser<'_>, levels: u32, at: Pos) -> Option<Stmt>
 #[tactic(auto, unfolding(statement_readers::specs::Words::compound))]
 #[cycle(block)]
 fn compound(p: &mut Parser<'_>, levels: u32) -> Option<Stmt>
-    requires few { levels ≤ most_levels }
     requires some { 0 < levels }
     ensures { Reads (λ x. statement x) result p.new (compound (block_at levels) p.old.rest.now) }
 {
@@ -418,7 +401,6 @@ fn compound(p: &mut Parser<'_>, levels: u32) -> Option<Stmt>
 #[tactic(auto, using(statement_readers::proofs::Suites::left_rules), unfolding(statement_readers::specs::Words::stmt))]
 #[cycle(block)]
 fn statement(p: &mut Parser<'_>, levels: u32, before: Vec<Stmt>) -> Option<Vec<Stmt>>
-    requires { levels ≤ most_levels }
     ensures { Reads (λ x. block x.items) result p.new (stmt (block_at levels) (nat_le 1 levels) (block before.items) p.old.rest.now) }
 {
     if !p.at_any(&BEGINS_COMPOUND) {
@@ -438,7 +420,6 @@ fn statement(p: &mut Parser<'_>, levels: u32, before: Vec<Stmt>) -> Option<Vec<S
 #[tactic(auto, using(statement_readers::proofs::Suites::stmt_rules))]
 #[cycle(block)]
 fn further_statements(p: &mut Parser<'_>, levels: u32, first: Vec<Stmt>) -> Option<Vec<Stmt>>
-    requires { levels ≤ most_levels }
     ensures { Reads (λ x. block x.items) result p.new (stmts_on (block_at levels) (nat_le 1 levels) (block first.items, p.old.rest.now)) }
 {
     let mut all = first;
@@ -455,7 +436,6 @@ fn further_statements(p: &mut Parser<'_>, levels: u32, first: Vec<Stmt>) -> Opti
 #[tactic(auto, unfolding(statement_readers::specs::Words::stmts))]
 #[cycle(block)]
 fn statements(p: &mut Parser<'_>, levels: u32) -> Option<Vec<Stmt>>
-    requires { levels ≤ most_levels }
     ensures { Reads (λ x. block x.items) result p.new (stmts (block_at levels) (nat_le 1 levels) p.old.rest.now) }
 {
     let none = Vec::new(p.alloc);
@@ -469,7 +449,6 @@ fn statements(p: &mut Parser<'_>, levels: u32) -> Option<Vec<Stmt>>
 #[tactic(auto, using(statement_readers::proofs::Suites::block_rules))]
 #[cycle(block)]
 fn block(p: &mut Parser<'_>, levels: u32) -> Option<Vec<Stmt>>
-    requires few { levels ≤ most_levels }
     requires some { 0 < levels }
     ensures { Reads (λ x. block x.items) result p.new (block_at levels p.old.rest.now) }
 {

@@ -58,8 +58,16 @@ object_end = codes " object>"
 abbrev pub object_text : List ℕ → List ℕ
 object_text name = codes "<" ++ (name ++ object_end)
 
-unfoldable pub builtin_text : List ℕ → List ℕ
-builtin_text name = codes "<built-in function " ++ (name ++ codes ">")
+-- a built-in function by its name, where it has one
+unfoldable pub function_text : List ℕ → List ℕ
+function_text name = codes "<built-in function " ++ (name ++ codes ">")
+
+unfoldable pub nameless_text : List ℕ
+nameless_text = codes "<built-in function>"
+
+abbrev pub builtin_text : Option (List ℕ) → List ℕ
+builtin_text (Some name) = function_text name
+builtin_text None = nameless_text
 
 unfoldable pub method_text : List ℕ → List ℕ
 method_text name = codes "<bound method " ++ (name ++ codes ">")

@@ -179,14 +179,32 @@ impl Shower {
         Ok(())
     }
 
+    #[tactic(auto, using(crate::proofs::Making::showing), unfolding(crate::specs::Words::function_text))]
+    fn push_function_name(&mut self, name: &str) -> Result<(), OutOfMemory>
+        ensures { OnOk result (self.new ≡ fold add self.old (glyphs (words.function_text name.now))) }
+    {
+        self.push_ascii("<built-in function ")?;
+        self.push_ascii(name)?;
+        self.push_ascii(">")?;
+        Ok(())
+    }
+
+    #[tactic(auto, unfolding(crate::specs::Words::nameless_text))]
+    fn push_nameless(&mut self) -> Result<(), OutOfMemory>
+        ensures { OnOk result (self.new ≡ fold add self.old (glyphs words.nameless_text)) }
+    {
+        self.push_ascii("<built-in function>")?;
+        Ok(())
+    }
+
     /// Puts a built-in function.
-    #[tactic(auto, using(crate::proofs::Making::showing), unfolding(crate::specs::Words::builtin_text))]
     pub fn push_builtin(&mut self, which: Builtin) -> Result<(), OutOfMemory>
         ensures { OnOk result (self.new ≡ fold add self.old (glyphs (words.builtin_text (builtin_name which)))) }
     {
-        self.push_ascii("<built-in function ")?;
-        self.push_ascii(builtin_name(which))?;
-        self.push_ascii(">")?;
+        match builtin_name(which) {
+            Some(name) => self.push_function_name(name)?,
+            None => self.push_nameless()?,
+        }
         Ok(())
     }
 

@@ -1,7 +1,11 @@
 use crate::{LexKind, Pos, SourceFault, SyntaxKind};
 
-#[test]
-fn each_fault_has_its_message(rt: HostRuntime) {
+fn is_told(fault: SourceFault, text: &str, line: u32) -> bool {
+    fault.text() == text && fault.line() == line
+}
+
+/// The first fault that has another message, or another line.
+fn wrong_fault() -> Option<SourceFault> {
     let at = Pos { line: 3, column: 7 };
     for (kind, text) in [
         (SyntaxKind::Unexpected, "invalid syntax"),
@@ -18,10 +22,18 @@ fn each_fault_has_its_message(rt: HostRuntime) {
         ),
     ] {
         let fault = SourceFault::Syntax(at, kind);
-        assert_eq!(rt; fault.text(), text);
-        assert_eq!(rt; fault.line(), 3);
+        if !is_told(fault, text, 3) {
+            return Some(fault);
+        }
     }
     let bytes = SourceFault::NotUtf8(2);
-    assert_eq!(rt; bytes.text(), "source is not UTF-8");
-    assert_eq!(rt; bytes.line(), 2);
+    if is_told(bytes, "source is not UTF-8", 2) {
+        return None;
+    }
+    Some(bytes)
+}
+
+#[test]
+fn each_fault_has_its_message(rt: HostRuntime) {
+    assert_eq!(rt; wrong_fault(), None);
 }

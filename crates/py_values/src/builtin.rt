@@ -123,39 +123,43 @@ pub enum Builtin {
     AddFinalizer,
 }
 
-/// A name of a built-in function or kind: what it stands for, and whether it is a class.
-pub type BuiltinRow = (Builtin, bool);
+/// A name of a built-in function or kind, what it stands for, and whether it is a class.
+pub type BuiltinRow = (&'static str, Builtin, bool);
 
-/// The built-in functions and kinds that are bound to names, each to the name that `builtin_name` gives. The object of each stands in
-/// every heap from the start, at its place in this table.
+/// The built-in functions and kinds that are bound to names. The object of each stands in every heap from the start, at its place in
+/// this table. A function without a row has no name (`builtin_name` of py_kinds), and its proof is refused there.
 pub const BUILTINS: [BuiltinRow; 27] = [
-    (Builtin::Number(NumberCall::Abs), false),
-    (Builtin::Number(NumberCall::DivMod), false),
-    (Builtin::Number(NumberCall::Ord), false),
-    (Builtin::Number(NumberCall::Chr), false),
-    (Builtin::Number(NumberCall::Bool), true),
-    (Builtin::Len, false),
-    (Builtin::Object(ObjectCall::Callable), false),
-    (Builtin::Object(ObjectCall::IsInstance), false),
-    (Builtin::Object(ObjectCall::GetAttr), false),
-    (Builtin::Object(ObjectCall::HasAttr), false),
-    (Builtin::Number(NumberCall::Int), true),
-    (Builtin::Str, true),
-    (Builtin::Object(ObjectCall::Repr), false),
-    (Builtin::Print, false),
-    (Builtin::Sequence(SequenceCall::List), true),
-    (Builtin::Sequence(SequenceCall::Tuple), true),
-    (Builtin::Sequence(SequenceCall::Dict), true),
-    (Builtin::Sequence(SequenceCall::Range), false),
-    (Builtin::Sequence(SequenceCall::Enumerate), false),
-    (Builtin::Sequence(SequenceCall::Zip), false),
-    (Builtin::Sequence(SequenceCall::Reversed), false),
-    (Builtin::Sequence(SequenceCall::Sorted), false),
-    (Builtin::Sequence(SequenceCall::All), false),
-    (Builtin::Sequence(SequenceCall::Any), false),
-    (Builtin::Number(NumberCall::Sum), false),
-    (Builtin::Number(NumberCall::Min), false),
-    (Builtin::Number(NumberCall::Max), false),
+    ("abs", Builtin::Number(NumberCall::Abs), false),
+    ("divmod", Builtin::Number(NumberCall::DivMod), false),
+    ("ord", Builtin::Number(NumberCall::Ord), false),
+    ("chr", Builtin::Number(NumberCall::Chr), false),
+    ("bool", Builtin::Number(NumberCall::Bool), true),
+    ("len", Builtin::Len, false),
+    ("callable", Builtin::Object(ObjectCall::Callable), false),
+    ("isinstance", Builtin::Object(ObjectCall::IsInstance), false),
+    ("getattr", Builtin::Object(ObjectCall::GetAttr), false),
+    ("hasattr", Builtin::Object(ObjectCall::HasAttr), false),
+    ("int", Builtin::Number(NumberCall::Int), true),
+    ("str", Builtin::Str, true),
+    ("repr", Builtin::Object(ObjectCall::Repr), false),
+    ("print", Builtin::Print, false),
+    ("list", Builtin::Sequence(SequenceCall::List), true),
+    ("tuple", Builtin::Sequence(SequenceCall::Tuple), true),
+    ("dict", Builtin::Sequence(SequenceCall::Dict), true),
+    ("range", Builtin::Sequence(SequenceCall::Range), false),
+    (
+        "enumerate",
+        Builtin::Sequence(SequenceCall::Enumerate),
+        false,
+    ),
+    ("zip", Builtin::Sequence(SequenceCall::Zip), false),
+    ("reversed", Builtin::Sequence(SequenceCall::Reversed), false),
+    ("sorted", Builtin::Sequence(SequenceCall::Sorted), false),
+    ("all", Builtin::Sequence(SequenceCall::All), false),
+    ("any", Builtin::Sequence(SequenceCall::Any), false),
+    ("sum", Builtin::Number(NumberCall::Sum), false),
+    ("min", Builtin::Number(NumberCall::Min), false),
+    ("max", Builtin::Number(NumberCall::Max), false),
 ];
 
 /// The methods of texts, each to the name that `builtin_name` gives.

@@ -10,8 +10,8 @@ use crate::params::param_called;
 use crate::raising::{outcome_called, raises_called};
 use call_products::arguments::pair;
 use call_products::product::{Product, failed, plain, wrong};
-use py_kinds::builtins::builtin_name;
-use py_values::builtin::{Builtin, PytestCall};
+use py_kinds::builtins::pytest_call_name;
+use py_values::builtin::PytestCall;
 use py_values::change::Change;
 use py_values::class::ExcClass;
 use py_values::end::Effect;
@@ -56,7 +56,7 @@ pub fn pytest_called(
     if function_fits(which, args, named) {
         pytest_fitting(alloc, heap, which, args, named)
     } else {
-        wrong(alloc, builtin_name(Builtin::Pytest(which)), 0)
+        wrong(alloc, pytest_call_name(which), 0)
     }
 }
 

@@ -4,7 +4,6 @@ use report_text::{
     Told, Tolds, conftest_fault, head, progress, sections, summary,
 };
 use std::alloc::Global;
-use std::test::Fail;
 
 type Answer<T> = Result<T, OutOfMemory>;
 
@@ -265,10 +264,11 @@ const HEADS: [(u8, u8, u32, u32, &str); 9] = [
 ];
 
 /// The first row that doesn't hold.
-fn wrong_head(alloc: Global, options: &Options) -> Answer<Option<&'static str>> {
+fn wrong_head(alloc: Global) -> Answer<Option<&'static str>> {
+    let options = options(alloc, "-v")?;
     for (selected, deselected, errors, workers, wanted) in &HEADS {
         let (selected, deselected) = (u32::from(*selected), u32::from(*deselected));
-        let bytes = head(alloc, options, selected, deselected, *errors, *workers)?;
+        let bytes = head(alloc, &options, selected, deselected, *errors, *workers)?;
         let text = format!(in alloc; "{START}{wanted}")?;
         if bytes.as_slice() != text.as_bytes() {
             return Ok(Some(*wanted));
@@ -278,10 +278,8 @@ fn wrong_head(alloc: Global, options: &Options) -> Answer<Option<&'static str>> 
 }
 
 #[test]
-fn writes_heads(rt: HostRuntime) -> Result<(), Fail> {
-    let options = options(rt.alloc(), "-v")?;
-    assert_eq!(rt; wrong_head(rt.alloc(), &options), Ok(None));
-    Ok(())
+fn writes_heads(rt: HostRuntime) {
+    assert_eq!(rt; wrong_head(rt.alloc()), Ok(None));
 }
 
 const MORE: &str =
@@ -599,7 +597,7 @@ fn conftest(alloc: Global) -> Answer<Vec<u8>> {
     conftest_fault(alloc, "conftest.py", &told)
 }
 
-/// Which part of what two errors make isn't as wanted, or an empty text.
+/// Which part of what errors make isn't as wanted, or an empty text.
 fn wrong_part(alloc: Global, errors: &[CollectReport]) -> Answer<&'static str> {
     if sections_at(alloc, "-v", errors, &[])?.as_slice() != COLLECTED.as_bytes() {
         return Ok("sections");
@@ -618,13 +616,18 @@ fn wrong_part(alloc: Global, errors: &[CollectReport]) -> Answer<&'static str> {
     Ok("")
 }
 
-#[test]
-fn writes_collection_errors(rt: HostRuntime) -> Result<(), Fail> {
-    let alloc = rt.alloc();
+/// Which part of what two errors make isn't as wanted, or that the text of a `conftest.py` isn't, or an empty text.
+fn wrong_text(alloc: Global) -> Answer<&'static str> {
     let errors = two_errors(alloc)?;
-    assert_eq!(rt; wrong_part(alloc, &errors), Ok(""));
-    assert_eq!(rt; conftest(alloc)?.as_slice(), CONFTEST.as_bytes());
-    Ok(())
+    if conftest(alloc)?.as_slice() != CONFTEST.as_bytes() {
+        return Ok("conftest");
+    }
+    wrong_part(alloc, &errors)
+}
+
+#[test]
+fn writes_collection_errors(rt: HostRuntime) {
+    assert_eq!(rt; wrong_text(rt.alloc()), Ok(""));
 }
 
 /// Words, items, the selected, the deselected, whether the run stopped, and the last lines.

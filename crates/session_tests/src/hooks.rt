@@ -5,7 +5,6 @@ ghost use Rattle.hook_order.specs.Frames.{TakesFrame};
 use hook_order::{Impl, ImplEnd, Inner, Runner, WrapperStart, call_all, call_first, order};
 use std::alloc::{AllocError, Global};
 use std::fmt::Write;
-use std::test::Fail;
 
 /// What an implementation of the fake runner does.
 #[derive(Clone, Copy)]
@@ -160,41 +159,54 @@ fn implementation(registered: u32, flags: (bool, bool, bool), code: u32) -> Impl
     }
 }
 
-/// The numbers of registration in order of call (pluggy's documentation, "Call time order"; pytest's, "Hook function
-/// ordering / call example").
+/// How four implementations are registered, and their numbers of registration in order of call (pluggy's documentation, "Call time
+/// order"; pytest's, "Hook function ordering / call example").
+const ORDERS: [([(bool, bool, bool); 4], [u32; 4]); 6] = [
+    ([PLAIN, PLAIN, PLAIN, PLAIN], [3, 2, 1, 0]),
+    ([FIRST, LAST, WRAPPER, PLAIN], [2, 0, 3, 1]),
+    ([LAST, LAST, PLAIN, LAST], [2, 0, 1, 3]),
+    ([FIRST, FIRST, PLAIN, BOTH], [3, 1, 0, 2]),
+    (
+        [LAST_WRAPPER, WRAPPER, FIRST_WRAPPER, WRAPPER],
+        [2, 3, 1, 0],
+    ),
+    ([LAST_WRAPPER, LAST_WRAPPER, PLAIN, LAST], [0, 1, 2, 3]),
+];
+
+/// The numbers of registration in order of call.
+fn ordered(flags: &[(bool, bool, bool); 4]) -> [u32; 4] {
+    let mut impls = [
+        implementation(0, flags[0], 0),
+        implementation(1, flags[1], 1),
+        implementation(2, flags[2], 2),
+        implementation(3, flags[3], 3),
+    ];
+    order(&mut impls);
+    [
+        impls[0].registered,
+        impls[1].registered,
+        impls[2].registered,
+        impls[3].registered,
+    ]
+}
+
+/// What is wanted of the first row that gives something else.
+fn wrong_order() -> Option<[u32; 4]> {
+    for (flags, want) in &ORDERS {
+        if ordered(flags) != *want {
+            return Some(*want);
+        }
+    }
+    None
+}
+
 #[test]
 fn implementations_run_in_the_documented_order(rt: HostRuntime) {
-    let rows = [
-        ([PLAIN, PLAIN, PLAIN, PLAIN], [3, 2, 1, 0]),
-        ([FIRST, LAST, WRAPPER, PLAIN], [2, 0, 3, 1]),
-        ([LAST, LAST, PLAIN, LAST], [2, 0, 1, 3]),
-        ([FIRST, FIRST, PLAIN, BOTH], [3, 1, 0, 2]),
-        (
-            [LAST_WRAPPER, WRAPPER, FIRST_WRAPPER, WRAPPER],
-            [2, 3, 1, 0],
-        ),
-        ([LAST_WRAPPER, LAST_WRAPPER, PLAIN, LAST], [0, 1, 2, 3]),
-    ];
-    for (flags, want) in rows {
-        let mut impls = [
-            implementation(0, flags[0], 0),
-            implementation(1, flags[1], 1),
-            implementation(2, flags[2], 2),
-            implementation(3, flags[3], 3),
-        ];
-        order(&mut impls);
-        let got = [
-            impls[0].registered,
-            impls[1].registered,
-            impls[2].registered,
-            impls[3].registered,
-        ];
-        assert_eq!(rt; got, want);
-    }
+    assert_eq!(rt; wrong_order(), None);
 }
 
 /// A fake runner whose implementations are wrappers or not and do this, in order of call.
-fn scene(alloc: Global, acts: &[(bool, Act)]) -> Result<(Fake, Vec<Impl>), Fail> {
+fn scene(alloc: Global, acts: &[(bool, Act)]) -> Result<(Fake, Vec<Impl>), AllocError> {
     let mut fake = Fake {
         acts: Vec::new(alloc),
         out: Vec::new(alloc),
@@ -240,9 +252,9 @@ fn told(
     Ok(told)
 }
 
-fn played(alloc: Global, calls: Calls, acts: &[(bool, Act)]) -> Result<String, Fail> {
+fn played(alloc: Global, calls: Calls, acts: &[(bool, Act)]) -> Result<String, AllocError> {
     let (mut fake, mut impls) = scene(alloc, acts)?;
-    Ok(told(alloc, calls, &mut fake, &mut impls)?)
+    told(alloc, calls, &mut fake, &mut impls)
 }
 
 /// Which values are called for.
@@ -364,11 +376,21 @@ const SCENES: [(Calls, &[(bool, Act)], &str); 15] = [
     ),
 ];
 
-#[test]
-fn hooks_are_called_through_their_wrappers(rt: HostRuntime) -> Result<(), Fail> {
+/// What is told of the first scene of which something else is wanted, and that.
+fn wrong_scene(alloc: Global) -> Result<String, AllocError> {
     for (calls, acts, want) in &SCENES {
-        let told = played(rt.alloc(), *calls, acts)?;
-        assert_eq!(rt; told.as_str(), *want);
+        let told = played(alloc, *calls, acts)?;
+        if told.as_str() != *want {
+            return format!(in alloc; "{want}: {told}");
+        }
     }
-    Ok(())
+    Ok(String::new(alloc))
+}
+
+#[test]
+fn hooks_are_called_through_their_wrappers(rt: HostRuntime) {
+    match wrong_scene(rt.alloc()) {
+        Ok(told) => assert_eq!(rt; told.as_str(), ""),
+        Err(_) => assert!(rt; false, "no memory"),
+    }
 }

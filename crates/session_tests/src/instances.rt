@@ -1,6 +1,5 @@
 use session_types::{Birth, DefId, Event, Instance, Numbers, Scope};
 use std::alloc::{AllocError, Global};
-use std::test::Fail;
 
 fn numbers_from(alloc: Global, numbers: &[u64]) -> Result<Numbers, AllocError> {
     let mut items = Vec::new(alloc);
@@ -10,16 +9,22 @@ fn numbers_from(alloc: Global, numbers: &[u64]) -> Result<Numbers, AllocError> {
     Ok(Numbers::from_vec(items))
 }
 
-#[test]
-fn numbers_give_back_what_they_are_made_of(rt: HostRuntime) -> Result<(), Fail> {
-    let alloc = rt.alloc();
+fn are_numbers_kept(alloc: Global) -> Result<bool, AllocError> {
     let numbers = numbers_from(alloc, &[3, 1, u64::MAX])?;
-    assert_eq!(rt; numbers.items(), [3, 1, u64::MAX].as_slice());
-    assert!(rt; Numbers::from_vec(Vec::new(alloc)).items().is_empty());
-    assert_eq!(rt; DefId::new(u32::MAX).number(), u32::MAX);
-    assert!(rt; DefId::new(7) == DefId::new(7));
-    assert!(rt; DefId::new(7) != DefId::new(8));
-    Ok(())
+    Ok(
+        numbers.items() == [3, 1, u64::MAX].as_slice()
+            && Numbers::from_vec(Vec::new(alloc)).items().is_empty(),
+    )
+}
+
+#[test]
+fn numbers_give_back_what_they_are_made_of(rt: HostRuntime) {
+    assert!(rt; matches!(are_numbers_kept(rt.alloc()), Ok(true)));
+    assert!(rt;
+        DefId::new(u32::MAX).number() == u32::MAX
+            && DefId::new(7) == DefId::new(7)
+            && DefId::new(7) != DefId::new(8)
+    );
 }
 
 fn made_of(alloc: Global, instance: &Instance, bases: &[u64]) -> Result<Birth, AllocError> {
@@ -32,23 +37,26 @@ fn made_of(alloc: Global, instance: &Instance, bases: &[u64]) -> Result<Birth, A
     })
 }
 
+fn push(journal: &mut Vec<Event>, event: Event) -> Result<(), AllocError> {
+    Ok(journal.push(event)?)
+}
+
 /// Writes down what happens to an instance and in a call that has it.
 fn write_down(
     alloc: Global,
     journal: &mut Vec<Event>,
     instance: &Instance<u32>,
 ) -> Result<(), AllocError> {
-    journal.push(Event::Up(made_of(alloc, instance, &[1])?))?;
-    journal.push(Event::CallBegins(9, numbers_from(alloc, &[instance.order])?))?;
-    journal.push(Event::CallEnds(9))?;
-    journal.push(Event::DownBegins(instance.order))?;
-    journal.push(Event::Down(instance.order, false))?;
-    Ok(())
+    push(journal, Event::Up(made_of(alloc, instance, &[1])?))?;
+    let having = numbers_from(alloc, &[instance.order])?;
+    push(journal, Event::CallBegins(9, having))?;
+    push(journal, Event::CallEnds(9))?;
+    push(journal, Event::DownBegins(instance.order))?;
+    push(journal, Event::Down(instance.order, false))
 }
 
-#[test]
-fn an_instance_and_its_events_can_be_written_down(rt: HostRuntime) -> Result<(), Fail> {
-    let alloc = rt.alloc();
+/// Whether an instance can be read, and its events written down.
+fn is_written_down(alloc: Global) -> Result<bool, AllocError> {
     let instance = Instance {
         def: DefId::new(4),
         param: Some(1),
@@ -60,8 +68,10 @@ fn an_instance_and_its_events_can_be_written_down(rt: HostRuntime) -> Result<(),
     };
     let mut journal = Vec::new(alloc);
     write_down(alloc, &mut journal, &instance)?;
-    assert_eq!(rt; journal.len(), 5);
-    assert_eq!(rt; instance.slot, 7);
-    assert!(rt; instance.scope == Scope::Class);
-    Ok(())
+    Ok(journal.len() == 5 && instance.slot == 7 && instance.scope == Scope::Class)
+}
+
+#[test]
+fn an_instance_and_its_events_can_be_written_down(rt: HostRuntime) {
+    assert!(rt; matches!(is_written_down(rt.alloc()), Ok(true)));
 }

@@ -1,12 +1,10 @@
-ghost use Rattle.std.specs.Prelude.{◌≡◌, true, [], ◌++◌, length, All, IfOk, OnOk};
+ghost use Rattle.std.specs.Prelude.{◌≡◌, true, [], ◌++◌, ◌≤◌, length, All, IfOk, OnOk};
 
 use edge_io::{Gate, OpenGate};
 use seq::OutOfMemory;
 use share_files::{DrawFeed, Draws, Feed, Worker, run_shares};
 use std::alloc::Global;
-use std::process::Abort;
 use std::sync::atomic::{AtomicU64, Ordering};
-use std::test::Fail;
 use std::thread::Threads;
 
 /// It logs its groups, and how many its feed has then given.
@@ -59,7 +57,7 @@ fn loggers(alloc: Global, workers: u32, groups: u32) -> Result<Vec<Logger>, OutO
 }
 
 /// Whether each list begins with its worker's number and rises, and all of them together are the numbers below `groups`.
-fn is_share(alloc: Global, groups: u32, lists: &[Vec<u32>]) -> Result<bool, Fail> {
+fn is_share(alloc: Global, groups: u32, lists: &[Vec<u32>]) -> Result<bool, OutOfMemory> {
     let mut all = Vec::new(alloc);
     for (worker, list) in lists.iter().enumerate() {
         let mut before: Option<u32> = None;
@@ -84,24 +82,40 @@ fn is_share(alloc: Global, groups: u32, lists: &[Vec<u32>]) -> Result<bool, Fail
     Ok(all == wanted)
 }
 
+/// Whether each worker has logged its list, and counted it.
+fn are_logged(loggers: &[Logger], lists: &[Vec<u32>]) -> bool {
+    for (logger, list) in loggers.iter().zip(lists.iter()) {
+        if &logger.log != list || logger.given != list.len() {
+            return false;
+        }
+    }
+    true
+}
+
+/// Whether so many workers share the groups, and each has logged what it was given.
+fn is_shared<R: Threads + Sync>(
+    rt: &R,
+    alloc: Global,
+    groups: u32,
+    workers: u32,
+) -> Result<bool, OutOfMemory>
+    requires { (1 ≤ workers) × (workers ≤ groups) }
+{
+    let mut all = loggers(alloc, workers, groups)?;
+    let draws = Draws::new(alloc, groups, workers)?;
+    let lists = run_shares(rt, alloc, all.as_mut_slice(), draws, &OpenGate)?;
+    let is_logged = lists.len() == workers as usize && are_logged(&all, &lists);
+    Ok(is_logged && is_share(alloc, groups, lists.as_slice())?)
+}
+
 #[test]
-fn each_group_is_taken_once(rt: HostRuntime) -> Result<(), Fail> {
-    let alloc = rt.alloc();
+fn each_group_is_taken_once(rt: HostRuntime) {
     for groups in 1..=40u32 {
         for most in 1..=8u32 {
             let workers = most.min(groups);
-            let mut all = loggers(alloc, workers, groups)?;
-            let draws = Draws::new(alloc, groups, workers)?;
-            let lists = run_shares(&rt, alloc, all.as_mut_slice(), draws, &OpenGate)?;
-            assert!(rt; is_share(alloc, groups, lists.as_slice())?);
-            assert_eq!(rt; lists.len(), workers as usize);
-            for (logger, list) in all.iter().zip(lists.iter()) {
-                assert_eq!(rt; &logger.log, list);
-                assert_eq!(rt; logger.given, list.len());
-            }
+            assert!(rt; matches!(is_shared(&rt, rt.alloc(), groups, workers), Ok(true)));
         }
     }
-    Ok(())
 }
 
 /// It takes one group, or wants memory.
@@ -128,29 +142,31 @@ impl Worker for Wanting {
     }
 }
 
+/// Whether three workers have shares, of which the one of this number wants memory.
+fn has_shares<R: Threads + Sync>(rt: &R, alloc: Global, wanting: u32) -> Result<bool, OutOfMemory> {
+    let mut all = [
+        Wanting {
+            groups: 5,
+            wants: wanting == 0,
+        },
+        Wanting {
+            groups: 5,
+            wants: wanting == 1,
+        },
+        Wanting {
+            groups: 5,
+            wants: wanting == 2,
+        },
+    ];
+    let draws = Draws::new(alloc, 5, 3)?;
+    Ok(run_shares(rt, alloc, all.as_mut_slice(), draws, &OpenGate).is_ok())
+}
+
 #[test]
-fn one_that_wants_memory_is_the_answer_of_all(rt: HostRuntime) -> Result<(), Fail> {
-    let alloc = rt.alloc();
+fn one_that_wants_memory_is_the_answer_of_all(rt: HostRuntime) {
     for wanting in 0..4u32 {
-        let mut all = [
-            Wanting {
-                groups: 5,
-                wants: wanting == 0,
-            },
-            Wanting {
-                groups: 5,
-                wants: wanting == 1,
-            },
-            Wanting {
-                groups: 5,
-                wants: wanting == 2,
-            },
-        ];
-        let draws = Draws::new(alloc, 5, 3)?;
-        let ran = run_shares(&rt, alloc, all.as_mut_slice(), draws, &OpenGate);
-        assert_eq!(rt; ran.is_ok(), wanting == 3);
+        assert_eq!(rt; has_shares(&rt, rt.alloc(), wanting), Ok(wanting == 3));
     }
-    Ok(())
 }
 
 /// A worker and a group that a gate holds, until another worker has come with another group.
@@ -223,27 +239,25 @@ impl Gate for Meeting {
     }
 }
 
-/// Four groups and two workers, which meet as often as they are held.
-fn meets<R: Threads + Abort + Sync>(
+/// Whether two workers share four groups so, and meet as often as they are held.
+fn meet<R: Threads + Sync>(
     rt: &R,
     alloc: Global,
     holds: &[Hold],
     first: &[u32],
     second: &[u32],
-) -> Result<(), Fail> {
+) -> Result<bool, OutOfMemory> {
     let gate = Meeting::new(Vec::from_slice(alloc, holds)?);
     let mut all = loggers(alloc, 2, 4)?;
     let draws = Draws::new(alloc, 4, 2)?;
     let lists = run_shares(rt, alloc, all.as_mut_slice(), draws, &gate)?;
-    assert_eq!(rt; gate.late.load(Ordering::SeqCst), 0);
-    assert_eq!(rt; lists[0].as_slice(), first);
-    assert_eq!(rt; lists[1].as_slice(), second);
-    Ok(())
+    let met = gate.late.load(Ordering::SeqCst) == 0;
+    Ok(met && lists[0].as_slice() == first && lists[1].as_slice() == second)
 }
 
 /// Whoever deals to one worker alone, or runs the workers one after another, holds a worker for too long here.
 #[test]
-fn two_workers_run_at_the_same_time(rt: HostRuntime) -> Result<(), Fail> {
+fn two_workers_run_at_the_same_time(rt: HostRuntime) {
     let holds = [
         Hold {
             worker: 1,
@@ -258,17 +272,27 @@ fn two_workers_run_at_the_same_time(rt: HostRuntime) -> Result<(), Fail> {
             until_group: 3,
         },
     ];
-    meets(&rt, rt.alloc(), holds.as_slice(), &[0, 2], &[1, 3])
+    assert!(rt;
+        matches!(
+            meet(&rt, rt.alloc(), holds.as_slice(), &[0, 2], &[1, 3]),
+            Ok(true)
+        )
+    );
 }
 
 /// Where groups are dealt by turns, the first worker has one of those that the second draws here.
 #[test]
-fn a_worker_draws_what_another_leaves(rt: HostRuntime) -> Result<(), Fail> {
+fn a_worker_draws_what_another_leaves(rt: HostRuntime) {
     let holds = [Hold {
         worker: 0,
         group: 0,
         until_worker: 1,
         until_group: 3,
     }];
-    meets(&rt, rt.alloc(), holds.as_slice(), &[0], &[1, 2, 3])
+    assert!(rt;
+        matches!(
+            meet(&rt, rt.alloc(), holds.as_slice(), &[0], &[1, 2, 3]),
+            Ok(true)
+        )
+    );
 }

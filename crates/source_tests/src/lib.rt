@@ -18,7 +18,6 @@
 #[cfg(test)]
 mod literals;
 #[cfg(test)]
-mod tokens;
-
+mod rows;
 #[cfg(test)]
-type Answer<T> = Result<T, seq::OutOfMemory>;
+mod tokens;

@@ -10,10 +10,10 @@ use crate::joined::{Parts, parts_of};
 use crate::pieces::{first_place, joined, pieces, words};
 use call_products::arguments::{has_none, pair, sole, sole_text};
 use call_products::product::{Product, failed, plain, refs, wrong};
-use py_kinds::builtins::builtin_name;
+use py_kinds::builtins::text_method_name;
 use py_operands::faults::not_iterable;
 use py_operands::texts::text_of;
-use py_values::builtin::{Builtin, TextMethod};
+use py_values::builtin::TextMethod;
 use py_values::class::ExcClass;
 use py_values::end::Effect;
 use py_values::heap::Heap;
@@ -332,6 +332,6 @@ pub fn text_method(
 {
     match text_of(heap, receiver) {
         Some(text) => text_called(alloc, heap, which, text.chars(), args, named),
-        None => wrong(alloc, builtin_name(Builtin::Text(which)), 0),
+        None => wrong(alloc, text_method_name(which), 0),
     }
 }

@@ -3,9 +3,8 @@ use py_tree::{
     Target, Yield, bindings_of,
 };
 use seq::OutOfMemory;
-use std::alloc::Global;
+use std::alloc::{AllocError, Global};
 use std::rc::Rc;
-use std::test::Fail;
 
 const AT: Pos = Pos { line: 1, column: 1 };
 
@@ -23,43 +22,47 @@ fn single(alloc: Global, name: char) -> Result<Single, OutOfMemory> {
     Ok(Single { at: AT, kind })
 }
 
-/// The statements, and one more.
-fn followed(stmts: Vec<Stmt>, kind: StmtKind) -> Result<Vec<Stmt>, OutOfMemory> {
-    let mut stmts = stmts;
-    stmts.push(Stmt { at: AT, kind })?;
-    Ok(stmts)
+/// A list of one.
+fn one<T: Drop>(alloc: Global, item: T) -> Result<Rc<Vec<T>>, OutOfMemory> {
+    let mut all = Vec::new(alloc);
+    all.push(item)?;
+    Ok(Rc::new(alloc, all)?)
 }
 
 fn block(alloc: Global, kind: StmtKind) -> Result<Rc<Vec<Stmt>>, OutOfMemory> {
-    let stmts = followed(Vec::new(alloc), kind)?;
-    Ok(Rc::new(alloc, stmts)?)
+    one(alloc, Stmt { at: AT, kind })
 }
 
 /// `global g`
 fn declaration(alloc: Global) -> Result<StmtKind, OutOfMemory> {
-    let mut names = Vec::new(alloc);
-    names.push(text(alloc, 'g')?)?;
-    Ok(StmtKind::Global(Rc::new(alloc, names)?))
+    let name = text(alloc, 'g')?;
+    Ok(StmtKind::Global(one(alloc, name)?))
 }
 
 /// `name = 1`
 fn assignment(alloc: Global, name: char) -> Result<StmtKind, OutOfMemory> {
-    let mut targets = Vec::new(alloc);
-    targets.push(Target::Single(single(alloc, name)?))?;
-    Ok(StmtKind::Assign(Rc::new(alloc, targets)?, number(alloc)?))
+    let target = Target::Single(single(alloc, name)?);
+    let targets = one(alloc, target)?;
+    Ok(StmtKind::Assign(targets, number(alloc)?))
+}
+
+/// The block `name = 1`
+fn assigned(alloc: Global, name: char) -> Result<Rc<Vec<Stmt>>, OutOfMemory> {
+    block(alloc, assignment(alloc, name)?)
 }
 
 /// `if 1: a = 1`
 fn branches(alloc: Global) -> Result<Rc<Vec<Branch>>, OutOfMemory> {
     let condition = number(alloc)?;
-    let body = block(alloc, assignment(alloc, 'a')?)?;
-    let mut all = Vec::new(alloc);
-    all.push(Branch {
-        at: AT,
-        condition,
-        body,
-    })?;
-    Ok(Rc::new(alloc, all)?)
+    let body = assigned(alloc, 'a')?;
+    one(
+        alloc,
+        Branch {
+            at: AT,
+            condition,
+            body,
+        },
+    )
 }
 
 /// `if 1: a = 1`, `else: del b`
@@ -81,28 +84,41 @@ fn pause() -> StmtKind {
 fn turns(alloc: Global) -> Result<StmtKind, OutOfMemory> {
     let target = Target::Single(single(alloc, 'c')?);
     let items = number(alloc)?;
-    let body = block(alloc, assignment(alloc, 'p')?)?;
-    Ok(StmtKind::For(target, items, body))
+    Ok(StmtKind::For(target, items, assigned(alloc, 'p')?))
+}
+
+/// A statement of the body, by its place.
+fn statement(alloc: Global, place: u32) -> Result<StmtKind, OutOfMemory> {
+    match place {
+        0 => declaration(alloc),
+        1 => assignment(alloc, 'g'),
+        2 => choice(alloc),
+        3 => Ok(pause()),
+        _ => turns(alloc),
+    }
 }
 
 fn body(alloc: Global) -> Result<Vec<Stmt>, OutOfMemory> {
-    let stmts = followed(Vec::new(alloc), declaration(alloc)?)?;
-    let stmts = followed(stmts, assignment(alloc, 'g')?)?;
-    let stmts = followed(stmts, choice(alloc)?)?;
-    let stmts = followed(stmts, pause())?;
-    followed(stmts, turns(alloc)?)
+    let mut stmts = Vec::new(alloc);
+    for place in 0..5 {
+        let kind = statement(alloc, place)?;
+        stmts.push(Stmt { at: AT, kind })?;
+    }
+    Ok(stmts)
 }
 
 /// `p`
-fn params(alloc: Global) -> Result<Vec<Param>, OutOfMemory> {
-    let mut all = Vec::new(alloc);
-    all.push(Param {
-        at: AT,
-        name: text(alloc, 'p')?,
-        annotation: None,
-        default: None,
-    })?;
-    Ok(all)
+fn params(alloc: Global) -> Result<Rc<Vec<Param>>, OutOfMemory> {
+    let name = text(alloc, 'p')?;
+    one(
+        alloc,
+        Param {
+            at: AT,
+            name,
+            annotation: None,
+            default: None,
+        },
+    )
 }
 
 fn bindings(alloc: Global) -> Result<Bindings, OutOfMemory> {
@@ -111,21 +127,26 @@ fn bindings(alloc: Global) -> Result<Bindings, OutOfMemory> {
     bindings_of(alloc, &params, &body)
 }
 
-/// Whether the names are these, of one character each.
-fn are(names: &[SrcText], chars: &[char]) -> bool {
-    for (name, ch) in names.iter().zip(chars.iter()) {
-        if name.chars() != [*ch].as_slice() {
-            return false;
-        }
+/// The local names, the global ones, and whether the function yields.
+fn told(alloc: Global) -> Result<String, AllocError> {
+    match bindings(alloc) {
+        Ok(names) => format!(in alloc;
+            "{:?} {:?} {}",
+            names.locals.items(),
+            names.globals.items(),
+            names.yields
+        ),
+        Err(_) => Err(AllocError),
     }
-    names.len() == chars.len()
 }
 
 #[test]
-fn a_function_has_its_names(rt: HostRuntime) -> Result<(), Fail> {
-    let names = bindings(rt.alloc())?;
-    assert!(rt; are(names.locals.items(), &['p', 'a', 'b', 'c']));
-    assert!(rt; are(names.globals.items(), &['g']));
-    assert!(rt; names.yields);
-    Ok(())
+fn a_function_has_its_names(rt: HostRuntime) {
+    match told(rt.alloc()) {
+        Ok(told) => assert_eq!(rt;
+            told.as_str(),
+            "[Seq { items: ['p'] }, Seq { items: ['a'] }, Seq { items: ['b'] }, Seq { items: ['c'] }] [Seq { items: ['g'] }] true"
+        ),
+        Err(_) => assert!(rt; false, "no memory"),
+    }
 }

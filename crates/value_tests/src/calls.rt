@@ -5,7 +5,7 @@ use crate::shown::{cost, ended, repr_told};
 use crate::spelled::{Operands, Tried, characters, copied, count, text};
 use py_calls::call::builtin;
 use py_kinds::builtins::{
-    builtin_name, dict_method_named, list_method_named, text_method_named, tuple_method_named,
+    dict_method_named, list_method_named, text_method_named, tuple_method_named,
 };
 use py_values::PyText;
 use py_values::builtin::{BUILTINS, Builtin};
@@ -22,8 +22,8 @@ pub struct Call {
 
 fn function_named(name: &str) -> Option<Builtin> {
     for row in &BUILTINS {
-        if builtin_name(row.0) == name {
-            return Some(row.0);
+        if row.0 == name {
+            return Some(row.1);
         }
     }
     None

@@ -1,7 +1,6 @@
 // Objects that no operator makes.
 
 use crate::spelled::{Tried, text};
-use py_kinds::builtins::builtin_name;
 use py_kinds::kinds::class_name;
 use py_values::builtin::{BUILTINS, Builtin, EXCEPTIONS};
 use py_values::class::{ClassForm, ClassRef, ExcClass};
@@ -92,8 +91,8 @@ pub fn class_by(name: &str) -> ExcClass {
 /// The built-in class of a name: of a built-in kind, or else one of exceptions.
 fn class_form(name: &str) -> ClassForm {
     for row in &BUILTINS {
-        if row.1 && builtin_name(row.0) == name {
-            return ClassForm::Kind(row.0);
+        if row.2 && row.0 == name {
+            return ClassForm::Kind(row.1);
         }
     }
     ClassForm::Exception(class_by(name))

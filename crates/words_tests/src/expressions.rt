@@ -113,6 +113,13 @@ const FAULTS: [(&str, &str, &str, u32, Option<ExprFault>); 28] = [
     ("(a) or ", "a", "", 5000, None),
 ];
 
+fn push_times(out: &mut String, piece: &str, times: u32) -> Result<(), AllocError> {
+    for _ in 0..times {
+        out.push_str(piece)?;
+    }
+    Ok(())
+}
+
 /// Why the text is refused that has this many times `open` before it, and `close` behind it.
 fn fault_in(
     alloc: Global,
@@ -122,13 +129,9 @@ fn fault_in(
     times: u32,
 ) -> Result<Option<ExprFault>, AllocError> {
     let mut all = String::new(alloc);
-    for _ in 0..times {
-        all.push_str(open)?;
-    }
+    push_times(&mut all, open, times)?;
     all.push_str(text)?;
-    for _ in 0..times {
-        all.push_str(close)?;
-    }
+    push_times(&mut all, close, times)?;
     Ok(read_expr(alloc, all.as_str()).err())
 }
 

@@ -1,21 +1,19 @@
 //! Expected values are those of pytest's command line: the text of the first `--help` or `--version` that no fault comes before.
 
-use crate::options::words_of;
 use cli_words::{Info, asked_info};
 use std::alloc::{AllocError, Global};
-use std::test::Fail;
 
-fn asked(alloc: Global, line: &str) -> Result<&'static str, AllocError> {
-    let words = words_of(alloc, line)?;
-    Ok(match asked_info(&words) {
+/// What words ask to be told.
+pub fn asked(words: &[String]) -> &'static str {
+    match asked_info(words) {
         None => "",
         Some(Info::Help) => "help",
         Some(Info::Version) => "version",
-    })
+    }
 }
 
 /// Words, with `|` between them, and what they ask to be told.
-const ASKED: [(&str, &str); 40] = [
+pub const ASKED: [(&str, &str); 40] = [
     ("", ""),
     ("--help", "help"),
     ("--version", "version"),
@@ -57,21 +55,6 @@ const ASKED: [(&str, &str); 40] = [
     ("--generated=1|--help", ""),
     ("--ignore=|--generated=1,2|--version", "version"),
 ];
-
-/// The first row that doesn't hold.
-fn wrong_row(alloc: Global) -> Option<&'static str> {
-    for (line, wanted) in &ASKED {
-        if asked(alloc, line) != Ok(*wanted) {
-            return Some(*line);
-        }
-    }
-    None
-}
-
-#[test]
-fn the_first_of_faults_and_texts_counts(rt: HostRuntime) {
-    assert_eq!(rt; wrong_row(rt.alloc()), None);
-}
 
 /// All spellings of options, as the help has them.
 const SPELLED: [&str; 20] = [
@@ -117,13 +100,25 @@ fn long_line(text: &str) -> Option<&str> {
     None
 }
 
+/// What the help lacks, or its first long line, or nothing.
+fn wrong_help(alloc: Global) -> Result<String, AllocError> {
+    let help = Info::Help.to_string(alloc)?;
+    let text = help.as_str();
+    let lacked = missing(text).unwrap_or(if text.ends_with('\n') { "" } else { "line end" });
+    let long = long_line(text).unwrap_or("");
+    format!(in alloc; "{lacked}{long}")
+}
+
+fn is_version_told(alloc: Global) -> Result<bool, AllocError> {
+    let version = Info::Version.to_string(alloc)?;
+    Ok(version.as_str() == "pytest_run 0.1.0\n")
+}
+
 #[test]
-fn texts_tell_each_option(rt: HostRuntime) -> Result<(), Fail> {
-    let help = Info::Help.to_string(rt.alloc())?;
-    assert_eq!(rt; missing(help.as_str()), None);
-    assert_eq!(rt; long_line(help.as_str()), None);
-    assert!(rt; help.as_str().ends_with('\n'));
-    let version = Info::Version.to_string(rt.alloc())?;
-    assert_eq!(rt; version.as_str(), "pytest_run 0.1.0\n");
-    Ok(())
+fn texts_tell_each_option(rt: HostRuntime) {
+    match wrong_help(rt.alloc()) {
+        Ok(told) => assert_eq!(rt; told.as_str(), ""),
+        Err(_) => assert!(rt; false, "no memory"),
+    }
+    assert!(rt; matches!(is_version_told(rt.alloc()), Ok(true)));
 }

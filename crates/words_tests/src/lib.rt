@@ -18,6 +18,8 @@ mod expressions;
 #[cfg(test)]
 mod info;
 #[cfg(test)]
+mod lines;
+#[cfg(test)]
 mod options;
 #[cfg(test)]
 mod selecting;

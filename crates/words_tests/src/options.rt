@@ -1,7 +1,6 @@
-use cli_words::{Dist, Options, Tb, Word, Words, read_words};
+use cli_words::{Dist, Options, Tb, Word, Words};
 use std::alloc::{AllocError, Global};
 use std::fmt::Write;
-use std::test::Fail;
 
 fn push_words(out: &mut String, name: &str, words: &Words) -> Result<(), AllocError> {
     for word in words.items() {
@@ -11,24 +10,28 @@ fn push_words(out: &mut String, name: &str, words: &Words) -> Result<(), AllocEr
 }
 
 fn push_word(out: &mut String, name: &str, word: &Word) -> Result<(), AllocError> {
-    if !word.text().is_empty() {
-        write!(out, " {name}:{word}")?;
+    if word.text().is_empty() {
+        return Ok(());
     }
-    Ok(())
+    write!(out, " {name}:{word}")
 }
 
 fn push_count(out: &mut String, name: &str, count: u64, usual: u64) -> Result<(), AllocError> {
-    if count != usual {
-        write!(out, " {name}:{count}")?;
+    if count == usual {
+        return Ok(());
     }
-    Ok(())
+    write!(out, " {name}:{count}")
 }
 
-fn push_switch(out: &mut String, name: &str, is_on: bool) -> Result<(), AllocError> {
-    if is_on {
-        write!(out, " {name}")?;
+fn push_generated(out: &mut String, options: &Options) -> Result<(), AllocError> {
+    match options.generated {
+        Some((seed, files)) => write!(out, " generated:{seed},{files}"),
+        None => Ok(()),
     }
-    Ok(())
+}
+
+fn switch_text(is_on: bool, text: &'static str) -> &'static str {
+    if is_on { text } else { "" }
 }
 
 fn tb_text(tb: Tb) -> &'static str {
@@ -47,18 +50,15 @@ fn dist_text(dist: Dist) -> &'static str {
 }
 
 fn push_switches(out: &mut String, options: &Options) -> Result<(), AllocError> {
-    push_switch(out, "collect_only", options.collect_only)?;
-    push_switch(out, "setup_show", options.setup_show)?;
-    push_switch(out, "verbose", options.verbose)?;
+    out.push_str(switch_text(options.collect_only, " collect_only"))?;
+    out.push_str(switch_text(options.setup_show, " setup_show"))?;
+    out.push_str(switch_text(options.verbose, " verbose"))?;
     push_count(out, "step_limit", options.step_limit, 1_000_000)?;
-    if let Some((seed, files)) = options.generated {
-        write!(out, " generated:{seed},{files}")?;
-    }
-    Ok(())
+    push_generated(out, options)
 }
 
 /// The options that differ from those of an empty command line.
-fn shown(alloc: Global, options: &Options) -> Result<String, AllocError> {
+pub fn shown(alloc: Global, options: &Options) -> Result<String, AllocError> {
     let mut out = String::new(alloc);
     push_words(&mut out, "path", &options.paths)?;
     push_word(&mut out, "keyword", &options.keyword)?;
@@ -72,24 +72,8 @@ fn shown(alloc: Global, options: &Options) -> Result<String, AllocError> {
     Ok(out)
 }
 
-/// The words of a line with `|` between them.
-pub fn words_of(alloc: Global, line: &str) -> Result<Vec<String>, AllocError> {
-    let mut words = Vec::new(alloc);
-    for word in line.split('|') {
-        words.push(String::from_str(alloc, word)?)?;
-    }
-    Ok(words)
-}
-
-fn read(alloc: Global, words: &[String]) -> Result<String, AllocError> {
-    match read_words(alloc, words) {
-        Ok(options) => shown(alloc, &options),
-        Err(fault) => fault.to_string(alloc),
-    }
-}
-
 /// Words, with `|` between them, and what they ask for or the text of their fault.
-const PATHS_AND_SWITCHES: [(&str, &str); 30] = [
+pub const PATHS_AND_SWITCHES: [(&str, &str); 30] = [
     ("", " path:"),
     ("test_a.py", " path:test_a.py"),
     ("test_a.py::test_x|dir", " path:test_a.py::test_x path:dir"),
@@ -122,7 +106,7 @@ const PATHS_AND_SWITCHES: [(&str, &str); 30] = [
     ("---", "unrecognized arguments: ---"),
 ];
 
-const TEXTS_AND_NUMBERS: [(&str, &str); 36] = [
+pub const TEXTS_AND_NUMBERS: [(&str, &str); 36] = [
     ("-k|a and not b", " keyword:a and not b"),
     ("-ka", " keyword:a"),
     ("-k=a", " keyword:a"),
@@ -173,7 +157,7 @@ const TEXTS_AND_NUMBERS: [(&str, &str); 36] = [
     ("--ignore=", " ignore:"),
 ];
 
-const WORKERS_AND_FORMS: [(&str, &str); 45] = [
+pub const WORKERS_AND_FORMS: [(&str, &str); 45] = [
     ("-n2", " workers:2"),
     ("-n|2", " workers:2"),
     ("-n=2", " workers:2"),
@@ -239,48 +223,17 @@ const WORKERS_AND_FORMS: [(&str, &str); 45] = [
     ("-V", "unrecognized arguments: -V"),
 ];
 
-/// What is told of the first row that doesn't hold.
-fn wrong_row(alloc: Global, rows: &[(&str, &str)]) -> Result<String, AllocError> {
-    for (line, wanted) in rows {
-        let words = words_of(alloc, line)?;
-        let text = read(alloc, &words)?;
-        if text.as_str() != *wanted {
-            return format!(in alloc; "{line}: {text}");
-        }
-    }
-    Ok(String::new(alloc))
-}
+/// Words, with `|` between them, and whether they ask for workers.
+pub const WORKERS: [(&str, &str); 1] = [("a|-n2", "true")];
 
-#[test]
-fn reads_command_lines(rt: HostRuntime) -> Result<(), Fail> {
-    let alloc = rt.alloc();
-    assert_eq!(rt; read(alloc, &[])?.as_str(), "", "at no words");
-    for rows in [
-        &PATHS_AND_SWITCHES[..],
-        &TEXTS_AND_NUMBERS[..],
-        &WORKERS_AND_FORMS[..],
-    ] {
-        assert_eq!(rt; wrong_row(alloc, rows)?.as_str(), "");
-    }
-    Ok(())
-}
-
-/// Whether two workers are asked for, where the words are taken.
-fn asks_for_workers(alloc: Global) -> Result<bool, AllocError> {
-    let words = words_of(alloc, "a|-n2")?;
-    Ok(match read_words(alloc, &words) {
-        Ok(options) => options.asks_for_workers(),
-        Err(_) => false,
-    })
-}
-
-#[test]
-fn says_what_it_reads(rt: HostRuntime) -> Result<(), Fail> {
-    let alloc = rt.alloc();
-    assert_eq!(rt; asks_for_workers(alloc), Ok(true));
+fn are_words_kept(alloc: Global) -> Result<bool, AllocError> {
     let word = Word::from_string(String::from_str(alloc, "é")?);
-    assert_eq!(rt; word.text(), "é");
+    let is_text_kept = word.text() == "é";
     let words = Words::from_vec(vec![in alloc; word]?);
-    assert_eq!(rt; words.items().len(), 1);
-    Ok(())
+    Ok(is_text_kept && words.items().len() == 1)
+}
+
+#[test]
+fn words_are_kept(rt: HostRuntime) {
+    assert!(rt; matches!(are_words_kept(rt.alloc()), Ok(true)));
 }

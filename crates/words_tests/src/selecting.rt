@@ -1,14 +1,13 @@
 //! Expected values are pytest's: its documentation ("Working with custom markers", "Using -k expr to select tests").
 
-use crate::options::words_of;
+use crate::lines::words_of;
 use cli_words::{Options, read_words};
 use mark_expr::{OutOfMemory, PyName};
-use selection::{asks_for_unbuilt, is_selected, read_exprs};
+use selection::{is_selected, read_exprs};
 use std::alloc::{AllocError, Global};
-use std::test::Fail;
 
 /// Words, with `|` between them, and the text of the fault of their expressions.
-const FAULTS: [(&str, &str); 11] = [
+pub const FAULTS: [(&str, &str); 13] = [
     ("", ""),
     ("-k|(", "wrong expression in -k at column 2"),
     ("-m|(", "wrong expression in -m at column 2"),
@@ -20,59 +19,36 @@ const FAULTS: [(&str, &str); 11] = [
     ("-k|\n", "wrong expression in -k at column 1"),
     ("-k|(|-k|a", ""),
     ("-k|a and not (b or c)|-m|slow", ""),
+    (
+        "-k(((((((((((((((((((((((((((((((((((((((((((((((((((((((((((((((((((((((((((((((((((((((((((((((((((((",
+        "expression in -k too deep",
+    ),
+    (
+        "-m(((((((((((((((((((((((((((((((((((((((((((((((((((((((((((((((((((((((((((((((((((((((((((((((((((((",
+        "expression in -m too deep",
+    ),
 ];
 
 /// The text of the fault of the expressions of options, or nothing.
-fn fault_text(alloc: Global, options: &Options) -> Result<String, AllocError> {
+pub fn fault_text(alloc: Global, options: &Options) -> Result<String, AllocError> {
     match read_exprs(alloc, options) {
         Ok(_) => Ok(String::new(alloc)),
         Err(fault) => fault.to_string(alloc),
     }
 }
 
-/// The text of the fault of these expressions, or nothing.
-fn fault_of(alloc: Global, line: &str) -> Result<String, AllocError> {
-    let words = words_of(alloc, line)?;
-    match read_words(alloc, &words) {
-        Ok(options) => fault_text(alloc, &options),
-        Err(_) => String::from_str(alloc, "words refused"),
-    }
-}
-
-/// What is told of the first row that doesn't hold.
-fn wrong_fault(alloc: Global) -> Result<String, AllocError> {
-    for (line, wanted) in &FAULTS {
-        let found = fault_of(alloc, line)?;
-        if found.as_str() != *wanted {
-            return format!(in alloc; "{line}: {found}");
-        }
-    }
-    Ok(String::new(alloc))
-}
-
-/// The text of the fault of an option whose expression opens one parenthesis more than a hundred.
-fn deep_fault(alloc: Global, option: &str) -> Result<String, AllocError> {
-    let mut line = String::from_str(alloc, option)?;
-    for _ in 0..101 {
-        line.push('(')?;
-    }
-    fault_of(alloc, line.as_str())
-}
-
-#[test]
-fn faults_name_their_option(rt: HostRuntime) -> Result<(), Fail> {
-    let alloc = rt.alloc();
-    assert_eq!(rt; wrong_fault(alloc)?.as_str(), "");
-    assert_eq!(rt;
-        deep_fault(alloc, "-k")?.as_str(),
-        "expression in -k too deep"
-    );
-    assert_eq!(rt;
-        deep_fault(alloc, "-m")?.as_str(),
-        "expression in -m too deep"
-    );
-    Ok(())
-}
+/// Words, with `|` between them, and whether they ask for what isn't built.
+pub const UNBUILT: [(&str, &str); 9] = [
+    ("", "false"),
+    ("-k|a|-m|b|-x|--tb=no|-v|--co|--ignore=c", "false"),
+    ("--setup-show", "false"),
+    ("-n2", "true"),
+    ("-n0", "false"),
+    ("-n2|--dist=no", "false"),
+    ("-n2|--co", "true"),
+    ("--dist=loadfile", "false"),
+    ("--generated=1,4", "true"),
+];
 
 /// Words, with `|` between them, the names of an item and its marks, and whether it is selected.
 const SELECTED: [(&str, &str, &str, bool); 19] = [
@@ -152,41 +128,4 @@ fn wrong_selection(alloc: Global) -> Option<(&'static str, &'static str)> {
 #[test]
 fn both_options_select(rt: HostRuntime) {
     assert_eq!(rt; wrong_selection(rt.alloc()), None);
-}
-
-/// Words, with `|` between them, and whether they ask for what isn't built.
-const UNBUILT: [(&str, bool); 9] = [
-    ("", false),
-    ("-k|a|-m|b|-x|--tb=no|-v|--co|--ignore=c", false),
-    ("--setup-show", false),
-    ("-n2", true),
-    ("-n0", false),
-    ("-n2|--dist=no", false),
-    ("-n2|--co", true),
-    ("--dist=loadfile", false),
-    ("--generated=1,4", true),
-];
-
-/// Whether words ask for what isn't built, where they are read.
-fn is_unbuilt(alloc: Global, line: &str) -> Result<Option<bool>, AllocError> {
-    let words = words_of(alloc, line)?;
-    Ok(match read_words(alloc, &words) {
-        Ok(options) => Some(asks_for_unbuilt(&options)),
-        Err(_) => None,
-    })
-}
-
-/// The first row that doesn't hold.
-fn wrong_unbuilt(alloc: Global) -> Option<&'static str> {
-    for (line, wanted) in &UNBUILT {
-        if is_unbuilt(alloc, line) != Ok(Some(*wanted)) {
-            return Some(*line);
-        }
-    }
-    None
-}
-
-#[test]
-fn what_is_not_built_is_told(rt: HostRuntime) {
-    assert_eq!(rt; wrong_unbuilt(rt.alloc()), None);
 }

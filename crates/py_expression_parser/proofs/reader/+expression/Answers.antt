@@ -28,16 +28,16 @@ pub expressions-returns-then-not-at_op-clause-reads : goal.expressions-returns-t
 expressions-returns-then-not-at_op-clause-reads t c = let b : starts_with kind (k.comma ∷ []) c.expression.new.p.rest.now ≡ false = cc in rw (exprs_shape c.args.levels c.args.p.now.rest.now (omega arith), c.in-Some.ensures.reads, b) refl
 
 pub expressions-returns-then-first-levels-clause-reads : goal.expressions-returns-then-first-levels-clause-reads
-expressions-returns-then-first-levels-clause-reads t c = let b : starts_with kind (k.comma ∷ []) c.expression.new.p.rest.now ≡ true = cc in rw (c.stop_deep.ensures) (rw (exprs_shape c.args.levels c.args.p.now.rest.now (omega arith), c.in-Some.ensures.reads, b, room_stays c.args.levels c.in-Some.first.height c.in-Some.first.some (omega arith)) refl)
+expressions-returns-then-first-levels-clause-reads t c = let b : starts_with kind (k.comma ∷ []) c.expression.new.p.rest.now ≡ true = cc in rw (c.stop_deep.ensures.stops) (rw (exprs_shape c.args.levels c.args.p.now.rest.now (omega arith), c.in-Some.ensures.reads, b, room_stays c.args.levels c.in-Some.first.height c.in-Some.first.some (omega arith)) refl)
 
 pub expressions-returns-in_default-made-clause-reads : goal.expressions-returns-in_default-made-clause-reads
-expressions-returns-in_default-made-clause-reads t c = rw (c.in_default-made.ensures) tt
+expressions-returns-in_default-made-clause-reads t c = rw (c.in_default-made.ensures.makes) tt
 
 pub expressions-returns-in_default-items-clause-reads : goal.expressions-returns-in_default-items-clause-reads
-expressions-returns-in_default-items-clause-reads t c = let b : starts_with kind (k.comma ∷ []) c.expression.new.p.rest.now ≡ true = cc in exprs_stops c.args.levels c.args.p.now.rest.now (tree c.in-Some.first.expr.value) c.in-Some.first.height c.expression.new.p.rest.now (row_of c.in-Some-made.row) c.in-Some-made.row.all.height c.items.new.p.stop c.in-Some.first.some (omega arith) c.in-Some.ensures.reads b (rw c.in-Some-made.ensures.0 at c.first_item.ensures.row) (rw c.in-Some-made.ensures.0 at c.first_item.ensures.height) (rw c.in-Some-made.ensures.1 at c.in_default-items.ensures.reads)
+expressions-returns-in_default-items-clause-reads t c = let b : starts_with kind (k.comma ∷ []) c.expression.new.p.rest.now ≡ true = cc in exprs_stops c.args.levels c.args.p.now.rest.now (tree c.in-Some.first.expr.value) c.in-Some.first.height c.expression.new.p.rest.now (row_of c.in-Some-made.row) c.in-Some-made.row.all.height c.items.new.p.stop c.in-Some.first.some (omega arith) c.in-Some.ensures.reads b (rw c.in-Some-made.ensures.makes.0 at c.first_item.ensures.row) (rw c.in-Some-made.ensures.makes.0 at c.first_item.ensures.height) (rw c.in-Some-made.ensures.makes.1 at c.in_default-items.ensures.reads)
 
 pub expressions-returns-clause-reads : goal.expressions-returns-clause-reads
-expressions-returns-clause-reads t c = let b : starts_with kind (k.comma ∷ []) c.expression.new.p.rest.now ≡ true = cc in node_reads c.tuple_node.result c.items.new.p.rest.now c.made-2.result c.made-2.new.self _ _ _ c.made-2.ensures c.tuple_node.ensures.tree c.tuple_node.ensures.height (exprs_whole c.args.levels c.args.p.now.rest.now (tree c.in-Some.first.expr.value) c.in-Some.first.height c.expression.new.p.rest.now (row_of c.in-Some-made.row) c.in-Some-made.row.all.height (row_of c.in-Some-items.row) c.in-Some-items.row.all.height c.items.new.p.rest.now _ _ c.in-Some.first.some (omega arith) c.in-Some.ensures.reads b (rw c.in-Some-made.ensures.0 at c.first_item.ensures.row) (rw c.in-Some-made.ensures.0 at c.first_item.ensures.height) (rw c.in-Some-made.ensures.1 at c.in-Some-items.ensures.reads) refl refl)
+expressions-returns-clause-reads t c = let b : starts_with kind (k.comma ∷ []) c.expression.new.p.rest.now ≡ true = cc in node_reads c.tuple_node.result c.items.new.p.rest.now c.made-2.result c.made-2.new.self _ _ _ c.made-2.ensures.makes c.tuple_node.ensures.tree c.tuple_node.ensures.height (exprs_whole c.args.levels c.args.p.now.rest.now (tree c.in-Some.first.expr.value) c.in-Some.first.height c.expression.new.p.rest.now (row_of c.in-Some-made.row) c.in-Some-made.row.all.height (row_of c.in-Some-items.row) c.in-Some-items.row.all.height c.items.new.p.rest.now _ _ c.in-Some.first.some (omega arith) c.in-Some.ensures.reads b (rw c.in-Some-made.ensures.makes.0 at c.first_item.ensures.row) (rw c.in-Some-made.ensures.makes.0 at c.first_item.ensures.height) (rw c.in-Some-made.ensures.makes.1 at c.in-Some-items.ensures.reads) refl refl)
 
 pub items-returns-then-not-begins_expression-clause-reads : goal.items-returns-then-not-begins_expression-clause-reads
 items-returns-then-not-begins_expression-clause-reads t c = let b : starts_with kind E1 c.take_op.new.self.rest.now ≡ false = cc in row_end c.args.levels (row_of c.loop-comma.row, c.loop-comma.row.all.height) c.loop-comma.p.rest.now c.in-Some._comma.now c.take_op.new.self.rest.now (row_of c.end_row.result) c.end_row.result.all.height _ c.loop-comma.invariant.unended c.in-Some.ensures b c.end_row.ensures.row c.end_row.ensures.height c.loop-comma.invariant.reads
@@ -46,14 +46,14 @@ pub items-returns-in_default-expression-clause-reads : goal.items-returns-in_def
 items-returns-in_default-expression-clause-reads t c = let b : starts_with kind E1 c.take_op.new.self.rest.now ≡ true = cc in row_stops c.args.levels (row_of c.loop-comma.row, c.loop-comma.row.all.height) c.loop-comma.p.rest.now c.in-Some._comma.now c.take_op.new.self.rest.now c.expression.new.p.stop _ c.loop-comma.invariant.unended c.in-Some.ensures b c.in_default-expression.ensures.reads c.loop-comma.invariant.reads
 
 pub items-returns-in_default-made-clause-reads : goal.items-returns-in_default-made-clause-reads
-items-returns-in_default-made-clause-reads t c = rw (c.in_default-made.ensures) tt
+items-returns-in_default-made-clause-reads t c = rw (c.in_default-made.ensures.makes) tt
 
 pub items-loop-comma-smaller : goal.items-loop-comma-smaller
-items-loop-comma-smaller t c = omega (arith, ap length c.in-Some-made.ensures.1, first_takes (k.comma ∷ []) c.loop-comma.p.rest.now c.in-Some._comma.now c.take_op.new.self.rest.now c.in-Some.ensures, takes (c.args.levels - 1) expr c.take_op.new.self.rest.now (tree c.in-Some-expression.next.expr.value, c.in-Some-expression.next.height) c.expression.new.p.rest.now c.in-Some-expression.ensures.reads)
+items-loop-comma-smaller t c = omega (arith, ap length c.in-Some-made.ensures.makes.1, first_takes (k.comma ∷ []) c.loop-comma.p.rest.now c.in-Some._comma.now c.take_op.new.self.rest.now c.in-Some.ensures, takes (c.args.levels - 1) expr c.take_op.new.self.rest.now (tree c.in-Some-expression.next.expr.value, c.in-Some-expression.next.height) c.expression.new.p.rest.now c.in-Some-expression.ensures.reads)
 
 pub items-loop-comma-preserved : goal.items-loop-comma-preserved
-items-loop-comma-preserved t c = let b : starts_with kind E1 c.take_op.new.self.rest.now ≡ true = cc in let r = rw c.in-Some-made.ensures.0 at c.add_item.ensures.row in let h = rw c.in-Some-made.ensures.0 at c.add_item.ensures.height in record {
-  reads = rw (c.in-Some-made.ensures.1) (row_goes c.args.levels (row_of c.loop-comma.row, c.loop-comma.row.all.height) c.loop-comma.p.rest.now c.in-Some._comma.now c.take_op.new.self.rest.now (tree c.in-Some-expression.next.expr.value, c.in-Some-expression.next.height) c.expression.new.p.rest.now (row_of c.in-Some-made.more) c.in-Some-made.more.all.height _ c.loop-comma.invariant.unended c.in-Some.ensures b c.in-Some-expression.ensures.reads r h c.loop-comma.invariant.reads);
+items-loop-comma-preserved t c = let b : starts_with kind E1 c.take_op.new.self.rest.now ≡ true = cc in let r = rw c.in-Some-made.ensures.makes.0 at c.add_item.ensures.row in let h = rw c.in-Some-made.ensures.makes.0 at c.add_item.ensures.height in record {
+  reads = rw (c.in-Some-made.ensures.makes.1) (row_goes c.args.levels (row_of c.loop-comma.row, c.loop-comma.row.all.height) c.loop-comma.p.rest.now c.in-Some._comma.now c.take_op.new.self.rest.now (tree c.in-Some-expression.next.expr.value, c.in-Some-expression.next.height) c.expression.new.p.rest.now (row_of c.in-Some-made.more) c.in-Some-made.more.all.height _ c.loop-comma.invariant.unended c.in-Some.ensures b c.in-Some-expression.ensures.reads r h c.loop-comma.invariant.reads);
   unended = ap (λ r. r.ended) r;
   low = omega (arith, c.in-Some-expression.ensures.fits, h, c.loop-comma.invariant.low);
 }
@@ -68,7 +68,7 @@ pub expression-returns-in_default-take_op-clause-reads : goal.expression-returns
 expression-returns-in_default-take_op-clause-reads t c = rw (c.in_default-take_op.ensures.1, expr_shape c.args.levels c.args.p.now.rest.now (omega arith), c.in-Some.ensures.reads, c.in_default-take_op.ensures.0) refl
 
 pub expression-returns-then-value-levels-clause-reads : goal.expression-returns-then-value-levels-clause-reads
-expression-returns-then-value-levels-clause-reads t c = rw (c.stop_deep.ensures) (rw (expr_shape c.args.levels c.args.p.now.rest.now (omega arith), c.in-Some.ensures.reads, c.in-Some-take_op.ensures, room_stays c.args.levels c.in-Some.value.height c.in-Some.value.some (omega arith)) refl)
+expression-returns-then-value-levels-clause-reads t c = rw (c.stop_deep.ensures.stops) (rw (expr_shape c.args.levels c.args.p.now.rest.now (omega arith), c.in-Some.ensures.reads, c.in-Some-take_op.ensures, room_stays c.args.levels c.in-Some.value.height c.in-Some.value.some (omega arith)) refl)
 
 pub expression-returns-in_default-chained-clause-reads : goal.expression-returns-in_default-chained-clause-reads
 expression-returns-in_default-chained-clause-reads t c = rw (expr_shape c.args.levels c.args.p.now.rest.now (omega arith), c.in-Some.ensures.reads, c.in-Some-take_op.ensures, room_goes c.args.levels c.in-Some.value.height c.in-Some.value.some (omega arith)) (part_fails c.chained-2.new.p.stop _ _ c.in_default-chained.ensures.reads)
@@ -80,7 +80,7 @@ pub expression-returns-in_default-expression-clause-reads : goal.expression-retu
 expression-returns-in_default-expression-clause-reads t c = rw (expr_shape c.args.levels c.args.p.now.rest.now (omega arith), c.in-Some.ensures.reads, c.in-Some-take_op.ensures, room_goes c.args.levels c.in-Some.value.height c.in-Some.value.some (omega arith), c.in-Some-chained.ensures.reads, c.in-Some-expect_op.ensures) (part_fails c.expression.new.p.stop _ _ c.in_default-expression.ensures.reads)
 
 pub expression-returns-clause-reads : goal.expression-returns-clause-reads
-expression-returns-clause-reads t c = node_reads c.if_else_node.result c.expression.new.p.rest.now c.made.result c.made.new.self _ _ _ c.made.ensures c.if_else_node.ensures.tree c.if_else_node.ensures.height (rw (expr_shape c.args.levels c.args.p.now.rest.now (omega arith), c.in-Some.ensures.reads, c.in-Some-take_op.ensures, room_goes c.args.levels c.in-Some.value.height c.in-Some.value.some (omega arith), c.in-Some-chained.ensures.reads, c.in-Some-expect_op.ensures, c.in-Some-expression.ensures.reads) refl)
+expression-returns-clause-reads t c = node_reads c.if_else_node.result c.expression.new.p.rest.now c.made.result c.made.new.self _ _ _ c.made.ensures.makes c.if_else_node.ensures.tree c.if_else_node.ensures.height (rw (expr_shape c.args.levels c.args.p.now.rest.now (omega arith), c.in-Some.ensures.reads, c.in-Some-take_op.ensures, room_goes c.args.levels c.in-Some.value.height c.in-Some.value.some (omega arith), c.in-Some-chained.ensures.reads, c.in-Some-expect_op.ensures, c.in-Some-expression.ensures.reads) refl)
 
 pub chained-returns-in_default-clause-reads : goal.chained-returns-in_default-clause-reads
 chained-returns-in_default-clause-reads t c = rw (chained_shape c.args.levels c.args.link c.args.p.now.rest.now c.requires.some) (part_fails c.operand.new.p.stop _ _ c.in_default.ensures.reads)
@@ -89,13 +89,13 @@ pub chained-returns-then-not-begins_link-clause-reads : goal.chained-returns-the
 chained-returns-then-not-begins_link-clause-reads t c = let b : starts_with kind (links_of c.args.link) c.operand.new.p.rest.now ≡ false = cc in rw (chained_shape c.args.levels c.args.link c.args.p.now.rest.now c.requires.some, c.in-Some.ensures.reads, b) refl
 
 pub chained-returns-then-first-levels-clause-reads : goal.chained-returns-then-first-levels-clause-reads
-chained-returns-then-first-levels-clause-reads t c = let b : starts_with kind (links_of c.args.link) c.operand.new.p.rest.now ≡ true = cc in rw (c.stop_deep.ensures) (rw (chained_shape c.args.levels c.args.link c.args.p.now.rest.now c.requires.some, c.in-Some.ensures.reads, b, room_stays c.args.levels c.in-Some.first.height c.in-Some.first.some (omega arith)) refl)
+chained-returns-then-first-levels-clause-reads t c = let b : starts_with kind (links_of c.args.link) c.operand.new.p.rest.now ≡ true = cc in rw (c.stop_deep.ensures.stops) (rw (chained_shape c.args.levels c.args.link c.args.p.now.rest.now c.requires.some, c.in-Some.ensures.reads, b, room_stays c.args.levels c.in-Some.first.height c.in-Some.first.some (omega arith)) refl)
 
 pub chained-returns-in_default-further-clause-reads : goal.chained-returns-in_default-further-clause-reads
 chained-returns-in_default-further-clause-reads t c = let b : starts_with kind (links_of c.args.link) c.operand.new.p.rest.now ≡ true = cc in chained_stops c.args.levels c.args.link c.args.p.now.rest.now (tree c.in-Some.first.expr.value, c.in-Some.first.height) c.operand.new.p.rest.now (chain_of c.chain_of.result) (max c.chain_of.result.head.height c.chain_of.result.more.height) c.further.new.p.stop c.in-Some.first.some (omega arith) c.in-Some.ensures.reads b c.chain_of.ensures.chain (omega (arith, c.chain_of.ensures.head, c.chain_of.ensures.more)) c.in_default-further.ensures.reads
 
 pub chained-returns-clause-reads : goal.chained-returns-clause-reads
-chained-returns-clause-reads t c = let b : starts_with kind (links_of c.args.link) c.operand.new.p.rest.now ≡ true = cc in node_reads c.chain_node.result c.further.new.p.rest.now c.made.result c.made.new.self _ _ _ c.made.ensures c.chain_node.ensures.tree c.chain_node.ensures.height (chained_whole c.args.levels c.args.link c.args.p.now.rest.now (tree c.in-Some.first.expr.value, c.in-Some.first.height) c.operand.new.p.rest.now (chain_of c.chain_of.result) (max c.chain_of.result.head.height c.chain_of.result.more.height) (chain_of c.in-Some-further.chain) (max c.in-Some-further.chain.head.height c.in-Some-further.chain.more.height) c.further.new.p.rest.now c.in-Some.first.some (omega arith) c.in-Some.ensures.reads b c.chain_of.ensures.chain (omega (arith, c.chain_of.ensures.head, c.chain_of.ensures.more)) c.in-Some-further.ensures.reads)
+chained-returns-clause-reads t c = let b : starts_with kind (links_of c.args.link) c.operand.new.p.rest.now ≡ true = cc in node_reads c.chain_node.result c.further.new.p.rest.now c.made.result c.made.new.self _ _ _ c.made.ensures.makes c.chain_node.ensures.tree c.chain_node.ensures.height (chained_whole c.args.levels c.args.link c.args.p.now.rest.now (tree c.in-Some.first.expr.value, c.in-Some.first.height) c.operand.new.p.rest.now (chain_of c.chain_of.result) (max c.chain_of.result.head.height c.chain_of.result.more.height) (chain_of c.in-Some-further.chain) (max c.in-Some-further.chain.head.height c.in-Some-further.chain.more.height) c.further.new.p.rest.now c.in-Some.first.some (omega arith) c.in-Some.ensures.reads b c.chain_of.ensures.chain (omega (arith, c.chain_of.ensures.head, c.chain_of.ensures.more)) c.in-Some-further.ensures.reads)
 
 pub further-returns-in_default-clause-reads : goal.further-returns-in_default-clause-reads
 further-returns-in_default-clause-reads t c = let b : starts_with kind (links_of c.args.link) c.loop-link.p.rest.now ≡ true = cc in link_fails c.args.levels c.args.link (chain_of c.loop-link.chain, max c.loop-link.chain.head.height c.loop-link.chain.more.height) c.loop-link.p.rest.now c.link_at.new.p.stop _ b c.in_default.ensures c.loop-link.invariant.reads
@@ -104,14 +104,14 @@ pub further-returns-in_default-operand-clause-reads : goal.further-returns-in_de
 further-returns-in_default-operand-clause-reads t c = let b : starts_with kind (links_of c.args.link) c.loop-link.p.rest.now ≡ true = cc in operand_fails c.args.levels c.args.link (chain_of c.loop-link.chain, max c.loop-link.chain.head.height c.loop-link.chain.more.height) c.loop-link.p.rest.now c.in-Some.op c.link_at.new.p.rest.now c.operand.new.p.stop _ b c.in-Some.ensures c.in_default-operand.ensures.reads c.loop-link.invariant.reads
 
 pub further-returns-in_default-made-clause-reads : goal.further-returns-in_default-made-clause-reads
-further-returns-in_default-made-clause-reads t c = rw (c.in_default-made.ensures) tt
+further-returns-in_default-made-clause-reads t c = rw (c.in_default-made.ensures.makes) tt
 
 pub further-loop-link-smaller : goal.further-loop-link-smaller
-further-loop-link-smaller t c = omega (arith, ap length c.in-Some-made.ensures.1, link_takes c.args.levels c.args.link (chain_of c.loop-link.chain, max c.loop-link.chain.head.height c.loop-link.chain.more.height) c.loop-link.p.rest.now c.in-Some.op c.link_at.new.p.rest.now (tree c.in-Some-operand.next.expr.value, c.in-Some-operand.next.height) c.operand.new.p.rest.now c.in-Some.ensures c.in-Some-operand.ensures.reads)
+further-loop-link-smaller t c = omega (arith, ap length c.in-Some-made.ensures.makes.1, link_takes c.args.levels c.args.link (chain_of c.loop-link.chain, max c.loop-link.chain.head.height c.loop-link.chain.more.height) c.loop-link.p.rest.now c.in-Some.op c.link_at.new.p.rest.now (tree c.in-Some-operand.next.expr.value, c.in-Some-operand.next.height) c.operand.new.p.rest.now c.in-Some.ensures c.in-Some-operand.ensures.reads)
 
 pub further-loop-link-preserved : goal.further-loop-link-preserved
-further-loop-link-preserved t c = let b : starts_with kind (links_of c.args.link) c.loop-link.p.rest.now ≡ true = cc in let q = rw c.in-Some-made.ensures.0 at c.add_operand.ensures.chain in let h = rw c.in-Some-made.ensures.0 at c.add_operand.ensures.head in let l = rw c.in-Some-made.ensures.0 at c.add_operand.ensures.more in record {
-  reads = rw (c.in-Some-made.ensures.1) (links_next c.args.levels c.args.link (chain_of c.loop-link.chain, max c.loop-link.chain.head.height c.loop-link.chain.more.height) c.loop-link.p.rest.now c.in-Some.op c.link_at.new.p.rest.now (tree c.in-Some-operand.next.expr.value, c.in-Some-operand.next.height) c.operand.new.p.rest.now (chain_of c.in-Some-made.more) (max c.in-Some-made.more.head.height c.in-Some-made.more.more.height) _ b c.in-Some.ensures c.in-Some-operand.ensures.reads q (omega (arith, h, l)) c.loop-link.invariant.reads);
+further-loop-link-preserved t c = let b : starts_with kind (links_of c.args.link) c.loop-link.p.rest.now ≡ true = cc in let q = rw c.in-Some-made.ensures.makes.0 at c.add_operand.ensures.chain in let h = rw c.in-Some-made.ensures.makes.0 at c.add_operand.ensures.head in let l = rw c.in-Some-made.ensures.makes.0 at c.add_operand.ensures.more in record {
+  reads = rw (c.in-Some-made.ensures.makes.1) (links_next c.args.levels c.args.link (chain_of c.loop-link.chain, max c.loop-link.chain.head.height c.loop-link.chain.more.height) c.loop-link.p.rest.now c.in-Some.op c.link_at.new.p.rest.now (tree c.in-Some-operand.next.expr.value, c.in-Some-operand.next.height) c.operand.new.p.rest.now (chain_of c.in-Some-made.more) (max c.in-Some-made.more.head.height c.in-Some-made.more.more.height) _ b c.in-Some.ensures c.in-Some-operand.ensures.reads q (omega (arith, h, l)) c.loop-link.invariant.reads);
   low = omega (arith, c.in-Some-operand.ensures.fits, h, l, c.loop-link.invariant.low);
 }
 
@@ -119,44 +119,44 @@ pub negation-returns-in_default-clause-reads : goal.negation-returns-in_default-
 negation-returns-in_default-clause-reads t c = rw (not_shape c.args.levels c.args.p.now.rest.now c.requires.some, c.in_default.ensures.0, sym c.in_default.ensures.1) c.chained.ensures.reads
 
 pub negation-returns-then-levels-lt2-clause-reads : goal.negation-returns-then-levels-lt2-clause-reads
-negation-returns-then-levels-lt2-clause-reads t c = rw (c.stop_deep.ensures) (rw (not_shape c.args.levels c.args.p.now.rest.now c.requires.some, c.in-Some.ensures, two_stays c.args.levels (omega arith)) refl)
+negation-returns-then-levels-lt2-clause-reads t c = rw (c.stop_deep.ensures.stops) (rw (not_shape c.args.levels c.args.p.now.rest.now c.requires.some, c.in-Some.ensures, two_stays c.args.levels (omega arith)) refl)
 
 pub negation-returns-in_default-negation-clause-reads : goal.negation-returns-in_default-negation-clause-reads
 negation-returns-in_default-negation-clause-reads t c = rw (not_shape c.args.levels c.args.p.now.rest.now c.requires.some, c.in-Some.ensures, two_goes c.args.levels (omega arith)) (part_fails c.negation.new.p.stop _ _ c.in_default-negation.ensures.reads)
 
 pub negation-returns-clause-reads : goal.negation-returns-clause-reads
-negation-returns-clause-reads t c = node_reads c.not_node.result c.negation.new.p.rest.now c.made.result c.made.new.self _ _ _ c.made.ensures c.not_node.ensures.tree c.not_node.ensures.height (rw (not_shape c.args.levels c.args.p.now.rest.now c.requires.some, c.in-Some.ensures, two_goes c.args.levels (omega arith), c.in-Some-negation.ensures.reads) refl)
+negation-returns-clause-reads t c = node_reads c.not_node.result c.negation.new.p.rest.now c.made.result c.made.new.self _ _ _ c.made.ensures.makes c.not_node.ensures.tree c.not_node.ensures.height (rw (not_shape c.args.levels c.args.p.now.rest.now c.requires.some, c.in-Some.ensures, two_goes c.args.levels (omega arith), c.in-Some-negation.ensures.reads) refl)
 
 pub unary-returns-in_default-clause-reads : goal.unary-returns-in_default-clause-reads
 unary-returns-in_default-clause-reads t c = rw (unary_shape c.args.levels c.args.p.now.rest.now c.requires.some, c.in_default.ensures.0, sym c.in_default.ensures.1) c.power.ensures.reads
 
 pub unary-returns-then-levels-lt2-clause-reads : goal.unary-returns-then-levels-lt2-clause-reads
-unary-returns-then-levels-lt2-clause-reads t c = rw (c.stop_deep.ensures) (rw (unary_shape c.args.levels c.args.p.now.rest.now c.requires.some, c.in-Some.ensures, two_stays c.args.levels (omega arith)) refl)
+unary-returns-then-levels-lt2-clause-reads t c = rw (c.stop_deep.ensures.stops) (rw (unary_shape c.args.levels c.args.p.now.rest.now c.requires.some, c.in-Some.ensures, two_stays c.args.levels (omega arith)) refl)
 
 pub unary-returns-in_default-unary-clause-reads : goal.unary-returns-in_default-unary-clause-reads
 unary-returns-in_default-unary-clause-reads t c = rw (unary_shape c.args.levels c.args.p.now.rest.now c.requires.some, c.in-Some.ensures, two_goes c.args.levels (omega arith)) (part_fails c.unary.new.p.stop _ _ c.in_default-unary.ensures.reads)
 
 pub unary-returns-clause-reads : goal.unary-returns-clause-reads
-unary-returns-clause-reads t c = node_reads c.unary_node.result c.unary.new.p.rest.now c.made.result c.made.new.self _ _ _ c.made.ensures c.unary_node.ensures.tree c.unary_node.ensures.height (rw (unary_shape c.args.levels c.args.p.now.rest.now c.requires.some, c.in-Some.ensures, two_goes c.args.levels (omega arith), c.in-Some-unary.ensures.reads) refl)
+unary-returns-clause-reads t c = node_reads c.unary_node.result c.unary.new.p.rest.now c.made.result c.made.new.self _ _ _ c.made.ensures.makes c.unary_node.ensures.tree c.unary_node.ensures.height (rw (unary_shape c.args.levels c.args.p.now.rest.now c.requires.some, c.in-Some.ensures, two_goes c.args.levels (omega arith), c.in-Some-unary.ensures.reads) refl)
 
 pub binary-returns-in_default-take_operator-clause-reads : goal.binary-returns-in_default-take_operator-clause-reads
 binary-returns-in_default-take_operator-clause-reads t c = rw (c.in_default-take_operator.ensures.1) (sym c.loop-token.invariant.reads ∙ more_over c.args.levels c.args.rank (tree c.loop-token.left.expr.value, c.loop-token.left.height) c.loop-token.p.rest.now c.in_default-take_operator.ensures.0)
 
 pub binary-returns-then-left-levels-clause-reads : goal.binary-returns-then-left-levels-clause-reads
-binary-returns-then-left-levels-clause-reads t c = rw (c.stop_deep.ensures) (more_deep c.args.levels c.args.rank (tree c.loop-token.left.expr.value, c.loop-token.left.height) c.loop-token.p.rest.now (c.in-Some-take_operator._token.now, c.in-Some-take_operator.op) c.take_operator.new.p.rest.now _ c.loop-token.left.some (omega arith) c.in-Some-take_operator.ensures c.loop-token.invariant.reads)
+binary-returns-then-left-levels-clause-reads t c = rw (c.stop_deep.ensures.stops) (more_deep c.args.levels c.args.rank (tree c.loop-token.left.expr.value, c.loop-token.left.height) c.loop-token.p.rest.now (c.in-Some-take_operator._token.now, c.in-Some-take_operator.op) c.take_operator.new.p.rest.now _ c.loop-token.left.some (omega arith) c.in-Some-take_operator.ensures c.loop-token.invariant.reads)
 
 pub binary-returns-in_default-binary-2-clause-reads : goal.binary-returns-in_default-binary-2-clause-reads
 binary-returns-in_default-binary-2-clause-reads t c = more_fails c.args.levels c.args.rank c.lower-in-loop-token.result (tree c.loop-token.left.expr.value, c.loop-token.left.height) c.loop-token.p.rest.now (c.in-Some-take_operator._token.now, c.in-Some-take_operator.op) c.take_operator.new.p.rest.now c.binary-in-loop-token.new.p.stop _ c.lower-in-loop-token.ensures c.loop-token.left.some (omega arith) c.in-Some-take_operator.ensures c.in_default-binary-2.ensures.reads c.loop-token.invariant.reads
 
 pub binary-returns-in_default-made-clause-reads : goal.binary-returns-in_default-made-clause-reads
-binary-returns-in_default-made-clause-reads t c = rw (c.in_default-made.ensures) tt
+binary-returns-in_default-made-clause-reads t c = rw (c.in_default-made.ensures.makes) tt
 
 pub binary-loop-token-smaller : goal.binary-loop-token-smaller
-binary-loop-token-smaller t c = omega (arith, ap length c.in-Some-made.ensures.1, meant_takes (operators_of c.args.rank) c.loop-token.p.rest.now (c.in-Some-take_operator._token.now, c.in-Some-take_operator.op) c.take_operator.new.p.rest.now c.in-Some-take_operator.ensures, rank_takes (c.args.levels - 1) c.lower-in-loop-token.result c.take_operator.new.p.rest.now (tree c.in-Some-binary.right.expr.value, c.in-Some-binary.right.height) c.binary-in-loop-token.new.p.rest.now c.in-Some-binary.ensures.reads)
+binary-loop-token-smaller t c = omega (arith, ap length c.in-Some-made.ensures.makes.1, meant_takes (operators_of c.args.rank) c.loop-token.p.rest.now (c.in-Some-take_operator._token.now, c.in-Some-take_operator.op) c.take_operator.new.p.rest.now c.in-Some-take_operator.ensures, rank_takes (c.args.levels - 1) c.lower-in-loop-token.result c.take_operator.new.p.rest.now (tree c.in-Some-binary.right.expr.value, c.in-Some-binary.right.height) c.binary-in-loop-token.new.p.rest.now c.in-Some-binary.ensures.reads)
 
 pub binary-loop-token-preserved : goal.binary-loop-token-preserved
-binary-loop-token-preserved t c = let q = rw c.in-Some-made.ensures.0 at c.binary_node.ensures.tree in let h = rw c.in-Some-made.ensures.0 at c.binary_node.ensures.height in record {
-  reads = rw (c.in-Some-made.ensures.1) (more_next c.args.levels c.args.rank c.lower-in-loop-token.result (tree c.loop-token.left.expr.value, c.loop-token.left.height) c.loop-token.p.rest.now (c.in-Some-take_operator._token.now, c.in-Some-take_operator.op) c.take_operator.new.p.rest.now (tree c.in-Some-binary.right.expr.value, c.in-Some-binary.right.height) c.binary-in-loop-token.new.p.rest.now (tree c.in-Some-made.whole.expr.value) c.in-Some-made.whole.height _ c.lower-in-loop-token.ensures c.loop-token.left.some (omega arith) c.in-Some-take_operator.ensures c.in-Some-binary.ensures.reads q h c.loop-token.invariant.reads);
+binary-loop-token-preserved t c = let q = rw c.in-Some-made.ensures.makes.0 at c.binary_node.ensures.tree in let h = rw c.in-Some-made.ensures.makes.0 at c.binary_node.ensures.height in record {
+  reads = rw (c.in-Some-made.ensures.makes.1) (more_next c.args.levels c.args.rank c.lower-in-loop-token.result (tree c.loop-token.left.expr.value, c.loop-token.left.height) c.loop-token.p.rest.now (c.in-Some-take_operator._token.now, c.in-Some-take_operator.op) c.take_operator.new.p.rest.now (tree c.in-Some-binary.right.expr.value, c.in-Some-binary.right.height) c.binary-in-loop-token.new.p.rest.now (tree c.in-Some-made.whole.expr.value) c.in-Some-made.whole.height _ c.lower-in-loop-token.ensures c.loop-token.left.some (omega arith) c.in-Some-take_operator.ensures c.in-Some-binary.ensures.reads q h c.loop-token.invariant.reads);
   fits = omega (arith, c.in-Some-binary.ensures.fits, h);
 }
 
@@ -167,16 +167,16 @@ pub power-returns-in_default-take_op-clause-reads : goal.power-returns-in_defaul
 power-returns-in_default-take_op-clause-reads t c = rw (c.in_default-take_op.ensures.1, power_shape c.args.levels c.args.p.now.rest.now c.requires.some, c.in-Some.ensures.reads, c.in_default-take_op.ensures.0) refl
 
 pub power-returns-then-left-levels-clause-reads : goal.power-returns-then-left-levels-clause-reads
-power-returns-then-left-levels-clause-reads t c = rw (c.stop_deep.ensures) (rw (power_shape c.args.levels c.args.p.now.rest.now c.requires.some, c.in-Some.ensures.reads, c.in-Some-take_op.ensures, room_stays c.args.levels c.in-Some.left.height c.in-Some.left.some (omega arith)) refl)
+power-returns-then-left-levels-clause-reads t c = rw (c.stop_deep.ensures.stops) (rw (power_shape c.args.levels c.args.p.now.rest.now c.requires.some, c.in-Some.ensures.reads, c.in-Some-take_op.ensures, room_stays c.args.levels c.in-Some.left.height c.in-Some.left.some (omega arith)) refl)
 
 pub power-returns-in_default-unary-clause-reads : goal.power-returns-in_default-unary-clause-reads
 power-returns-in_default-unary-clause-reads t c = rw (power_shape c.args.levels c.args.p.now.rest.now c.requires.some, c.in-Some.ensures.reads, c.in-Some-take_op.ensures, room_goes c.args.levels c.in-Some.left.height c.in-Some.left.some (omega arith)) (part_fails c.unary.new.p.stop _ _ c.in_default-unary.ensures.reads)
 
 pub power-returns-clause-reads : goal.power-returns-clause-reads
-power-returns-clause-reads t c = node_reads c.binary_node.result c.unary.new.p.rest.now c.made.result c.made.new.self _ _ _ c.made.ensures c.binary_node.ensures.tree c.binary_node.ensures.height (rw (power_shape c.args.levels c.args.p.now.rest.now c.requires.some, c.in-Some.ensures.reads, c.in-Some-take_op.ensures, room_goes c.args.levels c.in-Some.left.height c.in-Some.left.some (omega arith), c.in-Some-unary.ensures.reads) refl)
+power-returns-clause-reads t c = node_reads c.binary_node.result c.unary.new.p.rest.now c.made.result c.made.new.self _ _ _ c.made.ensures.makes c.binary_node.ensures.tree c.binary_node.ensures.height (rw (power_shape c.args.levels c.args.p.now.rest.now c.requires.some, c.in-Some.ensures.reads, c.in-Some-take_op.ensures, room_goes c.args.levels c.in-Some.left.height c.in-Some.left.some (omega arith), c.in-Some-unary.ensures.reads) refl)
 
 pub primary-returns-then-left-levels-clause-reads : goal.primary-returns-then-left-levels-clause-reads
-primary-returns-then-left-levels-clause-reads t c = let b : starts_with kind (k.dot ∷ k.left_paren ∷ k.left_bracket ∷ []) c.loop-p.p.rest.now ≡ true = cc in rw (c.stop_deep.ensures) (trailers_deep c.args.levels (tree c.loop-p.left.expr.value, c.loop-p.left.height) c.loop-p.p.rest.now _ c.loop-p.left.some (omega arith) b c.loop-p.invariant.reads)
+primary-returns-then-left-levels-clause-reads t c = let b : starts_with kind (k.dot ∷ k.left_paren ∷ k.left_bracket ∷ []) c.loop-p.p.rest.now ≡ true = cc in rw (c.stop_deep.ensures.stops) (trailers_deep c.args.levels (tree c.loop-p.left.expr.value, c.loop-p.left.height) c.loop-p.p.rest.now _ c.loop-p.left.some (omega arith) b c.loop-p.invariant.reads)
 
 pub primary-returns-in_default-trailer-clause-reads : goal.primary-returns-in_default-trailer-clause-reads
 primary-returns-in_default-trailer-clause-reads t c = let b : starts_with kind (k.dot ∷ k.left_paren ∷ k.left_bracket ∷ []) c.loop-p.p.rest.now ≡ true = cc in trailers_fails c.args.levels (tree c.loop-p.left.expr.value, c.loop-p.left.height) c.loop-p.p.rest.now c.trailer.new.p.stop _ c.loop-p.left.some (omega arith) b c.in_default-trailer.ensures.reads c.loop-p.invariant.reads
@@ -197,7 +197,7 @@ pub trailer-returns-in_default-arguments-clause-reads : goal.trailer-returns-in_
 trailer-returns-in_default-arguments-clause-reads t c = let b : starts_with kind (k.left_paren ∷ []) c.take_op.new.self.rest.now ≡ true = cc in rw (trailer_shape c.args.levels (tree c.args.of.expr.value, c.args.of.height) c.args.p.now.rest.now, c.in_default.ensures.0, sym c.in_default.ensures.1, b) (part_fails c.arguments.new.p.stop _ _ c.in_default-arguments.ensures.reads)
 
 pub trailer-returns-then-at_op-clause-reads : goal.trailer-returns-then-at_op-clause-reads
-trailer-returns-then-at_op-clause-reads t c = let b : starts_with kind (k.left_paren ∷ []) c.take_op.new.self.rest.now ≡ true = cc in node_reads c.call_node.result c.arguments.new.p.rest.now c.made.result c.made.new.self _ _ _ c.made.ensures c.call_node.ensures.tree c.call_node.ensures.height (rw (trailer_shape c.args.levels (tree c.args.of.expr.value, c.args.of.height) c.args.p.now.rest.now, c.in_default.ensures.0, sym c.in_default.ensures.1, b, c.in-Some-arguments.ensures.reads) (higher _ _ _ _ (omega arith)))
+trailer-returns-then-at_op-clause-reads t c = let b : starts_with kind (k.left_paren ∷ []) c.take_op.new.self.rest.now ≡ true = cc in node_reads c.call_node.result c.arguments.new.p.rest.now c.made.result c.made.new.self _ _ _ c.made.ensures.makes c.call_node.ensures.tree c.call_node.ensures.height (rw (trailer_shape c.args.levels (tree c.args.of.expr.value, c.args.of.height) c.args.p.now.rest.now, c.in_default.ensures.0, sym c.in_default.ensures.1, b, c.in-Some-arguments.ensures.reads) (higher _ _ _ _ (omega arith)))
 
 pub trailer-returns-in_default-expect_op-clause-reads : goal.trailer-returns-in_default-expect_op-clause-reads
 trailer-returns-in_default-expect_op-clause-reads t c = let b : starts_with kind (k.left_paren ∷ []) c.take_op.new.self.rest.now ≡ false = cc in rw (trailer_shape c.args.levels (tree c.args.of.expr.value, c.args.of.height) c.args.p.now.rest.now, c.in_default.ensures.0, sym c.in_default.ensures.1, b) (part_fails c.expect_op.new.self.stop _ _ c.in_default-expect_op.ensures)
@@ -209,19 +209,19 @@ pub subscript-returns-in_default-clause-reads : goal.subscript-returns-in_defaul
 subscript-returns-in_default-clause-reads t c = let b : starts_with kind (k.colon ∷ []) c.args.p.now.rest.now ≡ true = cc in rw (b) (part_fails c.slice.new.p.stop _ _ c.in_default.ensures.reads)
 
 pub subscript-returns-then-at_op-clause-reads : goal.subscript-returns-then-at_op-clause-reads
-subscript-returns-then-at_op-clause-reads t c = let b : starts_with kind (k.colon ∷ []) c.args.p.now.rest.now ≡ true = cc in node_reads c.slice_node.result c.slice.new.p.rest.now c.made.result c.made.new.self _ _ _ c.made.ensures c.slice_node.ensures.tree c.slice_node.ensures.height (rw (b, c.in-Some.ensures.reads) (higher _ _ _ _ (omega arith)))
+subscript-returns-then-at_op-clause-reads t c = let b : starts_with kind (k.colon ∷ []) c.args.p.now.rest.now ≡ true = cc in node_reads c.slice_node.result c.slice.new.p.rest.now c.made.result c.made.new.self _ _ _ c.made.ensures.makes c.slice_node.ensures.tree c.slice_node.ensures.height (rw (b, c.in-Some.ensures.reads) (higher _ _ _ _ (omega arith)))
 
 pub subscript-returns-in_default-expression-clause-reads : goal.subscript-returns-in_default-expression-clause-reads
 subscript-returns-in_default-expression-clause-reads t c = let b : starts_with kind (k.colon ∷ []) c.args.p.now.rest.now ≡ false = cc in rw (b) (part_fails c.expression.new.p.stop _ _ c.in_default-expression.ensures.reads)
 
 pub subscript-returns-in-Some-take_op-clause-reads : goal.subscript-returns-in-Some-take_op-clause-reads
-subscript-returns-in-Some-take_op-clause-reads t c = let b : starts_with kind (k.colon ∷ []) c.args.p.now.rest.now ≡ false = cc in node_reads c.subscript_node.result c.take_op.new.self.rest.now c.made-in-Some-take_op.result c.made-in-Some-take_op.new.self _ _ _ c.made-in-Some-take_op.ensures c.subscript_node.ensures.tree c.subscript_node.ensures.height (rw (b, c.in-Some-expression.ensures.reads, c.in-Some-take_op.ensures) refl)
+subscript-returns-in-Some-take_op-clause-reads t c = let b : starts_with kind (k.colon ∷ []) c.args.p.now.rest.now ≡ false = cc in node_reads c.subscript_node.result c.take_op.new.self.rest.now c.made-in-Some-take_op.result c.made-in-Some-take_op.new.self _ _ _ c.made-in-Some-take_op.ensures.makes c.subscript_node.ensures.tree c.subscript_node.ensures.height (rw (b, c.in-Some-expression.ensures.reads, c.in-Some-take_op.ensures) refl)
 
 pub subscript-returns-in_default-slice-clause-reads : goal.subscript-returns-in_default-slice-clause-reads
 subscript-returns-in_default-slice-clause-reads t c = let b : starts_with kind (k.colon ∷ []) c.args.p.now.rest.now ≡ false = cc in rw (b, c.in-Some-expression.ensures.reads, c.in_default-take_op.ensures.0, sym c.in_default-take_op.ensures.1) (part_fails c.slice-2.new.p.stop _ _ c.in_default-slice.ensures.reads)
 
 pub subscript-returns-clause-reads : goal.subscript-returns-clause-reads
-subscript-returns-clause-reads t c = let b : starts_with kind (k.colon ∷ []) c.args.p.now.rest.now ≡ false = cc in node_reads c.slice_node-2.result c.slice-2.new.p.rest.now c.made-2.result c.made-2.new.self _ _ _ c.made-2.ensures c.slice_node-2.ensures.tree c.slice_node-2.ensures.height (rw (b, c.in-Some-expression.ensures.reads, c.in_default-take_op.ensures.0, sym c.in_default-take_op.ensures.1, c.in-Some-slice.ensures.reads) (higher _ _ _ _ (omega arith)))
+subscript-returns-clause-reads t c = let b : starts_with kind (k.colon ∷ []) c.args.p.now.rest.now ≡ false = cc in node_reads c.slice_node-2.result c.slice-2.new.p.rest.now c.made-2.result c.made-2.new.self _ _ _ c.made-2.ensures.makes c.slice_node-2.ensures.tree c.slice_node-2.ensures.height (rw (b, c.in-Some-expression.ensures.reads, c.in_default-take_op.ensures.0, sym c.in_default-take_op.ensures.1, c.in-Some-slice.ensures.reads) (higher _ _ _ _ (omega arith)))
 
 pub slice-returns-in_default-clause-reads : goal.slice-returns-in_default-clause-reads
 slice-returns-in_default-clause-reads t c = rw (slice_shape c.args.levels c.args.p.now.rest.now c.requires.some) (part_fails c.expect_op.new.self.stop _ _ c.in_default.ensures)
@@ -310,13 +310,13 @@ pub argument-returns-in-None-clause-reads : goal.argument-returns-in-None-clause
 argument-returns-in-None-clause-reads t c = rw (rw c.in-None.is at c.assigned.ensures) tt
 
 pub argument-returns-in-Some-None-clause-reads : goal.argument-returns-in-Some-None-clause-reads
-argument-returns-in-Some-None-clause-reads t c = args_reads c.add_argument.result c.assigned.new.p.rest.now c.made.result c.made.new.self _ _ _ c.made.ensures c.add_argument.ensures.args c.add_argument.ensures.height (let n = rw c.in-Some-None.field-0-is at c.in-Some-None.ensures in rw (n.1) (arg_plain c.args.levels (args_of c.args.before, c.args.before.all.height) c.args.p.now.rest.now (tree c.in-Some.value.expr.value, c.in-Some.value.height) c.expression.new.p.rest.now c.in-Some.ensures.reads n.0))
+argument-returns-in-Some-None-clause-reads t c = args_reads c.add_argument.result c.assigned.new.p.rest.now c.made.result c.made.new.self _ _ _ c.made.ensures.makes c.add_argument.ensures.args c.add_argument.ensures.height (let n = rw c.in-Some-None.field-0-is at c.in-Some-None.ensures in rw (n.1) (arg_plain c.args.levels (args_of c.args.before, c.args.before.all.height) c.args.p.now.rest.now (tree c.in-Some.value.expr.value, c.in-Some.value.height) c.expression.new.p.rest.now c.in-Some.ensures.reads n.0))
 
 pub argument-returns-in_default-expression-clause-reads : goal.argument-returns-in_default-expression-clause-reads
 argument-returns-in_default-expression-clause-reads t c = arg_stops c.args.levels (args_of c.args.before, c.args.before.all.height) c.args.p.now.rest.now (tree c.in-Some.value.expr.value, c.in-Some.value.height) c.expression.new.p.rest.now c.in-Some-Some.name c.assigned.new.p.rest.now c.expression-in-Some-Some.new.p.stop c.in-Some.ensures.reads (rw c.in-Some-Some.field-0-is at c.in-Some-Some.ensures) c.in_default-expression.ensures.reads
 
 pub argument-returns-in-Some-expression-clause-reads : goal.argument-returns-in-Some-expression-clause-reads
-argument-returns-in-Some-expression-clause-reads t c = args_reads c.add_named.result c.expression-in-Some-Some.new.p.rest.now c.made-in-Some-Some.result c.made-in-Some-Some.new.self _ _ _ c.made-in-Some-Some.ensures c.add_named.ensures.args c.add_named.ensures.height (arg_named c.args.levels (args_of c.args.before, c.args.before.all.height) c.args.p.now.rest.now (tree c.in-Some.value.expr.value, c.in-Some.value.height) c.expression.new.p.rest.now c.in-Some-Some.name c.assigned.new.p.rest.now (tree c.in-Some-expression.value.expr.value, c.in-Some-expression.value.height) c.expression-in-Some-Some.new.p.rest.now c.in-Some.ensures.reads c.in-Some.value.is_height (rw c.in-Some-Some.field-0-is at c.in-Some-Some.ensures) c.in-Some-expression.ensures.reads c.in-Some-expression.value.some)
+argument-returns-in-Some-expression-clause-reads t c = args_reads c.add_named.result c.expression-in-Some-Some.new.p.rest.now c.made-in-Some-Some.result c.made-in-Some-Some.new.self _ _ _ c.made-in-Some-Some.ensures.makes c.add_named.ensures.args c.add_named.ensures.height (arg_named c.args.levels (args_of c.args.before, c.args.before.all.height) c.args.p.now.rest.now (tree c.in-Some.value.expr.value, c.in-Some.value.height) c.expression.new.p.rest.now c.in-Some-Some.name c.assigned.new.p.rest.now (tree c.in-Some-expression.value.expr.value, c.in-Some-expression.value.height) c.expression-in-Some-Some.new.p.rest.now c.in-Some.ensures.reads c.in-Some.value.is_height (rw c.in-Some-Some.field-0-is at c.in-Some-Some.ensures) c.in-Some-expression.ensures.reads c.in-Some-expression.value.some)
 
 pub atom-returns-in-Some-clause-reads : goal.atom-returns-in-Some-clause-reads
 atom-returns-in-Some-clause-reads t c = rw (atom_shape c.args.levels c.args.p.now.rest.now c.requires.some, c.in-Some.ensures) c.name_leaf.ensures.reads
@@ -334,7 +334,7 @@ pub group-returns-in_default-expect_op-clause-reads : goal.group-returns-in_defa
 group-returns-in_default-expect_op-clause-reads t c = rw (c.in_default.ensures.0, sym c.in_default.ensures.1, c.in-Some-expressions.ensures.reads) (part_fails c.expect_op.new.self.stop _ _ c.in_default-expect_op.ensures)
 
 pub group-returns-clause-reads : goal.group-returns-clause-reads
-group-returns-clause-reads t c = node_reads c.paren_node.result c.expect_op.new.self.rest.now c.made-2.result c.made-2.new.self _ _ _ c.made-2.ensures c.paren_node.ensures.tree c.paren_node.ensures.height (rw (c.in_default.ensures.0, sym c.in_default.ensures.1, c.in-Some-expressions.ensures.reads, c.in-Some-expect_op.ensures) refl)
+group-returns-clause-reads t c = node_reads c.paren_node.result c.expect_op.new.self.rest.now c.made-2.result c.made-2.new.self _ _ _ c.made-2.ensures.makes c.paren_node.ensures.tree c.paren_node.ensures.height (rw (c.in_default.ensures.0, sym c.in_default.ensures.1, c.in-Some-expressions.ensures.reads, c.in-Some-expect_op.ensures) refl)
 
 pub pair-returns-in_default-clause-reads : goal.pair-returns-in_default-clause-reads
 pair-returns-in_default-clause-reads t c = (part_fails c.expression.new.p.stop _ _ c.in_default.ensures.reads)
@@ -346,4 +346,4 @@ pub pair-returns-in_default-expression-clause-reads : goal.pair-returns-in_defau
 pair-returns-in_default-expression-clause-reads t c = rw (c.in-Some.ensures.reads, c.in-Some-expect_op.ensures) (part_fails c.expression-2.new.p.stop _ _ c.in_default-expression.ensures.reads)
 
 pub pair-returns-clause-reads : goal.pair-returns-clause-reads
-pair-returns-clause-reads t c = pairs_reads c.add_pair.result c.expression-2.new.p.rest.now c.made.result c.made.new.self _ _ _ _ c.made.ensures c.add_pair.ensures.pairs c.add_pair.ensures.names c.add_pair.ensures.values (rw (c.in-Some.ensures.reads, c.in-Some-expect_op.ensures, c.in-Some-expression.ensures.reads) (higher _ _ _ _ (omega arith)))
+pair-returns-clause-reads t c = pairs_reads c.add_pair.result c.expression-2.new.p.rest.now c.made.result c.made.new.self _ _ _ _ c.made.ensures.makes c.add_pair.ensures.pairs c.add_pair.ensures.names c.add_pair.ensures.values (rw (c.in-Some.ensures.reads, c.in-Some-expect_op.ensures, c.in-Some-expression.ensures.reads) (higher _ _ _ _ (omega arith)))

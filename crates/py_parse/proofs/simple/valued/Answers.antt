@@ -20,28 +20,28 @@ returns-in_default-take_meant c =
     rw (c.in-Some.ensures.reads, m, a, sym c.in_default-take_meant.ensures.1) c.assigning.ensures
 
 pub returns-in_default-made : goal.returns-in_default-made
-returns-in_default-made c = rw (c.in_default-made.ensures) tt
+returns-in_default-made c = rw (c.in_default-made.ensures.makes) tt
 
 pub returns-in_default-found : goal.returns-in_default-found
 unfolding value_statement
 returns-in_default-found c =
     let a = place_is c.in-Some.first.expr.value ∙ ap (λ (e : Expr). e.at) (sym c.deref.ensures) in
     let m : change_on c.expressions.new.p.rest.now ≡ Some ((c.in-Some-take_meant._word.now, c.in-Some-take_meant.op), c.take_meant.new.self.rest.now) = c.in-Some-take_meant.ensures in
-    let n = ap (λ e. place_in (tree e)) (sym c.deref-2.ensures) ∙ rw c.in_default-found.is at (rw c.in-Some-made.ensures.0 at c.single_in.ensures) in
+    let n = ap (λ e. place_in (tree e)) (sym c.deref-2.ensures) ∙ rw c.in_default-found.is at (rw c.in-Some-made.ensures.makes.0 at c.single_in.ensures) in
     rw (c.in-Some.ensures.reads, m, n, a) c.assigning-in_default-found.ensures
 
 pub returns-in_default-expression : goal.returns-in_default-expression
 unfolding value_statement
 returns-in_default-expression c =
     let m : change_on c.expressions.new.p.rest.now ≡ Some ((c.in-Some-take_meant._word.now, c.in-Some-take_meant.op), c.take_meant.new.self.rest.now) = c.in-Some-take_meant.ensures in
-    let s = ap (λ e. place_in (tree e)) (sym c.deref-2.ensures) ∙ rw c.in-Some-found.is at (rw c.in-Some-made.ensures.0 at c.single_in.ensures) in
-    rw (c.in-Some.ensures.reads, m, s) (part_fails c.expression.new.p.stop _ _ (rw c.in-Some-made.ensures.1 at c.in_default-expression.ensures.reads))
+    let s = ap (λ e. place_in (tree e)) (sym c.deref-2.ensures) ∙ rw c.in-Some-found.is at (rw c.in-Some-made.ensures.makes.0 at c.single_in.ensures) in
+    rw (c.in-Some.ensures.reads, m, s) (part_fails c.expression.new.p.stop _ _ (rw c.in-Some-made.ensures.makes.1 at c.in_default-expression.ensures.reads))
 
 pub returns : goal.returns
 unfolding value_statement
 returns c =
     let a = place_is c.in-Some.first.expr.value ∙ ap (λ (e : Expr). e.at) (sym c.deref.ensures) in
     let m : change_on c.expressions.new.p.rest.now ≡ Some ((c.in-Some-take_meant._word.now, c.in-Some-take_meant.op), c.take_meant.new.self.rest.now) = c.in-Some-take_meant.ensures in
-    let s = ap (λ e. place_in (tree e)) (sym c.deref-2.ensures) ∙ rw c.in-Some-found.is at (rw c.in-Some-made.ensures.0 at c.single_in.ensures) in
-    let r = rw c.in-Some-made.ensures.1 at c.in-Some-expression.ensures.reads in
+    let s = ap (λ e. place_in (tree e)) (sym c.deref-2.ensures) ∙ rw c.in-Some-found.is at (rw c.in-Some-made.ensures.makes.0 at c.single_in.ensures) in
+    let r = rw c.in-Some-made.ensures.makes.1 at c.in-Some-expression.ensures.reads in
     rw (c.in-Some.ensures.reads, m, s, r, a) (ap (λ s. Found s c.expression.new.p.rest.now) (sym c.aug_assign_stmt.ensures))

@@ -19,11 +19,11 @@ pub returns-in_default-single-clause-reads : goal.returns-in_default-single-clau
 returns-in_default-single-clause-reads c = let b : starts_with kind A1 c.take_op.new.self.rest.now ≡ true = cc in places_fails c.args.levels (places_of c.loop-comma.places, c.loop-comma.places.height) c.loop-comma.p.rest.now c.in-Some._comma.now c.take_op.new.self.rest.now c.single.new.p.stop _ c.loop-comma.invariant.unended c.in-Some.ensures b c.in_default-single.ensures.reads c.loop-comma.invariant.reads
 
 pub loop-comma-smaller : goal.loop-comma-smaller
-loop-comma-smaller c = omega (arith, ap length c.in-Some-made.ensures.1, first_takes (k.comma ∷ []) c.loop-comma.p.rest.now c.in-Some._comma.now c.take_op.new.self.rest.now c.in-Some.ensures, takes (c.args.levels - 1) single c.take_op.new.self.rest.now (place c.in-Some-single.next.single, c.in-Some-single.next.height) c.single.new.p.rest.now c.in-Some-single.ensures.reads)
+loop-comma-smaller c = omega (arith, ap length c.in-Some-made.ensures.makes.1, first_takes (k.comma ∷ []) c.loop-comma.p.rest.now c.in-Some._comma.now c.take_op.new.self.rest.now c.in-Some.ensures, takes (c.args.levels - 1) single c.take_op.new.self.rest.now (place c.in-Some-single.next.single, c.in-Some-single.next.height) c.single.new.p.rest.now c.in-Some-single.ensures.reads)
 
 pub loop-comma-preserved : goal.loop-comma-preserved
-loop-comma-preserved c = let b : starts_with kind A1 c.take_op.new.self.rest.now ≡ true = cc in let r = rw c.in-Some-made.ensures.0 at c.add_place.ensures.places in let h = rw c.in-Some-made.ensures.0 at c.add_place.ensures.height in record {
-  reads = rw (c.in-Some-made.ensures.1) (places_next c.args.levels (places_of c.loop-comma.places, c.loop-comma.places.height) c.loop-comma.p.rest.now c.in-Some._comma.now c.take_op.new.self.rest.now (place c.in-Some-single.next.single, c.in-Some-single.next.height) c.single.new.p.rest.now (places_of c.in-Some-made.more) c.in-Some-made.more.height _ c.loop-comma.invariant.unended c.in-Some.ensures b c.in-Some-single.ensures.reads r h c.loop-comma.invariant.reads);
+loop-comma-preserved c = let b : starts_with kind A1 c.take_op.new.self.rest.now ≡ true = cc in let r = rw c.in-Some-made.ensures.makes.0 at c.add_place.ensures.places in let h = rw c.in-Some-made.ensures.makes.0 at c.add_place.ensures.height in record {
+  reads = rw (c.in-Some-made.ensures.makes.1) (places_next c.args.levels (places_of c.loop-comma.places, c.loop-comma.places.height) c.loop-comma.p.rest.now c.in-Some._comma.now c.take_op.new.self.rest.now (place c.in-Some-single.next.single, c.in-Some-single.next.height) c.single.new.p.rest.now (places_of c.in-Some-made.more) c.in-Some-made.more.height _ c.loop-comma.invariant.unended c.in-Some.ensures b c.in-Some-single.ensures.reads r h c.loop-comma.invariant.reads);
   unended = ap (λ r. r.ended) r;
   low = omega (arith, c.in-Some-single.ensures.fits, h, c.loop-comma.invariant.low);
 }

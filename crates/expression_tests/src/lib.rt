@@ -7,17 +7,20 @@
 //! deep, also inside a hundred blocks, and refused at its token with one level more; and so are blocks. Rows that begin with `wrong` want
 //! what isn't given, and must be told, so that a check that passes everything is seen.
 //!
-//! A line of `stdin` is a row: what is done, a text and what is wanted, with a tab between them. `read` reads the text, in which `␊` is a
-//! line end: it gives the trees of its statements, or its fault with line and column. `repeat` and a number reads the text so many times
-//! in a row. `nest` and a number reads a name with so many times before it what stands before `…`, and behind it what stands behind.
-//! `nest`, a number, `in` and another one does so inside as many blocks: the text has first the line that begins a block, then what stands
-//! before the nested name on the last line. `blocks` and a number parses the tokens of as many blocks that the word begins, since no text
-//! has so many indents. Lines that begin with `#`, and empty ones, are no rows. `wip/checks/expressions/rows.py` makes them. Each is read
-//! on a thread of its own, on the stack that threads have.
+//! The rows stand in `data/expressions.rows` of `acceptance`, which calls [`read_rows`]: a program of their own would state and link the
+//! whole front end once more. `wip/checks/expressions/rows.py` makes them.
+//!
+//! A line is a row: what is done, a text and what is wanted, with a tab between them. `read` reads the text, in which `␊` is a line end:
+//! it gives the trees of its statements, or its fault with line and column. `repeat` and a number reads the text so many times in a row.
+//! `nest` and a number reads a name with so many times before it what stands before `…`, and behind it what stands behind. `nest`, a
+//! number, `in` and another one does so inside as many blocks: the text has first the line that begins a block, then what stands before
+//! the nested name on the last line. `blocks` and a number parses the tokens of as many blocks that the word begins, since no text has so
+//! many indents. Lines that begin with `#`, and empty ones, are no rows. Each row is read on a thread of its own, on the stack that
+//! threads have.
 //!
 //! # What is proved
 //!
-//! That the program is safe and ends.
+//! That the call is safe and ends.
 #![tactic(auto)]
 
 mod blocks;
@@ -44,22 +47,18 @@ fn differs<R: Threads + Sync + Print + AllocGlobal>(rt: &R, line: &str) -> io::R
     Ok(true)
 }
 
-fn run<R: Threads + Sync + Input + Print + AllocGlobal>(rt: &R) -> io::Result<()> {
-    let mut rows = 0u64;
+/// Reads rows, and prints where one gives something else than it wants, and how many there are.
+pub fn read_rows<R: Threads + Sync + Print + AllocGlobal>(rt: &R, rows: &str) -> io::Result<()> {
+    let mut read = 0u64;
     let mut differing = 0u64;
-    for line in rt.lines(rt.alloc()) {
-        let line = line?;
+    for line in rows.lines() {
         if line.is_empty() || line.starts_with('#') {
             continue;
         }
-        rows = rows.saturating_add(1);
-        if differs(rt, line.as_str())? {
+        read = read.saturating_add(1);
+        if differs(rt, line)? {
             differing = differing.saturating_add(1);
         }
     }
-    println!(rt; "{rows} rows, {differing} of them not as wanted")
-}
-
-fn main(rt: HostRuntime) -> io::Result<()> {
-    run(&rt)
+    println!(rt; "{read} rows, {differing} of them not as wanted")
 }
