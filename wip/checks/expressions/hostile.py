@@ -2,7 +2,8 @@
 """hostile.py MODEL PROGRAM COUNT SEED: the verdict on hostile sources, of the plain model and of the code.
 
 Sources are those of `python3 -m model.langfuzz --tokens COUNT SEED`: mutated programs, odd numbers and literals, brackets, blanks, nesting
-at 97 to 103. MODEL is the folder that has the package `model`; PROGRAM is crates/expression_tests, as `rt try` or `rt run` builds it.
+at 97 to 103. MODEL is the folder that has the package `model`; PROGRAM is crates/acceptance, as `rt try` or `rt run` builds it: it is run in
+a folder that has nothing but an `expressions.rows` of these sources and an empty `values.rows`.
 Compared is whether a source has a tree, and if not the kind of its first fault with line and column. A source that is no UTF-8 is left
 out. `python3 -m model.langfuzz --tokens COUNT SEED --program pytest_run` compares the whole program's reports of the same sources, byte by
 byte, in which a fault has no column."""
@@ -10,6 +11,7 @@ import collections
 import os
 import subprocess
 import sys
+import tempfile
 
 folder, program, count, seed = os.path.abspath(sys.argv[1]), os.path.abspath(sys.argv[2]), int(sys.argv[3]), int(sys.argv[4])
 sys.path.insert(0, folder)
@@ -31,8 +33,12 @@ def by_model(data):
 
 def by_program(texts):
     rows = "".join("read\t%s\t?\n" % text.replace("\n", "␊") for text in texts)
-    done = subprocess.run([program], input=rows.encode(), stdout=subprocess.PIPE, check=True)
-    told = done.stdout.decode()
+    with tempfile.TemporaryDirectory() as room:
+        with open(os.path.join(room, "expressions.rows"), "wb") as file:
+            file.write(rows.encode())
+        open(os.path.join(room, "values.rows"), "wb").close()
+        done = subprocess.run([program], cwd=room, stdin=subprocess.DEVNULL, stdout=subprocess.PIPE, check=True)
+    told = done.stdout.decode().split("\n", 1)[1]  # the first line counts the cases: none
     heads = ["read, %s: " % text.replace("\n", "␊") for text in texts] + ["%d rows, " % len(texts)]
     for head, next_head in zip(heads, heads[1:]):
         assert told.startswith(head), (head, told[:200])

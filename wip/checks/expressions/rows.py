@@ -1,7 +1,7 @@
 #!/usr/bin/env python3
-"""rows.py MODEL: the rows of crates/expression_tests/stdin. Trees are those of CPython's `ast`, with the line and column of each part;
-faults, and what stands too deep, are those of the plain model in the folder MODEL (the one that has the package `model`), whose texts have
-fewer blocks in one another than tokens may have."""
+"""rows.py MODEL: the rows of crates/acceptance/data/expressions.rows, which expression_tests reads. Trees are those of CPython's `ast`, with
+the line and column of each part; faults, and what stands too deep, are those of the plain model in the folder MODEL (the one that has the
+package `model`), whose texts have fewer blocks in one another than tokens may have."""
 import ast
 import sys
 
