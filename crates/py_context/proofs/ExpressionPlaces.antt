@@ -1,7 +1,7 @@
 -- THE FIRST PLACE IN AN EXPRESSION, as the code goes about it.
-use Rattle.std.proofs.Common.{◌≡◌, ℕ, ◌+◌, ◌<◌, Bool, true, false, not, cond, List, [], ◌∷◌, ◌++◌, Option, Some, None, Result, Ok, Err, IfOk, length, drop, get_or, refl, sym, ap, subst, ◌∙◌, append_assoc, append-nil, Vec, Global}
+use Rattle.std.proofs.Common.{◌≡◌, ℕ, ◌+◌, ◌<◌, ◌≤◌, Bool, true, false, not, cond, List, [], ◌∷◌, ◌++◌, Option, Some, None, Result, Ok, Err, IfOk, length, drop, get_or, refl, sym, ap, subst, ◌∙◌, append_assoc, append-nil, Vec, Global}
 use Rattle.std.specs.declared.rc.Rc.{Rc}
-use Rattle.std.proofs.lemmas.List.{at_drop_more}
+use Rattle.std.proofs.lemmas.List.{at_drop_more, at_drop_all}
 use Rattle.py_source.specs.declared.pos.Pos.{Pos}
 use Rattle.py_tree.specs.declared.op.CmpOp.{CmpOp}
 use Rattle.py_tree.specs.declared.op.BinOp.{BinOp}
@@ -182,6 +182,9 @@ each_goes es i e x y first ps qs whole h is p q f g w =
 
     step : expr_parts (drop i es) ≡ expr_part e.value ∷ expr_parts (drop (i + 1) es)
     step = at_drop_more expr_parts es i e h ∙ ap (λ z. expr_parts (z ∷ drop (i + 1) es)) (sym is)
+
+pub each_over : (es : List (Rc Expr Global)) (i : ℕ) (ps whole : List Part) → length es ≤ i → ps ++ expr_parts (drop i es) ≡ whole → ps ≡ whole
+each_over es i ps whole h w = sym (append-nil ps) ∙ ap (λ z. ps ++ z) (sym (at_drop_all expr_parts es i h)) ∙ w
 
 -- FORM BY FORM, as the code meets them: what the places of the parts say of the whole
 module _ {E : Type 0} (at : Pos) (kind : ExprKind) (r : Result (Option Pos) E) where

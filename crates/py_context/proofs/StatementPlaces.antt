@@ -1,5 +1,5 @@
 -- THE FIRST PLACE IN STATEMENTS, as the code goes about it.
-use Rattle.std.proofs.Common.{◌≡◌, ℕ, zero, suc, ◌+◌, ◌<◌, ◌≤◌, Bool, true, false, not, ◌||◌, ◌&&◌, eqb, List, [], ◌∷◌, ◌++◌, Option, Some, None, Result, IfOk, length, drop, get_or, refl, sym, ap, ◌∙◌, subst, append_assoc, append-nil, Vec, Global, arith}
+use Rattle.std.proofs.Common.{◌≡◌, ◌⊎◌, inl, inr, ℕ, zero, suc, ◌+◌, ◌<◌, ◌≤◌, Bool, true, false, not, ◌||◌, ◌&&◌, eqb, List, [], ◌∷◌, ◌++◌, Option, Some, None, Result, IfOk, length, drop, get_or, refl, sym, ap, ◌∙◌, subst, append_assoc, append-nil, Vec, Global, arith}
 use Rattle.std.specs.declared.rc.Rc.{Rc}
 use Rattle.std.proofs.lemmas.List.{at_drop_more, at_drop_all}
 use Rattle.std.proofs.lemmas.Bool.Decides.{nat_tests}
@@ -23,7 +23,7 @@ use Rattle.py_tree.proofs.Rows.{block_hidden, branches_hidden, handlers_hidden}
 use Rattle.py_tree.specs.Trees.{tree, trees, some_tree}
 use Rattle.py_tree.specs.Names.{is_among, globals_of}
 use Rattle.py_tree.specs.Statements.{Block, NoStatement, Next, Branches, NoBranch, Branch, Handlers, NoHandler, Handler, Def, Place, Taker, Parameter, Parameter_at, place, places, taker, takers, parameter, parameters, statement, statement_at, block_on, block_behind, block, branches_behind, branches, handlers_behind, handlers}
-use Rattle.py_grammar.specs.Context.{Where, first_pos, unless, is_function, is_module, is_present, in_function, in_class, in_tree, in_trees, in_maybe, in_place, in_places, in_taker, in_takers, in_params, misplaced_in, misplaced, misplaced_branches, misplaced_handlers, without_yield, in_loop_of}
+use Rattle.py_grammar.specs.Context.{Where, first_pos, unless, is_function, is_module, is_bound, is_present, in_function, in_class, in_tree, in_trees, in_maybe, in_place, in_places, in_taker, in_takers, in_params, misplaced_in, misplaced, misplaced_branches, misplaced_handlers, without_yield, in_loop_of}
 use Rattle.py_context.specs.First.{sooner}
 use Rattle.py_context.proofs.ExpressionPlaces.{first_append, slice_is}
 
@@ -283,6 +283,19 @@ module _ (w : Where) (at : Pos) (kind : StmtKind) where
   of_places : {E : Type 0} (k : StmtKind) (ps : List Pos) (r : Result (Option Pos) E) → kind ≡ k → ps ≡ misplaced_in w (statement_at at k) → IfOk r (λ p. p ≡ first_pos ps) → IfOk r (λ p. p ≡ first_pos (misplaced_in w (statement_at at kind)))
   of_places k ps r is e h = rw is (subst (λ (z : List Pos). IfOk r (λ p. p ≡ first_pos z)) e h)
 
+  pub of_kind : {E : Type 0} (k : StmtKind) (r : Result (Option Pos) E) → kind ≡ k → IfOk r (λ p. p ≡ first_pos (misplaced_in w (statement_at at k))) → IfOk r (λ p. p ≡ first_pos (misplaced_in w (statement_at at kind)))
+  of_kind k r is h = rw is h
+
+  pub loop_form : {E : Type 0} (r : Result (Option Pos) E) → (kind ≡ v.Break) ⊎ (kind ≡ v.Continue) → IfOk r (λ p. p ≡ first_pos (unless w.in_loop at)) → IfOk r (λ p. p ≡ first_pos (misplaced_in w (statement_at at kind)))
+  loop_form r (inl is) h = rw is h
+  loop_form r (inr is) h = rw is h
+
+  pub global_form : {E : Type 0} (names : Rc (Vec (List ℕ) Global) Global) (b : Bool) (r : Result (Option Pos) E) → kind ≡ v.Global names → b ≡ is_function w.scope → IfOk r (λ p. p ≡ first_pos (unless b at)) → IfOk r (λ p. p ≡ first_pos (misplaced_in w (statement_at at kind)))
+  global_form names b r is e h = of_places (v.Global names) (unless b at) r is (ap (λ b. unless b at) e) h
+
+  pub import_form : {E : Type 0} (names : Rc (Vec (List ℕ) Global) Global) (alias : Option (List ℕ)) (ns : List (List ℕ)) (b : Bool) (r : Result (Option Pos) E) → kind ≡ v.Import names alias → ns ≡ names.value.items → b ≡ is_bound ns alias → IfOk r (λ p. p ≡ first_pos (unless b at)) → IfOk r (λ p. p ≡ first_pos (misplaced_in w (statement_at at kind)))
+  import_form names alias ns b r is q e h = of_places (v.Import names alias) (unless b at) r is (ap (λ b. unless b at) (e ∙ ap (λ n. is_bound n alias) q)) h
+
   pub if_form : {E : Type 0} (all : Rc (Vec branch.Branch Global) Global) (other : Rc (Vec Stmt Global) Global) (xs : List branch.Branch) (r : Result (Option Pos) E) → kind ≡ v.If all other → xs ≡ all.value.items → IfOk r (λ p. p ≡ first_pos (misplaced_branches w (branches xs) ++ misplaced w (block other.value.items))) → IfOk r (λ p. p ≡ first_pos (misplaced_in w (statement_at at kind)))
   if_form all other xs r is e h = of_places (v.If all other) (misplaced_branches w (branches xs) ++ misplaced w (block other.value.items)) r is (two_parts _ _ _ _ (ap (λ s. misplaced_branches w (branches s)) e ∙ ap (misplaced_branches w) (sym (branches_hidden all.value))) (ap (misplaced w) (sym (block_hidden other.value)))) h
 
@@ -304,5 +317,3 @@ module _ (w : Where) (at : Pos) (kind : StmtKind) where
 
   pub class_form : {E : Type 0} (k : Rc Class Global) (g : Class) (r : Result (Option Pos) E) → kind ≡ v.Class k → g ≡ k.value → IfOk r (λ p. p ≡ class_places w at g) → IfOk r (λ p. p ≡ first_pos (misplaced_in w (statement_at at kind)))
   class_form k g r is e h = rw is (subst (λ (z : Option Pos). IfOk r (λ p. p ≡ z)) (ap (class_places w at) e ∙ sym (class_is w at k)) h)
-
-pub ruleset statement_rules = (single_begun, single_found, single_on, single_none, target_begun, target_found, target_on, target_none, stmt_begun, stmt_found, stmt_on, stmt_none, branch_begun, branch_none, handler_begun, handler_over, handler_found, handler_on, param_found, param_on, param_none)

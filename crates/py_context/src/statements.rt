@@ -52,7 +52,6 @@ fn in_single(alloc: Global, single: &Single) -> Result<Option<Pos>, OutOfMemory>
     }
 }
 
-#[tactic(auto, using(crate::proofs::StatementPlaces::statement_rules))]
 fn in_singles(alloc: Global, all: &[Single]) -> Result<Option<Pos>, OutOfMemory>
     ensures { IfOk result (λ at. at ≡ first_pos (in_places (places all.now))) }
 {
@@ -73,7 +72,6 @@ fn in_target(alloc: Global, target: &Target) -> Result<Option<Pos>, OutOfMemory>
     }
 }
 
-#[tactic(auto, using(crate::proofs::StatementPlaces::statement_rules))]
 fn in_targets(alloc: Global, all: &[Target]) -> Result<Option<Pos>, OutOfMemory>
     ensures { IfOk result (λ at. at ≡ first_pos (in_takers (takers all.now))) }
 {
@@ -270,7 +268,7 @@ fn in_param(
 }
 
 /// The first in parameters.
-#[tactic(auto, using(crate::proofs::StatementPlaces::statement_rules))]
+#[tactic(auto, using(crate::proofs::StatementPlaces::param_on))]
 fn in_params(
     alloc: Global,
     globals: &[SrcText],
@@ -299,7 +297,6 @@ fn in_own_params(alloc: Global, function: &Function) -> Result<Option<Pos>, OutO
 }
 
 /// The first in statements.
-#[tactic(auto, using(crate::proofs::StatementPlaces::statement_rules))]
 #[cycle(context)]
 fn in_stmts(alloc: Global, w: Where, stmts: &[Stmt]) -> Result<Option<Pos>, OutOfMemory>
     ensures { IfOk result (λ at. at ≡ first_pos (misplaced (where_of w) (block stmts.now))) }
@@ -319,7 +316,6 @@ fn in_block(alloc: Global, w: Where, body: &Rc<Vec<Stmt>>) -> Result<Option<Pos>
     in_stmts(alloc, w, body)
 }
 
-#[tactic(auto, using(crate::proofs::StatementPlaces::statement_rules))]
 #[cycle(context)]
 fn in_branches(alloc: Global, w: Where, all: &[Branch]) -> Result<Option<Pos>, OutOfMemory>
     ensures { IfOk result (λ at. at ≡ first_pos (misplaced_branches (where_of w) (branches all.now))) }
@@ -341,7 +337,6 @@ fn may_catch(is_last: bool, handler: &Handler) -> bool
 }
 
 /// The first in a handler.
-#[tactic(auto, using(crate::proofs::ExpressionPlaces::join_rules))]
 #[cycle(context)]
 fn in_handler(
     alloc: Global,
@@ -360,7 +355,6 @@ fn in_handler(
     )
 }
 
-#[tactic(auto, using(crate::proofs::StatementPlaces::statement_rules))]
 #[cycle(context)]
 fn in_handlers(alloc: Global, w: Where, all: &[Handler]) -> Result<Option<Pos>, OutOfMemory>
     ensures { IfOk result (λ at. at ≡ first_pos (misplaced_handlers (where_of w) true (handlers all.now))) }
@@ -376,7 +370,6 @@ fn in_handlers(alloc: Global, w: Where, all: &[Handler]) -> Result<Option<Pos>, 
 }
 
 /// The first in a function.
-#[tactic(auto, using(crate::proofs::ExpressionPlaces::join_rules))]
 #[cycle(context)]
 fn in_def(alloc: Global, w: Where, at: Pos, function: &Function) -> Result<Option<Pos>, OutOfMemory>
     ensures { IfOk result (λ first. first ≡ first_pos (unless (not (is_function (where_of w).scope)) at ++ (in_trees (trees (out-Function function.now).decorators.value.items) ++ (in_params (globals_of (block (out-Function function.now).body.value.items)) [] false (parameters (out-Function function.now).params.value.items) ++ (in_maybe (some_tree (out-Function function.now).returns) ++ misplaced in_function (block (out-Function function.now).body.value.items)))))) }
@@ -397,7 +390,6 @@ fn in_def(alloc: Global, w: Where, at: Pos, function: &Function) -> Result<Optio
 }
 
 /// The first in a class.
-#[tactic(auto, using(crate::proofs::ExpressionPlaces::join_rules))]
 #[cycle(context)]
 fn in_class(alloc: Global, w: Where, at: Pos, class: &Class) -> Result<Option<Pos>, OutOfMemory>
     ensures { IfOk result (λ first. first ≡ first_pos (unless (is_module (where_of w).scope) at ++ (in_trees (trees (out-Class class.now).decorators.value.items) ++ (in_maybe (some_tree (out-Class class.now).base) ++ misplaced in_class (block (out-Class class.now).body.value.items))))) }
@@ -414,7 +406,6 @@ fn in_class(alloc: Global, w: Where, at: Pos, class: &Class) -> Result<Option<Po
     )
 }
 
-#[tactic(auto, using(crate::proofs::StatementPlaces::statement_rules))]
 #[cycle(context)]
 fn in_stmt(alloc: Global, w: Where, stmt: &Stmt) -> Result<Option<Pos>, OutOfMemory>
     ensures { IfOk result (λ at. at ≡ first_pos (misplaced_in (where_of w) (statement_at stmt.now.at stmt.now.kind))) }

@@ -8,9 +8,9 @@ use Rattle.py_cursor.specs.declared.stop.Stop.TheVariants as stops
 use Rattle.py_cursor.specs.Cursor.{FailsAs}
 
 -- What a function returned is what the reader gives, unless memory ran out: the value, with the tokens behind it left; or where reading stopped.
-abbrev pub Reads : {X A : Type 0} → (X → A) → Option X → Parser → Read Token A → Type 0
-Reads seen (Some x) p read = read ≡ Found (seen x) p.rest.now
-Reads seen None p read = FailsAs p.stop read
+abbrev pub Gives : {X A : Type 0} → (X → A) → Option X → Parser → Read Token A → Type 0
+Gives seen (Some x) p read = read ≡ Found (seen x) p.rest.now
+Gives seen None p read = FailsAs p.stop read
 
 -- What a function took is what stands first, with the tokens behind it left; or nothing stands there, and nothing is taken.
 abbrev pub Takes : {X A : Type 0} → (X → A) → Option (A × List Token) → Option X → Parser → Parser → Type 0

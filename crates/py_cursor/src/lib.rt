@@ -16,7 +16,7 @@
 //!   an error, that memory ran out. No token is taken.
 //! - `chars_of`: the characters of a name or a text, and none of any other token.
 //!
-//! `specs/Parser.antt` has `Reads`, by which functions that are lent a parser say what they give: the value, with the tokens behind it
+//! `specs/Parser.antt` has `Gives`, by which functions that are lent a parser say what they give: the value, with the tokens behind it
 //! left, or the tokens from the fault on, whether wrong or too deep. Of want of memory it says nothing.
 //!
 //! # What tests alone show

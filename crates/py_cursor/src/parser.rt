@@ -3,7 +3,7 @@ ghost use Rattle.grammar_code.specs.Walk.{first_of, first_meant, starts_with, wa
 ghost use Rattle.py_expressions.specs.token_kinds.Kinds.{kind, op_number};
 ghost use Rattle.py_cursor.specs.declared.stop.Stop.TheVariants.{Bad, Deep};
 ghost use Rattle.py_cursor.specs.Cursor.{number_on, kinds_of, rows_of, IsBlocked};
-ghost use Rattle.py_cursor.specs.Parser.{Takes, Reads, Makes, Loses};
+ghost use Rattle.py_cursor.specs.Parser.{Takes, Gives, Makes, Loses};
 
 use crate::cursor::{Sign, begins, blocked, first_meant, first_of};
 use crate::stop::Stop;
@@ -67,7 +67,7 @@ impl<'t> Parser<'t> {
 
     /// Takes the first token, which has to be of this kind.
     pub fn expect(&mut self, sign: Sign) -> Option<&'t Token>
-        ensures { Reads (λ t. t.now) result self.new (wanted kind (number_on sign ∷ []) self.old.rest.now) }
+        ensures { Gives (λ t. t.now) result self.new (wanted kind (number_on sign ∷ []) self.old.rest.now) }
     {
         match first_of(self.rest, &[sign]) {
             Some((token, rest)) => {
@@ -83,7 +83,7 @@ impl<'t> Parser<'t> {
 
     /// Takes the first token, which has to be this operator or word.
     pub fn expect_op(&mut self, op: Op) -> Option<&'t Token>
-        ensures { Reads (λ t. t.now) result self.new (wanted kind (op_number op ∷ []) self.old.rest.now) }
+        ensures { Gives (λ t. t.now) result self.new (wanted kind (op_number op ∷ []) self.old.rest.now) }
     {
         self.expect(Sign::Op(op))
     }

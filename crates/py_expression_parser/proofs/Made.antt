@@ -15,12 +15,12 @@ use Rattle.py_nodes.specs.Parts.{args_of, pairs_of}
 use Rattle.py_cursor.specs.declared.stop.Stop.{Stop}
 use Rattle.py_cursor.specs.declared.parser.Parser.{Parser}
 use Rattle.py_cursor.specs.Cursor.{FailsAs}
-use Rattle.py_cursor.specs.Parser.{Reads, Makes}
+use Rattle.py_cursor.specs.Parser.{Gives, Makes}
 use Rattle.py_cursor.proofs.Loops.{fails_on}
 use Rattle.py_expression_parser.specs.Pieces.{assigned_on}
 
 -- what is seen of what was made is what is read
-pub made_reads : {X A E : Type 0} (see : X → A) (made : Result X E) (ts : List Token) (result : Option X) (p : Parser) (a : A) (read : Read Token A) → Makes made ts result p → IfOk made (λ x. see x ≡ a) → read ≡ Found a ts → Reads see result p read
+pub made_reads : {X A E : Type 0} (see : X → A) (made : Result X E) (ts : List Token) (result : Option X) (p : Parser) (a : A) (read : Read Token A) → Makes made ts result p → IfOk made (λ x. see x ≡ a) → read ≡ Found a ts → Gives see result p read
 made_reads see made ts (Some x) p a read b e f = f ∙ ap (λ z. Found z ts) (sym (subst (λ m. IfOk m (λ x. see x ≡ a)) b.0 e)) ∙ ap (λ z. Found (see x) z) (sym b.1)
 made_reads see made ts None p a read b e f = subst (λ s. FailsAs s read) (sym b) tt
 
@@ -51,11 +51,11 @@ both (Ok n) t h d e = ap (λ x. with_height x n.height) d ∙ ap (λ x. with_hei
 both (Err x) t h d e = tt
 
 -- a node
-pub node_reads : {E : Type 0} (made : Result Node E) (ts : List Token) (result : Option Node) (p : Parser) (t : Tree) (h : ℕ) (read : Read Token (Tree × ℕ)) → Makes made ts result p → IfOk made (λ n. tree n.expr.value ≡ t) → IfOk made (λ n. n.height ≡ h) → read ≡ Found (t, h) ts → Reads (λ x. (tree x.expr.value, x.height)) result p read
+pub node_reads : {E : Type 0} (made : Result Node E) (ts : List Token) (result : Option Node) (p : Parser) (t : Tree) (h : ℕ) (read : Read Token (Tree × ℕ)) → Makes made ts result p → IfOk made (λ n. tree n.expr.value ≡ t) → IfOk made (λ n. n.height ≡ h) → read ≡ Found (t, h) ts → Gives (λ x. (tree x.expr.value, x.height)) result p read
 node_reads made ts result p t h read b d e f = made_reads seen made ts result p (with_height t h) read b (both made t h d e) f
 
 -- arguments
-pub args_reads : {E : Type 0} (made : Result Arguments E) (ts : List Token) (result : Option Arguments) (p : Parser) (t : v.Args) (h : ℕ) (read : Read Token (v.Args × ℕ)) → Makes made ts result p → IfOk made (λ a. args_of a ≡ t) → IfOk made (λ a. a.all.height ≡ h) → read ≡ Found (t, h) ts → Reads (λ x. (args_of x, x.all.height)) result p read
+pub args_reads : {E : Type 0} (made : Result Arguments E) (ts : List Token) (result : Option Arguments) (p : Parser) (t : v.Args) (h : ℕ) (read : Read Token (v.Args × ℕ)) → Makes made ts result p → IfOk made (λ a. args_of a ≡ t) → IfOk made (λ a. a.all.height ≡ h) → read ≡ Found (t, h) ts → Gives (λ x. (args_of x, x.all.height)) result p read
 args_reads {E} made ts result p t h read b d e f = made_reads seen_args made ts result p (with_height t h) read b (all made d e) f
   where
     all : (made : Result Arguments E) → IfOk made (λ a. args_of a ≡ t) → IfOk made (λ a. a.all.height ≡ h) → IfOk made (λ a. seen_args a ≡ with_height t h)
@@ -63,7 +63,7 @@ args_reads {E} made ts result p t h read b d e f = made_reads seen_args made ts 
     all (Err x) d e = tt
 
 -- pairs
-pub pairs_reads : {E : Type 0} (made : Result Pairs E) (ts : List Token) (result : Option Pairs) (p : Parser) (t : v.Pairs) (h l : ℕ) (read : Read Token (v.Pairs × ℕ)) → Makes made ts result p → IfOk made (λ p. pairs_of p ≡ t) → IfOk made (λ p. p.names.height ≡ h) → IfOk made (λ p. p.values.height ≡ l) → read ≡ Found (t, max h l) ts → Reads (λ x. (pairs_of x, max x.names.height x.values.height)) result p read
+pub pairs_reads : {E : Type 0} (made : Result Pairs E) (ts : List Token) (result : Option Pairs) (p : Parser) (t : v.Pairs) (h l : ℕ) (read : Read Token (v.Pairs × ℕ)) → Makes made ts result p → IfOk made (λ p. pairs_of p ≡ t) → IfOk made (λ p. p.names.height ≡ h) → IfOk made (λ p. p.values.height ≡ l) → read ≡ Found (t, max h l) ts → Gives (λ x. (pairs_of x, max x.names.height x.values.height)) result p read
 pairs_reads {E} made ts result p t h l read b d e i f = made_reads seen_pairs made ts result p (with_height t (max h l)) read b (all made d e i) f
   where
     all : (made : Result Pairs E) → IfOk made (λ p. pairs_of p ≡ t) → IfOk made (λ p. p.names.height ≡ h) → IfOk made (λ p. p.values.height ≡ l) → IfOk made (λ p. seen_pairs p ≡ with_height t (max h l))

@@ -48,10 +48,10 @@ FailsMaybe (stops.Bad s) read = read ≡ Some (Bad s.now)
 FailsMaybe (stops.Deep s) read = read ≡ Some (Deep s.now)
 FailsMaybe stops.Memory read = Unit {0}
 
-abbrev pub ReadsMaybe : {X A : Type 0} → (X → A) → Option (Option X) → Parser → Parser → Option (Read Token A) → Type 0
-ReadsMaybe seen (Some None) old p read = (read ≡ None) × (p.rest.now ≡ old.rest.now)
-ReadsMaybe seen (Some (Some x)) old p read = read ≡ Some (Found (seen x) p.rest.now)
-ReadsMaybe seen None old p read = FailsMaybe p.stop read
+abbrev pub GivesMaybe : {X A : Type 0} → (X → A) → Option (Option X) → Parser → Parser → Option (Read Token A) → Type 0
+GivesMaybe seen (Some None) old p read = (read ≡ None) × (p.rest.now ≡ old.rest.now)
+GivesMaybe seen (Some (Some x)) old p read = read ≡ Some (Found (seen x) p.rest.now)
+GivesMaybe seen None old p read = FailsMaybe p.stop read
 
 -- what is found at the next tokens and taken, or nothing is; or memory ran out
 abbrev pub Finds : {X : Type 0} → Option (X × List Token) → Option (Option X) → Parser → Parser → Type 0

@@ -2,9 +2,9 @@ ghost use Rattle.std.specs.Prelude.{◌≡◌, ◌<◌, ◌≤◌, ◌+◌, IfOk
 ghost use Rattle.py_tree.specs.Trees.{tree, tree_at};
 ghost use Rattle.py_cursor.specs.py_expressions.Values.{at_of, item, number_in, height, row};
 ghost use Rattle.py_cursor.specs.token_kinds.Kinds.{text_of};
-ghost use Rattle.py_cursor.specs.Parser.{Reads, Takes};
+ghost use Rattle.py_cursor.specs.Parser.{Gives, Takes};
 ghost use Rattle.py_nodes.specs.Parts.{row_of};
-ghost use Rattle.py_expression_parser.specs.Pieces.{assigned_on, attribute_on, constant_on, leaf_on, name_on, texts_on, Finds, ReadsMaybe};
+ghost use Rattle.py_expression_parser.specs.Pieces.{assigned_on, attribute_on, constant_on, leaf_on, name_on, texts_on, Finds, GivesMaybe};
 
 use py_cursor::{Parser, Sign, chars_of};
 use py_nodes::{Node, Row, add_item, attribute_node, leaf_node, name_in, row_at};
@@ -57,7 +57,7 @@ fn constant<'t>(p: &mut Parser<'t>) -> Option<(&'t Token, ExprKind)>
 /// Texts side by side are one.
 #[tactic(auto, using(crate::proofs::Texts::texts_over, py_cursor::proofs::Loops::first_takes))]
 fn texts(p: &mut Parser<'_>) -> Option<Node>
-    ensures reads { Reads (λ x. (tree x.expr.value, x.height)) result p.new (texts_on p.old.rest.now) }
+    ensures reads { Gives (λ x. (tree x.expr.value, x.height)) result p.new (texts_on p.old.rest.now) }
     ensures fits { IfSome result (λ x. x.height ≤ 1) }
 {
     let Some(first) = p.expect(Sign::Text) else {
@@ -77,7 +77,7 @@ fn texts(p: &mut Parser<'_>) -> Option<Node>
 
 /// A number, a constant, or texts side by side, where one stands first.
 pub fn leaf(p: &mut Parser<'_>) -> Option<Option<Node>>
-    ensures reads { ReadsMaybe (λ x. (tree x.expr.value, x.height)) result p.old p.new (leaf_on p.old.rest.now) }
+    ensures reads { GivesMaybe (λ x. (tree x.expr.value, x.height)) result p.old p.new (leaf_on p.old.rest.now) }
     ensures fits { IfSome result (λ found. IfSome found (λ x. x.height ≤ 1)) }
 {
     let made = if let Some(number) = p.take(Sign::Number) {
@@ -98,7 +98,7 @@ pub fn leaf(p: &mut Parser<'_>) -> Option<Option<Node>>
 
 /// A name's node.
 pub fn name_leaf(p: &mut Parser<'_>, name: &Token) -> Option<Node>
-    ensures reads { Reads (λ x. (tree x.expr.value, x.height)) result p.new (name_on name.now p.old.rest.now) }
+    ensures reads { Gives (λ x. (tree x.expr.value, x.height)) result p.new (name_on name.now p.old.rest.now) }
     ensures fits { IfSome result (λ x. x.height ≡ 1) }
 {
     let Some(text) = p.made(name_of(p.alloc, name)) else {
@@ -110,7 +110,7 @@ pub fn name_leaf(p: &mut Parser<'_>, name: &Token) -> Option<Node>
 /// The attribute of a value, behind `.`.
 pub fn attribute(p: &mut Parser<'_>, of: Node) -> Option<Node>
     requires { of.height < u32.MAX }
-    ensures reads { Reads (λ x. (tree x.expr.value, x.height)) result p.new (attribute_on (tree of.expr.value, of.height) p.old.rest.now) }
+    ensures reads { Gives (λ x. (tree x.expr.value, x.height)) result p.new (attribute_on (tree of.expr.value, of.height) p.old.rest.now) }
     ensures fits { IfSome result (λ x. x.height ≡ 1 + of.height) }
 {
     let Some(name) = p.expect(Sign::Name) else {

@@ -4,7 +4,7 @@ ghost use Rattle.grammar_code.specs.Walk.{starts_with};
 ghost use Rattle.py_nodes.specs.Parts.{chain_of};
 ghost use Rattle.py_cursor.specs.token_kinds.Kinds.{kind};
 ghost use Rattle.py_cursor.specs.Cursor.{kinds_of};
-ghost use Rattle.py_cursor.specs.Parser.{Reads};
+ghost use Rattle.py_cursor.specs.Parser.{Gives};
 ghost use Rattle.py_expression_parser.specs.Pieces.{comparison_on, link_on, links_of, chain_tree};
 
 use py_cursor::{Parser, Sign};
@@ -51,7 +51,7 @@ pub fn begins_link(p: &Parser<'_>, link: Link) -> bool
 
 /// A comparison, of one word or two.
 fn comparison(p: &mut Parser<'_>) -> Option<CmpOp>
-    ensures { Reads (λ x. x) result p.new (comparison_on p.old.rest.now) }
+    ensures { Gives (λ x. x) result p.new (comparison_on p.old.rest.now) }
 {
     let rows = [
         (Op::EqualEqual, CmpOp::Equal),
@@ -82,7 +82,7 @@ fn comparison(p: &mut Parser<'_>) -> Option<CmpOp>
 
 /// What joins the next operand, and the comparison that it is.
 pub fn link_at(p: &mut Parser<'_>, link: Link) -> Option<Option<CmpOp>>
-    ensures { Reads (λ x. x) result p.new (link_on link p.old.rest.now) }
+    ensures { Gives (λ x. x) result p.new (link_on link p.old.rest.now) }
 {
     let word = match link {
         Link::Compare => {

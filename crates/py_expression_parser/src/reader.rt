@@ -3,7 +3,7 @@ ghost use Rattle.py_source.specs.Limits.{most_levels};
 ghost use Rattle.py_tree.specs.Trees.{tree};
 ghost use Rattle.py_cursor.specs.py_expressions.Sorts.{other, atom, arguments, slice, primary, power, unary, negation, expr, exprs};
 ghost use Rattle.py_nodes.specs.Parts.{row_of, pairs_of, args_of, chain_of, maybe_of, high_of};
-ghost use Rattle.py_cursor.specs.Parser.{Reads};
+ghost use Rattle.py_cursor.specs.Parser.{Gives};
 ghost use Rattle.py_expression_parser.specs.Reads.{reads, ranked};
 ghost use Rattle.py_expression_parser.specs.Pieces.{linkage, operand_of, links_more, trailer_on, index_on, slice_more, arg_on, args_more, group_on, list_on, items, pair_on, pairs_more, dict_on};
 
@@ -27,7 +27,7 @@ use py_tree::BinOp;
 #[cycle(expression)]
 pub fn expressions(p: &mut Parser<'_>, levels: u32) -> Option<Node>
     requires { levels ≤ most_levels }
-    ensures reads { Reads (λ x. (tree x.expr.value, x.height)) result p.new (reads levels exprs p.old.rest.now) }
+    ensures reads { Gives (λ x. (tree x.expr.value, x.height)) result p.new (reads levels exprs p.old.rest.now) }
     ensures fits { IfSome result (λ x. x.height ≤ levels) }
 {
     if levels == 0 {
@@ -61,7 +61,7 @@ fn items(p: &mut Parser<'_>, levels: u32, row: Row) -> Option<Row>
     requires few { levels ≤ most_levels }
     requires open { row.ended ≡ false }
     requires low { row.all.height < levels }
-    ensures reads { Reads (λ x. (row_of x, x.all.height)) result p.new (items levels (row_of row, row.all.height) p.old.rest.now) }
+    ensures reads { Gives (λ x. (row_of x, x.all.height)) result p.new (items levels (row_of row, row.all.height) p.old.rest.now) }
     ensures fits { IfSome result (λ x. x.all.height < levels) }
 {
     let mut row = row;
@@ -85,7 +85,7 @@ fn items(p: &mut Parser<'_>, levels: u32, row: Row) -> Option<Row>
 #[cycle(expression)]
 pub fn expression(p: &mut Parser<'_>, levels: u32) -> Option<Node>
     requires { levels ≤ most_levels }
-    ensures reads { Reads (λ x. (tree x.expr.value, x.height)) result p.new (reads levels expr p.old.rest.now) }
+    ensures reads { Gives (λ x. (tree x.expr.value, x.height)) result p.new (reads levels expr p.old.rest.now) }
     ensures fits { IfSome result (λ x. x.height ≤ levels) }
 {
     if levels == 0 {
@@ -121,7 +121,7 @@ pub fn expression(p: &mut Parser<'_>, levels: u32) -> Option<Node>
 fn chained(p: &mut Parser<'_>, link: Link, levels: u32) -> Option<Node>
     requires some { 0 < levels }
     requires few { levels ≤ most_levels }
-    ensures reads { Reads (λ x. (tree x.expr.value, x.height)) result p.new (linkage levels link p.old.rest.now) }
+    ensures reads { Gives (λ x. (tree x.expr.value, x.height)) result p.new (linkage levels link p.old.rest.now) }
     ensures fits { IfSome result (λ x. x.height ≤ levels) }
 {
     let Some(first) = operand(p, link, levels) else {
@@ -147,7 +147,7 @@ fn further(p: &mut Parser<'_>, link: Link, levels: u32, chain: Chain) -> Option<
     requires some { 0 < levels }
     requires few { levels ≤ most_levels }
     requires low { max chain.head.height chain.more.height < levels }
-    ensures reads { Reads (λ x. (chain_of x, max x.head.height x.more.height)) result p.new (links_more levels link (chain_of chain, max chain.head.height chain.more.height) p.old.rest.now) }
+    ensures reads { Gives (λ x. (chain_of x, max x.head.height x.more.height)) result p.new (links_more levels link (chain_of chain, max chain.head.height chain.more.height) p.old.rest.now) }
     ensures fits { IfSome result (λ x. max x.head.height x.more.height < levels) }
 {
     let mut chain = chain;
@@ -171,7 +171,7 @@ fn further(p: &mut Parser<'_>, link: Link, levels: u32, chain: Chain) -> Option<
 fn operand(p: &mut Parser<'_>, link: Link, levels: u32) -> Option<Node>
     requires some { 0 < levels }
     requires few { levels ≤ most_levels }
-    ensures reads { Reads (λ x. (tree x.expr.value, x.height)) result p.new (operand_of levels link p.old.rest.now) }
+    ensures reads { Gives (λ x. (tree x.expr.value, x.height)) result p.new (operand_of levels link p.old.rest.now) }
     ensures fits { IfSome result (λ x. x.height ≤ levels) }
 {
     match link {
@@ -187,7 +187,7 @@ fn operand(p: &mut Parser<'_>, link: Link, levels: u32) -> Option<Node>
 fn negation(p: &mut Parser<'_>, levels: u32) -> Option<Node>
     requires some { 0 < levels }
     requires few { levels ≤ most_levels }
-    ensures reads { Reads (λ x. (tree x.expr.value, x.height)) result p.new (reads levels negation p.old.rest.now) }
+    ensures reads { Gives (λ x. (tree x.expr.value, x.height)) result p.new (reads levels negation p.old.rest.now) }
     ensures fits { IfSome result (λ x. x.height ≤ levels) }
 {
     let before = p.rest;
@@ -210,7 +210,7 @@ fn negation(p: &mut Parser<'_>, levels: u32) -> Option<Node>
 fn binary(p: &mut Parser<'_>, rank: Rank, levels: u32) -> Option<Node>
     requires some { 0 < levels }
     requires few { levels ≤ most_levels }
-    ensures reads { Reads (λ x. (tree x.expr.value, x.height)) result p.new (ranked levels rank p.old.rest.now) }
+    ensures reads { Gives (λ x. (tree x.expr.value, x.height)) result p.new (ranked levels rank p.old.rest.now) }
     ensures fits { IfSome result (λ x. x.height ≤ levels) }
 {
     if matches!(rank, Rank::Unary) {
@@ -244,7 +244,7 @@ fn binary(p: &mut Parser<'_>, rank: Rank, levels: u32) -> Option<Node>
 fn unary(p: &mut Parser<'_>, levels: u32) -> Option<Node>
     requires some { 0 < levels }
     requires few { levels ≤ most_levels }
-    ensures reads { Reads (λ x. (tree x.expr.value, x.height)) result p.new (reads levels unary p.old.rest.now) }
+    ensures reads { Gives (λ x. (tree x.expr.value, x.height)) result p.new (reads levels unary p.old.rest.now) }
     ensures fits { IfSome result (λ x. x.height ≤ levels) }
 {
     let before = p.rest;
@@ -267,7 +267,7 @@ fn unary(p: &mut Parser<'_>, levels: u32) -> Option<Node>
 fn power(p: &mut Parser<'_>, levels: u32) -> Option<Node>
     requires some { 0 < levels }
     requires few { levels ≤ most_levels }
-    ensures reads { Reads (λ x. (tree x.expr.value, x.height)) result p.new (reads levels power p.old.rest.now) }
+    ensures reads { Gives (λ x. (tree x.expr.value, x.height)) result p.new (reads levels power p.old.rest.now) }
     ensures fits { IfSome result (λ x. x.height ≤ levels) }
 {
     let Some(left) = primary(p, levels) else {
@@ -293,7 +293,7 @@ fn power(p: &mut Parser<'_>, levels: u32) -> Option<Node>
 fn primary(p: &mut Parser<'_>, levels: u32) -> Option<Node>
     requires some { 0 < levels }
     requires few { levels ≤ most_levels }
-    ensures reads { Reads (λ x. (tree x.expr.value, x.height)) result p.new (reads levels primary p.old.rest.now) }
+    ensures reads { Gives (λ x. (tree x.expr.value, x.height)) result p.new (reads levels primary p.old.rest.now) }
     ensures fits { IfSome result (λ x. x.height ≤ levels) }
 {
     let Some(mut left) = atom(p, levels) else {
@@ -318,7 +318,7 @@ fn primary(p: &mut Parser<'_>, levels: u32) -> Option<Node>
 fn trailer(p: &mut Parser<'_>, levels: u32, of: Node) -> Option<Node>
     requires few { levels ≤ most_levels }
     requires low { of.height < levels }
-    ensures reads { Reads (λ x. (tree x.expr.value, x.height)) result p.new (trailer_on levels (tree of.expr.value, of.height) p.old.rest.now) }
+    ensures reads { Gives (λ x. (tree x.expr.value, x.height)) result p.new (trailer_on levels (tree of.expr.value, of.height) p.old.rest.now) }
     ensures fits { IfSome result (λ x. x.height ≤ levels) }
 {
     if let Some(_dot) = p.take_op(Op::Dot) {
@@ -341,7 +341,7 @@ fn trailer(p: &mut Parser<'_>, levels: u32, of: Node) -> Option<Node>
 fn subscript(p: &mut Parser<'_>, levels: u32, of: Node) -> Option<Node>
     requires few { levels ≤ most_levels }
     requires low { of.height < levels }
-    ensures reads { Reads (λ x. (tree x.expr.value, x.height)) result p.new (index_on levels (tree of.expr.value, of.height) p.old.rest.now) }
+    ensures reads { Gives (λ x. (tree x.expr.value, x.height)) result p.new (index_on levels (tree of.expr.value, of.height) p.old.rest.now) }
     ensures fits { IfSome result (λ x. x.height ≤ levels) }
 {
     if p.at_op(Op::Colon) {
@@ -368,7 +368,7 @@ fn subscript(p: &mut Parser<'_>, levels: u32, of: Node) -> Option<Node>
 pub fn slice(p: &mut Parser<'_>, levels: u32) -> Option<Bounds>
     requires some { 0 < levels }
     requires few { levels ≤ most_levels }
-    ensures reads { Reads (λ x. ((maybe_of x.to, maybe_of x.by), 1 + max (high_of x.to) (high_of x.by))) result p.new (reads levels slice p.old.rest.now) }
+    ensures reads { Gives (λ x. ((maybe_of x.to, maybe_of x.by), 1 + max (high_of x.to) (high_of x.by))) result p.new (reads levels slice p.old.rest.now) }
     ensures fits { IfSome result (λ x. max (high_of x.to) (high_of x.by) < levels) }
 {
     let Some(_colon) = p.expect_op(Op::Colon) else {
@@ -390,7 +390,7 @@ fn bounds(p: &mut Parser<'_>, levels: u32, to: Option<Node>) -> Option<Bounds>
     requires some { 0 < levels }
     requires few { levels ≤ most_levels }
     requires low { high_of to < levels }
-    ensures reads { Reads (λ x. ((maybe_of x.to, maybe_of x.by), 1 + max (high_of x.to) (high_of x.by))) result p.new (slice_more levels (maybe_of to, high_of to) p.old.rest.now) }
+    ensures reads { Gives (λ x. ((maybe_of x.to, maybe_of x.by), 1 + max (high_of x.to) (high_of x.by))) result p.new (slice_more levels (maybe_of to, high_of to) p.old.rest.now) }
     ensures fits { IfSome result (λ x. max (high_of x.to) (high_of x.by) < levels) }
 {
     if let Some(_close) = p.take_op(Op::RightBracket) {
@@ -417,7 +417,7 @@ fn bounds(p: &mut Parser<'_>, levels: u32, to: Option<Node>) -> Option<Bounds>
 pub fn arguments(p: &mut Parser<'_>, levels: u32) -> Option<Arguments>
     requires some { 0 < levels }
     requires few { levels ≤ most_levels }
-    ensures reads { Reads (λ x. (args_of x, 1 + x.all.height)) result p.new (reads levels arguments p.old.rest.now) }
+    ensures reads { Gives (λ x. (args_of x, 1 + x.all.height)) result p.new (reads levels arguments p.old.rest.now) }
     ensures fits { IfSome result (λ x. x.all.height < levels) }
 {
     let Some(_open) = p.expect_op(Op::LeftParen) else {
@@ -447,7 +447,7 @@ fn more_arguments(p: &mut Parser<'_>, levels: u32, first: Arguments) -> Option<A
     requires few { levels ≤ most_levels }
     requires open { first.ended ≡ false }
     requires low { first.all.height < levels }
-    ensures reads { Reads (λ x. (args_of x, x.all.height)) result p.new (args_more levels (args_of first, first.all.height) p.old.rest.now) }
+    ensures reads { Gives (λ x. (args_of x, x.all.height)) result p.new (args_more levels (args_of first, first.all.height) p.old.rest.now) }
     ensures fits { IfSome result (λ x. x.all.height < levels) }
 {
     let mut all = first;
@@ -470,7 +470,7 @@ fn argument(p: &mut Parser<'_>, levels: u32, before: Arguments) -> Option<Argume
     requires some { 0 < levels }
     requires few { levels ≤ most_levels }
     requires low { before.all.height < levels }
-    ensures reads { Reads (λ x. (args_of x, x.all.height)) result p.new (arg_on levels (args_of before, before.all.height) p.old.rest.now) }
+    ensures reads { Gives (λ x. (args_of x, x.all.height)) result p.new (arg_on levels (args_of before, before.all.height) p.old.rest.now) }
     ensures fits { IfSome result (λ x. x.all.height < levels) }
     ensures open { IfSome result (λ x. x.ended ≡ false) }
 {
@@ -495,7 +495,7 @@ fn argument(p: &mut Parser<'_>, levels: u32, before: Arguments) -> Option<Argume
 fn atom(p: &mut Parser<'_>, levels: u32) -> Option<Node>
     requires some { 0 < levels }
     requires few { levels ≤ most_levels }
-    ensures reads { Reads (λ x. (tree x.expr.value, x.height)) result p.new (reads levels atom p.old.rest.now) }
+    ensures reads { Gives (λ x. (tree x.expr.value, x.height)) result p.new (reads levels atom p.old.rest.now) }
     ensures fits { IfSome result (λ x. x.height ≤ levels) }
 {
     match p.take(Sign::Name) {
@@ -509,7 +509,7 @@ fn atom(p: &mut Parser<'_>, levels: u32) -> Option<Node>
 #[cycle(expression)]
 pub fn other_atom(p: &mut Parser<'_>, levels: u32) -> Option<Node>
     requires { levels ≤ most_levels }
-    ensures reads { Reads (λ x. (tree x.expr.value, x.height)) result p.new (reads levels other p.old.rest.now) }
+    ensures reads { Gives (λ x. (tree x.expr.value, x.height)) result p.new (reads levels other p.old.rest.now) }
     ensures fits { IfSome result (λ x. x.height ≤ levels) }
 {
     if levels == 0 {
@@ -538,7 +538,7 @@ pub fn other_atom(p: &mut Parser<'_>, levels: u32) -> Option<Node>
 fn group(p: &mut Parser<'_>, levels: u32, at: Pos) -> Option<Node>
     requires some { 0 < levels }
     requires few { levels ≤ most_levels }
-    ensures reads { Reads (λ x. (tree x.expr.value, x.height)) result p.new (group_on levels at p.old.rest.now) }
+    ensures reads { Gives (λ x. (tree x.expr.value, x.height)) result p.new (group_on levels at p.old.rest.now) }
     ensures fits { IfSome result (λ x. x.height ≤ levels) }
 {
     if let Some(_close) = p.take_op(Op::RightParen) {
@@ -558,7 +558,7 @@ fn group(p: &mut Parser<'_>, levels: u32, at: Pos) -> Option<Node>
 fn list(p: &mut Parser<'_>, levels: u32, at: Pos) -> Option<Node>
     requires some { 0 < levels }
     requires few { levels ≤ most_levels }
-    ensures reads { Reads (λ x. (tree x.expr.value, x.height)) result p.new (list_on levels at p.old.rest.now) }
+    ensures reads { Gives (λ x. (tree x.expr.value, x.height)) result p.new (list_on levels at p.old.rest.now) }
     ensures fits { IfSome result (λ x. x.height ≤ levels) }
 {
     let row = row_at(p.alloc, at);
@@ -585,7 +585,7 @@ fn list(p: &mut Parser<'_>, levels: u32, at: Pos) -> Option<Node>
 fn dict(p: &mut Parser<'_>, levels: u32, at: Pos) -> Option<Node>
     requires some { 0 < levels }
     requires few { levels ≤ most_levels }
-    ensures reads { Reads (λ x. (tree x.expr.value, x.height)) result p.new (dict_on levels at p.old.rest.now) }
+    ensures reads { Gives (λ x. (tree x.expr.value, x.height)) result p.new (dict_on levels at p.old.rest.now) }
     ensures fits { IfSome result (λ x. x.height ≤ levels) }
 {
     let none = no_pairs(p.alloc, at);
@@ -612,7 +612,7 @@ fn more_pairs(p: &mut Parser<'_>, levels: u32, first: Pairs) -> Option<Pairs>
     requires few { levels ≤ most_levels }
     requires open { first.ended ≡ false }
     requires low { max first.names.height first.values.height < levels }
-    ensures reads { Reads (λ x. (pairs_of x, max x.names.height x.values.height)) result p.new (pairs_more levels (pairs_of first, max first.names.height first.values.height) p.old.rest.now) }
+    ensures reads { Gives (λ x. (pairs_of x, max x.names.height x.values.height)) result p.new (pairs_more levels (pairs_of first, max first.names.height first.values.height) p.old.rest.now) }
     ensures fits { IfSome result (λ x. max x.names.height x.values.height < levels) }
 {
     let mut all = first;
@@ -634,7 +634,7 @@ fn pair(p: &mut Parser<'_>, levels: u32, before: Pairs) -> Option<Pairs>
     requires some { 0 < levels }
     requires few { levels ≤ most_levels }
     requires low { max before.names.height before.values.height < levels }
-    ensures reads { Reads (λ x. (pairs_of x, max x.names.height x.values.height)) result p.new (pair_on levels (pairs_of before, max before.names.height before.values.height) p.old.rest.now) }
+    ensures reads { Gives (λ x. (pairs_of x, max x.names.height x.values.height)) result p.new (pair_on levels (pairs_of before, max before.names.height before.values.height) p.old.rest.now) }
     ensures fits { IfSome result (λ x. max x.names.height x.values.height < levels) }
     ensures open { IfSome result (λ x. x.ended ≡ before.ended) }
 {

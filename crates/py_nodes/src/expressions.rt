@@ -134,15 +134,6 @@ pub fn name_in(expr: &Expr) -> Result<Option<ArgName>, AllocError>
     }
 }
 
-fn tuple_form(at: Pos, all: Rc<Vec<Rc<Expr>>>) -> Expr
-    ensures { tree result ≡ Tuple at (trees all.value.items) }
-{
-    Expr {
-        at,
-        kind: ExprKind::Tuple(all),
-    }
-}
-
 /// A tuple's elements.
 pub fn tuple_node(alloc: Global, row: Row) -> Result<Node, AllocError>
     requires { row.all.height < u32.MAX }
@@ -151,16 +142,8 @@ pub fn tuple_node(alloc: Global, row: Row) -> Result<Node, AllocError>
 {
     let height = 1 + row.all.height;
     let all = Rc::new(alloc, row.all.items)?;
-    made(alloc, tuple_form(row.at, all), height)
-}
-
-fn list_form(at: Pos, all: Rc<Vec<Rc<Expr>>>) -> Expr
-    ensures { tree result ≡ Listed at (trees all.value.items) }
-{
-    Expr {
-        at,
-        kind: ExprKind::List(all),
-    }
+    let kind = ExprKind::Tuple(all);
+    made(alloc, Expr { at: row.at, kind }, height)
 }
 
 /// A list's elements.
@@ -171,16 +154,8 @@ pub fn list_node(alloc: Global, row: Row) -> Result<Node, AllocError>
 {
     let height = 1 + row.all.height;
     let all = Rc::new(alloc, row.all.items)?;
-    made(alloc, list_form(row.at, all), height)
-}
-
-fn dict_form(at: Pos, names: Rc<Vec<Rc<Expr>>>, values: Rc<Vec<Rc<Expr>>>) -> Expr
-    ensures { tree result ≡ Dict at (trees names.value.items) (trees values.value.items) }
-{
-    Expr {
-        at,
-        kind: ExprKind::Dict(names, values),
-    }
+    let kind = ExprKind::List(all);
+    made(alloc, Expr { at: row.at, kind }, height)
 }
 
 /// A dictionary's keys and values.
@@ -193,7 +168,8 @@ pub fn dict_node(alloc: Global, pairs: Pairs) -> Result<Node, AllocError>
     let height = 1 + pairs.names.height.max(pairs.values.height);
     let names = Rc::new(alloc, pairs.names.items)?;
     let values = Rc::new(alloc, pairs.values.items)?;
-    made(alloc, dict_form(pairs.at, names, values), height)
+    let kind = ExprKind::Dict(names, values);
+    made(alloc, Expr { at: pairs.at, kind }, height)
 }
 
 /// `of.name`, at the first token of what it is an attribute of.
@@ -286,22 +262,7 @@ pub fn slice_node(
     made(alloc, form, height)
 }
 
-fn call_form(
-    at: Pos,
-    function: Rc<Expr>,
-    all: Rc<Vec<Rc<Expr>>>,
-    names: Rc<Vec<Option<ArgName>>>,
-) -> Expr
-    ensures { tree result ≡ Call at (tree function.value) (trees all.value.items) names.value.items }
-{
-    Expr {
-        at,
-        kind: ExprKind::Call(function, all, names),
-    }
-}
-
 /// A call, at its function's first token.
-#[tactic(auto, using(crate::proofs::Forms::place_is))]
 pub fn call_node(alloc: Global, function: Node, arguments: Arguments) -> Result<Node, AllocError>
     requires function { function.height < u32.MAX }
     requires arguments { arguments.all.height < u32.MAX }
@@ -312,20 +273,11 @@ pub fn call_node(alloc: Global, function: Node, arguments: Arguments) -> Result<
     let at = place_of(&function);
     let names = Rc::new(alloc, arguments.names)?;
     let all = Rc::new(alloc, arguments.all.items)?;
-    made(alloc, call_form(at, function.expr, all, names), height)
-}
-
-fn compare_form(at: Pos, head: Rc<Expr>, ops: Rc<Vec<CmpOp>>, more: Rc<Vec<Rc<Expr>>>) -> Expr
-    ensures { tree result ≡ Compare at (tree head.value) ops.value.items (trees more.value.items) }
-{
-    Expr {
-        at,
-        kind: ExprKind::Compare(head, ops, more),
-    }
+    let kind = ExprKind::Call(function.expr, all, names);
+    made(alloc, Expr { at, kind }, height)
 }
 
 /// The comparison of operands.
-#[tactic(auto, using(crate::proofs::Forms::place_is))]
 pub fn compare_node(alloc: Global, chain: Chain) -> Result<Node, AllocError>
     requires head { chain.head.height < u32.MAX }
     requires more { chain.more.height < u32.MAX }
@@ -336,20 +288,11 @@ pub fn compare_node(alloc: Global, chain: Chain) -> Result<Node, AllocError>
     let at = place_of(&chain.head);
     let ops = Rc::new(alloc, chain.ops)?;
     let more = Rc::new(alloc, chain.more.items)?;
-    made(alloc, compare_form(at, chain.head.expr, ops, more), height)
-}
-
-fn and_form(at: Pos, head: Rc<Expr>, more: Rc<Vec<Rc<Expr>>>) -> Expr
-    ensures { tree result ≡ And at (tree head.value) (trees more.value.items) }
-{
-    Expr {
-        at,
-        kind: ExprKind::And(head, more),
-    }
+    let kind = ExprKind::Compare(chain.head.expr, ops, more);
+    made(alloc, Expr { at, kind }, height)
 }
 
 /// Operands with `and` between them.
-#[tactic(auto, using(crate::proofs::Forms::place_is))]
 pub fn and_node(alloc: Global, chain: Chain) -> Result<Node, AllocError>
     requires head { chain.head.height < u32.MAX }
     requires more { chain.more.height < u32.MAX }
@@ -359,20 +302,11 @@ pub fn and_node(alloc: Global, chain: Chain) -> Result<Node, AllocError>
     let height = 1 + chain.head.height.max(chain.more.height);
     let at = place_of(&chain.head);
     let more = Rc::new(alloc, chain.more.items)?;
-    made(alloc, and_form(at, chain.head.expr, more), height)
-}
-
-fn or_form(at: Pos, head: Rc<Expr>, more: Rc<Vec<Rc<Expr>>>) -> Expr
-    ensures { tree result ≡ Or at (tree head.value) (trees more.value.items) }
-{
-    Expr {
-        at,
-        kind: ExprKind::Or(head, more),
-    }
+    let kind = ExprKind::And(chain.head.expr, more);
+    made(alloc, Expr { at, kind }, height)
 }
 
 /// Operands with `or` between them.
-#[tactic(auto, using(crate::proofs::Forms::place_is))]
 pub fn or_node(alloc: Global, chain: Chain) -> Result<Node, AllocError>
     requires head { chain.head.height < u32.MAX }
     requires more { chain.more.height < u32.MAX }
@@ -382,5 +316,6 @@ pub fn or_node(alloc: Global, chain: Chain) -> Result<Node, AllocError>
     let height = 1 + chain.head.height.max(chain.more.height);
     let at = place_of(&chain.head);
     let more = Rc::new(alloc, chain.more.items)?;
-    made(alloc, or_form(at, chain.head.expr, more), height)
+    let kind = ExprKind::Or(chain.head.expr, more);
+    made(alloc, Expr { at, kind }, height)
 }

@@ -1,7 +1,7 @@
 ghost use Rattle.std.specs.Prelude.{◌≡◌, ◌<◌, nat_le};
 ghost use Rattle.py_tree.specs.Trees.{tree, trees, some_tree, Empty};
 ghost use Rattle.py_tree.specs.Statements.{statement, block, branches, handlers};
-ghost use Rattle.py_cursor.specs.Parser.{Reads};
+ghost use Rattle.py_cursor.specs.Parser.{Gives};
 ghost use Rattle.py_cursor.specs.token_kinds.Kinds.{op_number};
 ghost use Rattle.statement_readers.specs.Words.{suite, suite_behind, arm, elifs_on, if_behind, while_behind, with_behind, for_behind, handler, handlers_on, handled, try_behind, def_behind, class_behind, decorated_behind, compound, stmt, stmts_on, stmts, block_at, source};
 
@@ -73,7 +73,7 @@ const BEGINS_STATEMENT: [Sign; 32] = [
 #[cycle(block)]
 fn suite(p: &mut Parser<'_>, levels: u32) -> Option<Vec<Stmt>>
     requires some { 0 < levels }
-    ensures { Reads (λ x. block x.items) result p.new (suite (block_at levels) p.old.rest.now) }
+    ensures { Gives (λ x. block x.items) result p.new (suite (block_at levels) p.old.rest.now) }
 {
     let Some(_colon) = p.expect_op(Op::Colon) else {
         return None;
@@ -86,7 +86,7 @@ fn suite(p: &mut Parser<'_>, levels: u32) -> Option<Vec<Stmt>>
 #[cycle(block)]
 fn suite_behind(p: &mut Parser<'_>, levels: u32, word: Op) -> Option<Vec<Stmt>>
     requires some { 0 < levels }
-    ensures { Reads (λ x. block x.items) result p.new (suite_behind (block_at levels) (op_number word) p.old.rest.now) }
+    ensures { Gives (λ x. block x.items) result p.new (suite_behind (block_at levels) (op_number word) p.old.rest.now) }
 {
     match p.take_op(word) {
         Some(_word) => suite(p, levels),
@@ -99,7 +99,7 @@ fn suite_behind(p: &mut Parser<'_>, levels: u32, word: Op) -> Option<Vec<Stmt>>
 #[cycle(block)]
 fn arm(p: &mut Parser<'_>, levels: u32) -> Option<(Rc<Expr>, Vec<Stmt>)>
     requires some { 0 < levels }
-    ensures { Reads (λ x. (tree x.0.value, block x.1.items)) result p.new (arm (block_at levels) p.old.rest.now) }
+    ensures { Gives (λ x. (tree x.0.value, block x.1.items)) result p.new (arm (block_at levels) p.old.rest.now) }
 {
     let Some(condition) = expression(p, LEVELS) else {
         return None;
@@ -115,7 +115,7 @@ fn arm(p: &mut Parser<'_>, levels: u32) -> Option<(Rc<Expr>, Vec<Stmt>)>
 #[cycle(block)]
 fn further_branches(p: &mut Parser<'_>, levels: u32, first: Vec<Branch>) -> Option<Vec<Branch>>
     requires some { 0 < levels }
-    ensures { Reads (λ x. branches x.items) result p.new (elifs_on (block_at levels) (branches first.items, p.old.rest.now)) }
+    ensures { Gives (λ x. branches x.items) result p.new (elifs_on (block_at levels) (branches first.items, p.old.rest.now)) }
 {
     let mut all = first;
     while let Some(elif) = p.take_op(Op::Elif) {
@@ -135,7 +135,7 @@ fn further_branches(p: &mut Parser<'_>, levels: u32, first: Vec<Branch>) -> Opti
 #[cycle(block)]
 fn choosing(p: &mut Parser<'_>, levels: u32, at: Pos) -> Option<Stmt>
     requires some { 0 < levels }
-    ensures { Reads (λ x. statement x) result p.new (if_behind (block_at levels) at p.old.rest.now) }
+    ensures { Gives (λ x. statement x) result p.new (if_behind (block_at levels) at p.old.rest.now) }
 {
     let Some((condition, body)) = arm(p, levels) else {
         return None;
@@ -158,7 +158,7 @@ fn choosing(p: &mut Parser<'_>, levels: u32, at: Pos) -> Option<Stmt>
 #[cycle(block)]
 fn looping(p: &mut Parser<'_>, levels: u32, at: Pos) -> Option<Stmt>
     requires some { 0 < levels }
-    ensures { Reads (λ x. statement x) result p.new (while_behind (block_at levels) at p.old.rest.now) }
+    ensures { Gives (λ x. statement x) result p.new (while_behind (block_at levels) at p.old.rest.now) }
 {
     let Some((condition, body)) = arm(p, levels) else {
         return None;
@@ -171,7 +171,7 @@ fn looping(p: &mut Parser<'_>, levels: u32, at: Pos) -> Option<Stmt>
 #[cycle(block)]
 fn running(p: &mut Parser<'_>, levels: u32, at: Pos) -> Option<Stmt>
     requires some { 0 < levels }
-    ensures { Reads (λ x. statement x) result p.new (for_behind (block_at levels) at p.old.rest.now) }
+    ensures { Gives (λ x. statement x) result p.new (for_behind (block_at levels) at p.old.rest.now) }
 {
     let Some(target) = targets(p, LEVELS) else {
         return None;
@@ -193,7 +193,7 @@ fn running(p: &mut Parser<'_>, levels: u32, at: Pos) -> Option<Stmt>
 #[cycle(block)]
 fn entering(p: &mut Parser<'_>, levels: u32, at: Pos) -> Option<Stmt>
     requires some { 0 < levels }
-    ensures { Reads (λ x. statement x) result p.new (with_behind (block_at levels) at p.old.rest.now) }
+    ensures { Gives (λ x. statement x) result p.new (with_behind (block_at levels) at p.old.rest.now) }
 {
     let Some(context) = expression(p, LEVELS) else {
         return None;
@@ -212,7 +212,7 @@ fn entering(p: &mut Parser<'_>, levels: u32, at: Pos) -> Option<Stmt>
 #[cycle(block)]
 fn handler(p: &mut Parser<'_>, levels: u32, before: Vec<Handler>, word: Pos) -> Option<Vec<Handler>>
     requires some { 0 < levels }
-    ensures { Reads (λ x. handlers x.items) result p.new (handler (block_at levels) (handlers before.items) word p.old.rest.now) }
+    ensures { Gives (λ x. handlers x.items) result p.new (handler (block_at levels) (handlers before.items) word p.old.rest.now) }
 {
     let Some((class, name)) = caught(p) else {
         return None;
@@ -228,7 +228,7 @@ fn handler(p: &mut Parser<'_>, levels: u32, before: Vec<Handler>, word: Pos) -> 
 #[cycle(block)]
 fn further_handlers(p: &mut Parser<'_>, levels: u32, first: Vec<Handler>) -> Option<Vec<Handler>>
     requires some { 0 < levels }
-    ensures { Reads (λ x. handlers x.items) result p.new (handlers_on (block_at levels) (handlers first.items, p.old.rest.now)) }
+    ensures { Gives (λ x. handlers x.items) result p.new (handlers_on (block_at levels) (handlers first.items, p.old.rest.now)) }
 {
     let mut all = first;
     while let Some(except) = p.take_op(Op::Except) {
@@ -245,7 +245,7 @@ fn further_handlers(p: &mut Parser<'_>, levels: u32, first: Vec<Handler>) -> Opt
 #[cycle(block)]
 fn handling(p: &mut Parser<'_>, levels: u32, at: Pos, body: Vec<Stmt>, word: Pos) -> Option<Stmt>
     requires some { 0 < levels }
-    ensures { Reads (λ x. statement x) result p.new (handled (block_at levels) at (block body.items) word p.old.rest.now) }
+    ensures { Gives (λ x. statement x) result p.new (handled (block_at levels) at (block body.items) word p.old.rest.now) }
 {
     let none = Vec::new(p.alloc);
     let Some(first) = handler(p, levels, none, word) else {
@@ -268,7 +268,7 @@ fn handling(p: &mut Parser<'_>, levels: u32, at: Pos, body: Vec<Stmt>, word: Pos
 #[cycle(block)]
 fn trying(p: &mut Parser<'_>, levels: u32, at: Pos) -> Option<Stmt>
     requires some { 0 < levels }
-    ensures { Reads (λ x. statement x) result p.new (try_behind (block_at levels) at p.old.rest.now) }
+    ensures { Gives (λ x. statement x) result p.new (try_behind (block_at levels) at p.old.rest.now) }
 {
     let Some(body) = suite(p, levels) else {
         return None;
@@ -297,7 +297,7 @@ fn defining(
     word: Pos,
 ) -> Option<Stmt>
     requires some { 0 < levels }
-    ensures { Reads (λ x. statement x) result p.new (def_behind (block_at levels) at (trees decorators.items) word p.old.rest.now) }
+    ensures { Gives (λ x. statement x) result p.new (def_behind (block_at levels) at (trees decorators.items) word p.old.rest.now) }
 {
     let Some(name) = name(p) else {
         return None;
@@ -328,7 +328,7 @@ fn classing(
     word: Pos,
 ) -> Option<Stmt>
     requires some { 0 < levels }
-    ensures { Reads (λ x. statement x) result p.new (class_behind (block_at levels) at (trees decorators.items) word p.old.rest.now) }
+    ensures { Gives (λ x. statement x) result p.new (class_behind (block_at levels) at (trees decorators.items) word p.old.rest.now) }
 {
     let Some(name) = name(p) else {
         return None;
@@ -347,7 +347,7 @@ fn classing(
 #[cycle(block)]
 fn decorated(p: &mut Parser<'_>, levels: u32, at: Pos) -> Option<Stmt>
     requires some { 0 < levels }
-    ensures { Reads (λ x. statement x) result p.new (decorated_behind (block_at levels) at p.old.rest.now) }
+    ensures { Gives (λ x. statement x) result p.new (decorated_behind (block_at levels) at p.old.rest.now) }
 {
     let Some(all) = decorators(p) else {
         return None;
@@ -366,7 +366,7 @@ fn decorated(p: &mut Parser<'_>, levels: u32, at: Pos) -> Option<Stmt>
 #[cycle(block)]
 fn compound(p: &mut Parser<'_>, levels: u32) -> Option<Stmt>
     requires some { 0 < levels }
-    ensures { Reads (λ x. statement x) result p.new (compound (block_at levels) p.old.rest.now) }
+    ensures { Gives (λ x. statement x) result p.new (compound (block_at levels) p.old.rest.now) }
 {
     if let Some(word) = p.take_op(Op::If) {
         return choosing(p, levels, word.at);
@@ -401,7 +401,7 @@ fn compound(p: &mut Parser<'_>, levels: u32) -> Option<Stmt>
 #[tactic(auto, using(statement_readers::proofs::Suites::left_rules), unfolding(statement_readers::specs::Words::stmt))]
 #[cycle(block)]
 fn statement(p: &mut Parser<'_>, levels: u32, before: Vec<Stmt>) -> Option<Vec<Stmt>>
-    ensures { Reads (λ x. block x.items) result p.new (stmt (block_at levels) (nat_le 1 levels) (block before.items) p.old.rest.now) }
+    ensures { Gives (λ x. block x.items) result p.new (stmt (block_at levels) (nat_le 1 levels) (block before.items) p.old.rest.now) }
 {
     if !p.at_any(&BEGINS_COMPOUND) {
         return simples(p, before);
@@ -420,7 +420,7 @@ fn statement(p: &mut Parser<'_>, levels: u32, before: Vec<Stmt>) -> Option<Vec<S
 #[tactic(auto, using(statement_readers::proofs::Suites::stmt_rules))]
 #[cycle(block)]
 fn further_statements(p: &mut Parser<'_>, levels: u32, first: Vec<Stmt>) -> Option<Vec<Stmt>>
-    ensures { Reads (λ x. block x.items) result p.new (stmts_on (block_at levels) (nat_le 1 levels) (block first.items, p.old.rest.now)) }
+    ensures { Gives (λ x. block x.items) result p.new (stmts_on (block_at levels) (nat_le 1 levels) (block first.items, p.old.rest.now)) }
 {
     let mut all = first;
     while let Some((_first, _behind)) = first_of(p.rest, &BEGINS_STATEMENT) {
@@ -436,7 +436,7 @@ fn further_statements(p: &mut Parser<'_>, levels: u32, first: Vec<Stmt>) -> Opti
 #[tactic(auto, unfolding(statement_readers::specs::Words::stmts))]
 #[cycle(block)]
 fn statements(p: &mut Parser<'_>, levels: u32) -> Option<Vec<Stmt>>
-    ensures { Reads (λ x. block x.items) result p.new (stmts (block_at levels) (nat_le 1 levels) p.old.rest.now) }
+    ensures { Gives (λ x. block x.items) result p.new (stmts (block_at levels) (nat_le 1 levels) p.old.rest.now) }
 {
     let none = Vec::new(p.alloc);
     let Some(first) = statement(p, levels, none) else {
@@ -450,7 +450,7 @@ fn statements(p: &mut Parser<'_>, levels: u32) -> Option<Vec<Stmt>>
 #[cycle(block)]
 fn block(p: &mut Parser<'_>, levels: u32) -> Option<Vec<Stmt>>
     requires some { 0 < levels }
-    ensures { Reads (λ x. block x.items) result p.new (block_at levels p.old.rest.now) }
+    ensures { Gives (λ x. block x.items) result p.new (block_at levels p.old.rest.now) }
 {
     let Some(_newline) = p.take(Sign::Newline) else {
         let none = Vec::new(p.alloc);
@@ -471,7 +471,7 @@ fn block(p: &mut Parser<'_>, levels: u32) -> Option<Vec<Stmt>>
 /// The statements of a source, up to the end, and with it.
 #[tactic(auto, unfolding(statement_readers::specs::Words::source))]
 pub fn source(p: &mut Parser<'_>) -> Option<Vec<Stmt>>
-    ensures { Reads (λ x. block x.items) result p.new (source p.old.rest.now) }
+    ensures { Gives (λ x. block x.items) result p.new (source p.old.rest.now) }
 {
     if let Some(_end) = p.take(Sign::End) {
         return Some(Vec::new(p.alloc));

@@ -1,7 +1,7 @@
 ghost use Rattle.std.specs.Prelude.{◌≡◌};
 ghost use Rattle.py_tree.specs.Trees.{tree, trees, some_tree};
 ghost use Rattle.py_tree.specs.Statements.{parameters};
-ghost use Rattle.py_cursor.specs.Parser.{Reads};
+ghost use Rattle.py_cursor.specs.Parser.{Gives};
 ghost use Rattle.statement_readers.specs.Words.{param, params_on, params, base, decorator, decorators_on, decorators, handler_head};
 
 use crate::parts::{LEVELS, alias_behind, expression_behind};
@@ -16,7 +16,7 @@ use std::rc::Rc;
 /// The parameters, and one more behind them, with its annotation and its default.
 #[tactic(auto, unfolding(statement_readers::specs::Words::param))]
 fn param(p: &mut Parser<'_>, before: Vec<Param>) -> Option<Vec<Param>>
-    ensures { Reads (λ x. parameters x.items) result p.new (param (parameters before.items) p.old.rest.now) }
+    ensures { Gives (λ x. parameters x.items) result p.new (param (parameters before.items) p.old.rest.now) }
 {
     let Some(first) = p.expect(Sign::Name) else {
         return None;
@@ -36,7 +36,7 @@ fn param(p: &mut Parser<'_>, before: Vec<Param>) -> Option<Vec<Param>>
 /// The parameters, and those behind each comma; one may stand at the end.
 #[tactic(auto, using(statement_readers::proofs::Signatures::param_rules))]
 fn further_params(p: &mut Parser<'_>, first: Vec<Param>) -> Option<Vec<Param>>
-    ensures { Reads (λ x. parameters x.items) result p.new (params_on (parameters first.items, p.old.rest.now)) }
+    ensures { Gives (λ x. parameters x.items) result p.new (params_on (parameters first.items, p.old.rest.now)) }
 {
     let mut all = first;
     while let Some(_comma) = p.take_op(Op::Comma) {
@@ -54,7 +54,7 @@ fn further_params(p: &mut Parser<'_>, first: Vec<Param>) -> Option<Vec<Param>>
 /// The parameters of a function, up to the parenthesis behind them, and with it.
 #[tactic(auto, unfolding(statement_readers::specs::Words::params))]
 pub fn params(p: &mut Parser<'_>) -> Option<Vec<Param>>
-    ensures { Reads (λ x. parameters x.items) result p.new (params p.old.rest.now) }
+    ensures { Gives (λ x. parameters x.items) result p.new (params p.old.rest.now) }
 {
     if let Some(_close) = p.take_op(Op::RightParen) {
         return Some(Vec::new(p.alloc));
@@ -75,7 +75,7 @@ pub fn params(p: &mut Parser<'_>) -> Option<Vec<Param>>
 /// The base of a class in parentheses, where these stand.
 #[tactic(auto, unfolding(statement_readers::specs::Words::base))]
 pub fn base(p: &mut Parser<'_>) -> Option<Option<Rc<Expr>>>
-    ensures { Reads (λ x. some_tree x) result p.new (base p.old.rest.now) }
+    ensures { Gives (λ x. some_tree x) result p.new (base p.old.rest.now) }
 {
     let Some(_open) = p.take_op(Op::LeftParen) else {
         return Some(None);
@@ -95,7 +95,7 @@ pub fn base(p: &mut Parser<'_>) -> Option<Option<Rc<Expr>>>
 /// The expression of a decorator, up to the end of its line, and with it.
 #[tactic(auto, unfolding(statement_readers::specs::Words::decorator))]
 fn decorator(p: &mut Parser<'_>) -> Option<Rc<Expr>>
-    ensures { Reads (λ x. tree x.value) result p.new (decorator p.old.rest.now) }
+    ensures { Gives (λ x. tree x.value) result p.new (decorator p.old.rest.now) }
 {
     let Some(value) = expression(p, LEVELS) else {
         return None;
@@ -109,7 +109,7 @@ fn decorator(p: &mut Parser<'_>) -> Option<Rc<Expr>>
 /// The decorators, and those behind each further `@`.
 #[tactic(auto, using(statement_readers::proofs::Signatures::decorator_rules))]
 fn further_decorators(p: &mut Parser<'_>, first: Vec<Rc<Expr>>) -> Option<Vec<Rc<Expr>>>
-    ensures { Reads (λ x. trees x.items) result p.new (decorators_on (trees first.items, p.old.rest.now)) }
+    ensures { Gives (λ x. trees x.items) result p.new (decorators_on (trees first.items, p.old.rest.now)) }
 {
     let mut all = first;
     while let Some(_at) = p.take_op(Op::At) {
@@ -127,7 +127,7 @@ fn further_decorators(p: &mut Parser<'_>, first: Vec<Rc<Expr>>) -> Option<Vec<Rc
 /// The decorators behind the first `@`.
 #[tactic(auto, unfolding(statement_readers::specs::Words::decorators))]
 pub fn decorators(p: &mut Parser<'_>) -> Option<Vec<Rc<Expr>>>
-    ensures { Reads (λ x. trees x.items) result p.new (decorators p.old.rest.now) }
+    ensures { Gives (λ x. trees x.items) result p.new (decorators p.old.rest.now) }
 {
     let Some(first) = decorator(p) else {
         return None;
@@ -141,7 +141,7 @@ pub fn decorators(p: &mut Parser<'_>) -> Option<Vec<Rc<Expr>>>
 /// What a handler catches, and the name behind `as`.
 #[tactic(auto, unfolding(statement_readers::specs::Words::handler_head))]
 pub fn caught(p: &mut Parser<'_>) -> Option<(Option<Rc<Expr>>, Option<SrcText>)>
-    ensures { Reads (λ x. (some_tree x.0, x.1)) result p.new (handler_head p.old.rest.now) }
+    ensures { Gives (λ x. (some_tree x.0, x.1)) result p.new (handler_head p.old.rest.now) }
 {
     if !begins_expression(p) {
         return Some((None, None));

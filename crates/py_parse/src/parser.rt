@@ -7,7 +7,7 @@ ghost use Rattle.py_tree.specs.Statements.{block};
 ghost use Rattle.statement_readers.specs.py_grammar.Context.{misplaced, in_module};
 ghost use Rattle.statement_readers.specs.py_grammar.Sources.{source_read};
 ghost use Rattle.statement_readers.specs.py_grammar.Verdict.{Verdict, IsVerdict, verdict_on, verdict_by};
-ghost use Rattle.py_cursor.specs.Parser.{Reads};
+ghost use Rattle.py_cursor.specs.Parser.{Gives};
 ghost use Rattle.statement_readers.specs.Words.{source};
 ghost use Rattle.py_parse.specs.Judged.{verdict_of, IsJudged, Answers};
 
@@ -41,7 +41,7 @@ const UNSUPPORTED: [Sign; 15] = [
 
 /// The statements that all the tokens are.
 fn whole(p: &mut Parser<'_>) -> Option<Vec<Stmt>>
-    ensures { Reads (λ stmts. block stmts.items) result p.new (finish (source p.old.rest.now)) }
+    ensures { Gives (λ stmts. block stmts.items) result p.new (finish (source p.old.rest.now)) }
 {
     let Some(stmts) = source(p) else {
         return None;

@@ -1,7 +1,7 @@
 ghost use Rattle.std.specs.Prelude.{◌≡◌, ◌∷◌, []};
 ghost use Rattle.py_tree.specs.Trees.{some_tree};
 ghost use Rattle.py_cursor.specs.token_kinds.Kinds.{op_number};
-ghost use Rattle.py_cursor.specs.Parser.{Reads};
+ghost use Rattle.py_cursor.specs.Parser.{Gives};
 ghost use Rattle.statement_readers.specs.Words.{optional_expr, optional_exprs, expr_behind, name_reader, names_on, names, alias_behind};
 
 use py_cursor::{Parser, Sign};
@@ -17,7 +17,7 @@ pub const LEVELS: u32 = MOST_LEVELS as u32;
 /// An expression, where one begins.
 #[tactic(auto, unfolding(statement_readers::specs::Words::optional_expr))]
 pub fn optional_expression(p: &mut Parser<'_>) -> Option<Option<Rc<Expr>>>
-    ensures { Reads (λ x. some_tree x) result p.new (optional_expr p.old.rest.now) }
+    ensures { Gives (λ x. some_tree x) result p.new (optional_expr p.old.rest.now) }
 {
     if !begins_expression(p) {
         return Some(None);
@@ -31,7 +31,7 @@ pub fn optional_expression(p: &mut Parser<'_>) -> Option<Option<Rc<Expr>>>
 /// Expressions with commas between them, where one begins.
 #[tactic(auto, unfolding(statement_readers::specs::Words::optional_exprs))]
 pub fn optional_expressions(p: &mut Parser<'_>) -> Option<Option<Rc<Expr>>>
-    ensures { Reads (λ x. some_tree x) result p.new (optional_exprs p.old.rest.now) }
+    ensures { Gives (λ x. some_tree x) result p.new (optional_exprs p.old.rest.now) }
 {
     if !begins_expression(p) {
         return Some(None);
@@ -45,7 +45,7 @@ pub fn optional_expressions(p: &mut Parser<'_>) -> Option<Option<Rc<Expr>>>
 /// An expression behind an operator, where that stands.
 #[tactic(auto, unfolding(statement_readers::specs::Words::expr_behind))]
 pub fn expression_behind(p: &mut Parser<'_>, operator: Op) -> Option<Option<Rc<Expr>>>
-    ensures { Reads (λ x. some_tree x) result p.new (expr_behind (op_number operator) p.old.rest.now) }
+    ensures { Gives (λ x. some_tree x) result p.new (expr_behind (op_number operator) p.old.rest.now) }
 {
     let Some(_operator) = p.take_op(operator) else {
         return Some(None);
@@ -59,7 +59,7 @@ pub fn expression_behind(p: &mut Parser<'_>, operator: Op) -> Option<Option<Rc<E
 /// A name.
 #[tactic(auto, unfolding(statement_readers::specs::Words::name_reader))]
 pub fn name(p: &mut Parser<'_>) -> Option<SrcText>
-    ensures { Reads (λ x. x) result p.new (name_reader p.old.rest.now) }
+    ensures { Gives (λ x. x) result p.new (name_reader p.old.rest.now) }
 {
     let Some(name) = p.expect(Sign::Name) else {
         return None;
@@ -70,7 +70,7 @@ pub fn name(p: &mut Parser<'_>) -> Option<SrcText>
 /// The first name, and those behind each separator.
 #[tactic(auto, using(statement_readers::proofs::Loops::name_rules))]
 fn further_names(p: &mut Parser<'_>, separator: Op, first: SrcText) -> Option<Vec<SrcText>>
-    ensures { Reads (λ x. x.items) result p.new (names_on (op_number separator) (first ∷ [], p.old.rest.now)) }
+    ensures { Gives (λ x. x.items) result p.new (names_on (op_number separator) (first ∷ [], p.old.rest.now)) }
 {
     let mut all = Vec::new(p.alloc);
     let Some(_added) = p.made(all.push(first)) else {
@@ -90,7 +90,7 @@ fn further_names(p: &mut Parser<'_>, separator: Op, first: SrcText) -> Option<Ve
 /// Names with a separator between them.
 #[tactic(auto, unfolding(statement_readers::specs::Words::names))]
 pub fn names(p: &mut Parser<'_>, separator: Op) -> Option<Vec<SrcText>>
-    ensures { Reads (λ x. x.items) result p.new (names (op_number separator) p.old.rest.now) }
+    ensures { Gives (λ x. x.items) result p.new (names (op_number separator) p.old.rest.now) }
 {
     let Some(first) = name(p) else {
         return None;
@@ -101,7 +101,7 @@ pub fn names(p: &mut Parser<'_>, separator: Op) -> Option<Vec<SrcText>>
 /// The name behind `as`, where that stands.
 #[tactic(auto, unfolding(statement_readers::specs::Words::alias_behind))]
 pub fn alias_behind(p: &mut Parser<'_>) -> Option<Option<SrcText>>
-    ensures { Reads (λ x. x) result p.new (alias_behind p.old.rest.now) }
+    ensures { Gives (λ x. x) result p.new (alias_behind p.old.rest.now) }
 {
     let Some(_as) = p.take_op(Op::As) else {
         return Some(None);

@@ -1,7 +1,7 @@
 ghost use Rattle.std.specs.Prelude.{◌≡◌, ◌∷◌, [], IfOk};
 ghost use Rattle.py_tree.specs.Trees.{tree};
 ghost use Rattle.py_tree.specs.Statements.{statement, block, takers};
-ghost use Rattle.py_cursor.specs.Parser.{Reads};
+ghost use Rattle.py_cursor.specs.Parser.{Gives};
 ghost use Rattle.statement_readers.specs.Words.{return_behind, assert_behind, raise_behind, yield_behind, global_behind, del_behind, import_behind, from_behind, alias, aliases_on, listed_on, imported, assignment, yield_to, assigns, value_statement, word_statement, simple, simples_on, simples};
 
 use crate::parts::{
@@ -68,7 +68,7 @@ pub const BEGINS_SIMPLE: [Sign; 24] = [
 /// What stands behind `return`.
 #[tactic(auto, unfolding(statement_readers::specs::Words::return_behind))]
 fn returning(p: &mut Parser<'_>, at: Pos) -> Option<Stmt>
-    ensures { Reads (λ x. statement x) result p.new (return_behind at p.old.rest.now) }
+    ensures { Gives (λ x. statement x) result p.new (return_behind at p.old.rest.now) }
 {
     let before = p.rest;
     if let Some(_open) = p.take_op(Op::LeftParen) {
@@ -92,7 +92,7 @@ fn returning(p: &mut Parser<'_>, at: Pos) -> Option<Stmt>
 /// What stands behind `raise`.
 #[tactic(auto, unfolding(statement_readers::specs::Words::raise_behind))]
 fn raising(p: &mut Parser<'_>, at: Pos) -> Option<Stmt>
-    ensures { Reads (λ x. statement x) result p.new (raise_behind at p.old.rest.now) }
+    ensures { Gives (λ x. statement x) result p.new (raise_behind at p.old.rest.now) }
 {
     let Some(value) = optional_expression(p) else {
         return None;
@@ -103,7 +103,7 @@ fn raising(p: &mut Parser<'_>, at: Pos) -> Option<Stmt>
 /// What stands behind `assert`.
 #[tactic(auto, unfolding(statement_readers::specs::Words::assert_behind))]
 fn asserting(p: &mut Parser<'_>, at: Pos) -> Option<Stmt>
-    ensures { Reads (λ x. statement x) result p.new (assert_behind at p.old.rest.now) }
+    ensures { Gives (λ x. statement x) result p.new (assert_behind at p.old.rest.now) }
 {
     let Some(condition) = expression(p, LEVELS) else {
         return None;
@@ -117,7 +117,7 @@ fn asserting(p: &mut Parser<'_>, at: Pos) -> Option<Stmt>
 /// What stands behind `del`.
 #[tactic(auto, unfolding(statement_readers::specs::Words::del_behind))]
 fn deleting(p: &mut Parser<'_>, at: Pos) -> Option<Stmt>
-    ensures { Reads (λ x. statement x) result p.new (del_behind at p.old.rest.now) }
+    ensures { Gives (λ x. statement x) result p.new (del_behind at p.old.rest.now) }
 {
     let Some(target) = single(p, LEVELS) else {
         return None;
@@ -128,7 +128,7 @@ fn deleting(p: &mut Parser<'_>, at: Pos) -> Option<Stmt>
 /// The names behind `global`.
 #[tactic(auto, unfolding(statement_readers::specs::Words::global_behind))]
 fn declaring(p: &mut Parser<'_>, at: Pos) -> Option<Stmt>
-    ensures { Reads (λ x. statement x) result p.new (global_behind at p.old.rest.now) }
+    ensures { Gives (λ x. statement x) result p.new (global_behind at p.old.rest.now) }
 {
     let Some(all) = names(p, Op::Comma) else {
         return None;
@@ -139,7 +139,7 @@ fn declaring(p: &mut Parser<'_>, at: Pos) -> Option<Stmt>
 /// What stands behind `yield`.
 #[tactic(auto, unfolding(statement_readers::specs::Words::yield_behind))]
 fn yielding(p: &mut Parser<'_>, at: Pos) -> Option<Stmt>
-    ensures { Reads (λ x. statement x) result p.new (yield_behind at p.old.rest.now) }
+    ensures { Gives (λ x. statement x) result p.new (yield_behind at p.old.rest.now) }
 {
     let Some(value) = optional_expressions(p) else {
         return None;
@@ -150,7 +150,7 @@ fn yielding(p: &mut Parser<'_>, at: Pos) -> Option<Stmt>
 /// What stands behind `import`.
 #[tactic(auto, unfolding(statement_readers::specs::Words::import_behind))]
 fn importing(p: &mut Parser<'_>, at: Pos) -> Option<Stmt>
-    ensures { Reads (λ x. statement x) result p.new (import_behind at p.old.rest.now) }
+    ensures { Gives (λ x. statement x) result p.new (import_behind at p.old.rest.now) }
 {
     let Some(dotted) = names(p, Op::Dot) else {
         return None;
@@ -164,7 +164,7 @@ fn importing(p: &mut Parser<'_>, at: Pos) -> Option<Stmt>
 /// A name that is imported, with the name behind `as`, where that stands.
 #[tactic(auto, unfolding(statement_readers::specs::Words::alias))]
 fn alias(p: &mut Parser<'_>) -> Option<Alias>
-    ensures { Reads (λ x. x) result p.new (alias p.old.rest.now) }
+    ensures { Gives (λ x. x) result p.new (alias p.old.rest.now) }
 {
     let Some(first) = p.expect(Sign::Name) else {
         return None;
@@ -182,7 +182,7 @@ fn alias(p: &mut Parser<'_>) -> Option<Alias>
 /// The first imported name, and those behind each comma.
 #[tactic(auto, using(statement_readers::proofs::Loops::alias_rules))]
 fn further_aliases(p: &mut Parser<'_>, first: Alias) -> Option<Vec<Alias>>
-    ensures { Reads (λ x. x.items) result p.new (aliases_on (first ∷ [], p.old.rest.now)) }
+    ensures { Gives (λ x. x.items) result p.new (aliases_on (first ∷ [], p.old.rest.now)) }
 {
     let mut all = Vec::new(p.alloc);
     let Some(_added) = p.made(all.push(first)) else {
@@ -202,7 +202,7 @@ fn further_aliases(p: &mut Parser<'_>, first: Alias) -> Option<Vec<Alias>>
 /// The first imported name, and those behind each comma; a comma may stand at the end.
 #[tactic(auto, using(statement_readers::proofs::Loops::listed_rules))]
 fn further_listed(p: &mut Parser<'_>, first: Alias) -> Option<Vec<Alias>>
-    ensures { Reads (λ x. x.items) result p.new (listed_on (first ∷ [], p.old.rest.now)) }
+    ensures { Gives (λ x. x.items) result p.new (listed_on (first ∷ [], p.old.rest.now)) }
 {
     let mut all = Vec::new(p.alloc);
     let Some(_added) = p.made(all.push(first)) else {
@@ -225,7 +225,7 @@ fn further_listed(p: &mut Parser<'_>, first: Alias) -> Option<Vec<Alias>>
 /// What is imported from a module.
 #[tactic(auto, unfolding(statement_readers::specs::Words::imported))]
 fn imported(p: &mut Parser<'_>) -> Option<Vec<Alias>>
-    ensures { Reads (λ x. x.items) result p.new (imported p.old.rest.now) }
+    ensures { Gives (λ x. x.items) result p.new (imported p.old.rest.now) }
 {
     if p.at(Sign::Name) {
         let Some(first) = alias(p) else {
@@ -251,7 +251,7 @@ fn imported(p: &mut Parser<'_>) -> Option<Vec<Alias>>
 /// What stands behind `from`.
 #[tactic(auto, unfolding(statement_readers::specs::Words::from_behind))]
 fn taking(p: &mut Parser<'_>, at: Pos) -> Option<Stmt>
-    ensures { Reads (λ x. statement x) result p.new (from_behind at p.old.rest.now) }
+    ensures { Gives (λ x. statement x) result p.new (from_behind at p.old.rest.now) }
 {
     let Some(dotted) = names(p, Op::Dot) else {
         return None;
@@ -284,7 +284,7 @@ fn assignment(
 /// The assignment of the `yield` at `word` to the targets.
 #[tactic(auto, unfolding(statement_readers::specs::Words::yield_to))]
 fn assigned_yield(p: &mut Parser<'_>, at: Pos, targets: Vec<Target>, word: Pos) -> Option<Stmt>
-    ensures { Reads (λ x. statement x) result p.new (yield_to at (takers targets.items) word p.old.rest.now) }
+    ensures { Gives (λ x. statement x) result p.new (yield_to at (takers targets.items) word p.old.rest.now) }
 {
     let Some(value) = optional_expressions(p) else {
         return None;
@@ -295,7 +295,7 @@ fn assigned_yield(p: &mut Parser<'_>, at: Pos, targets: Vec<Target>, word: Pos) 
 /// An expression, and the targets in it where values are assigned to them.
 #[tactic(auto, using(statement_readers::proofs::Loops::assign_rules))]
 fn assigning(p: &mut Parser<'_>, at: Pos, first: Rc<Expr>) -> Option<Stmt>
-    ensures { Reads (λ x. statement x) result p.new (assigns at (([], tree first.value), p.old.rest.now)) }
+    ensures { Gives (λ x. statement x) result p.new (assigns at (([], tree first.value), p.old.rest.now)) }
 {
     let mut targets = Vec::new(p.alloc);
     let mut last = first;
@@ -331,7 +331,7 @@ fn assigning(p: &mut Parser<'_>, at: Pos, first: Rc<Expr>) -> Option<Stmt>
 /// An expression, or an assignment.
 #[tactic(auto, using(py_nodes::proofs::Forms::place_is), unfolding(statement_readers::specs::Words::value_statement))]
 fn valued(p: &mut Parser<'_>) -> Option<Stmt>
-    ensures { Reads (λ x. statement x) result p.new (value_statement p.old.rest.now) }
+    ensures { Gives (λ x. statement x) result p.new (value_statement p.old.rest.now) }
 {
     let Some(first) = expressions(p, LEVELS) else {
         return None;
@@ -357,7 +357,7 @@ fn valued(p: &mut Parser<'_>) -> Option<Stmt>
 /// A statement that begins with one of further words, or with an expression.
 #[tactic(auto, unfolding(statement_readers::specs::Words::word_statement))]
 fn worded(p: &mut Parser<'_>) -> Option<Stmt>
-    ensures { Reads (λ x. statement x) result p.new (word_statement p.old.rest.now) }
+    ensures { Gives (λ x. statement x) result p.new (word_statement p.old.rest.now) }
 {
     if let Some(word) = p.take_op(Op::Global) {
         return declaring(p, word.at);
@@ -377,7 +377,7 @@ fn worded(p: &mut Parser<'_>) -> Option<Stmt>
 /// A simple statement (Language Reference, simple statements).
 #[tactic(auto, unfolding(statement_readers::specs::Words::simple))]
 fn simple(p: &mut Parser<'_>) -> Option<Stmt>
-    ensures { Reads (λ x. statement x) result p.new (simple p.old.rest.now) }
+    ensures { Gives (λ x. statement x) result p.new (simple p.old.rest.now) }
 {
     if let Some(word) = p.take_op(Op::Pass) {
         return Some(word_stmt(word.at, StmtKind::Pass));
@@ -406,7 +406,7 @@ fn simple(p: &mut Parser<'_>) -> Option<Stmt>
 /// The statements of a line, and those behind each semicolon; one may stand at the end.
 #[tactic(auto, using(statement_readers::proofs::Loops::simple_rules))]
 fn further_simples(p: &mut Parser<'_>, first: Vec<Stmt>) -> Option<Vec<Stmt>>
-    ensures { Reads (λ x. block x.items) result p.new (simples_on (block first.items, p.old.rest.now)) }
+    ensures { Gives (λ x. block x.items) result p.new (simples_on (block first.items, p.old.rest.now)) }
 {
     let mut all = first;
     while let Some(_semicolon) = p.take_op(Op::Semicolon) {
@@ -427,7 +427,7 @@ fn further_simples(p: &mut Parser<'_>, first: Vec<Stmt>) -> Option<Vec<Stmt>>
 /// The simple statements of a line, behind those of a block.
 #[tactic(auto, unfolding(statement_readers::specs::Words::simples))]
 pub fn simples(p: &mut Parser<'_>, before: Vec<Stmt>) -> Option<Vec<Stmt>>
-    ensures { Reads (λ x. block x.items) result p.new (simples (block before.items) p.old.rest.now) }
+    ensures { Gives (λ x. block x.items) result p.new (simples (block before.items) p.old.rest.now) }
 {
     let Some(first) = simple(p) else {
         return None;

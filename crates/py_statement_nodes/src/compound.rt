@@ -1,8 +1,6 @@
 ghost use Rattle.std.specs.Prelude.{◌≡◌, ◌++◌, ◌∷◌, [], IfOk};
 ghost use Rattle.py_tree.specs.Trees.{tree, trees, some_tree, More};
-ghost use Rattle.py_tree.specs.Statements.{statement, block, branches, branches_behind, handlers, handlers_behind, taker, parameters, Parameter_at, Next, Branches, Branch as BranchTree, Handlers, Handler as HandlerTree, If, While, For, Try, With, Def, Class as ClassTree};
-ghost use Rattle.py_tree.specs.declared.stmt.Function.{out-Function};
-ghost use Rattle.py_tree.specs.declared.stmt.Class.{out-Class};
+ghost use Rattle.py_tree.specs.Statements.{statement, block, branches, handlers, taker, parameters, Parameter_at, Next, Branch as BranchTree, Handler as HandlerTree, If, While, For, Try, With, Def, Class as ClassTree};
 
 use py_source::{Pos, SrcText};
 use py_tree::{Branch, Class, Expr, Function, Handler, Param, Stmt, StmtKind, Target};
@@ -10,7 +8,6 @@ use std::alloc::{AllocError, Global};
 use std::rc::Rc;
 
 /// The block, and a statement behind it.
-#[tactic(auto, using(py_tree::proofs::Rows::block_more))]
 pub fn add_stmt(stmts: Vec<Stmt>, stmt: Stmt) -> Result<Vec<Stmt>, AllocError>
     ensures { IfOk result (λ all. block all.items ≡ Next (block stmts.items) (statement stmt)) }
 {
@@ -19,18 +16,7 @@ pub fn add_stmt(stmts: Vec<Stmt>, stmt: Stmt) -> Result<Vec<Stmt>, AllocError>
     Ok(stmts)
 }
 
-fn branch_form(at: Pos, condition: Rc<Expr>, body: Rc<Vec<Stmt>>) -> Branch
-    ensures { (before : Branches) → branches_behind before (result ∷ []) ≡ BranchTree before at (tree condition.value) (block body.value.items) }
-{
-    Branch {
-        at,
-        condition,
-        body,
-    }
-}
-
 /// The branches of a choice, and one more behind them.
-#[tactic(auto, using(crate::proofs::Rows::branches_more))]
 pub fn add_branch(
     alloc: Global,
     all: Vec<Branch>,
@@ -42,17 +28,12 @@ pub fn add_branch(
 {
     let mut all = all;
     let body = Rc::new(alloc, body)?;
-    all.push(branch_form(at, condition, body))?;
-    Ok(all)
-}
-
-fn if_form(at: Pos, all: Rc<Vec<Branch>>, other: Rc<Vec<Stmt>>) -> Stmt
-    ensures { statement result ≡ If at (branches all.value.items) (block other.value.items) }
-{
-    Stmt {
+    all.push(Branch {
         at,
-        kind: StmtKind::If(all, other),
-    }
+        condition,
+        body,
+    })?;
+    Ok(all)
 }
 
 /// A choice between branches, with what is done where none is taken.
@@ -66,16 +47,10 @@ pub fn if_stmt(
 {
     let all = Rc::new(alloc, all)?;
     let other = Rc::new(alloc, other)?;
-    Ok(if_form(at, all, other))
-}
-
-fn while_form(at: Pos, condition: Rc<Expr>, body: Rc<Vec<Stmt>>) -> Stmt
-    ensures { statement result ≡ While at (tree condition.value) (block body.value.items) }
-{
-    Stmt {
+    Ok(Stmt {
         at,
-        kind: StmtKind::While(condition, body),
-    }
+        kind: StmtKind::If(all, other),
+    })
 }
 
 pub fn while_stmt(
@@ -87,16 +62,10 @@ pub fn while_stmt(
     ensures { IfOk result (λ stmt. statement stmt ≡ While at (tree condition.value) (block body.items)) }
 {
     let body = Rc::new(alloc, body)?;
-    Ok(while_form(at, condition, body))
-}
-
-fn for_form(at: Pos, target: Target, items: Rc<Expr>, body: Rc<Vec<Stmt>>) -> Stmt
-    ensures { statement result ≡ For at (taker target) (tree items.value) (block body.value.items) }
-{
-    Stmt {
+    Ok(Stmt {
         at,
-        kind: StmtKind::For(target, items, body),
-    }
+        kind: StmtKind::While(condition, body),
+    })
 }
 
 pub fn for_stmt(
@@ -109,27 +78,13 @@ pub fn for_stmt(
     ensures { IfOk result (λ stmt. statement stmt ≡ For at (taker target) (tree items.value) (block body.items)) }
 {
     let body = Rc::new(alloc, body)?;
-    Ok(for_form(at, target, items, body))
-}
-
-fn handler_form(
-    at: Pos,
-    class: Option<Rc<Expr>>,
-    name: Option<SrcText>,
-    body: Rc<Vec<Stmt>>,
-) -> Handler
-    ensures { (before : Handlers) → handlers_behind before (result ∷ []) ≡ HandlerTree before at (some_tree class) name (block body.value.items) }
-{
-    Handler {
+    Ok(Stmt {
         at,
-        class,
-        name,
-        body,
-    }
+        kind: StmtKind::For(target, items, body),
+    })
 }
 
 /// The handlers of a `try`, and one more behind them.
-#[tactic(auto, using(crate::proofs::Rows::handlers_more))]
 pub fn add_handler(
     alloc: Global,
     all: Vec<Handler>,
@@ -142,23 +97,13 @@ pub fn add_handler(
 {
     let mut all = all;
     let body = Rc::new(alloc, body)?;
-    all.push(handler_form(at, class, name, body))?;
-    Ok(all)
-}
-
-fn try_form(
-    at: Pos,
-    body: Rc<Vec<Stmt>>,
-    all: Rc<Vec<Handler>>,
-    other: Rc<Vec<Stmt>>,
-    last: Rc<Vec<Stmt>>,
-) -> Stmt
-    ensures { statement result ≡ Try at (block body.value.items) (handlers all.value.items) (block other.value.items) (block last.value.items) }
-{
-    Stmt {
+    all.push(Handler {
         at,
-        kind: StmtKind::Try(body, all, other, last),
-    }
+        class,
+        name,
+        body,
+    })?;
+    Ok(all)
 }
 
 /// A `try` with its block, its handlers, and the blocks behind `else` and `finally`.
@@ -176,16 +121,10 @@ pub fn try_stmt(
     let all = Rc::new(alloc, all)?;
     let other = Rc::new(alloc, other)?;
     let last = Rc::new(alloc, last)?;
-    Ok(try_form(at, body, all, other, last))
-}
-
-fn with_form(at: Pos, context: Rc<Expr>, name: Option<SrcText>, body: Rc<Vec<Stmt>>) -> Stmt
-    ensures { statement result ≡ With at (tree context.value) name (block body.value.items) }
-{
-    Stmt {
+    Ok(Stmt {
         at,
-        kind: StmtKind::With(context, name, body),
-    }
+        kind: StmtKind::Try(body, all, other, last),
+    })
 }
 
 pub fn with_stmt(
@@ -198,11 +137,13 @@ pub fn with_stmt(
     ensures { IfOk result (λ stmt. statement stmt ≡ With at (tree context.value) name (block body.items)) }
 {
     let body = Rc::new(alloc, body)?;
-    Ok(with_form(at, context, name, body))
+    Ok(Stmt {
+        at,
+        kind: StmtKind::With(context, name, body),
+    })
 }
 
 /// The parameters, and one more behind them.
-#[tactic(auto, using(crate::proofs::Rows::parameters_more))]
 pub fn add_param(
     params: Vec<Param>,
     at: Pos,
@@ -220,15 +161,6 @@ pub fn add_param(
         default,
     })?;
     Ok(params)
-}
-
-fn def_form(at: Pos, function: Rc<Function>) -> Stmt
-    ensures { statement result ≡ Def at (trees (out-Function function.value).decorators.value.items) (out-Function function.value).at (out-Function function.value).name (parameters (out-Function function.value).params.value.items) (some_tree (out-Function function.value).returns) (block (out-Function function.value).body.value.items) }
-{
-    Stmt {
-        at,
-        kind: StmtKind::Def(function),
-    }
 }
 
 /// A function, whose word `def` stands at `word`.
@@ -256,16 +188,10 @@ pub fn def_stmt(
         body,
     };
     let function = Rc::new(alloc, function)?;
-    Ok(def_form(at, function))
-}
-
-fn class_form(at: Pos, class: Rc<Class>) -> Stmt
-    ensures { statement result ≡ ClassTree at (trees (out-Class class.value).decorators.value.items) (out-Class class.value).at (out-Class class.value).name (some_tree (out-Class class.value).base) (block (out-Class class.value).body.value.items) }
-{
-    Stmt {
+    Ok(Stmt {
         at,
-        kind: StmtKind::Class(class),
-    }
+        kind: StmtKind::Def(function),
+    })
 }
 
 /// A class, whose word `class` stands at `word`.
@@ -290,11 +216,13 @@ pub fn class_stmt(
         body,
     };
     let class = Rc::new(alloc, class)?;
-    Ok(class_form(at, class))
+    Ok(Stmt {
+        at,
+        kind: StmtKind::Class(class),
+    })
 }
 
 /// The decorators, and one more behind them.
-#[tactic(auto, using(py_tree::proofs::Rows::trees_more))]
 pub fn add_decorator(
     decorators: Vec<Rc<Expr>>,
     decorator: Rc<Expr>,

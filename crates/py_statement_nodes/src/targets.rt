@@ -70,7 +70,6 @@ pub fn target_in(alloc: Global, expr: &Expr) -> Result<Option<Target>, AllocErro
 }
 
 /// The targets, and one more behind them.
-#[tactic(auto, using(crate::proofs::Rows::takers_more))]
 pub fn add_target(targets: Vec<Target>, target: Target) -> Result<Vec<Target>, AllocError>
     ensures { IfOk result (λ all. takers all.items ≡ takers targets.items ++ taker target ∷ []) }
 {

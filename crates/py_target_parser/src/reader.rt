@@ -4,7 +4,7 @@ ghost use Rattle.py_tree.specs.Trees.{tree};
 ghost use Rattle.py_tree.specs.Statements.{place, taker};
 ghost use Rattle.py_cursor.specs.py_expressions.Values.{places_from, one_place};
 ghost use Rattle.py_cursor.specs.py_expressions.Sorts.{single as single_line, targets as targets_line};
-ghost use Rattle.py_cursor.specs.Parser.{Reads};
+ghost use Rattle.py_cursor.specs.Parser.{Gives};
 ghost use Rattle.py_expression_parser.specs.Reads.{reads};
 ghost use Rattle.py_target_parser.specs.Aims.{aim_of, aim_tall, IsPlace, start_on, step_on, aim_index_on, places_more, places_of};
 
@@ -46,7 +46,7 @@ const GOES_ON: [Sign; 3] = [
 fn start(p: &mut Parser<'_>, levels: u32) -> Option<Aim>
     requires some { 0 < levels }
     requires few { levels ≤ most_levels }
-    ensures reads { Reads (λ x. (aim_of x.is_target (tree x.node.expr.value), aim_tall x.is_target x.node.height)) result p.new (start_on levels p.old.rest.now) }
+    ensures reads { Gives (λ x. (aim_of x.is_target (tree x.node.expr.value), aim_tall x.is_target x.node.height)) result p.new (start_on levels p.old.rest.now) }
     ensures place { IfSome result (λ x. IsPlace x.is_target (tree x.node.expr.value)) }
     ensures fits { IfSome result (λ x. aim_tall x.is_target x.node.height ≤ levels) }
 {
@@ -76,7 +76,7 @@ fn start(p: &mut Parser<'_>, levels: u32) -> Option<Aim>
 fn step(p: &mut Parser<'_>, levels: u32, of: Node) -> Option<Aim>
     requires few { levels ≤ most_levels }
     requires low { of.height < levels }
-    ensures reads { Reads (λ x. (aim_of x.is_target (tree x.node.expr.value), aim_tall x.is_target x.node.height)) result p.new (step_on levels (tree of.expr.value, of.height) p.old.rest.now) }
+    ensures reads { Gives (λ x. (aim_of x.is_target (tree x.node.expr.value), aim_tall x.is_target x.node.height)) result p.new (step_on levels (tree of.expr.value, of.height) p.old.rest.now) }
     ensures place { IfSome result (λ x. IsPlace x.is_target (tree x.node.expr.value)) }
     ensures fits { IfSome result (λ x. aim_tall x.is_target x.node.height ≤ levels) }
 {
@@ -119,7 +119,7 @@ fn step(p: &mut Parser<'_>, levels: u32, of: Node) -> Option<Aim>
 fn index(p: &mut Parser<'_>, levels: u32, of: Node) -> Option<Aim>
     requires few { levels ≤ most_levels }
     requires low { of.height < levels }
-    ensures reads { Reads (λ x. (aim_of x.is_target (tree x.node.expr.value), aim_tall x.is_target x.node.height)) result p.new (aim_index_on levels (tree of.expr.value, of.height) p.old.rest.now) }
+    ensures reads { Gives (λ x. (aim_of x.is_target (tree x.node.expr.value), aim_tall x.is_target x.node.height)) result p.new (aim_index_on levels (tree of.expr.value, of.height) p.old.rest.now) }
     ensures place { IfSome result (λ x. IsPlace x.is_target (tree x.node.expr.value)) }
     ensures fits { IfSome result (λ x. aim_tall x.is_target x.node.height ≤ levels) }
 {
@@ -171,7 +171,7 @@ fn index(p: &mut Parser<'_>, levels: u32, of: Node) -> Option<Aim>
 #[tactic(auto, using(crate::proofs::Aims::single_rules))]
 pub fn single(p: &mut Parser<'_>, levels: u32) -> Option<SingleNode>
     requires { levels ≤ most_levels }
-    ensures reads { Reads (λ x. (place x.single, x.height)) result p.new (reads levels single_line p.old.rest.now) }
+    ensures reads { Gives (λ x. (place x.single, x.height)) result p.new (reads levels single_line p.old.rest.now) }
     ensures fits { IfSome result (λ x. x.height ≤ levels) }
     ensures some { IfSome result (λ x. 0 < x.height) }
 {
@@ -213,7 +213,7 @@ pub fn single(p: &mut Parser<'_>, levels: u32) -> Option<SingleNode>
 #[tactic(auto, using(crate::proofs::Aims::targets_rules))]
 pub fn targets(p: &mut Parser<'_>, levels: u32) -> Option<TargetNode>
     requires { levels ≤ most_levels }
-    ensures reads { Reads (λ x. (taker x.target, x.height)) result p.new (reads levels targets_line p.old.rest.now) }
+    ensures reads { Gives (λ x. (taker x.target, x.height)) result p.new (reads levels targets_line p.old.rest.now) }
     ensures fits { IfSome result (λ x. x.height ≤ levels) }
 {
     if levels == 0 {
@@ -285,7 +285,7 @@ fn further(p: &mut Parser<'_>, levels: u32, places: Places) -> Option<Places>
     requires few { levels ≤ most_levels }
     requires open { places.ended ≡ false }
     requires low { places.height < levels }
-    ensures reads { Reads (λ x. (places_of x, x.height)) result p.new (places_more levels (places_of places, places.height) p.old.rest.now) }
+    ensures reads { Gives (λ x. (places_of x, x.height)) result p.new (places_more levels (places_of places, places.height) p.old.rest.now) }
     ensures fits { IfSome result (λ x. x.height < levels) }
 {
     let mut places = places;

@@ -119,8 +119,8 @@ unfoldable pub keyword_of : List ℕ → Option Op
 keyword_of word = word_entry keywords word
 
 -- an entry as a table of the program has it
-abbrev pub entry_of : Bor (List ℕ) × Op → List ℕ × Op
-entry_of entry = (entry.0.now, entry.1)
+abbrev pub op_entry : Bor (List ℕ) × Op → List ℕ × Op
+op_entry entry = (entry.0.now, entry.1)
 
 -- with the word's length in its place
 abbrev pub sized : List ℕ × Op → ℕ × Op

@@ -1,5 +1,5 @@
 ghost use Rattle.std.specs.Prelude.{◌≡◌, ◌≤◌, map, bytes_eq, option_map, IfSome};
-ghost use Rattle.py_tokens.specs.Words.{begins, entry_of, first_entry, operator_at, word_entry, keyword_of, sized};
+ghost use Rattle.py_tokens.specs.Words.{begins, op_entry, first_entry, operator_at, word_entry, keyword_of, sized};
 
 use crate::op::Op;
 
@@ -111,7 +111,7 @@ fn begins(word: &str, text: &[char]) -> bool
 
 // The length and the operator of the first entry whose word the text begins with.
 fn first_entry(table: &[(&str, Op)], text: &[char]) -> Option<(usize, Op)>
-    ensures { result ≡ option_map sized (first_entry (map entry_of table.now) text.now) }
+    ensures { result ≡ option_map sized (first_entry (map op_entry table.now) text.now) }
 {
     for entry in table {
         if begins(entry.0, text) {
@@ -137,7 +137,7 @@ fn is_word(word: &str, chars: &[char]) -> bool
 }
 
 fn word_entry(table: &[(&str, Op)], chars: &[char]) -> Option<Op>
-    ensures { result ≡ word_entry (map entry_of table.now) chars.now }
+    ensures { result ≡ word_entry (map op_entry table.now) chars.now }
 {
     for entry in table {
         if is_word(entry.0, chars) {

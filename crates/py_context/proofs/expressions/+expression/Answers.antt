@@ -1,8 +1,11 @@
-use Rattle.std.proofs.Common.{[], ◌++◌}
+use Rattle.std.proofs.Common.{◌≡◌, IfOk, List, [], ◌++◌, Global, refl, ap, ◌∙◌, subst}
+use Rattle.std.specs.declared.rc.Rc.{Rc}
+use Rattle.py_tree.specs.declared.expr.Expr.{Expr}
 use Rattle.py_tree.specs.Trees.{tree, trees, some_tree}
 use Rattle.py_tree.specs.declared.expr.ExprKind.TheVariants as v
-use Rattle.py_grammar.specs.Context.{in_tree, in_trees, in_maybe, wrong_arguments, each}
-use Rattle.py_context.proofs.ExpressionPlaces.{each_goes, of_kind, tuple_form, list_form, dict_form, call_form, slice_form, compare_form, and_form, or_form}
+use Rattle.py_grammar.specs.Context.{first_pos, in_tree, in_trees, in_maybe, wrong_arguments, each}
+use Rattle.py_context.specs.Parts.{expr_parts}
+use Rattle.py_context.proofs.ExpressionPlaces.{each_goes, each_over, of_kind, tuple_form, list_form, dict_form, call_form, slice_form, compare_form, and_form, or_form}
 use Rattle.py_context.proofs.expressions.+expression.Goals as goal
 
 pub parts_of-loop-item-preserved : goal.parts_of-loop-item-preserved
@@ -51,3 +54,36 @@ pub in_expr-returns-in-IfElse : goal.in_expr-returns-in-IfElse
 in_expr-returns-in-IfElse t c = of_kind c.args.expr.now.at c.args.expr.now.kind c.join-in-IfElse-2.result (v.IfElse c.in-IfElse.value c.in-IfElse.condition c.in-IfElse.other) c.in-IfElse.is
     (c.join-in-IfElse-2.ensures (in_tree (tree c.in-IfElse.value.value)) (in_tree (tree c.in-IfElse.condition.value) ++ in_tree (tree c.in-IfElse.other.value)) c.in_part-in-IfElse.ensures
     (c.join-in-IfElse.ensures (in_tree (tree c.in-IfElse.condition.value)) (in_tree (tree c.in-IfElse.other.value)) c.in_part-in-IfElse-2.ensures c.in_part-in-IfElse-3.ensures))
+
+pub in_expr-returns-in-Paren : goal.in_expr-returns-in-Paren
+in_expr-returns-in-Paren t c = of_kind c.args.expr.now.at c.args.expr.now.kind c.in_part.result (v.Paren c.in-Paren.of) c.in-Paren.is c.in_part.ensures
+
+pub in_expr-returns-in-Attribute : goal.in_expr-returns-in-Attribute
+in_expr-returns-in-Attribute t c = of_kind c.args.expr.now.at c.args.expr.now.kind c.in_part-in-Attribute.result (v.Attribute c.in-Attribute.of c.in-Attribute.field-1) c.in-Attribute.is c.in_part-in-Attribute.ensures
+
+pub in_expr-returns-in-Unary : goal.in_expr-returns-in-Unary
+in_expr-returns-in-Unary t c = of_kind c.args.expr.now.at c.args.expr.now.kind c.in_part-in-Unary.result (v.Unary c.in-Unary.field-0 c.in-Unary.operand) c.in-Unary.is c.in_part-in-Unary.ensures
+
+pub in_expr-returns-in-Not : goal.in_expr-returns-in-Not
+in_expr-returns-in-Not t c = of_kind c.args.expr.now.at c.args.expr.now.kind c.in_part-in-Not.result (v.Not c.in-Not.operand) c.in-Not.is c.in_part-in-Not.ensures
+
+pub parts_of-loop-item-init : goal.parts_of-loop-item-init
+parts_of-loop-item-init t c = ap (λ z. z ++ expr_parts c.args.items.now) c.new-all.ensures.items
+
+pub parts_of-returns : goal.parts_of-returns
+parts_of-returns t c = each_over c.args.items.now c.loop-item.item-index c.loop-item.all.items _ c.loop-item-test.false c.loop-item.invariant
+
+pub in_each-returns : goal.in_each-returns
+in_each-returns t c = subst (λ (es : List (Rc Expr Global)). IfOk c.parts_of.result (λ all. all.items ≡ expr_parts es)) (c.deref-2.ensures.value ∙ ap (λ v. v.items) c.deref.ensures) c.parts_of.ensures
+
+pub in_optional-returns-in-Some : goal.in_optional-returns-in-Some
+in_optional-returns-in-Some t c = rw c.in-Some.is (subst (λ (e : Expr). IfOk c.in_expr.result (λ at. at ≡ first_pos (in_tree (tree e)))) c.deref.ensures c.in_expr.ensures)
+
+pub in_optional-returns-in-None : goal.in_optional-returns-in-None
+in_optional-returns-in-None t c = rw c.in-None.is refl
+
+pub in_part-returns : goal.in_part-returns
+in_part-returns t c = subst (λ (e : Expr). IfOk c.in_expr.result (λ at. at ≡ first_pos (in_tree (tree e)))) c.deref.ensures c.in_expr.ensures
+
+pub in_all-returns : goal.in_all-returns
+in_all-returns t c = c.in_row.ensures c.args.parts.now.value.items c.in_each.ensures

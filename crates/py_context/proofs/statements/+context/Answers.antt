@@ -1,4 +1,5 @@
-use Rattle.std.proofs.Common.{[], true, false, not, ◌++◌, ◌-◌, sym, ap, ◌∙◌, arith}
+use Rattle.std.proofs.Common.{◌≡◌, IfOk, [], true, false, not, ◌++◌, ◌-◌, refl, sym, ap, ◌∙◌, subst, arith}
+use Rattle.py_tree.specs.declared.stmt.StmtKind.TheVariants as v
 use Rattle.py_tree.specs.Trees.{tree, trees, some_tree}
 use Rattle.py_tree.specs.Names.{globals_of}
 use Rattle.py_tree.specs.Statements.{taker, parameters, block, branches, handlers}
@@ -6,9 +7,9 @@ use Rattle.py_tree.specs.declared.stmt.Branch.{out-Branch}
 use Rattle.py_tree.specs.declared.stmt.Handler.{out-Handler}
 use Rattle.py_tree.specs.declared.stmt.Class.{out-Class}
 use Rattle.py_tree.specs.declared.stmt.Function.{out-Function}
-use Rattle.py_grammar.specs.Context.{unless, in_tree, in_trees, in_maybe, in_taker, in_params, misplaced, misplaced_branches, misplaced_handlers}
+use Rattle.py_grammar.specs.Context.{first_pos, unless, in_tree, in_trees, in_maybe, in_taker, in_params, misplaced, misplaced_branches, misplaced_handlers}
 use Rattle.py_context.specs.Standing.{where_of}
-use Rattle.py_context.proofs.StatementPlaces.{handler_found, branch_found_in, branch_on_in, if_form, while_form, with_form, for_form, try_form, def_form, class_form, class_joined, def_joined, handler_joined}
+use Rattle.py_context.proofs.StatementPlaces.{of_kind, loop_form, global_form, import_form, stmt_begun, stmt_found, stmt_on, stmt_none, branch_begun, branch_none, handler_begun, handler_on, handler_over, handler_found, branch_found_in, branch_on_in, if_form, while_form, with_form, for_form, try_form, def_form, class_form, class_joined, def_joined, handler_joined}
 use Rattle.py_context.proofs.statements.+context.Goals as goal
 
 pub in_branches-returns-in-Some : goal.in_branches-returns-in-Some
@@ -83,3 +84,81 @@ in_stmt-returns-in-Class t c = class_form (where_of c.args.w) c.args.stmt.now.at
 
 pub in_handlers-returns-in-Some : goal.in_handlers-returns-in-Some
 in_handlers-returns-in-Some t c = handler_found (where_of c.args.w) c.args.all.now c.loop-handler.handler-index (c.loop-handler.further - 1) c.handler-item.result c.in-Some.at _ c.loop-handler-test.true (omega (arith, c.loop-handler.invariant.further)) c.handler-item.is (sym c.in-Some.is ∙ c.in_ok-at.ensures) c.loop-handler.invariant.rest
+
+pub in_stmt-returns-in-Expr : goal.in_stmt-returns-in-Expr
+in_stmt-returns-in-Expr t c = of_kind (where_of c.args.w) c.args.stmt.now.at c.args.stmt.now.kind (v.Expr c.in-Expr.value) c.in_part.result c.in-Expr.is c.in_part.ensures
+
+pub in_stmt-returns-in-Assign : goal.in_stmt-returns-in-Assign
+in_stmt-returns-in-Assign t c = of_kind (where_of c.args.w) c.args.stmt.now.at c.args.stmt.now.kind (v.Assign c.in-Assign.targets c.in-Assign.value) c.in_assign.result c.in-Assign.is c.in_assign.ensures
+
+pub in_stmt-returns-in-AssignYield : goal.in_stmt-returns-in-AssignYield
+in_stmt-returns-in-AssignYield t c = of_kind (where_of c.args.w) c.args.stmt.now.at c.args.stmt.now.kind (v.AssignYield c.in-AssignYield.targets c.in-AssignYield.given) c.in_assign_yield.result c.in-AssignYield.is c.in_assign_yield.ensures
+
+pub in_stmt-returns-in-AugAssign : goal.in_stmt-returns-in-AugAssign
+in_stmt-returns-in-AugAssign t c = of_kind (where_of c.args.w) c.args.stmt.now.at c.args.stmt.now.kind (v.AugAssign c.in-AugAssign.single c.in-AugAssign.field-1 c.in-AugAssign.value) c.in_aug_assign.result c.in-AugAssign.is c.in_aug_assign.ensures
+
+pub in_stmt-returns-in-Return : goal.in_stmt-returns-in-Return
+in_stmt-returns-in-Return t c = of_kind (where_of c.args.w) c.args.stmt.now.at c.args.stmt.now.kind (v.Return c.in-Return.value) c.in_return.result c.in-Return.is c.in_return.ensures
+
+pub in_stmt-returns-in-ReturnYield : goal.in_stmt-returns-in-ReturnYield
+in_stmt-returns-in-ReturnYield t c = of_kind (where_of c.args.w) c.args.stmt.now.at c.args.stmt.now.kind (v.ReturnYield c.in-ReturnYield.given) c.in_return_yield.result c.in-ReturnYield.is c.in_return_yield.ensures
+
+pub in_stmt-returns-in-Raise : goal.in_stmt-returns-in-Raise
+in_stmt-returns-in-Raise t c = of_kind (where_of c.args.w) c.args.stmt.now.at c.args.stmt.now.kind (v.Raise c.in-Raise.value) c.in_optional.result c.in-Raise.is c.in_optional.ensures
+
+pub in_stmt-returns-in-Assert : goal.in_stmt-returns-in-Assert
+in_stmt-returns-in-Assert t c = of_kind (where_of c.args.w) c.args.stmt.now.at c.args.stmt.now.kind (v.Assert c.in-Assert.condition c.in-Assert.message) c.in_assert.result c.in-Assert.is c.in_assert.ensures
+
+pub in_stmt-returns-in-Del : goal.in_stmt-returns-in-Del
+in_stmt-returns-in-Del t c = of_kind (where_of c.args.w) c.args.stmt.now.at c.args.stmt.now.kind (v.Del c.in-Del.single) c.in_single.result c.in-Del.is c.in_single.ensures
+
+pub in_stmt-returns-in-Yield : goal.in_stmt-returns-in-Yield
+in_stmt-returns-in-Yield t c = of_kind (where_of c.args.w) c.args.stmt.now.at c.args.stmt.now.kind (v.Yield c.in-Yield.given) c.in_yield.result c.in-Yield.is c.in_yield.ensures
+
+pub in_stmt-returns-in-Global : goal.in_stmt-returns-in-Global
+in_stmt-returns-in-Global t c = global_form (where_of c.args.w) c.args.stmt.now.at c.args.stmt.now.kind c.in-Global.field-0 c.is_function.result c.unless.result c.in-Global.is c.is_function.ensures c.unless.ensures
+
+pub in_stmt-returns-in-Import : goal.in_stmt-returns-in-Import
+in_stmt-returns-in-Import t c = import_form (where_of c.args.w) c.args.stmt.now.at c.args.stmt.now.kind c.in-Import.names c.in-Import.alias c.deref-in-Import.result.now c.is_bound.result c.unless-in-Import.result c.in-Import.is (c.deref-in-Import.ensures.value ∙ ap (λ v. v.items) c.deref.ensures) c.is_bound.ensures c.unless-in-Import.ensures
+
+pub in_stmt-returns-in-Break : goal.in_stmt-returns-in-Break
+in_stmt-returns-in-Break t c = loop_form (where_of c.args.w) c.args.stmt.now.at c.args.stmt.now.kind c.unless-in-Break.result c.in-Break.is c.unless-in-Break.ensures
+
+pub in_stmt-returns-in-Pass : goal.in_stmt-returns-in-Pass
+in_stmt-returns-in-Pass t c = rw c.in-Pass.is refl
+
+pub in_stmt-returns-in-ImportFrom : goal.in_stmt-returns-in-ImportFrom
+in_stmt-returns-in-ImportFrom t c = rw c.in-ImportFrom.is refl
+
+pub in_stmts-loop-stmt-init : goal.in_stmts-loop-stmt-init
+in_stmts-loop-stmt-init t c = stmt_begun (where_of c.args.w) c.args.stmts.now
+
+pub in_stmts-returns-in-Some : goal.in_stmts-returns-in-Some
+in_stmts-returns-in-Some t c = stmt_found (where_of c.args.w) c.args.stmts.now c.loop-stmt.stmt-index c.stmt-item.result c.in-Some.at _ c.loop-stmt-test.true c.stmt-item.is (sym c.in-Some.is ∙ c.in_ok-at.ensures) c.loop-stmt.invariant
+
+pub in_stmts-loop-stmt-preserved : goal.in_stmts-loop-stmt-preserved
+in_stmts-loop-stmt-preserved t c = stmt_on (where_of c.args.w) c.args.stmts.now c.loop-stmt.stmt-index c.stmt-item.result _ c.loop-stmt-test.true c.stmt-item.is (sym c.in_default.is ∙ c.in_ok-at.ensures) c.loop-stmt.invariant
+
+pub in_stmts-returns : goal.in_stmts-returns
+in_stmts-returns t c = stmt_none (where_of c.args.w) c.args.stmts.now c.loop-stmt.stmt-index _ c.loop-stmt-test.false c.loop-stmt.invariant
+
+pub in_block-returns : goal.in_block-returns
+in_block-returns t c = subst (λ s. IfOk c.in_stmts.result (λ at. at ≡ first_pos (misplaced (where_of c.args.w) (block s)))) (c.deref-2.ensures.value ∙ ap (λ v. v.items) c.deref.ensures) c.in_stmts.ensures
+
+pub in_branches-loop-branch-init : goal.in_branches-loop-branch-init
+in_branches-loop-branch-init t c = branch_begun (where_of c.args.w) c.args.all.now
+
+pub in_branches-returns : goal.in_branches-returns
+in_branches-returns t c = branch_none (where_of c.args.w) c.args.all.now c.loop-branch.branch-index _ c.loop-branch-test.false c.loop-branch.invariant
+
+pub in_handlers-loop-handler-init : goal.in_handlers-loop-handler-init
+in_handlers-loop-handler-init t c = record { rest = handler_begun (where_of c.args.w) c.args.all.now; further = omega arith }
+
+pub in_handlers-loop-handler-preserved : goal.in_handlers-loop-handler-preserved
+in_handlers-loop-handler-preserved t c = record {
+  rest = handler_on (where_of c.args.w) c.args.all.now c.loop-handler.handler-index (c.loop-handler.further - 1) c.handler-item.result _ c.loop-handler-test.true (omega (arith, c.loop-handler.invariant.further)) c.handler-item.is (sym c.in_default.is ∙ c.in_ok-at.ensures) c.loop-handler.invariant.rest;
+  further = omega (arith, c.loop-handler.invariant.further);
+}
+
+pub in_handlers-returns : goal.in_handlers-returns
+in_handlers-returns t c = handler_over (where_of c.args.w) c.args.all.now c.loop-handler.handler-index _ c.loop-handler-test.false c.loop-handler.invariant.rest

@@ -1,14 +1,17 @@
-use Rattle.std.proofs.Common.{[], ◌∷◌, length, refl, sym, ap, arith, Global}
-use Rattle.py_tree.specs.Trees.{tree}
+use Rattle.std.proofs.Common.{◌≡◌, true, false, [], ◌∷◌, length, refl, sym, ap, arith, Global}
+use Rattle.py_tree.specs.Trees.{tree, trees}
 use Rattle.py_tree.specs.Statements.{statement, block, branches, handlers}
 use Rattle.py_tree.specs.declared.stmt.Handler.{Handler as HandlerNode}
+use Rattle.py_tree.specs.declared.stmt.Stmt.{Stmt}
+use Rattle.statement_readers.proofs.Suites.{left_some}
+use Rattle.statement_readers.specs.Words.{starts, CO, stmt, stmts}
 use Rattle.std.specs.declared.vec.Vec.{Vec}
 use Rattle.py_cursor.specs.token_kinds.Numbers as k
 use Rattle.statement_readers.proofs.Turns.{first_takes}
 use Rattle.statement_readers.proofs.Takes.{stmt_takes}
 use Rattle.statement_readers.proofs.Suites.{arm_takes, handler_keeps, elifs_fails}
 use Rattle.py_expression_parser.proofs.Made.{part_fails, made_reads}
-use Rattle.statement_readers.specs.Words.{suite, suite_behind, arm, while_behind, for_behind, with_behind, handler, def_behind, class_behind}
+use Rattle.statement_readers.specs.Words.{suite, suite_behind, arm, if_behind, while_behind, for_behind, with_behind, handler, handled, try_behind, def_behind, class_behind, decorated_behind, compound}
 use Rattle.py_parse.proofs.blocks.+block.Goals as goal
 
 pub further_branches-returns-in_default-arm : goal.further_branches-returns-in_default-arm
@@ -142,3 +145,158 @@ classing-returns-in_default-suite t c = rw (c.in-Some.ensures, c.in-Some-base.en
 pub classing-returns : goal.classing-returns
 unfolding class_behind
 classing-returns t c = made_reads statement c.class_stmt.result c.suite.new.p.rest.now c.made.result c.made.new.self _ _ c.made.ensures.makes c.class_stmt.ensures (rw (c.in-Some.ensures, c.in-Some-base.ensures, c.in-Some-suite.ensures) refl)
+
+pub choosing-returns-in_default : goal.choosing-returns-in_default
+unfolding if_behind
+choosing-returns-in_default t c = part_fails c.arm.new.p.stop _ _ c.in_default.ensures
+
+pub choosing-returns-in_default-made : goal.choosing-returns-in_default-made
+choosing-returns-in_default-made t c = rw (c.in_default-made.ensures.makes) tt
+
+pub choosing-returns-in_default-further_branches : goal.choosing-returns-in_default-further_branches
+unfolding if_behind
+choosing-returns-in_default-further_branches t c =
+    let n = rw (ap branches c.new-none.ensures.items) at (rw c.in-Some-made.ensures.makes.0 at c.add_branch.ensures) in
+    rw (c.in-Some.ensures) (part_fails c.further_branches.new.p.stop _ _ (rw (n, c.in-Some-made.ensures.makes.1) at c.in_default-further_branches.ensures))
+
+pub choosing-returns-in_default-suite_behind : goal.choosing-returns-in_default-suite_behind
+unfolding if_behind
+choosing-returns-in_default-suite_behind t c =
+    let n = rw (ap branches c.new-none.ensures.items) at (rw c.in-Some-made.ensures.makes.0 at c.add_branch.ensures) in
+    let b = rw (n, c.in-Some-made.ensures.makes.1) at c.in-Some-further_branches.ensures in
+    rw (c.in-Some.ensures, b) (part_fails c.suite_behind.new.p.stop _ _ c.in_default-suite_behind.ensures)
+
+pub choosing-returns : goal.choosing-returns
+unfolding if_behind
+choosing-returns t c =
+    let n = rw (ap branches c.new-none.ensures.items) at (rw c.in-Some-made.ensures.makes.0 at c.add_branch.ensures) in
+    let b = rw (n, c.in-Some-made.ensures.makes.1) at c.in-Some-further_branches.ensures in
+    made_reads statement c.if_stmt.result c.suite_behind.new.p.rest.now c.made-2.result c.made-2.new.self _ _ c.made-2.ensures.makes c.if_stmt.ensures (rw (c.in-Some.ensures, b, c.in-Some-suite_behind.ensures) refl)
+
+pub handling-returns-in_default : goal.handling-returns-in_default
+unfolding handled
+handling-returns-in_default t c = part_fails c.handler.new.p.stop _ _ (rw (ap handlers c.new-none.ensures.items) at c.in_default.ensures)
+
+pub handling-returns-in_default-further_handlers : goal.handling-returns-in_default-further_handlers
+unfolding handled
+handling-returns-in_default-further_handlers t c =
+    let h = rw (ap handlers c.new-none.ensures.items) at c.in-Some.ensures in
+    rw (h) (part_fails c.further_handlers.new.p.stop _ _ c.in_default-further_handlers.ensures)
+
+pub handling-returns-in_default-suite_behind : goal.handling-returns-in_default-suite_behind
+unfolding handled
+handling-returns-in_default-suite_behind t c =
+    let h = rw (ap handlers c.new-none.ensures.items) at c.in-Some.ensures in
+    rw (h, c.in-Some-further_handlers.ensures) (part_fails c.suite_behind.new.p.stop _ _ c.in_default-suite_behind.ensures)
+
+pub handling-returns-in_default-suite_behind-2 : goal.handling-returns-in_default-suite_behind-2
+unfolding handled
+handling-returns-in_default-suite_behind-2 t c =
+    let h = rw (ap handlers c.new-none.ensures.items) at c.in-Some.ensures in
+    rw (h, c.in-Some-further_handlers.ensures, c.in-Some-suite_behind.ensures) (part_fails c.suite_behind-2.new.p.stop _ _ c.in_default-suite_behind-2.ensures)
+
+pub handling-returns : goal.handling-returns
+unfolding handled
+handling-returns t c =
+    let h = rw (ap handlers c.new-none.ensures.items) at c.in-Some.ensures in
+    made_reads statement c.try_stmt.result c.suite_behind-2.new.p.rest.now c.made.result c.made.new.self _ _ c.made.ensures.makes c.try_stmt.ensures (rw (h, c.in-Some-further_handlers.ensures, c.in-Some-suite_behind.ensures, c.in-Some-suite_behind-2.ensures) refl)
+
+pub trying-returns-in_default : goal.trying-returns-in_default
+unfolding try_behind
+trying-returns-in_default t c = part_fails c.suite.new.p.stop _ _ c.in_default.ensures
+
+pub trying-returns-in-Some-take_op : goal.trying-returns-in-Some-take_op
+unfolding try_behind
+trying-returns-in-Some-take_op t c = rw (c.in-Some.ensures, c.in-Some-take_op.ensures) c.handling.ensures
+
+pub compound-returns-in-Some : goal.compound-returns-in-Some
+unfolding compound
+compound-returns-in-Some t c = rw (c.in-Some.ensures) c.choosing.ensures
+
+pub decorated-returns-in_default : goal.decorated-returns-in_default
+unfolding decorated_behind
+decorated-returns-in_default t c = part_fails c.decorators.new.p.stop _ _ c.in_default.ensures
+
+pub decorated-returns-in-Some-take_op : goal.decorated-returns-in-Some-take_op
+unfolding decorated_behind
+decorated-returns-in-Some-take_op t c = rw (c.in-Some.ensures, c.in-Some-take_op.ensures) c.defining.ensures
+
+pub compound-returns-in-Some-take_op : goal.compound-returns-in-Some-take_op
+unfolding compound
+compound-returns-in-Some-take_op t c = rw (c.in_default.ensures.0, sym c.in_default.ensures.1, c.in-Some-take_op.ensures) c.looping.ensures
+
+pub compound-returns-in-Some-take_op-2 : goal.compound-returns-in-Some-take_op-2
+unfolding compound
+compound-returns-in-Some-take_op-2 t c = rw (c.in_default.ensures.0, sym c.in_default.ensures.1, c.in_default-take_op.ensures.0, sym c.in_default-take_op.ensures.1, c.in-Some-take_op-2.ensures) c.running.ensures
+
+pub trying-returns-in_default-expect_op : goal.trying-returns-in_default-expect_op
+unfolding try_behind
+trying-returns-in_default-expect_op t c = rw (c.in-Some.ensures, c.in_default-take_op.ensures.0, sym c.in_default-take_op.ensures.1) (part_fails c.expect_op.new.self.stop _ _ c.in_default-expect_op.ensures)
+
+pub decorated-returns-in_default-expect_op : goal.decorated-returns-in_default-expect_op
+unfolding decorated_behind
+decorated-returns-in_default-expect_op t c = rw (c.in-Some.ensures, c.in_default-take_op.ensures.0, sym c.in_default-take_op.ensures.1) (part_fails c.expect_op.new.self.stop _ _ c.in_default-expect_op.ensures)
+
+pub decorated-returns : goal.decorated-returns
+unfolding decorated_behind
+decorated-returns t c = rw (c.in-Some.ensures, c.in_default-take_op.ensures.0, sym c.in_default-take_op.ensures.1, c.in-Some-expect_op.ensures) c.classing.ensures
+
+pub compound-returns-in-Some-take_op-3 : goal.compound-returns-in-Some-take_op-3
+unfolding compound
+compound-returns-in-Some-take_op-3 t c = rw (c.in_default.ensures.0, sym c.in_default.ensures.1, c.in_default-take_op.ensures.0, sym c.in_default-take_op.ensures.1, c.in_default-take_op-2.ensures.0, sym c.in_default-take_op-2.ensures.1, c.in-Some-take_op-3.ensures) c.trying.ensures
+
+pub compound-returns-in-Some-take_op-4 : goal.compound-returns-in-Some-take_op-4
+unfolding compound
+compound-returns-in-Some-take_op-4 t c = rw (c.in_default.ensures.0, sym c.in_default.ensures.1, c.in_default-take_op.ensures.0, sym c.in_default-take_op.ensures.1, c.in_default-take_op-2.ensures.0, sym c.in_default-take_op-2.ensures.1, c.in_default-take_op-3.ensures.0, sym c.in_default-take_op-3.ensures.1, c.in-Some-take_op-4.ensures) c.entering.ensures
+
+pub compound-returns-in-Some-take_op-5 : goal.compound-returns-in-Some-take_op-5
+unfolding compound
+compound-returns-in-Some-take_op-5 t c = rw (c.in_default.ensures.0, sym c.in_default.ensures.1, c.in_default-take_op.ensures.0, sym c.in_default-take_op.ensures.1, c.in_default-take_op-2.ensures.0, sym c.in_default-take_op-2.ensures.1, c.in_default-take_op-3.ensures.0, sym c.in_default-take_op-3.ensures.1, c.in_default-take_op-4.ensures.0, sym c.in_default-take_op-4.ensures.1, c.in-Some-take_op-5.ensures) (rw (ap trees c.new-none.ensures.items) at c.defining.ensures)
+
+pub compound-returns-in-Some-take_op-6 : goal.compound-returns-in-Some-take_op-6
+unfolding compound
+compound-returns-in-Some-take_op-6 t c = rw (c.in_default.ensures.0, sym c.in_default.ensures.1, c.in_default-take_op.ensures.0, sym c.in_default-take_op.ensures.1, c.in_default-take_op-2.ensures.0, sym c.in_default-take_op-2.ensures.1, c.in_default-take_op-3.ensures.0, sym c.in_default-take_op-3.ensures.1, c.in_default-take_op-4.ensures.0, sym c.in_default-take_op-4.ensures.1, c.in_default-take_op-5.ensures.0, sym c.in_default-take_op-5.ensures.1, c.in-Some-take_op-6.ensures) (rw (ap trees c.new-none-in-Some-take_op-6.ensures.items) at c.classing.ensures)
+
+pub compound-returns-in_default-expect_op : goal.compound-returns-in_default-expect_op
+unfolding compound
+compound-returns-in_default-expect_op t c = rw (c.in_default.ensures.0, sym c.in_default.ensures.1, c.in_default-take_op.ensures.0, sym c.in_default-take_op.ensures.1, c.in_default-take_op-2.ensures.0, sym c.in_default-take_op-2.ensures.1, c.in_default-take_op-3.ensures.0, sym c.in_default-take_op-3.ensures.1, c.in_default-take_op-4.ensures.0, sym c.in_default-take_op-4.ensures.1, c.in_default-take_op-5.ensures.0, sym c.in_default-take_op-5.ensures.1, c.in_default-take_op-6.ensures.0, sym c.in_default-take_op-6.ensures.1) (part_fails c.expect_op.new.self.stop _ _ c.in_default-expect_op.ensures)
+
+pub compound-returns : goal.compound-returns
+unfolding compound
+compound-returns t c = rw (c.in_default.ensures.0, sym c.in_default.ensures.1, c.in_default-take_op.ensures.0, sym c.in_default-take_op.ensures.1, c.in_default-take_op-2.ensures.0, sym c.in_default-take_op-2.ensures.1, c.in_default-take_op-3.ensures.0, sym c.in_default-take_op-3.ensures.1, c.in_default-take_op-4.ensures.0, sym c.in_default-take_op-4.ensures.1, c.in_default-take_op-5.ensures.0, sym c.in_default-take_op-5.ensures.1, c.in_default-take_op-6.ensures.0, sym c.in_default-take_op-6.ensures.1, c.in-Some-expect_op.ensures) c.decorated.ensures
+
+pub trying-returns-in_default-suite : goal.trying-returns-in_default-suite
+unfolding try_behind
+trying-returns-in_default-suite t c = rw (c.in-Some.ensures, c.in_default-take_op.ensures.0, sym c.in_default-take_op.ensures.1, c.in-Some-expect_op.ensures) (part_fails c.suite-2.new.p.stop _ _ c.in_default-suite.ensures)
+
+pub trying-returns : goal.trying-returns
+unfolding try_behind
+trying-returns t c =
+    let m = rw (ap handlers c.new-all.ensures.items, ap block c.new-other.ensures.items) at c.try_stmt.ensures in
+    made_reads statement c.try_stmt.result c.suite-2.new.p.rest.now c.made.result c.made.new.self _ _ c.made.ensures.makes m (rw (c.in-Some.ensures, c.in_default-take_op.ensures.0, sym c.in_default-take_op.ensures.1, c.in-Some-expect_op.ensures, c.in-Some-suite.ensures) refl)
+
+pub statement-returns-then-not-at_any : goal.statement-returns-then-not-at_any
+unfolding stmt
+statement-returns-then-not-at_any t c =
+    let b : starts CO c.args.p.now.rest.now ≡ false = cc in
+    rw b c.simples.ensures
+
+pub statement-returns-in_default : goal.statement-returns-in_default
+unfolding stmt
+statement-returns-in_default t c =
+    let b : starts CO c.args.p.now.rest.now ≡ true = cc in
+    rw (b, left_some c.args.levels (omega arith)) (part_fails c.compound.new.p.stop _ _ c.in_default.ensures)
+
+pub statement-returns : goal.statement-returns
+unfolding stmt
+statement-returns t c =
+    let b : starts CO c.args.p.now.rest.now ≡ true = cc in
+    made_reads (λ (x : Vec Stmt Global). block x.items) c.add_stmt.result c.compound.new.p.rest.now c.made.result c.made.new.self _ _ c.made.ensures.makes c.add_stmt.ensures (rw (b, left_some c.args.levels (omega arith), c.in-Some.ensures) refl)
+
+pub statements-returns-in_default : goal.statements-returns-in_default
+unfolding stmts
+statements-returns-in_default t c = part_fails c.statement.new.p.stop _ _ (rw (ap block c.new-none.ensures.items) at c.in_default.ensures)
+
+pub statements-returns : goal.statements-returns
+unfolding stmts
+statements-returns t c = rw (rw (ap block c.new-none.ensures.items) at c.in-Some.ensures) c.further_statements.ensures

@@ -7,7 +7,7 @@ use Rattle.py_cursor.specs.token_kinds.Numbers as k
 use Rattle.py_cursor.specs.py_expressions.Sorts.{exprs}
 use Rattle.py_cursor.specs.py_expressions.Values.{taker_in}
 use Rattle.py_cursor.specs.py_expressions.Lines.{E1}
-use Rattle.py_cursor.specs.Parser.{Reads}
+use Rattle.py_cursor.specs.Parser.{Gives}
 use Rattle.py_expression_parser.proofs.Made.{made_reads}
 use Rattle.statement_readers.proofs.Expressions.{takes}
 use Rattle.statement_readers.specs.Words.{starts}
@@ -21,7 +21,7 @@ returns-then-not-begins_expression c =
     let m = c.in-Some-made-2.ensures.makes.1 ∙ c.in-Some-made.ensures.makes.1 in
     let a = rw c.in-Some-made-2.ensures.makes.0 at c.add_target.ensures in
     let b : starts E1 c.made-in-loop-equal-2.new.self.rest.now ≡ false = cc in
-    subst (λ (r : Read Token Statement). Reads (λ x. statement x) c.assigned_yield.result c.assigned_yield.new.p r)
+    subst (λ (r : Read Token Statement). Gives (λ x. statement x) c.assigned_yield.result c.assigned_yield.new.p r)
     (assigns_yield c.args.at (takers c.loop-equal.targets.items) (tree c.loop-equal.last.value) c.loop-equal.p.rest.now c.in-Some._equal.now c.take_op.new.self.rest.now (taker c.in-Some-found.target) (takers c.in-Some-made-2.more.items) c.in-Some-expect_op.word.now c.expect_op.new.self.rest.now _
     c.in-Some.ensures t a (rw m at b) (rw m at c.in-Some-expect_op.ensures) c.loop-equal.invariant) c.assigned_yield.ensures
 

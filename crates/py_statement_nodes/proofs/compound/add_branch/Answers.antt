@@ -1,0 +1,5 @@
+use Rattle.py_statement_nodes.proofs.Forms.{branch_added}
+use Rattle.py_statement_nodes.proofs.compound.add_branch.Goals as goal
+
+pub returns : goal.returns
+returns c = branch_added c.args.all.items c.push.new.self.items c.args.at c.args.condition c.in_ok-body.body c.args.body c.in_ok-body.ensures.ok c.in_ok-push.ensures.items
