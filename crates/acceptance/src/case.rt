@@ -2,7 +2,7 @@ use std::alloc::{AllocError, Global};
 
 /// What a run must write.
 #[derive(Drop)]
-pub enum Wanted {
+pub enum Expectation {
     /// All of the output.
     Output(String),
     /// Lines that stand one behind the other, behind those of the parts before.
@@ -14,7 +14,7 @@ pub enum Wanted {
 pub struct Case {
     pub words: Vec<String>,
     pub files: Vec<(String, Vec<u8>)>,
-    pub wanted: Vec<Wanted>,
+    pub wanted: Vec<Expectation>,
     pub status: u8,
     pub outside: Outside,
 }
@@ -63,8 +63,8 @@ impl Case {
             Section::About | Section::Words | Section::Outside => {}
             Section::File(path, text) => self.files.push((path, text.into_bytes()))?,
             Section::Bytes(path, bytes) => self.files.push((path, bytes))?,
-            Section::Output(text) => self.wanted.push(Wanted::Output(text))?,
-            Section::Part(text) => self.wanted.push(Wanted::Part(text))?,
+            Section::Output(text) => self.wanted.push(Expectation::Output(text))?,
+            Section::Part(text) => self.wanted.push(Expectation::Part(text))?,
         }
         Ok(())
     }

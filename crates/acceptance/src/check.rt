@@ -1,4 +1,4 @@
-use crate::case::{Case, Wanted};
+use crate::case::{Case, Expectation};
 use edge_io::{MemSink, MemTree, OpenGate, SureTree};
 use pytest_core::pytest_main;
 use std::alloc::{AllocError, Global};
@@ -18,16 +18,16 @@ fn behind<'a>(text: &'a str, part: &str) -> Option<&'a str> {
 }
 
 /// What is left of an output behind one thing wanted, or None where it is missing.
-fn without<'a>(output: &str, rest: &'a str, wanted: &Wanted) -> Option<&'a str> {
+fn without<'a>(output: &str, rest: &'a str, wanted: &Expectation) -> Option<&'a str> {
     match wanted {
-        Wanted::Output(text) if output == text.as_str() => Some(rest),
-        Wanted::Output(_) => None,
-        Wanted::Part(text) => behind(rest, text.as_str()),
+        Expectation::Output(text) if output == text.as_str() => Some(rest),
+        Expectation::Output(_) => None,
+        Expectation::Part(text) => behind(rest, text.as_str()),
     }
 }
 
 /// Whether an output has all that is wanted, in order.
-fn has_all(output: &str, wanted: &[Wanted]) -> bool {
+fn has_all(output: &str, wanted: &[Expectation]) -> bool {
     let mut rest = output;
     for one in wanted {
         let Some(next) = without(output, rest, one) else {
@@ -38,10 +38,10 @@ fn has_all(output: &str, wanted: &[Wanted]) -> bool {
     true
 }
 
-fn wanted_text(alloc: Global, wanted: &[Wanted]) -> Result<String, AllocError> {
+fn wanted_text(alloc: Global, wanted: &[Expectation]) -> Result<String, AllocError> {
     let mut text = String::new(alloc);
     for one in wanted {
-        let (Wanted::Output(lines) | Wanted::Part(lines)) = one;
+        let (Expectation::Output(lines) | Expectation::Part(lines)) = one;
         text.push_str(lines.as_str())?;
     }
     Ok(text)

@@ -1,7 +1,7 @@
 -- Facts one behind another.
 use Rattle.std.proofs.Common.{◌≡◌, ◌<◌, ◌≤◌, ◌+◌, ◌∙◌, ℕ, suc, List, [], ◌∷◌, ◌++◌, codes, Bool, true, false, length, take, get_or, refl, sym, ap}
 use Rattle.std.proofs.lemmas.List.{append_assoc, take_more, take_all}
-use Rattle.py_world.specs.Explained.{Fact, Shows, facts_below, shows}
+use Rattle.py_world.specs.Explained.{Fact, Explanation, facts_below, shows}
 use Rattle.assert_explain.specs.Texts.{called_with, joined_with}
 
 below_behind : (fs : List Fact) (f : Fact) → facts_below (fs ++ f ∷ []) ≡ facts_below fs ++ record { depth = suc f.depth; text = f.text } ∷ []
@@ -21,12 +21,12 @@ pub below_all : (fs old out : List Fact) (i : ℕ) → length fs ≤ i → out �
 below_all fs old out i le is = is ∙ ap (λ (xs : List Fact). old ++ facts_below xs) (take_all i fs le)
 
 -- the first part stands alone; another one stands behind a word
-pub joined_first : (word : List ℕ) (b : Bool) (j s : Shows) → b ≡ true → s ≡ joined_with word b j s
+pub joined_first : (word : List ℕ) (b : Bool) (j s : Explanation) → b ≡ true → s ≡ joined_with word b j s
 joined_first word b j s h = rw h refl
 
-pub joined_next : (word : List ℕ) (b : Bool) (j one s out : Shows) → b ≡ false → one ≡ shows (j.text ++ word) j.facts → out ≡ shows (one.text ++ s.text) (one.facts ++ s.facts) → out ≡ joined_with word b j s
+pub joined_next : (word : List ℕ) (b : Bool) (j one s out : Explanation) → b ≡ false → one ≡ shows (j.text ++ word) j.facts → out ≡ shows (one.text ++ s.text) (one.facts ++ s.facts) → out ≡ joined_with word b j s
 joined_next word b j one s out h e f = rw h (f ∙ rw e (ap (λ (t : List ℕ). shows t (j.facts ++ s.facts)) (append_assoc j.text word s.text)))
 
 -- a call behind what is called
-pub called_next : (how given one two out : Shows) → one ≡ shows (how.text ++ codes "(") how.facts → two ≡ shows (one.text ++ given.text) (one.facts ++ given.facts) → out ≡ shows (two.text ++ codes ")") two.facts → out ≡ called_with how given
+pub called_next : (how given one two out : Explanation) → one ≡ shows (how.text ++ codes "(") how.facts → two ≡ shows (one.text ++ given.text) (one.facts ++ given.facts) → out ≡ shows (two.text ++ codes ")") two.facts → out ≡ called_with how given
 called_next how given one two out e1 e2 e3 = rw (e3, e2, e1) (simp append_assoc refl)

@@ -18,13 +18,13 @@ use Rattle.py_ops.specs.Binary.{binary_text}
 use Rattle.py_ops.specs.Unary.{unary_text}
 use Rattle.py_values.specs.declared.object.Obj.{Obj}
 use Rattle.py_world.specs.World.{Temps}
-use Rattle.py_world.specs.Explained.{Shows, joined_shows, kept_count, last_pair, leaf_show, named_shows, pair_shows, show_all, show_evaluated, show_part, shows}
+use Rattle.py_world.specs.Explained.{Explanation, joined_shows, kept_count, last_pair, leaf_show, named_shows, pair_shows, show_all, show_evaluated, show_part, shows}
 use Rattle.assert_explain.specs.Texts.{attribute_show, call_with, in_parens, name_show}
 
 abbrev Exprs : Type 0
 Exprs = Rc (Vec (Rc Expr Global) Global) Global
 
-module _ (heap : List Obj) (kept : Temps) (n : ℕ) (at : Pos) (kind : ExprKind) (s : Shows) where
+module _ (heap : List Obj) (kept : Temps) (n : ℕ) (at : Pos) (kind : ExprKind) (s : Explanation) where
   pub number_shown : (z : ℤ) → kind ≡ v.Number z → s ≡ leaf_show heap kept n → s ≡ show_part heap kept n (tree_at at kind)
   number_shown z is h = rw is h
 
@@ -67,22 +67,22 @@ module _ (heap : List Obj) (kept : Temps) (n : ℕ) (at : Pos) (kind : ExprKind)
   pub attribute_shown : (a : Rc Expr Global) (name : List ℕ) → kind ≡ v.Attribute a name → s ≡ attribute_show heap kept n (tree a.value) name → s ≡ show_part heap kept n (tree_at at kind)
   attribute_shown a name is h = rw is h
 
-  pub unary_shown : (op : UnOp) (a : Rc Expr Global) (one : Shows) → kind ≡ v.Unary op a → one ≡ show_part heap kept n (tree a.value) → s ≡ shows (unary_text op ++ one.text) one.facts
+  pub unary_shown : (op : UnOp) (a : Rc Expr Global) (one : Explanation) → kind ≡ v.Unary op a → one ≡ show_part heap kept n (tree a.value) → s ≡ shows (unary_text op ++ one.text) one.facts
       → s ≡ show_part heap kept n (tree_at at kind)
-  unary_shown op a one is h e = rw is (e ∙ ap (λ (x : Shows). shows (unary_text op ++ x.text) x.facts) h)
+  unary_shown op a one is h e = rw is (e ∙ ap (λ (x : Explanation). shows (unary_text op ++ x.text) x.facts) h)
 
-  pub not_shown : (a : Rc Expr Global) (one : Shows) → kind ≡ v.Not a → one ≡ show_part heap kept n (tree a.value) → s ≡ shows (codes "not " ++ one.text) one.facts
+  pub not_shown : (a : Rc Expr Global) (one : Explanation) → kind ≡ v.Not a → one ≡ show_part heap kept n (tree a.value) → s ≡ shows (codes "not " ++ one.text) one.facts
       → s ≡ show_part heap kept n (tree_at at kind)
-  not_shown a one is h e = rw is (e ∙ ap (λ (x : Shows). shows (codes "not " ++ x.text) x.facts) h)
+  not_shown a one is h e = rw is (e ∙ ap (λ (x : Explanation). shows (codes "not " ++ x.text) x.facts) h)
 
-  pub binary_shown : (a : Rc Expr Global) (op : BinOp) (r : Rc Expr Global) (left : Shows) (next : ℕ) → kind ≡ v.Binary a op r → left ≡ show_part heap kept n (tree a.value) → next ≡ n + kept_count (tree a.value)
+  pub binary_shown : (a : Rc Expr Global) (op : BinOp) (r : Rc Expr Global) (left : Explanation) (next : ℕ) → kind ≡ v.Binary a op r → left ≡ show_part heap kept n (tree a.value) → next ≡ n + kept_count (tree a.value)
       → s ≡ in_parens (pair_shows (binary_text op) left (show_part heap kept next (tree r.value))) → s ≡ show_part heap kept n (tree_at at kind)
   binary_shown a op r left next is e f h =
-      rw is (h ∙ ap (λ (x : Shows). in_parens (pair_shows (binary_text op) x (show_part heap kept next (tree r.value)))) e
+      rw is (h ∙ ap (λ (x : Explanation). in_parens (pair_shows (binary_text op) x (show_part heap kept next (tree r.value)))) e
       ∙ ap (λ (k : ℕ). in_parens (pair_shows (binary_text op) (show_part heap kept n (tree a.value)) (show_part heap kept k (tree r.value)))) f)
 
   module _ (a : Rc Expr Global) (es : Exprs) where
-    pub call_shown : (names : Rc (Vec (Option ArgName) Global) Global) (callee given : Shows) (next behind : ℕ) → kind ≡ v.Call a es names → next ≡ n + 1 → callee ≡ show_part heap kept next (tree a.value)
+    pub call_shown : (names : Rc (Vec (Option ArgName) Global) Global) (callee given : Explanation) (next behind : ℕ) → kind ≡ v.Call a es names → next ≡ n + 1 → callee ≡ show_part heap kept next (tree a.value)
         → behind ≡ next + kept_count (tree a.value) → given ≡ joined_shows (codes ", ") (named_shows names.value.items (show_all heap kept behind (trees es.value.items)))
         → s ≡ call_with heap kept n callee given → s ≡ show_part heap kept n (tree_at at kind)
     call_shown names callee given next behind is e1 e2 e3 e4 h =
@@ -92,20 +92,20 @@ module _ (heap : List Obj) (kept : Temps) (n : ℕ) (at : Pos) (kind : ExprKind)
         let given' : given ≡ joined_shows (codes ", ") (named_shows names.value.items (show_all heap kept (suc n + kept_count (tree a.value)) (trees_on Empty (hide es.value)))) =
         e4 ∙ ap (λ (k : ℕ). joined_shows (codes ", ") (named_shows names.value.items (show_all heap kept k (trees es.value.items)))) behind'
         ∙ ap (λ (ts : Trees). joined_shows (codes ", ") (named_shows names.value.items (show_all heap kept (suc n + kept_count (tree a.value)) ts))) (sym (trees_hidden es.value)) in
-        rw is (h ∙ ap (λ (x : Shows). call_with heap kept n x given) callee' ∙ ap (λ (x : Shows). call_with heap kept n (show_part heap kept (suc n) (tree a.value)) x) given')
+        rw is (h ∙ ap (λ (x : Explanation). call_with heap kept n x given) callee' ∙ ap (λ (x : Explanation). call_with heap kept n (show_part heap kept (suc n) (tree a.value)) x) given')
 
-    module _ (first : Shows) (next : ℕ) (shown : first ≡ show_part heap kept n (tree a.value)) (place : next ≡ n + kept_count (tree a.value)) where
+    module _ (first : Explanation) (next : ℕ) (shown : first ≡ show_part heap kept n (tree a.value)) (place : next ≡ n + kept_count (tree a.value)) where
       pub compare_shown : (ops : Rc (Vec CmpOp Global) Global) → kind ≡ v.Compare a ops es → s ≡ last_pair heap kept next first ops.value.items (trees es.value.items)
           → s ≡ show_part heap kept n (tree_at at kind)
       compare_shown ops is h =
-          rw is (h ∙ ap (λ (x : Shows). last_pair heap kept next x ops.value.items (trees es.value.items)) shown
+          rw is (h ∙ ap (λ (x : Explanation). last_pair heap kept next x ops.value.items (trees es.value.items)) shown
           ∙ ap (λ (k : ℕ). last_pair heap kept k (show_part heap kept n (tree a.value)) ops.value.items (trees es.value.items)) place
           ∙ ap (λ (ts : Trees). last_pair heap kept (n + kept_count (tree a.value)) (show_part heap kept n (tree a.value)) ops.value.items ts) (sym (trees_hidden es.value)))
 
       operands : (word : List ℕ) → s ≡ in_parens (joined_shows word (first ∷ show_evaluated heap kept next (trees es.value.items)))
           → s ≡ in_parens (joined_shows word (show_part heap kept n (tree a.value) ∷ show_evaluated heap kept (n + kept_count (tree a.value)) (trees_on Empty (hide es.value))))
       operands word h =
-          h ∙ ap (λ (x : Shows). in_parens (joined_shows word (x ∷ show_evaluated heap kept next (trees es.value.items)))) shown
+          h ∙ ap (λ (x : Explanation). in_parens (joined_shows word (x ∷ show_evaluated heap kept next (trees es.value.items)))) shown
           ∙ ap (λ (k : ℕ). in_parens (joined_shows word (show_part heap kept n (tree a.value) ∷ show_evaluated heap kept k (trees es.value.items)))) place
           ∙ ap (λ (ts : Trees). in_parens (joined_shows word (show_part heap kept n (tree a.value) ∷ show_evaluated heap kept (n + kept_count (tree a.value)) ts))) (sym (trees_hidden es.value))
 

@@ -5,23 +5,23 @@ use Rattle.std.proofs.Math.Seq.{drop-cons}
 use Rattle.std.proofs.lemmas.List.{append_assoc, append-nil}
 use Rattle.py_values.specs.declared.object.Obj.{Obj}
 use Rattle.py_world.specs.World.{Temps}
-use Rattle.py_world.specs.Explained.{Fact, fact_lines, indent}
+use Rattle.py_world.specs.Explained.{Fact, fact_lines, fact_indent}
 use Rattle.assert_explain.specs.Lines.{fact_line}
 
 -- one level more
-pub indent_more : (old out one : List ℕ) (n i : ℕ) → i < n → old ++ indent [] [] n ≡ out ++ indent [] [] (n - i) → one ≡ out ++ codes "  " → old ++ indent [] [] n ≡ one ++ indent [] [] (n - (i + 1))
+pub indent_more : (old out one : List ℕ) (n i : ℕ) → i < n → old ++ fact_indent [] [] n ≡ out ++ fact_indent [] [] (n - i) → one ≡ out ++ codes "  " → old ++ fact_indent [] [] n ≡ one ++ fact_indent [] [] (n - (i + 1))
 indent_more old out one n i w so_far is =
     let e : n - i ≡ suc (n - (i + 1)) = omega arith in
-    so_far ∙ ap (λ (k : ℕ). out ++ indent [] [] k) e ∙ sym (append_assoc out (codes "  ") (indent [] [] (n - (i + 1)))) ∙ ap (λ (x : List ℕ). x ++ indent [] [] (n - (i + 1))) (sym is)
+    so_far ∙ ap (λ (k : ℕ). out ++ fact_indent [] [] k) e ∙ sym (append_assoc out (codes "  ") (fact_indent [] [] (n - (i + 1)))) ∙ ap (λ (x : List ℕ). x ++ fact_indent [] [] (n - (i + 1))) (sym is)
 
-pub indent_all : (old out : List ℕ) (n i : ℕ) → n ≤ i → old ++ indent [] [] n ≡ out ++ indent [] [] (n - i) → out ≡ old ++ indent [] [] n
+pub indent_all : (old out : List ℕ) (n i : ℕ) → n ≤ i → old ++ fact_indent [] [] n ≡ out ++ fact_indent [] [] (n - i) → out ≡ old ++ fact_indent [] [] n
 indent_all old out n i le so_far =
-    let e : n - i ≡ 0 = omega arith in sym (so_far ∙ ap (λ (k : ℕ). out ++ indent [] [] k) e ∙ append-nil out)
+    let e : n - i ≡ 0 = omega arith in sym (so_far ∙ ap (λ (k : ℕ). out ++ fact_indent [] [] k) e ∙ append-nil out)
 
 line_first : (above : ℕ) (f : Fact) (fs : List Fact) → fact_lines [] [] above (f ∷ fs) ≡ fact_line above f ++ fact_lines [] [] f.depth fs
 line_first above f fs = simp append_assoc refl
 
-indent_aside : (heap : List Obj) (kept : Temps) (n : ℕ) → indent heap kept n ≡ indent [] [] n
+indent_aside : (heap : List Obj) (kept : Temps) (n : ℕ) → fact_indent heap kept n ≡ fact_indent [] [] n
 indent_aside heap kept zero = refl
 indent_aside heap kept (suc n) = ap (λ (x : List ℕ). codes "  " ++ x) (indent_aside heap kept n)
 

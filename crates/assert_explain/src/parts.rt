@@ -8,7 +8,7 @@ ghost use Rattle.py_ops.specs.Binary as binary;
 ghost use Rattle.assert_explain.specs.Texts as texts;
 
 use crate::counts::{behind, place_behind};
-use crate::shows::Shows;
+use crate::shows::Explanation;
 use crate::values::{evaluated, is_shown_by_name, kept_text, kept_value};
 use py_ops::binary::binary_text;
 use py_ops::compare::compare_text;
@@ -26,11 +26,11 @@ fn show_leaf(
     heap: &Heap,
     kept: &[Option<Value>],
     n: usize,
-) -> Result<Shows, OutOfMemory>
+) -> Result<Explanation, OutOfMemory>
     ensures { IfOk result (λ s. s ≡ world.leaf_show heap.now kept.now n) }
 {
     let text = kept_text(alloc, heap, kept, n)?;
-    Ok(Shows::from_text(alloc, text))
+    Ok(Explanation::from_text(alloc, text))
 }
 
 /// A name, or its value.
@@ -40,12 +40,12 @@ fn show_name(
     kept: &[Option<Value>],
     n: usize,
     name: &SrcText,
-) -> Result<Shows, OutOfMemory>
+) -> Result<Explanation, OutOfMemory>
     ensures { IfOk result (λ s. s ≡ texts.name_show heap.now kept.now n name.now) }
 {
     if is_shown_by_name(heap, kept_value(kept, n)) {
         let text = Vec::from_slice(alloc, name.chars())?;
-        return Ok(Shows::from_text(alloc, text));
+        return Ok(Explanation::from_text(alloc, text));
     }
     show_leaf(alloc, heap, kept, n)
 }
@@ -55,8 +55,8 @@ fn with_name(
     alloc: Global,
     names: &[Option<ArgName>],
     at: usize,
-    part: Shows,
-) -> Result<Shows, OutOfMemory>
+    part: Explanation,
+) -> Result<Explanation, OutOfMemory>
     ensures { IfOk result (λ s. s ≡ world.named_show (texts.arg_name_at names.now at) part) }
 {
     match names.get(at) {
@@ -98,29 +98,29 @@ fn call_shows(
     heap: &Heap,
     kept: &[Option<Value>],
     n: usize,
-    callee: Shows,
-    args: &Shows,
-) -> Result<Shows, OutOfMemory>
+    callee: Explanation,
+    args: &Explanation,
+) -> Result<Explanation, OutOfMemory>
     ensures { IfOk result (λ s. s ≡ texts.call_with heap.now kept.now n callee args.now) }
 {
     let mut how = callee;
     how.push_call(alloc, args)?;
-    Shows::came_from(alloc, kept_text(alloc, heap, kept, n)?, &how)
+    Explanation::came_from(alloc, kept_text(alloc, heap, kept, n)?, &how)
 }
 
 /// A pair in the place of another one, where it was compared.
 fn set_pair(
     alloc: Global,
-    pair: &mut Shows,
+    pair: &mut Explanation,
     is_compared: bool,
-    left: &Shows,
+    left: &Explanation,
     word: &str,
-    right: &Shows,
+    right: &Explanation,
 ) -> Result<(), OutOfMemory>
     ensures { OnOk result (pair.new ≡ (if is_compared then world.pair_shows word.now left.now right.now else pair.old)) }
 {
     if is_compared {
-        *pair = Shows::pair(alloc, left, word, right)?;
+        *pair = Explanation::pair(alloc, left, word, right)?;
     }
     Ok(())
 }
@@ -135,7 +135,7 @@ fn show_arg(
     e: &Expr,
     names: &[Option<ArgName>],
     at: usize,
-) -> Result<Shows, OutOfMemory>
+) -> Result<Explanation, OutOfMemory>
     ensures { IfOk result (λ s. s ≡ world.named_show (texts.arg_name_at names.now at) (world.show_part heap.now kept.now n (tree e.now))) }
 {
     let part = show_part(alloc, heap, kept, n, e)?;
@@ -152,10 +152,10 @@ fn show_args(
     n: usize,
     es: &[Rc<Expr>],
     names: &[Option<ArgName>],
-) -> Result<Shows, OutOfMemory>
+) -> Result<Explanation, OutOfMemory>
     ensures { IfOk result (λ s. s ≡ world.joined_shows (codes ", ") (world.named_shows names.now (world.show_all heap.now kept.now n (trees es.now)))) }
 {
-    let mut all = Shows::from_text(alloc, Vec::new(alloc));
+    let mut all = Explanation::from_text(alloc, Vec::new(alloc));
     let mut at = n;
     for i in 0..es.len() {
         let e: &Expr = &es[i];
@@ -176,15 +176,15 @@ fn show_attribute(
     n: usize,
     e: &Expr,
     name: &SrcText,
-) -> Result<Shows, OutOfMemory>
+) -> Result<Explanation, OutOfMemory>
     ensures { IfOk result (λ s. s ≡ texts.attribute_show heap.now kept.now n (tree e.now) name.now) }
 {
     let mut how = show_part(alloc, heap, kept, behind(n, 1)?, e)?;
     let mut dot = Vec::new(alloc);
     dot.push('.')?;
     dot.extend_from_slice(name.chars())?;
-    how.push(alloc, &Shows::from_text(alloc, dot))?;
-    Shows::came_from(alloc, kept_text(alloc, heap, kept, n)?, &how)
+    how.push(alloc, &Explanation::from_text(alloc, dot))?;
+    Explanation::came_from(alloc, kept_text(alloc, heap, kept, n)?, &how)
 }
 
 /// An operator between two operands, the first of which is shown.
@@ -194,14 +194,14 @@ fn show_right(
     heap: &Heap,
     kept: &[Option<Value>],
     n: usize,
-    left: &Shows,
+    left: &Explanation,
     op: BinOp,
     e: &Expr,
-) -> Result<Shows, OutOfMemory>
+) -> Result<Explanation, OutOfMemory>
     ensures { IfOk result (λ s. s ≡ texts.in_parens (world.pair_shows (binary.binary_text op) left.now (world.show_part heap.now kept.now n (tree e.now)))) }
 {
     let right = show_part(alloc, heap, kept, n, e)?;
-    Shows::pair(alloc, left, binary_text(op), &right)?.in_parens(alloc)
+    Explanation::pair(alloc, left, binary_text(op), &right)?.in_parens(alloc)
 }
 
 /// Puts an operand that was evaluated behind others.
@@ -213,7 +213,7 @@ fn push_operand(
     n: usize,
     joint: Joint,
     e: &Expr,
-    all: &mut Shows,
+    all: &mut Explanation,
 ) -> Result<(), OutOfMemory>
     ensures { OnOk result (all.new ≡ texts.with_operand heap.now kept.now n (texts.joint_text joint) (tree e.now) all.old) }
 {
@@ -234,9 +234,9 @@ fn show_others(
     kept: &[Option<Value>],
     n: usize,
     joint: Joint,
-    first: Shows,
+    first: Explanation,
     es: &[Rc<Expr>],
-) -> Result<Shows, OutOfMemory>
+) -> Result<Explanation, OutOfMemory>
     ensures { IfOk result (λ s. s ≡ texts.in_parens (world.joined_shows (texts.joint_text joint) (first ∷ world.show_evaluated heap.now kept.now n (trees es.now)))) }
 {
     let mut all = first;
@@ -257,10 +257,10 @@ fn show_pairs(
     heap: &Heap,
     kept: &[Option<Value>],
     n: usize,
-    first: Shows,
+    first: Explanation,
     ops: &[CmpOp],
     es: &[Rc<Expr>],
-) -> Result<Shows, OutOfMemory>
+) -> Result<Explanation, OutOfMemory>
     ensures { IfOk result (λ s. s ≡ world.last_pair heap.now kept.now n first ops.now (trees es.now)) }
 {
     let mut pair = first.copied(alloc)?;
@@ -288,7 +288,7 @@ fn show_call(
     f: &Rc<Expr>,
     es: &Rc<Vec<Rc<Expr>>>,
     names: &Rc<Vec<Option<ArgName>>>,
-) -> Result<Shows, OutOfMemory>
+) -> Result<Explanation, OutOfMemory>
     requires { e.now.kind ≡ kinds.Call f.now es.now names.now }
     ensures { IfOk result (λ s. s ≡ world.show_part heap.now kept.now n (tree e.now)) }
 {
@@ -309,7 +309,7 @@ fn show_unary(
     e: &Expr,
     op: UnOp,
     a: &Rc<Expr>,
-) -> Result<Shows, OutOfMemory>
+) -> Result<Explanation, OutOfMemory>
     requires { e.now.kind ≡ kinds.Unary op a.now }
     ensures { IfOk result (λ s. s ≡ world.show_part heap.now kept.now n (tree e.now)) }
 {
@@ -326,7 +326,7 @@ fn show_not(
     n: usize,
     e: &Expr,
     a: &Rc<Expr>,
-) -> Result<Shows, OutOfMemory>
+) -> Result<Explanation, OutOfMemory>
     requires { e.now.kind ≡ kinds.Not a.now }
     ensures { IfOk result (λ s. s ≡ world.show_part heap.now kept.now n (tree e.now)) }
 {
@@ -345,7 +345,7 @@ fn show_binary(
     a: &Rc<Expr>,
     op: BinOp,
     b: &Rc<Expr>,
-) -> Result<Shows, OutOfMemory>
+) -> Result<Explanation, OutOfMemory>
     requires { e.now.kind ≡ kinds.Binary a.now op b.now }
     ensures { IfOk result (λ s. s ≡ world.show_part heap.now kept.now n (tree e.now)) }
 {
@@ -364,7 +364,7 @@ fn show_compare(
     a: &Rc<Expr>,
     ops: &Rc<Vec<CmpOp>>,
     es: &Rc<Vec<Rc<Expr>>>,
-) -> Result<Shows, OutOfMemory>
+) -> Result<Explanation, OutOfMemory>
     requires { e.now.kind ≡ kinds.Compare a.now ops.now es.now }
     ensures { IfOk result (λ s. s ≡ world.show_part heap.now kept.now n (tree e.now)) }
 {
@@ -382,7 +382,7 @@ fn show_and(
     e: &Expr,
     a: &Rc<Expr>,
     es: &Rc<Vec<Rc<Expr>>>,
-) -> Result<Shows, OutOfMemory>
+) -> Result<Explanation, OutOfMemory>
     requires { e.now.kind ≡ kinds.And a.now es.now }
     ensures { IfOk result (λ s. s ≡ world.show_part heap.now kept.now n (tree e.now)) }
 {
@@ -408,7 +408,7 @@ fn show_or(
     e: &Expr,
     a: &Rc<Expr>,
     es: &Rc<Vec<Rc<Expr>>>,
-) -> Result<Shows, OutOfMemory>
+) -> Result<Explanation, OutOfMemory>
     requires { e.now.kind ≡ kinds.Or a.now es.now }
     ensures { IfOk result (λ s. s ≡ world.show_part heap.now kept.now n (tree e.now)) }
 {
@@ -425,7 +425,7 @@ pub fn show_part(
     kept: &[Option<Value>],
     n: usize,
     e: &Expr,
-) -> Result<Shows, OutOfMemory>
+) -> Result<Explanation, OutOfMemory>
     ensures { IfOk result (λ s. s ≡ world.show_part heap.now kept.now n (tree e.now)) }
 {
     match &e.kind {

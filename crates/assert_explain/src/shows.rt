@@ -83,25 +83,25 @@ fn push_below(alloc: Global, facts: &mut Vec<Fact>, others: &[Fact]) -> Result<(
 
 /// What is shown of a part: its text, and facts, each before those below it.
 #[derive(Drop)]
-pub struct Shows {
+pub struct Explanation {
     text: Vec<char>,
     facts: Vec<Fact>,
 }
 
-impl Model for Shows {
-    ghost use Rattle.py_world.specs.Explained.{Shows as Said};
+impl Model for Explanation {
+    ghost use Rattle.py_world.specs.Explained.{Explanation as Said};
 
     ghost Value = { Said };
 
     ghost view = { λ s. record { text = s.text.items; facts = s.facts.items } };
 }
 
-impl Shows {
+impl Explanation {
     /// A text without facts.
     pub fn from_text(alloc: Global, text: Vec<char>) -> Self
         ensures { result ≡ shows text.items [] }
     {
-        Shows {
+        Explanation {
             text,
             facts: Vec::new(alloc),
         }
@@ -126,7 +126,7 @@ impl Shows {
         let mut facts = Vec::new(alloc);
         push_facts(alloc, &mut facts, &self.facts)?;
         let text = Vec::from_slice(alloc, &self.text)?;
-        Ok(Shows { text, facts })
+        Ok(Explanation { text, facts })
     }
 
     /// Puts characters behind the text.
@@ -137,7 +137,7 @@ impl Shows {
     }
 
     /// Puts what is shown of another part behind.
-    pub fn push(&mut self, alloc: Global, other: &Shows) -> Result<(), OutOfMemory>
+    pub fn push(&mut self, alloc: Global, other: &Explanation) -> Result<(), OutOfMemory>
         ensures { OnOk result (self.new ≡ shows (self.old.text ++ other.now.text) (self.old.facts ++ other.now.facts)) }
     {
         self.text.extend_from_slice(&other.text)?;
@@ -147,7 +147,7 @@ impl Shows {
 
     /// Puts the arguments of a call behind what is called.
     #[tactic(auto, using(crate::proofs::Facts::called_next))]
-    pub fn push_call(&mut self, alloc: Global, given: &Shows) -> Result<(), OutOfMemory>
+    pub fn push_call(&mut self, alloc: Global, given: &Explanation) -> Result<(), OutOfMemory>
         ensures { OnOk result (self.new ≡ called_with self.old given.now) }
     {
         self.push_text("(")?;
@@ -162,7 +162,7 @@ impl Shows {
         alloc: Global,
         first: bool,
         word: &str,
-        other: Shows,
+        other: Explanation,
     ) -> Result<(), OutOfMemory>
         ensures { OnOk result (self.new ≡ joined_with word.now first self.old other) }
     {
@@ -181,7 +181,7 @@ impl Shows {
         let mut text = Vec::from_slice(alloc, name)?;
         push_ascii(&mut text, front)?;
         text.extend_from_slice(&self.text)?;
-        Ok(Shows {
+        Ok(Explanation {
             text,
             facts: self.facts,
         })
@@ -195,14 +195,14 @@ impl Shows {
         push_ascii(&mut text, "(")?;
         text.extend_from_slice(&self.text)?;
         push_ascii(&mut text, ")")?;
-        Ok(Shows {
+        Ok(Explanation {
             text,
             facts: self.facts,
         })
     }
 
     /// A value's text, with the one fact of how it came.
-    pub fn came_from(alloc: Global, text: Vec<char>, how: &Shows) -> Result<Self, OutOfMemory>
+    pub fn came_from(alloc: Global, text: Vec<char>, how: &Explanation) -> Result<Self, OutOfMemory>
         ensures { IfOk result (λ s. s ≡ world.came_from text.items how.now.text how.now.facts) }
     {
         let mut said = Vec::from_slice(alloc, &text)?;
@@ -214,11 +214,16 @@ impl Shows {
             text: PyText::from_chars(alloc, &said)?,
         })?;
         push_below(alloc, &mut facts, &how.facts)?;
-        Ok(Shows { text, facts })
+        Ok(Explanation { text, facts })
     }
 
     /// Two operands with a word between them.
-    pub fn pair(alloc: Global, left: &Shows, word: &str, right: &Shows) -> Result<Self, OutOfMemory>
+    pub fn pair(
+        alloc: Global,
+        left: &Explanation,
+        word: &str,
+        right: &Explanation,
+    ) -> Result<Self, OutOfMemory>
         ensures { IfOk result (λ s. s ≡ world.pair_shows word.now left.now right.now) }
     {
         let mut pair = left.copied(alloc)?;

@@ -18,7 +18,7 @@ use std::alloc::Global;
 /// Puts the space before a fact behind others.
 #[tactic(auto, using(crate::proofs::Lines::indent_more, crate::proofs::Lines::indent_all))]
 fn push_indent(out: &mut Vec<char>, depth: usize) -> Result<(), OutOfMemory>
-    ensures { OnOk result (out.new.items ≡ out.old.items ++ world.indent [] [] depth) }
+    ensures { OnOk result (out.new.items ≡ out.old.items ++ world.fact_indent [] [] depth) }
 {
     for _ in 0..depth {
         push_ascii(out, "  ")?;

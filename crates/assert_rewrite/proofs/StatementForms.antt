@@ -20,7 +20,7 @@ use Rattle.py_tree.specs.declared.stmt.Target.{Target}
 use Rattle.py_tree.specs.Names.{locals_of, yields_in}
 use Rattle.py_tree.specs.Trees.{Tree, tree, trees, some_tree}
 use Rattle.py_tree.specs.Statements as st
-use Rattle.py_tree.specs.Statements.{Statement, Block, Parameter, NoStatement, Branches, NoBranch, statement, statement_at, block_on, block, branches_on, branches_behind, branches, NoHandler, handlers_on, handlers, parameters, module_tree}
+use Rattle.py_tree.specs.Statements.{Statement, Block, Parameter, NoStatement, Branches, NoBranch, statement, statement_at, block_on, block, branches_in_row, branches_behind, branches, NoHandler, handlers_in_row, handlers, parameters, module_tree}
 use Rattle.py_tree.proofs.Rows.{block_hidden, branches_hidden, handlers_hidden, block_more}
 use Rattle.py_core.specs.declared.expr.CoreExpr.{CoreExpr}
 use Rattle.py_core.specs.declared.stmt.CoreBranch.{CoreBranch, roll-CoreBranch}
@@ -52,14 +52,14 @@ use Rattle.assert_rewrite.proofs.HandlerForms.{guard_made}
 body_row : (z : Bool) (stmts : Vec Stmt Global) (core : CoreBlock) → LowersBody z stmts.items core → BuiltBlock (block_on NoStatement (hidden-the_row-Stmt-1 stmts)) → LoweredBody z (statements_listed (block_on NoStatement (hidden-the_row-Stmt-1 stmts))) core
 body_row z stmts core h = subst (λ t. BuiltBlock t → LoweredBody z (statements_listed t) core) (sym (block_hidden stmts)) h.by
 
-branches_row : (z : Bool) (all : Vec Branch Global) (cores : Vec CoreBranch Global) → LowersBranches z all.items cores.items → BuiltBranches (branches_on NoBranch (hide_branches all)) → LoweredBranches z (branches_listed (branches_on NoBranch (hide_branches all))) (row_branches _ (core_hide_branches cores))
+branches_row : (z : Bool) (all : Vec Branch Global) (cores : Vec CoreBranch Global) → LowersBranches z all.items cores.items → BuiltBranches (branches_in_row NoBranch (hide_branches all)) → LoweredBranches z (branches_listed (branches_in_row NoBranch (hide_branches all))) (row_branches _ (core_hide_branches cores))
 branches_row z all cores h =
     subst (λ t. BuiltBranches t → LoweredBranches z (branches_listed t) (row_branches _ (core_hide_branches cores))) (sym (branches_hidden all)) (subst (λ xs. BuiltBranches (branches all.items) → LoweredBranches z (branches_listed (branches all.items)) xs) (sym (core_branches_hidden cores)) h.by)
 
-handlers_row : (z : Bool) (all : Vec Handler Global) (cores : List CoreHandler) → LowersHandlers z all.items cores → BuiltHandlers (handlers_on NoHandler (hide_handlers all)) → LoweredHandlers z (handlers_listed (handlers all.items)) cores
+handlers_row : (z : Bool) (all : Vec Handler Global) (cores : List CoreHandler) → LowersHandlers z all.items cores → BuiltHandlers (handlers_in_row NoHandler (hide_handlers all)) → LoweredHandlers z (handlers_listed (handlers all.items)) cores
 handlers_row z all cores h = subst (λ t. BuiltHandlers t → LoweredHandlers z (handlers_listed (handlers all.items)) cores) (sym (handlers_hidden all)) h.by
 
-guard_row : (z : Bool) (all : Vec Handler Global) (source : List Handler) (other last : Block) (cores : List CoreHandler) (x y : CoreBlock) (g : CoreGuard) → source ≡ all.items → Guards source cores x y g → LoweredHandlers z (handlers_listed (handlers all.items)) cores → LoweredBody z (statements_listed other) x → LoweredBody z (statements_listed last) y → LoweredGuard z (handlers_on NoHandler (hide_handlers all)) (statements_listed other) (statements_listed last) g
+guard_row : (z : Bool) (all : Vec Handler Global) (source : List Handler) (other last : Block) (cores : List CoreHandler) (x y : CoreBlock) (g : CoreGuard) → source ≡ all.items → Guards source cores x y g → LoweredHandlers z (handlers_listed (handlers all.items)) cores → LoweredBody z (statements_listed other) x → LoweredBody z (statements_listed last) y → LoweredGuard z (handlers_in_row NoHandler (hide_handlers all)) (statements_listed other) (statements_listed last) g
 guard_row z all source other last cores x y g same is h f e = subst (λ t. LoweredGuard z t (statements_listed other) (statements_listed last) g) (sym (handlers_hidden all)) (guard_made z all.items source other last cores x y g same is h f e)
 
 -- a function at its `def`

@@ -7,7 +7,7 @@ use Rattle.std.proofs.lemmas.Cmp.{nat_list_eq_equiv}
 use Rattle.std.proofs.lemmas.List.Folds.{list_any-append}
 use Rattle.std.proofs.lemmas.Map.Keys.{IsDistinct-push}
 use Rattle.std.proofs.lemmas.Slice.Eq.{bytes_eq-Decides}
-use Rattle.py_tree.specs.Names.{is_among, with_local, locals_behind, names_of, bound, of_block, locals_of, globals_of}
+use Rattle.py_tree.specs.Names.{is_among, with_local, locals_behind, names_of, names_bound, of_block, locals_of, globals_of}
 use Rattle.py_tree.specs.Statements.{Block, Parameter}
 
 -- one name more, where it is another one
@@ -69,11 +69,11 @@ behind globals names (other ∷ rest) name = behind globals (with_local globals 
 shares : (p b g : Bool) → ((false || (p && not g)) || (b && not g)) ≡ ((p || b) && not g)
 shares p b g = joins false p b g
 
-pub local : (params : List Parameter) (body : Block) (name : List ℕ) → is_among (locals_of params body) name ≡ ((is_among (names_of params) name || is_among (bound (of_block body)) name) && not (is_among (globals_of body) name))
+pub local : (params : List Parameter) (body : Block) (name : List ℕ) → is_among (locals_of params body) name ≡ ((is_among (names_of params) name || is_among (names_bound (of_block body)) name) && not (is_among (globals_of body) name))
 local params body name =
-    behind (globals_of body) (locals_behind (globals_of body) [] (names_of params)) (bound (of_block body)) name
-    ∙ (ap (λ b. b || (is_among (bound (of_block body)) name && not (is_among (globals_of body) name))) (behind (globals_of body) [] (names_of params) name)
-    ∙ shares (is_among (names_of params) name) (is_among (bound (of_block body)) name) (is_among (globals_of body) name))
+    behind (globals_of body) (locals_behind (globals_of body) [] (names_of params)) (names_bound (of_block body)) name
+    ∙ (ap (λ b. b || (is_among (names_bound (of_block body)) name && not (is_among (globals_of body) name))) (behind (globals_of body) [] (names_of params) name)
+    ∙ shares (is_among (names_of params) name) (is_among (names_bound (of_block body)) name) (is_among (globals_of body) name))
 
 -- NONE STANDS TWICE
 turned : (names : List (List ℕ)) (name : List ℕ) → list_any (bytes_eq name) names ≡ is_among names name
@@ -97,4 +97,4 @@ unfolding IsDistinct
 none_yet = tt
 
 pub once : (params : List Parameter) (body : Block) → IsDistinct bytes_eq (locals_of params body)
-once params body = once_behind (globals_of body) (locals_behind (globals_of body) [] (names_of params)) (bound (of_block body)) (once_behind (globals_of body) [] (names_of params) none_yet)
+once params body = once_behind (globals_of body) (locals_behind (globals_of body) [] (names_of params)) (names_bound (of_block body)) (once_behind (globals_of body) [] (names_of params) none_yet)

@@ -14,11 +14,11 @@
 ghost use Rattle.std.specs.Prelude.{◌≡◌, ℕ, List, ◌&&◌, ◌||◌, not};
 ghost use Rattle.std.specs.List.{IsDistinct};
 ghost use Rattle.std.specs.Str.{bytes_eq};
-ghost use Rattle.py_tree.specs.Names.{is_among, names_of, bound, of_block, locals_of, globals_of};
+ghost use Rattle.py_tree.specs.Names.{is_among, names_of, names_bound, of_block, locals_of, globals_of};
 ghost use Rattle.py_tree.specs.Statements.{Block, Parameter};
 
 /// A law: which names are local to a function with these parameters and this body.
 pub fn locals_are_what_is_bound()
-    ensures local { (params : List Parameter) (body : Block) (name : List ℕ) → is_among (locals_of params body) name ≡ ((is_among (names_of params) name || is_among (bound (of_block body)) name) && not (is_among (globals_of body) name)) }
+    ensures local { (params : List Parameter) (body : Block) (name : List ℕ) → is_among (locals_of params body) name ≡ ((is_among (names_of params) name || is_among (names_bound (of_block body)) name) && not (is_among (globals_of body) name)) }
     ensures once { (params : List Parameter) (body : Block) → IsDistinct bytes_eq (locals_of params body) }
 {}

@@ -76,7 +76,23 @@ object_elements from none (Some (obj.List vs)) = own vs
 object_elements from none (Some (obj.Tuple vs)) = own vs
 object_elements from none (Some (obj.Dict es)) = own (keys_of es)
 object_elements from none (Some (obj.Range r)) = range_elements r
-object_elements from none _ = none
+object_elements from none (Some (obj.Function x)) = none
+object_elements from none (Some (obj.Method x)) = none
+object_elements from none (Some (obj.Builtin x)) = none
+object_elements from none (Some (obj.Class x)) = none
+object_elements from none (Some (obj.Instance x)) = none
+object_elements from none (Some (obj.Exception x)) = none
+object_elements from none (Some (obj.Module x)) = none
+object_elements from none (Some (obj.Fixture x)) = none
+object_elements from none (Some obj.MarkMaker) = none
+object_elements from none (Some (obj.Mark x)) = none
+object_elements from none (Some (obj.Hook x)) = none
+object_elements from none (Some (obj.Param x)) = none
+object_elements from none (Some (obj.Request x)) = none
+object_elements from none (Some (obj.Raises x)) = none
+object_elements from none (Some (obj.Info x)) = none
+object_elements from none (Some (obj.Item x)) = none
+object_elements from none None = none
 
 -- THE ELEMENTS OF A VALUE, or the raise in their place; new objects stand from a place on
 unfoldable pub elements_of : List Obj → ℕ → Value → ElementsResult

@@ -24,6 +24,11 @@ failed class text cost = plain (Fail (text_raise class text) cost)
 abbrev pub wrong : List ℕ → ℕ → Product
 wrong name cost = failed TypeError (codes "wrong arguments for " ++ name) cost
 
+-- what is made of the arguments of a call, where they have the form that it asks for
+abbrev pub made_or_wrong : {T : Type 0} → List ℕ → (T → Product) → Option T → Product
+made_or_wrong name make (Some given) = make given
+made_or_wrong name make None = wrong name 0
+
 -- so many places behind one another, from one on
 abbrev pub refs_from : ℕ → ℕ → List Value
 refs_from at zero = []

@@ -3,7 +3,7 @@
 //!
 //! # What it is for
 //!
-//! `Made` tells one new object or one change. A call such as `"a b".split()` or `enumerate(xs)` makes many objects: `Product` has those,
+//! `Effect` tells one new object or one change. A call such as `"a b".split()` or `enumerate(xs)` makes many objects: `Product` has those,
 //! which stand behind the heap's last one, and then what is made in the heap that has them. The crates of methods and calls above give
 //! products of the heap and their arguments, and know no heap that is written.
 //!

@@ -18,7 +18,7 @@ use Rattle.cli_words.specs.declared.info.Notice.TheVariants.{Fault}
 use Rattle.cli_words.specs.declared.setting.Setting.{Setting}
 use Rattle.cli_words.specs.declared.table.FlagAction.{FlagAction}
 use Rattle.cli_words.specs.declared.table.Rule.{Rule}
-use Rattle.cli_words.specs.declared.table.Takes.{Takes}
+use Rattle.cli_words.specs.declared.table.OptionKind.{OptionKind}
 
 pub some_map : {X Y : Type 0} (f : X → Y) (b : Bool) (x : Option X) → b ≡ is_some x → b ≡ is_some (option_map f x)
 some_map f b None e = e
@@ -43,10 +43,10 @@ pub next_value : (option : List ℕ) (rule : Rule) (next : Option (List ℕ)) (v
 next_value option rule next value r e dash told = rw (e, dash) told
 
 -- an option of a letter, or a long one
-pub letter_told : (takes named : Option Takes) (value after_mark next : Option (List ℕ)) (word option : List ℕ) (r : Option Notice) → takes ≡ named → value ≡ after_mark → r ≡ notice_of (option_part takes word option value next) → r ≡ notice_of (option_part named word option after_mark next)
+pub letter_told : (takes named : Option OptionKind) (value after_mark next : Option (List ℕ)) (word option : List ℕ) (r : Option Notice) → takes ≡ named → value ≡ after_mark → r ≡ notice_of (option_part takes word option value next) → r ≡ notice_of (option_part named word option after_mark next)
 letter_told takes named value after_mark next word option r e f told = rw (← e, ← f) told
 
-pub letter_took : (takes named : Option Takes) (value after_mark : Option (List ℕ)) (r : Bool) → takes ≡ named → value ≡ after_mark → r ≡ asks takes value → r ≡ asks named after_mark
+pub letter_took : (takes named : Option OptionKind) (value after_mark : Option (List ℕ)) (r : Bool) → takes ≡ named → value ≡ after_mark → r ≡ asks takes value → r ≡ asks named after_mark
 letter_took takes named value after_mark r e f took = rw (← e, ← f) took
 
 cons_first : {X : Type 0} (f : CommandPart → Option X) (p : CommandPart) (x : Option X) → f p ≡ x → first_if_any (filter_map f (p ∷ [])) ≡ x
@@ -56,12 +56,12 @@ cons_first f p (Some x) e = rw e refl
 pub first_alone : (p : CommandPart) → first_notice (p ∷ []) ≡ notice_of p
 first_alone p = cons_first notice_of p (notice_of p) refl
 
-pub long_told : (word option : List ℕ) (value next : Option (List ℕ)) (takes : Option Takes) (r : Option Notice) → option ≡ before_first (λ c. c == 61) word → value ≡ after_mark 61 word → takes ≡ takes_named option → r ≡ notice_of (option_part takes word option value next) → r ≡ first_notice (spelled_parts word (Some (long_option word)) next)
+pub long_told : (word option : List ℕ) (value next : Option (List ℕ)) (takes : Option OptionKind) (r : Option Notice) → option ≡ before_first (λ c. c == 61) word → value ≡ after_mark 61 word → takes ≡ takes_named option → r ≡ notice_of (option_part takes word option value next) → r ≡ first_notice (spelled_parts word (Some (long_option word)) next)
 long_told word option value next takes r name is e told =
     let all : r ≡ notice_of (option_part (takes_named (before_first (λ c. c == 61) word)) word (before_first (λ c. c == 61) word) (after_mark 61 word) next) = rw (← name, ← is, ← e) told in
     all ∙ sym (first_alone (option_part (takes_named (before_first (λ c. c == 61) word)) word (before_first (λ c. c == 61) word) (after_mark 61 word) next))
 
-pub long_took : (word option : List ℕ) (value : Option (List ℕ)) (takes : Option Takes) (r : Bool) → option ≡ before_first (λ c. c == 61) word → value ≡ after_mark 61 word → takes ≡ takes_named option → r ≡ asks takes value → r ≡ spelled_asks (Some (long_option word))
+pub long_took : (word option : List ℕ) (value : Option (List ℕ)) (takes : Option OptionKind) (r : Bool) → option ≡ before_first (λ c. c == 61) word → value ≡ after_mark 61 word → takes ≡ takes_named option → r ≡ asks takes value → r ≡ spelled_asks (Some (long_option word))
 long_took word option value takes r name is e took = rw (← name, ← is, ← e) took
 
 -- the letters of a short word
@@ -88,10 +88,10 @@ pub option_took : (letters rest after_mark : List ℕ) (letter : ℕ) (r : Bool)
 unfolding letters_ask
 option_took letters rest after_mark letter r f first took = rw (← f, first) took
 
-unknown_part : (takes : Option Takes) (word option : List ℕ) (value next : Option (List ℕ)) → takes ≡ None → Some Fault ≡ notice_of (option_part takes word option value next)
+unknown_part : (takes : Option OptionKind) (word option : List ℕ) (value next : Option (List ℕ)) → takes ≡ None → Some Fault ≡ notice_of (option_part takes word option value next)
 unknown_part takes word option value next e = rw e refl
 
-unknown_asks : (takes : Option Takes) (value : Option (List ℕ)) → takes ≡ None → false ≡ asks takes value
+unknown_asks : (takes : Option OptionKind) (value : Option (List ℕ)) → takes ≡ None → false ≡ asks takes value
 unknown_asks takes value e = rw e refl
 
 pub unknown_told : (letters rest word : List ℕ) (next : Option (List ℕ)) → rest ≡ behind_flags letters → false ≡ (length rest == 0) → (rest ≡ []) ⊎ (128 ≤ slice_index rest 0) → Some Fault ≡ first_notice (letters_say word letters next)

@@ -10,7 +10,7 @@ use Rattle.cli_words.specs.declared.fault.UsageFault.TheVariants.{BadValue, Need
 use Rattle.cli_words.specs.declared.info.Info.{Info}
 use Rattle.cli_words.specs.declared.table.Rule.{Rule}
 use Rattle.cli_words.specs.declared.table.FlagAction.{FlagAction}
-use Rattle.cli_words.specs.declared.table.Takes.{Takes}
+use Rattle.cli_words.specs.declared.table.OptionKind.{OptionKind}
 use Rattle.cli_words.specs.Values.{given_setting, setting_of}
 use Rattle.cli_words.specs.declared.options.Options.{Options}
 use Rattle.cli_words.specs.declared.setting.Setting.{Setting}
@@ -92,7 +92,7 @@ switched_some o option given value v e = rw e (outcome_wrong o (TakesNoValue opt
 pub switched_none : (o p : Options) (option : List ℕ) (given : FlagAction) (value : Option (List ℕ)) → value ≡ None → p ≡ with_parts o (Sets (given_setting given) ∷ []) → options_or_fault o (switched option given value ∷ []) ≡ Ok p
 switched_none o p option given value e is = rw e (outcome_sets o p (given_setting given) is)
 
-pub no_option : (o : Options) (takes : Option Takes) (word option : List ℕ) (value next : Option (List ℕ)) → takes ≡ None → options_or_fault o (option_part takes word option value next ∷ []) ≡ Err (Unrecognized word)
+pub no_option : (o : Options) (takes : Option OptionKind) (word option : List ℕ) (value next : Option (List ℕ)) → takes ≡ None → options_or_fault o (option_part takes word option value next ∷ []) ≡ Err (Unrecognized word)
 no_option o takes word option value next e = rw e (outcome_wrong o (Unrecognized word))
 
 with_parts-asks : (o : Options) (info : Info) → with_parts o (Asks info ∷ []) ≡ o

@@ -10,8 +10,8 @@ use Rattle.cli_words.specs.declared.info.Info.{Info}
 use Rattle.cli_words.specs.declared.setting.Setting.{Setting}
 use Rattle.cli_words.specs.declared.table.FlagAction.{FlagAction}
 use Rattle.cli_words.specs.declared.table.Rule.{Rule}
-use Rattle.cli_words.specs.declared.table.Takes.{Takes}
-use Rattle.cli_words.specs.declared.table.Takes.TheVariants.{Nothing, Value, Tells}
+use Rattle.cli_words.specs.declared.table.OptionKind.{OptionKind}
+use Rattle.cli_words.specs.declared.table.OptionKind.TheVariants.{Nothing, Value, Tells}
 
 -- a part of the command line
 pub data CommandPart : Type 0 where
@@ -56,7 +56,7 @@ asking option info None = Asks info
 asking option info (Some value) = Wrong (TakesNoValue option)
 
 -- what an option of a word says; its value may stand in the word or be the next word
-abbrev pub option_part : Option Takes → List ℕ → List ℕ → Option (List ℕ) → Option (List ℕ) → CommandPart
+abbrev pub option_part : Option OptionKind → List ℕ → List ℕ → Option (List ℕ) → Option (List ℕ) → CommandPart
 option_part None word option value next = Wrong (Unrecognized word)
 option_part (Some (Nothing given)) word option value next = switched option given value
 option_part (Some (Tells info)) word option value next = asking option info value
@@ -64,7 +64,7 @@ option_part (Some (Value rule)) word option None next = next_valued option rule 
 option_part (Some (Value rule)) word option (Some value) next = option_with_value option value (setting_of rule value)
 
 -- whether an option takes the next word
-abbrev pub asks : Option Takes → Option (List ℕ) → Bool
+abbrev pub asks : Option OptionKind → Option (List ℕ) → Bool
 asks (Some (Value rule)) None = true
 asks (Some (Value rule)) (Some value) = false
 asks (Some (Nothing given)) value = false
@@ -85,7 +85,7 @@ abbrev pub short : ℕ → List ℕ
 short letter = 45 ∷ letter ∷ []
 
 -- what a letter sets, if it is an option without value
-abbrev pub given_of : Option Takes → Option FlagAction
+abbrev pub given_of : Option OptionKind → Option FlagAction
 given_of (Some (Nothing given)) = Some given
 given_of (Some (Value rule)) = None
 given_of (Some (Tells info)) = None

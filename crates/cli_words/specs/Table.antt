@@ -3,8 +3,8 @@ use Rattle.std.specs.Prelude.{ℕ, List, [], ◌∷◌, Option, None, Some, code
 use Rattle.std.specs.Str.{bytes_eq}
 use Rattle.std.specs.Map.{lookup}
 use Rattle.cli_words.specs.declared.table.Row.{Row}
-use Rattle.cli_words.specs.declared.table.Takes.{Takes}
-use Rattle.cli_words.specs.declared.table.Takes.TheVariants.{Nothing, Value, Tells}
+use Rattle.cli_words.specs.declared.table.OptionKind.{OptionKind}
+use Rattle.cli_words.specs.declared.table.OptionKind.TheVariants.{Nothing, Value, Tells}
 use Rattle.cli_words.specs.declared.table.FlagAction.TheVariants.{On, Count}
 use Rattle.cli_words.specs.declared.table.Rule.TheVariants.{Text, Number, Style, Distribution, SeedAndFiles}
 use Rattle.cli_words.specs.declared.info.Info.TheVariants.{Help, Version}
@@ -13,7 +13,7 @@ use Rattle.cli_words.specs.declared.table.Counter.TheVariants.{MaxFail, Workers,
 use Rattle.cli_words.specs.declared.table.TextOption.TheVariants.{Keyword, Marks, Ignore}
 
 -- each spelling of an option, and what the option takes
-abbrev pub options : List (List ℕ × Takes)
+abbrev pub options : List (List ℕ × OptionKind)
 options =
     (codes "-k", Value (Text Keyword))
     ∷ (codes "-m", Value (Text Marks))
@@ -37,10 +37,10 @@ options =
     ∷ []
 
 -- what the option of this spelling takes
-unfoldable pub takes_named : List ℕ → Option Takes
+unfoldable pub takes_named : List ℕ → Option OptionKind
 takes_named spelling = lookup (λ s. bytes_eq s spelling) options
 
 -- what the first row of this spelling takes
-abbrev pub takes_in : List ℕ → List Row → Option Takes
+abbrev pub takes_in : List ℕ → List Row → Option OptionKind
 takes_in spelling [] = None
 takes_in spelling (row ∷ rows) = if bytes_eq row.spelling.now spelling then Some row.takes else takes_in spelling rows

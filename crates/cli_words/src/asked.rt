@@ -9,7 +9,7 @@ use crate::read::{
     first_flag, first_letter, first_word, is_path, starts_with, value_behind, words_left,
 };
 use crate::setting::cut_at;
-use crate::table::{Rule, Takes, takes_of};
+use crate::table::{OptionKind, Rule, takes_of};
 
 /// What a value of an option has to tell: a fault, where the option doesn't take it.
 fn value_notice(rule: Rule, value: &str) -> Option<Notice>
@@ -37,27 +37,31 @@ fn next_notice(rule: Rule, next: Option<&str>) -> Option<Notice>
 }
 
 /// What an option has to tell, whose value may stand in the word or be the next word.
-fn option_notice(takes: Option<Takes>, value: Option<&str>, next: Option<&str>) -> Option<Notice>
+fn option_notice(
+    takes: Option<OptionKind>,
+    value: Option<&str>,
+    next: Option<&str>,
+) -> Option<Notice>
     ensures { (word option : List ℕ) → result ≡ notice_of (option_part takes word option (option_copied value.entry) (option_copied next.entry)) }
 {
     match (takes, value) {
         (None, _) => Some(Notice::Fault),
-        (Some(Takes::Nothing(_)), None) => None,
-        (Some(Takes::Nothing(_)), Some(_)) => Some(Notice::Fault),
-        (Some(Takes::Tells(info)), None) => Some(Notice::Asked(info)),
-        (Some(Takes::Tells(_)), Some(_)) => Some(Notice::Fault),
-        (Some(Takes::Value(rule)), None) => next_notice(rule, next),
-        (Some(Takes::Value(rule)), Some(value)) => value_notice(rule, value),
+        (Some(OptionKind::Nothing(_)), None) => None,
+        (Some(OptionKind::Nothing(_)), Some(_)) => Some(Notice::Fault),
+        (Some(OptionKind::Tells(info)), None) => Some(Notice::Asked(info)),
+        (Some(OptionKind::Tells(_)), Some(_)) => Some(Notice::Fault),
+        (Some(OptionKind::Value(rule)), None) => next_notice(rule, next),
+        (Some(OptionKind::Value(rule)), Some(value)) => value_notice(rule, value),
     }
 }
 
 /// Whether an option takes the next word.
-fn asks(takes: Option<Takes>, value: Option<&str>) -> bool
+fn asks(takes: Option<OptionKind>, value: Option<&str>) -> bool
     ensures { result ≡ asks takes (option_copied value.entry) }
 {
     match takes {
-        Some(Takes::Value(_)) => value.is_none(),
-        Some(Takes::Nothing(_) | Takes::Tells(_)) | None => false,
+        Some(OptionKind::Value(_)) => value.is_none(),
+        Some(OptionKind::Nothing(_) | OptionKind::Tells(_)) | None => false,
     }
 }
 

@@ -10,7 +10,7 @@ use crate::fault::UsageFault;
 use crate::info::Info;
 use crate::options::Options;
 use crate::setting::cut_at;
-use crate::table::{FlagAction, Rule, Takes, takes_of};
+use crate::table::{FlagAction, OptionKind, Rule, takes_of};
 use crate::word::Word;
 use seq::OutOfMemory;
 use std::alloc::Global;
@@ -135,15 +135,15 @@ fn read_option(
 {
     match takes_of(option.as_bytes()) {
         None => Err(UsageFault::Unrecognized(Word::from_str(alloc, word)?)),
-        Some(Takes::Nothing(given)) => {
+        Some(OptionKind::Nothing(given)) => {
             read_switch(alloc, options, option, given, value)?;
             Ok(false)
         }
-        Some(Takes::Tells(_)) => {
+        Some(OptionKind::Tells(_)) => {
             read_asking(alloc, option, value)?;
             Ok(false)
         }
-        Some(Takes::Value(rule)) => match value {
+        Some(OptionKind::Value(rule)) => match value {
             Some(value) => {
                 set_value(alloc, options, option, rule, value)?;
                 Ok(false)
@@ -162,7 +162,7 @@ pub(crate) fn first_flag(letters: &str) -> Option<(FlagAction, &str)>
 {
     let (letter, rest) = first_letter(letters)?;
     match takes_of(&[b'-', letter]) {
-        Some(Takes::Nothing(given)) => Some((given, rest)),
+        Some(OptionKind::Nothing(given)) => Some((given, rest)),
         _ => None,
     }
 }

@@ -47,7 +47,7 @@ pub enum Rule {
 
 /// Whether an option takes a value.
 #[derive(Clone, Copy)]
-pub enum Takes {
+pub enum OptionKind {
     Nothing(FlagAction),
     Value(Rule),
     /// No value: the option asks for a text.
@@ -58,90 +58,90 @@ pub enum Takes {
 #[derive(Clone, Copy)]
 pub struct Row {
     spelling: &'static str,
-    takes: Takes,
+    takes: OptionKind,
 }
 
 /// All options, with each of their spellings.
 const OPTIONS: [Row; 19] = [
     Row {
         spelling: "-k",
-        takes: Takes::Value(Rule::Text(TextOption::Keyword)),
+        takes: OptionKind::Value(Rule::Text(TextOption::Keyword)),
     },
     Row {
         spelling: "-m",
-        takes: Takes::Value(Rule::Text(TextOption::Marks)),
+        takes: OptionKind::Value(Rule::Text(TextOption::Marks)),
     },
     Row {
         spelling: "-x",
-        takes: Takes::Nothing(FlagAction::Count(Counter::MaxFail, 1)),
+        takes: OptionKind::Nothing(FlagAction::Count(Counter::MaxFail, 1)),
     },
     Row {
         spelling: "--exitfirst",
-        takes: Takes::Nothing(FlagAction::Count(Counter::MaxFail, 1)),
+        takes: OptionKind::Nothing(FlagAction::Count(Counter::MaxFail, 1)),
     },
     Row {
         spelling: "--maxfail",
-        takes: Takes::Value(Rule::Number(Counter::MaxFail, 0, 65_536)),
+        takes: OptionKind::Value(Rule::Number(Counter::MaxFail, 0, 65_536)),
     },
     Row {
         spelling: "--tb",
-        takes: Takes::Value(Rule::Style),
+        takes: OptionKind::Value(Rule::Style),
     },
     Row {
         spelling: "-n",
-        takes: Takes::Value(Rule::Number(Counter::Workers, 0, 8)),
+        takes: OptionKind::Value(Rule::Number(Counter::Workers, 0, 8)),
     },
     Row {
         spelling: "--numprocesses",
-        takes: Takes::Value(Rule::Number(Counter::Workers, 0, 8)),
+        takes: OptionKind::Value(Rule::Number(Counter::Workers, 0, 8)),
     },
     Row {
         spelling: "--dist",
-        takes: Takes::Value(Rule::Distribution),
+        takes: OptionKind::Value(Rule::Distribution),
     },
     Row {
         spelling: "--ignore",
-        takes: Takes::Value(Rule::Text(TextOption::Ignore)),
+        takes: OptionKind::Value(Rule::Text(TextOption::Ignore)),
     },
     Row {
         spelling: "-v",
-        takes: Takes::Nothing(FlagAction::On(Switch::Verbose)),
+        takes: OptionKind::Nothing(FlagAction::On(Switch::Verbose)),
     },
     Row {
         spelling: "--verbose",
-        takes: Takes::Nothing(FlagAction::On(Switch::Verbose)),
+        takes: OptionKind::Nothing(FlagAction::On(Switch::Verbose)),
     },
     Row {
         spelling: "--collect-only",
-        takes: Takes::Nothing(FlagAction::On(Switch::CollectOnly)),
+        takes: OptionKind::Nothing(FlagAction::On(Switch::CollectOnly)),
     },
     Row {
         spelling: "--co",
-        takes: Takes::Nothing(FlagAction::On(Switch::CollectOnly)),
+        takes: OptionKind::Nothing(FlagAction::On(Switch::CollectOnly)),
     },
     Row {
         spelling: "--setup-show",
-        takes: Takes::Nothing(FlagAction::On(Switch::SetupShow)),
+        takes: OptionKind::Nothing(FlagAction::On(Switch::SetupShow)),
     },
     Row {
         spelling: "--step-limit",
-        takes: Takes::Value(Rule::Number(Counter::StepLimit, 1, 100_000_000)),
+        takes: OptionKind::Value(Rule::Number(Counter::StepLimit, 1, 100_000_000)),
     },
     Row {
         spelling: "--generated",
-        takes: Takes::Value(Rule::SeedAndFiles),
+        takes: OptionKind::Value(Rule::SeedAndFiles),
     },
     Row {
         spelling: "--help",
-        takes: Takes::Tells(Info::Help),
+        takes: OptionKind::Tells(Info::Help),
     },
     Row {
         spelling: "--version",
-        takes: Takes::Tells(Info::Version),
+        takes: OptionKind::Tells(Info::Version),
     },
 ];
 
-fn takes_among(rows: &[Row], spelling: &[u8]) -> Option<Takes>
+fn takes_among(rows: &[Row], spelling: &[u8]) -> Option<OptionKind>
     ensures { result ≡ takes_in spelling.now rows.now }
 {
     for row in rows {
@@ -154,7 +154,7 @@ fn takes_among(rows: &[Row], spelling: &[u8]) -> Option<Takes>
 
 /// What the option of this spelling takes, if there is one.
 #[tactic(auto, unfolding(crate::specs::Table::takes_named))]
-pub fn takes_of(spelling: &[u8]) -> Option<Takes>
+pub fn takes_of(spelling: &[u8]) -> Option<OptionKind>
     ensures { result ≡ takes_named spelling.now }
 {
     takes_among(&OPTIONS, spelling)

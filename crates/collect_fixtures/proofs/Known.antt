@@ -1,7 +1,7 @@
 -- What a closure has is of the table, and it is settled.
 use Rattle.std.proofs.Common.{◌≡◌, ◌⊎◌, inl, inr, ℕ, zero, suc, ◌<◌, Bool, true, false, cond, List, [], ◌∷◌, ◌++◌, length, Option, None, Some, nat_eq, refl, sym, subst}
 use Rattle.fixture_table.proofs.Nearest.{nearest_within}
-use Rattle.fixture_table.specs.Closing.{Grown, Done, More, asked, asked_all, asked_one, autouse_up, definition_if, entries_for, entry_for, entry_or, first_entries, has, with_one, with_unseen}
+use Rattle.fixture_table.specs.Closing.{Grown, Done, More, requested_by, asked_all, asked_one, autouse_up, definition_if, entries_for, entry_for, entry_or, first_entries, has, with_one, with_unseen}
 use Rattle.fixture_table.specs.Faults.{IsClosure, by_ranks, by_scope, definitions_of, of_rank}
 use Rattle.fixture_table.specs.Nearest.{def_at, nearest_of}
 use Rattle.fixture_table.specs.Tree.{iter_parents}
@@ -75,13 +75,13 @@ module _ (nodes : List CollectionNode) (defs : List FixtureDef) (item : ℕ) (bo
   low_all d [] = tt
   low_all d (name ∷ names) = low_append defs (asked_one nodes defs item bound d name) (asked_all nodes defs item bound d names) (low_one d name) (low_all d names)
 
-  low_asked : (e : Entry) → AllLow defs (asked nodes defs item bound e)
+  low_asked : (e : Entry) → AllLow defs (requested_by nodes defs item bound e)
   low_asked (Definition d) = low_all d (def_at defs d).args
   low_asked (Missing name) = tt
 
   low_grown : (es : List Entry) (p : ℕ) (end : List Entry) → Grown nodes defs item bound es p end → AllLow defs es → AllLow defs end
   low_grown _ _ _ (Done es p past) l = l
-  low_grown _ _ _ (More es p e end at g) l = low_grown (with_unseen (asked nodes defs item bound e) es) (suc p) end g (low_unseen defs (asked nodes defs item bound e) es (low_asked e) l)
+  low_grown _ _ _ (More es p e end at g) l = low_grown (with_unseen (requested_by nodes defs item bound e) es) (suc p) end g (low_unseen defs (requested_by nodes defs item bound e) es (low_asked e) l)
 
   -- the definitions of a closure are of the table
   pub closure_low : (uses args closure : List ℕ) → IsClosure nodes defs item bound uses args closure → (d : ℕ) → IsMember d closure → d < length defs

@@ -30,7 +30,7 @@ use Rattle.test_suite.specs.declared.item.Item.{Item}
 use Rattle.test_suite.specs.declared.suite.Suite.{Suite}
 use Rattle.collect_tree.specs.Collection as collection
 use Rattle.collect_tree.specs.Collection.{End, collect, conftest_files, item_numbered, item_or_none, of_loaded, of_words, read_path, selected_by, with_conftests}
-use Rattle.collect_tree.specs.Loads.{Loaded, test_loads}
+use Rattle.collect_tree.specs.Loads.{LoadResults, test_loads}
 use Rattle.collect_tree.specs.Walk.{walk_of}
 use Rattle.collect_tree.proofs.Made as made
 use Rattle.collect_tree.proofs.Made.{IsMade, fits_made, item_made}
@@ -111,8 +111,8 @@ module _ (options : Options) where
   built_or true text c f = tt
   built_or false text c f = f
 
-  ended : (above : List TestFile) (found : FoundSuite) (m : IsMade found) (places : List ℕ) (loaded : Loaded) (r : Result (List ℕ) WordFault) → OnceIn r
-      → FitsEnd (collection.ended_with options above found places loaded r)
+  ended : (above : List TestFile) (found : FoundSuite) (m : IsMade found) (places : List ℕ) (loaded : LoadResults) (r : Result (List ℕ) WordFault) → OnceIn r
+      → FitsEnd (collection.selected_or_refused options above found places loaded r)
   ended above found m places loaded (Err fault) o = tt
   ended above found m places loaded (Ok numbers) o =
       let ns = filter (λ number. is_chosen options loaded.world.heap (numbered_item found.suite.items number)) numbers in
@@ -120,7 +120,7 @@ module _ (options : Options) where
       built_or _ (codes "not built") (collection.collected_with options found places numbers loaded)
       (λ rules depth scopes. record { fits = fits rules found m depth scopes places ns; distinct = distinct found m places ns one })
 
-  loaded_fits : (walk : List (List ℕ)) (words : List NamedWord) (above : List TestFile) (loaded : Loaded) → FitsEnd (of_loaded options walk words above loaded)
+  loaded_fits : (walk : List (List ℕ)) (words : List NamedWord) (above : List TestFile) (loaded : LoadResults) → FitsEnd (of_loaded options walk words above loaded)
   loaded_fits walk words above loaded =
       ended above (found_suite loaded.world.heap walk above loaded.files) (made.made loaded.world.heap walk above loaded.files) (item_places loaded.world.heap walk loaded.files) loaded _
       (once_selected most_items walk (walked walk options.ignore) (nodes_by_place loaded.world.heap walk loaded.files) words)

@@ -23,7 +23,7 @@ use Rattle.fixture_table.specs.declared.types.CollectionNode.{CollectionNode}
 use Rattle.fixture_world.specs.Items.{closure_of, item_in_session}
 use Rattle.py_values.specs.declared.object.Obj.{Obj}
 use Rattle.fixture_world.specs.runtest_rules.Language.{python}
-use Rattle.session_rules.specs.Fits.{Directly, HasFixtureClosure, FitsClosure, Further, IsClosure, DependsOn}
+use Rattle.session_rules.specs.Fits.{Directly, HasFixtureClosure, FitsClosure, Further, IsValidClosure, DependsOn}
 use Rattle.session_rules.specs.World as session
 use Rattle.session_types.proofs.Lists.{In-among, among-In}
 use Rattle.session_types.specs.Numbers.{among}
@@ -145,7 +145,7 @@ module _ (rules : session.Rules python) (found : FoundSuite) (m : IsMade found) 
       (subst (λ (s : Scope). rank (def_at found.table.defs e).scope ≤ rank s) (scope_of d) l)
 
   whole_fits : (i : Item) (node : ℕ) (t : FoundTest) (ds : List ℕ) → i.node ≡ node → item_closure found.table m.names m.definitions node t ≡ closure.Whole ds
-      → IsClosure rules (item_in_session found.table i) ds
+      → IsValidClosure rules (item_in_session found.table i) ds
   unfolding requests_in
   whole_fits i node t ds n e =
       let at = subst (λ (k : ℕ). item_closure found.table m.names m.definitions k t ≡ closure.Whole ds) (sym n) e in

@@ -32,7 +32,7 @@ use Rattle.tracebacks.specs.source_meaning.Meaning.{SourceWorld}
 use Rattle.test_suite.specs.Suites.{no_item}
 use Rattle.test_suite.specs.declared.item.Item.{Item}
 use Rattle.test_suite.specs.declared.suite.Suite.{Suite}
-use Rattle.collect_tree.specs.Loads.{Loaded, load_told, test_loads}
+use Rattle.collect_tree.specs.Loads.{LoadResults, load_told, test_loads}
 use Rattle.collect_tree.specs.Walk.{walk_of}
 
 abbrev pub End : Type 0
@@ -76,7 +76,7 @@ named_paths walk words = paths_at walk (named_files words)
 
 module _ (options : Options) where
   -- of the items that the words name, those that `-k` and `-m` accept, in the order of the words
-  abbrev pub collected_with : FoundSuite → List ℕ → List ℕ → Loaded → Collected python Suite
+  abbrev pub collected_with : FoundSuite → List ℕ → List ℕ → LoadResults → Collected python Suite
   collected_with found places numbers loaded =
       let accepted = chosen options loaded.world.heap found.suite.items numbers in
       record {
@@ -88,9 +88,9 @@ module _ (options : Options) where
       }
 
   -- the items that the words name, or why they are refused
-  abbrev pub ended_with : List TestFile → FoundSuite → List ℕ → Loaded → Result (List ℕ) WordFault → End
-  ended_with above found places loaded (Err fault) = Refused (fault_text fault)
-  ended_with above found places loaded (Ok numbers) =
+  abbrev pub selected_or_refused : List TestFile → FoundSuite → List ℕ → LoadResults → Result (List ℕ) WordFault → End
+  selected_or_refused above found places loaded (Err fault) = Refused (fault_text fault)
+  selected_or_refused above found places loaded (Ok numbers) =
       if wants_more loaded.world.heap above loaded.files found.suite.items then Refused (codes "not built") else Whole (collected_with found places numbers loaded)
 
   -- the items that the words name, by number
@@ -98,9 +98,9 @@ module _ (options : Options) where
   nodes_selected walk nodes words = selected most_items walk (walked walk options.ignore) nodes words
 
   -- the items of the loaded files, selected by the words
-  abbrev pub of_loaded : List (List ℕ) → List NamedWord → List TestFile → Loaded → End
+  abbrev pub of_loaded : List (List ℕ) → List NamedWord → List TestFile → LoadResults → End
   of_loaded walk words above loaded =
-      ended_with above (found_suite loaded.world.heap walk above loaded.files) (item_places loaded.world.heap walk loaded.files) loaded
+      selected_or_refused above (found_suite loaded.world.heap walk above loaded.files) (item_places loaded.world.heap walk loaded.files) loaded
       (nodes_selected walk (nodes_by_place loaded.world.heap walk loaded.files) words)
 
   -- conftests, then test files

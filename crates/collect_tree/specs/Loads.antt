@@ -36,7 +36,7 @@ abbrev pub collect_error : ℕ → List ℕ → LoadError → List ℕ → Sourc
 collect_error limit path error printed w = record { file = path; told = load_told limit path error w; captured = utf8_lossy printed }
 
 -- test files behind their loads: with their modules, where they have them, the errors of the others, and the world
-pub record Loaded : Type 0 where
+pub record LoadResults : Type 0 where
   pub files : List TestFile
   pub errors : List CollectReport
   pub world : SourceWorld
@@ -45,15 +45,15 @@ abbrev pub test_file : ℕ → Option Value → TestFile
 test_file place v = record { place = place; object = v }
 
 -- one more, before the others
-abbrev pub loaded_before : List TestFile → List CollectReport → Loaded → Loaded
+abbrev pub loaded_before : List TestFile → List CollectReport → LoadResults → LoadResults
 loaded_before files errors rest = record { files = files ++ rest.files; errors = errors ++ rest.errors; world = rest.world }
 
-abbrev pub ended_before : ℕ → List ℕ → ℕ → FileEnd → SourceWorld → Loaded → Loaded
+abbrev pub ended_before : ℕ → List ℕ → ℕ → FileEnd → SourceWorld → LoadResults → LoadResults
 ended_before limit path place (Ok v, printed) w rest = loaded_before (test_file place (Some v) ∷ []) [] rest
 ended_before limit path place (Err error, printed) w rest = loaded_before (test_file place None ∷ []) (collect_error limit path error printed w ∷ []) rest
 
 -- TEST FILES ARE LOADED IN TURN, by their places in the walk
-abbrev pub test_loads : ℕ → List (List ℕ) → List ℕ → SourceWorld → Loaded
+abbrev pub test_loads : ℕ → List (List ℕ) → List ℕ → SourceWorld → LoadResults
 test_loads limit walk [] w = record { files = []; errors = []; world = w }
 test_loads limit walk (place ∷ places) w =
     let path = path_at walk place in

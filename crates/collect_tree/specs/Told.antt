@@ -9,7 +9,7 @@ use Rattle.fixture_world.specs.runtest_rules.Language.{python}
 use Rattle.tracebacks.specs.source_meaning.Meaning.{SourceWorld}
 use Rattle.test_suite.specs.declared.suite.Suite.{Suite}
 use Rattle.collect_tree.specs.Collection.{End, selected_by}
-use Rattle.collect_tree.specs.Loads.{Loaded, loaded_before}
+use Rattle.collect_tree.specs.Loads.{LoadResults, loaded_before}
 use Rattle.collect_tree.specs.Runnable.{IsRunnable}
 use Rattle.collect_tree.specs.declared.collected.Collected.{Collected}
 use Rattle.collect_tree.specs.declared.fault.CollectFault.{CollectFault}
@@ -17,7 +17,7 @@ use Rattle.collect_tree.specs.declared.fault.CollectFault.TheVariants.{NotBuilt,
 use Rattle.collect_tree.specs.declared.loads.LoadedTests.{LoadedTests}
 
 -- loaded test files, in the world behind the loads
-abbrev pub loaded_told : LoadedTests → SourceWorld → Loaded
+abbrev pub loaded_told : LoadedTests → SourceWorld → LoadResults
 loaded_told loaded w = record { files = loaded.files.items; errors = loaded.errors.items; world = w }
 
 abbrev pub collected_told : Collected → SourceWorld → Collection python Suite
@@ -52,12 +52,12 @@ pub record IsWithin (c : Collected) : Type 0 where
   pub suite : IsRunnable c.found
 
 -- loads behind those that are done
-abbrev pub after_loads : LoadedTests → Loaded → Loaded
+abbrev pub after_loads : LoadedTests → LoadResults → LoadResults
 after_loads done rest = loaded_before done.files.items done.errors.items rest
 
 -- one more load is done
-abbrev pub LoadsOne : LoadedTests → LoadedTests → (Loaded → Loaded) → Type 0
-LoadsOne old new one = (rest : Loaded) → after_loads old (one rest) ≡ after_loads new rest
+abbrev pub LoadsOne : LoadedTests → LoadedTests → (LoadResults → LoadResults) → Type 0
+LoadsOne old new one = (rest : LoadResults) → after_loads old (one rest) ≡ after_loads new rest
 
 -- a refusal of words that is meant, or want of memory
 abbrev pub IsWordRefusal : Result (List ℕ) WordFault → CollectFault → Type 0

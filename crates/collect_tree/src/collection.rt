@@ -110,7 +110,7 @@ fn ended(
     requires exprs { AreExprs options.now exprs.now }
     requires few { length numbers.now ≤ most_items }
     requires runnable { IsRunnable found }
-    ensures told { IfSome (collection_end result world.now) (λ e. e ≡ collection.ended_with options.now above.now found places.items (loaded_told loaded world.now) (Meant numbers.now)) }
+    ensures told { IfSome (collection_end result world.now) (λ e. e ≡ collection.selected_or_refused options.now above.now found places.items (loaded_told loaded world.now) (Meant numbers.now)) }
     ensures within { IfOk result IsWithin }
 {
     let items = found.suite.items.items();

@@ -32,7 +32,7 @@ use Rattle.core_meaning.specs.Expressions.{CorePart, eval, parts_of}
 use Rattle.core_meaning.specs.Requests.{core_kinds, Layer, Statements, Guard, Receives, CoreTurn, StatementOf, TurnOf, ForOf}
 use Rattle.py_world.specs.Site.{site}
 use Rattle.py_world.specs.Outcome.{Body, After, Next, on_next}
-use Rattle.py_world.specs.Statements.{IfClause, asked, expression_statement, return_value, yield_value, received, no_use, return_sent, pass, leave_loop, next_turn, fail, fail_explained, choose, loop, turn_of}
+use Rattle.py_world.specs.Statements.{IfClause, asked, expression_statement, return_value, yield_value, received, no_use, return_sent, pass_statement, leave_loop, next_turn, fail, fail_explained, choose, loop, while_turn}
 use Rattle.py_world.specs.Definitions.{Written, define, class_statement}
 use Rattle.py_world.specs.Names.{delete_name}
 use Rattle.py_world.specs.Targets.{Store, store_name, store_attribute, store_item, store_all, unpack, assign, augment_name, augment_attribute, augment_item, delete_attribute, delete_item}
@@ -181,33 +181,33 @@ abbrev pub try_at : List Layer → CoreBlock → CoreGuard → CorePart
 try_at ls body g p s k = try_statement (core_block_body (Guard g p.line ∷ ls) body) (handlings ls (handlers_in g)) (core_block_body ls (other_in g)) (core_block_body ls (last_in g)) p s k
 
 -- WHAT A STATEMENT DOES, its step being taken
-abbrev pub statement_at : List Layer → CoreStmtKind → CorePart
-statement_at ls (v.Expr e) = expression_statement (eval e.value)
-statement_at ls (v.Assign ts e) = assign (stores ts.value.items) (eval e.value)
-statement_at ls (v.AugAssign t op e) = augment_at t.kind op (eval e.value)
-statement_at ls (v.Return e) = return_value (some_part e)
-statement_at ls (v.FailWith template message) = failure template message
-statement_at ls (v.Global names) = pass
-statement_at ls (v.Yield e u) = yield_value (some_part e) (Receives u.value ∷ ls)
-statement_at ls v.Pass = pass
-statement_at ls v.Break = leave_loop
-statement_at ls v.Continue = next_turn
-statement_at ls (f.If' p n branches q other) = choose (choices ls (items-the_row-CoreBranch _ branches)) (core_block_body ls other)
-statement_at ls (f.While' e p body) = loop (TurnOf e.value body) (eval e.value)
-statement_at ls (f.Def' ds es p fn) = define_fn (parts_of ds.value.items) (parts_of es.value.items) fn
-statement_at ls (v.Raise e) = raise_value entry (some_part e)
-statement_at ls (v.Del t) = delete_at t.kind
-statement_at ls (f.For' t e p body) = for_statement (ForOf t.value body) (eval e.value)
-statement_at ls (f.Try' p body q g) = try_at ls body g
-statement_at ls (f.With' e name p body) = with_statement (eval e.value) name (core_block_body [] body)
-statement_at ls (f.Class' ds base p c) = define_class (parts_of ds.value.items) (some_part base) c
-statement_at ls (v.Import names alias) = import_statement core_body names.value.items alias
-statement_at ls (v.ImportFrom names all) = import_from core_body names.value.items all.value.items
+abbrev pub core_statement_at : List Layer → CoreStmtKind → CorePart
+core_statement_at ls (v.Expr e) = expression_statement (eval e.value)
+core_statement_at ls (v.Assign ts e) = assign (stores ts.value.items) (eval e.value)
+core_statement_at ls (v.AugAssign t op e) = augment_at t.kind op (eval e.value)
+core_statement_at ls (v.Return e) = return_value (some_part e)
+core_statement_at ls (v.FailWith template message) = failure template message
+core_statement_at ls (v.Global names) = pass_statement
+core_statement_at ls (v.Yield e u) = yield_value (some_part e) (Receives u.value ∷ ls)
+core_statement_at ls v.Pass = pass_statement
+core_statement_at ls v.Break = leave_loop
+core_statement_at ls v.Continue = next_turn
+core_statement_at ls (f.If' p n branches q other) = choose (choices ls (items-the_row-CoreBranch _ branches)) (core_block_body ls other)
+core_statement_at ls (f.While' e p body) = loop (TurnOf e.value body) (eval e.value)
+core_statement_at ls (f.Def' ds es p fn) = define_fn (parts_of ds.value.items) (parts_of es.value.items) fn
+core_statement_at ls (v.Raise e) = raise_value entry (some_part e)
+core_statement_at ls (v.Del t) = delete_at t.kind
+core_statement_at ls (f.For' t e p body) = for_statement (ForOf t.value body) (eval e.value)
+core_statement_at ls (f.Try' p body q g) = try_at ls body g
+core_statement_at ls (f.With' e name p body) = with_statement (eval e.value) name (core_block_body [] body)
+core_statement_at ls (f.Class' ds base p c) = define_class (parts_of ds.value.items) (some_part base) c
+core_statement_at ls (v.Import names alias) = import_statement core_body names.value.items alias
+core_statement_at ls (v.ImportFrom names all) = import_from core_body names.value.items all.value.items
 
 abbrev pub core_statement : List Layer → CoreStmt → CorePart
-core_statement ls st = statement_at ls st.kind
+core_statement ls st = core_statement_at ls st.kind
 
 abbrev pub act : CoreTurn → CorePart
 act (StatementOf ls st) = core_statement ls st
-act (TurnOf e body) = turn_of (TurnOf e body) (eval e) (core_block_body [] body)
+act (TurnOf e body) = while_turn (TurnOf e body) (eval e) (core_block_body [] body)
 act (ForOf t body at) = for_turn (ForOf t body) (store t) (core_block_body [] body) at

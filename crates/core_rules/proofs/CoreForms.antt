@@ -36,7 +36,7 @@ use Rattle.py_tree.specs.Trees as Rattle_tree
 use Rattle.core_meaning.specs.Requests.{core_kinds, Layer, Statements, Guard, Receives, CoreTurn, StatementOf, TurnOf, ForOf}
 use Rattle.core_meaning.specs.Meaning.{core}
 use Rattle.core_meaning.specs.Expressions.{CorePart, eval_at, eval, parts, parts_of, held}
-use Rattle.core_meaning.specs.Statements.{remains, store_at, store_singles, store, stores, use_of, augment_at, delete_at, some_part, failure, begun_at, block_from, core_block_body, handlings, guard, choices, core_body, written, define_fn, define_class, try_at, statement_at, core_statement, act, entry}
+use Rattle.core_meaning.specs.Statements.{remains, store_at, store_singles, store, stores, use_of, augment_at, delete_at, some_part, failure, begun_at, block_from, core_block_body, handlings, guard, choices, core_body, written, define_fn, define_class, try_at, core_statement_at, core_statement, act, entry}
 use Rattle.source_meaning.specs.py_world.World.{CallState}
 use Rattle.source_meaning.specs.py_world.Site.{Around, Scene, Site, site}
 use Rattle.source_meaning.specs.py_world.Arguments.{Arguments, arguments_of}
@@ -185,7 +185,7 @@ define_linear ds es (fn.CoreFn' source at name params locals yields p body) = mo
 class_linear : (ds : List (Rc CoreExpr Global)) (base : Option (Rc CoreExpr Global)) (x : class.CoreClass) → Linear (define_class (parts_of ds) (some_part base) x)
 class_linear ds base (class.CoreClass' at name p body) = more.class_linear (each_linear ds) (some_linear base) name at.line (block_linear [] body)
 
-statement_linear : (ls : List Layer) (kind : CoreStmtKind) → Linear (statement_at ls kind)
+statement_linear : (ls : List Layer) (kind : CoreStmtKind) → Linear (core_statement_at ls kind)
 statement_linear ls (k.Expr e) = line.expression_linear (eval_linear e.value.at e.value.kind)
 statement_linear ls (k.Assign ts e) = flow.assign_linear (stores_linear ts.value.items) (eval_linear e.value.at e.value.kind)
 statement_linear ls (k.AugAssign t op e) = augment_linear t.kind op (eval_linear e.value.at e.value.kind)

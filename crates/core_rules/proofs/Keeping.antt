@@ -38,17 +38,17 @@ use Rattle.source_meaning.specs.py_kinds.Truth.{truth}
 use Rattle.source_meaning.specs.py_ops.Binary.{binary_of}
 use Rattle.source_meaning.specs.py_ops.Unary.{unary_of}
 use Rattle.source_meaning.specs.py_ops.Compare.{compare_of}
-use Rattle.source_meaning.specs.py_calls.Called.{Called}
+use Rattle.source_meaning.specs.py_calls.Called.{CallEffect}
 use Rattle.source_meaning.specs.py_calls.Calls.{called_of}
 use Rattle.source_meaning.specs.py_world.declared.trace.TraceFrame.{TraceFrame}
 use Rattle.source_meaning.specs.py_world.declared.load.Load.{Load}
 use Rattle.source_meaning.specs.py_world.Arguments.{Arguments, with_plain}
-use Rattle.source_meaning.specs.py_world.World.{Kinds, World, CallState, Locals, Stored, heap_of, unset, with_heap, with_object, with_objects, world_with_heap, world_with_printed, world_with_code, world_with_modules, world_with_traces, put_trace}
+use Rattle.source_meaning.specs.py_world.World.{Kinds, World, CallState, Locals, FunctionCode, heap_of, unset, with_heap, with_object, with_objects, world_with_heap, world_with_printed, world_with_code, world_with_modules, world_with_traces, put_trace}
 use Rattle.source_meaning.specs.py_world.Site.{Around, around_of, Own, InModule, InFunction, InClass, Scene, Site, site, trace_of}
-use Rattle.source_meaning.specs.py_world.Outcome.{Outcome, Gave, Next, Returned, Broke, Continued, Raised, Spent, Paused, Rest, Continuation, Denotation, After, Body, Request, CallOf, DoOf, Ways, route, onward, gave_in, raised, made, product_end, call_end, on_value, on_next, on_turn, if_true, costing, operated}
+use Rattle.source_meaning.specs.py_world.Outcome.{Outcome, Gave, Next, Returned, Broke, Continued, Raised, Exhaustion, Suspension, Rest, Continuation, Denotation, After, Body, Request, CallOf, DoOf, Ways, route, onward, gave_in, raised, made, product_end, call_end, on_value, on_next, on_turn, if_true, costing, operated}
 use Rattle.source_meaning.specs.py_world.Names.{with_bound_name, name_end, value_of_name, bound, bound_by, bound_global}
 use Rattle.source_meaning.specs.py_world.Expressions.{noted, constant, name_part, text_part, unary_part, binary_part, compared, compare_on, compare_part, not_part, and_on, and_part, or_on, or_part, choice_part, called, call_on, call_part, kept_part}
-use Rattle.source_meaning.specs.py_world.Statements.{IfClause, asked, expression_statement, return_value, yield_value, pass, leave_loop, next_turn, assertion, fail, failed_with, fail_explained, branches_on, choose, loop, turn_of}
+use Rattle.source_meaning.specs.py_world.Statements.{IfClause, asked, expression_statement, return_value, yield_value, pass_statement, leave_loop, next_turn, assertion, fail, failed_with, fail_explained, branches_on, choose, loop, while_turn}
 use Rattle.source_meaning.specs.py_world.ModuleNames.{module_name, module_object}
 use Rattle.source_meaning.specs.py_world.Runs.{load_at, with_load, naming_heap, module_place, with_module, module_end, module_scene, start, executed, first_load}
 use Rattle.source_meaning.specs.py_world.Attributes.{with_attribute}
@@ -60,7 +60,7 @@ pub record Closed {K : Kinds} (Good : World K → Type 0) (Fresh : List ℕ → 
   pub object : (w : World K) (o : Obj) → Good w → Good (world_with_heap (w.heap ++ o ∷ []) w)
   pub change : (w : World K) (f : Obj → Obj) (at : ℕ) → Good w → Good (world_with_heap (changed f at w.heap (slice_get w.heap at)) w)
   pub print : (w : World K) (bytes : List ℕ) → Good w → Good (world_with_printed (w.printed ++ bytes) w)
-  pub code : (w : World K) (c : Stored K.code) → Good w → Good (world_with_code c w)
+  pub code : (w : World K) (c : FunctionCode K.code) → Good w → Good (world_with_code c w)
   pub trace : (w : World K) (at : ℕ) (t : List TraceFrame) → Good w → Good (world_with_traces (put_trace at t w.traces) w)
   pub fresh : (w : World K) (path : List ℕ) → load_at path w.modules ≡ None → Good w → Fresh path
   pub load : (w : World K) (path : List ℕ) (l : Load) → Fresh path → Good w → Good (world_with_modules (with_load path l w.modules) w)
@@ -85,7 +85,7 @@ module _ {K : Kinds} (Good : World K → Type 0) (Fresh : List ℕ → Type 0) (
   abbrev pub GoodState : CallState K → Type 0
   GoodState s = Good s.world
 
-  abbrev pub GoodSpent : Spent K → Type 0
+  abbrev pub GoodSpent : Exhaustion K → Type 0
   GoodSpent x = Good x.state.world
 
   abbrev pub GoodRequest : Request K → Type 0
@@ -94,7 +94,7 @@ module _ {K : Kinds} (Good : World K → Type 0) (Fresh : List ℕ → Type 0) (
   abbrev pub GoodEnd : Outcome K → Type 0
   GoodEnd o = Good (state_in o).world
 
-  abbrev pub GoodPaused : Paused K → Type 0
+  abbrev pub GoodPaused : Suspension K → Type 0
   GoodPaused f = Good f.state.world
 
   abbrev pub Kept : Rest K → Type 0
@@ -160,7 +160,7 @@ module _ {K : Kinds} (Good : World K → Type 0) (Fresh : List ℕ → Type 0) (
   cond_kept true x y h g = h
   cond_kept false x y h g = g
 
-  spend_kept : (n : ℕ) (x : Spent K) (t : Rest K) → GoodSpent x → Kept t → Kept (spend_all n x t)
+  spend_kept : (n : ℕ) (x : Exhaustion K) (t : Rest K) → GoodSpent x → Kept t → Kept (spend_all n x t)
   spend_kept zero x t g h = h
   spend_kept (suc n) x t g h = (g, spend_kept n x t g h)
 
@@ -304,7 +304,7 @@ module _ {K : Kinds} (Good : World K → Type 0) (Fresh : List ℕ → Type 0) (
   yield_kept none rest = record { does = λ p s g k h. g }
   yield_kept (some e) rest = record { does = λ p s g k h. e.does p s g _ (value_kept k h _ (λ v s g. g)) }
 
-  pub pass_kept : PartKept pass
+  pub pass_kept : PartKept pass_statement
   pass_kept = record { does = λ p s g k h. h _ g }
 
   pub leave_kept : PartKept leave_loop
@@ -338,7 +338,7 @@ module _ {K : Kinds} (Good : World K → Type 0) (Fresh : List ℕ → Type 0) (
   pub loop_kept : (turn : K.turn) {e : Denotation K} → PartKept e → PartKept (loop turn e)
   loop_kept turn e = record { does = λ p s g k h. e.does p s g _ (value_kept k h _ (λ v s g. if_kept (truth (heap_of s) v) _ _ (g, g, h) (h _ g))) }
 
-  pub turn_of_kept : (turn : K.turn) {e : Denotation K} {b : Body K} → PartKept e → BodyKept b → PartKept (turn_of turn e b)
+  pub turn_of_kept : (turn : K.turn) {e : Denotation K} {b : Body K} → PartKept e → BodyKept b → PartKept (while_turn turn e b)
   turn_of_kept turn e b = record { does = λ p s g k h. b.does p.scene s g _ (turn_kept k h _ (λ s g. (loop_kept turn e).does p s g k h)) }
 
   -- a meaning whose parts keep what is good
@@ -350,11 +350,11 @@ module _ {K : Kinds} (Good : World K → Type 0) (Fresh : List ℕ → Type 0) (
 
   -- calls of functions whose bodies keep what is good
   module _ (entry : K.code → Entry K) (bodies : (c : K.code) → BodyKept (entry c).body) where
-    pub entered_kept : (st : Stored K.code) (names : Result Locals Raise) (a : Around) (s : CallState K) → GoodState s → (k : Continuation K) → Behind k → Kept (entered entry st names a s k)
+    pub entered_kept : (st : FunctionCode K.code) (names : Result Locals Raise) (a : Around) (s : CallState K) → GoodState s → (k : Continuation K) → Behind k → Kept (entered entry st names a s k)
     entered_kept st (Ok names) a s g k h = cond_kept (nat_lt a.depth most_open) _ _ ((bodies st.code).does _ _ g k h) (h _ (raised_kept too_deep a.trace s g))
     entered_kept st (Err r) a s g k h = h _ (raised_kept r a.trace s g)
 
-    function_kept : (c : Option (Stored K.code)) (f : FunctionObj) (r : Raise) (args : Arguments) (a : Around) (s : CallState K) → GoodState s → (k : Continuation K) → Behind k → Kept (function_called entry c f r args a s k)
+    function_kept : (c : Option (FunctionCode K.code)) (f : FunctionObj) (r : Raise) (args : Arguments) (a : Around) (s : CallState K) → GoodState s → (k : Continuation K) → Behind k → Kept (function_called entry c f r args a s k)
     function_kept None f r args a s g k h = h _ (raised_kept r a.trace s g)
     function_kept (Some st) f r args a s g k h = entered_kept st (arguments_for f args) a s g k h
 
@@ -362,7 +362,7 @@ module _ {K : Kinds} (Good : World K → Type 0) (Fresh : List ℕ → Type 0) (
     with_kept None v r args a s g k h = h _ (raised_kept r a.trace s g)
     with_kept (Some f) v r args a s g k h = function_kept (slice_get s.world.codes f.code) f r (with_plain v args) a s g k h
 
-    builtin_kept : (c : Called) (a : Around) (s : CallState K) → GoodState s → (k : Continuation K) → Behind k → Kept (builtin_called entry c a s k)
+    builtin_kept : (c : CallEffect) (a : Around) (s : CallState K) → GoodState s → (k : Continuation K) → Behind k → Kept (builtin_called entry c a s k)
     builtin_kept c a s g k h = spend_kept (cost_of c.product.made) _ _ g (h _ (product_kept c.product a.trace _ (closed.print s.world c.printed g)))
 
     mark_kept : (called : Bool) (x : Product) (r : Raise) (a : Around) (s : CallState K) → GoodState s → (k : Continuation K) → Behind k → Kept (mark_or entry called x r a s k)

@@ -22,7 +22,7 @@ use Rattle.source_meaning.specs.py_world.Exceptions.{no_exception, raisable}
 use Rattle.source_meaning.specs.py_world.Outcome.{Outcome, Rest, Continuation, Denotation, Body, on_value, raised_at, call_end}
 use Rattle.source_meaning.specs.py_world.Calls.{Entry}
 use Rattle.source_meaning.specs.py_world.Raising.{raise_init, raise_it, raise_on, raise_value}
-use Rattle.source_meaning.specs.py_world.Definitions.{Written, Decoration, Replaced, Marked, Same, Refused, with_defaults, with_added_mark, marked_at, bad_decorator, stored_code, source_class, with_function, decoration, decorated_by, decorated, define_as, function_made, define_behind, define, based_on, class_base, class_scene, class_made, class_behind, class_statement}
+use Rattle.source_meaning.specs.py_world.Definitions.{Written, Decoration, Replaced, Marked, Same, Refused, with_defaults, with_added_mark, marked_at, bad_decorator, stored_code, source_class, with_function, decoration, decorated_by, decorated, define_as, function_made, define_behind, define, based_on, class_base, class_scene, class_made, class_behind_decorators, class_statement}
 use Rattle.source_meaning.specs.py_world.Imports.{source_paths, import_path, prefixes_behind, is_pytest, pytest_or, submodule, alias_name, import_name, name_of_module, no_module, not_imported, source_error, fault_in, faulty_by, faulty, import_end, submodule_or, module_at, modules_at, imported, import_statement, own_or_submodule, import_each, import_from}
 use Rattle.source_meaning.specs.py_world.Runs.{load_at, coded, source_at, load_by, load_part}
 use Rattle.core_rules.proofs.Keeping as keep
@@ -110,13 +110,13 @@ module _ {K : Kinds} (Good : World K → Type 0) (Fresh : List ℕ → Type 0) (
             (λ o d. value_kept k h (λ w r. define_as ds name (val.Ref (id_at (length (heap_of s)))) p r k) (λ w r g. (define_as_kept ds name (val.Ref (id_at (length (heap_of s))))).does p r g k h) (call_end s o) (keep.call_end_kept Good Fresh closed s o d));
       }
 
-  class_behind_kept : {base : Option (Denotation K)} → SomeKept base → (name : List ℕ) (line : ℕ) {b : Body K} → BodyKept b → (ds : List Value) → PartKept (class_behind base name line b ds)
+  class_behind_kept : {base : Option (Denotation K)} → SomeKept base → (name : List ℕ) (line : ℕ) {b : Body K} → BodyKept b → (ds : List Value) → PartKept (class_behind_decorators base name line b ds)
   class_behind_kept base name line {b = body} b ds =
       record { does = λ p s g k h. base_kept base p s g k h (λ c s. class_made name line body ds c p s k) (λ c s g. (class_made_kept name line b ds c).does p s g k h) }
 
   pub class_kept : {ds : List (Denotation K)} {base : Option (Denotation K)} → PartsKept ds → SomeKept base → (name : List ℕ) (line : ℕ) {b : Body K} → BodyKept b → PartKept (class_statement ds base name line b)
   class_kept {base = from} ds base name line {b = body} b =
-      record { does = λ p s g k h. flow.arguments_kept Good Fresh closed ds [] p s g k h (λ vs s. class_behind from name line body vs p s k) (λ vs s g. (class_behind_kept base name line b vs).does p s g k h) }
+      record { does = λ p s g k h. flow.arguments_kept Good Fresh closed ds [] p s g k h (λ vs s. class_behind_decorators from name line body vs p s k) (λ vs s g. (class_behind_kept base name line b vs).does p s g k h) }
 
   -- the `raise` of an exception that a call makes
   module _ (entry : K.code → Entry K) (bodies : (c : K.code) → BodyKept (entry c).body) where

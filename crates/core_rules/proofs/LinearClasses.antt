@@ -17,7 +17,7 @@ use Rattle.source_meaning.specs.py_kinds.Classes.{is_exc_class}
 use Rattle.source_meaning.specs.py_world.Outcome.{Rest, Continuation, Denotation, Body, call_end}
 use Rattle.source_meaning.specs.py_world.Calls.{Entry}
 use Rattle.source_meaning.specs.py_world.Raising.{raise_init, raise_on, raise_value}
-use Rattle.source_meaning.specs.py_world.Definitions.{Written, with_defaults, decoration, decorated_by, decorated, define_as, function_made, define_behind, define, based_on, class_base, class_made, class_behind, class_statement}
+use Rattle.source_meaning.specs.py_world.Definitions.{Written, with_defaults, decoration, decorated_by, decorated, define_as, function_made, define_behind, define, based_on, class_base, class_made, class_behind_decorators, class_statement}
 use Rattle.source_meaning.specs.py_world.Imports.{source_paths, import_path, prefixes_behind, is_pytest, pytest_or, submodule, alias_name, name_of_module, faulty, module_at, modules_at, imported, import_statement, submodule_or, own_or_submodule, import_each, import_from}
 use Rattle.core_rules.proofs.Linear as line
 use Rattle.core_rules.proofs.Linear.{Behind, Linear, LinearBody, LinearAll, LinearSome}
@@ -57,13 +57,13 @@ module _ {K : Kinds} where
   class_made_linear name line_at b ds base =
       record { does = λ p s k l. line.body_then b _ _ _ _ l (λ o. line.value_bind k l _ _ (λ w r. (define_as_linear ds name (val.Ref (id_at (length (heap_of s))))).does p r k l) (call_end s o)) }
 
-  class_behind_linear : {base : Option (Denotation K)} → LinearSome base → (name : List ℕ) (line_at : ℕ) {b : Body K} → LinearBody b → (ds : List Value) → Linear (class_behind base name line_at b ds)
+  class_behind_linear : {base : Option (Denotation K)} → LinearSome base → (name : List ℕ) (line_at : ℕ) {b : Body K} → LinearBody b → (ds : List Value) → Linear (class_behind_decorators base name line_at b ds)
   class_behind_linear base name line_at {b = body} b ds =
       record { does = λ p s k l. base_bind base p s k l (λ c s. class_made name line_at body ds c p s k) (λ c s. class_made name line_at body ds c p s (Behind l k)) (λ c s. (class_made_linear name line_at b ds c).does p s k l) }
 
   pub class_linear : {ds : List (Denotation K)} {base : Option (Denotation K)} → LinearAll ds → LinearSome base → (name : List ℕ) (line_at : ℕ) {b : Body K} → LinearBody b → Linear (class_statement ds base name line_at b)
   class_linear {base = from} ds base name line_at {b = body} b =
-      record { does = λ p s k l. flow.arguments_bind ds [] p s k l (λ vs s. class_behind from name line_at body vs p s k) (λ vs s. class_behind from name line_at body vs p s (Behind l k)) (λ vs s. (class_behind_linear base name line_at b vs).does p s k l) }
+      record { does = λ p s k l. flow.arguments_bind ds [] p s k l (λ vs s. class_behind_decorators from name line_at body vs p s k) (λ vs s. class_behind_decorators from name line_at body vs p s (Behind l k)) (λ vs s. (class_behind_linear base name line_at b vs).does p s k l) }
 
 -- the `raise` of an exception that a call makes
 module _ {K : Kinds} (entry : K.code → Entry K) (bodies : (c : K.code) → LinearBody (entry c).body) where

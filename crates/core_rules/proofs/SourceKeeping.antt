@@ -10,7 +10,7 @@ use Rattle.source_meaning.specs.py_kinds.Truth.{truth}
 use Rattle.source_meaning.specs.Requests.{source_kinds, Use, NoUse, Targets, ReturnIt, SourceLayer, Statements, Guard, Receives, SourceTurn, StatementOf, TurnOf, ForOf, Function, Script}
 use Rattle.source_meaning.specs.Meaning.{source_semantics}
 use Rattle.source_meaning.specs.Watched.{watch, watch_all}
-use Rattle.source_meaning.specs.Expressions.{SourcePart, eval, parts, some_part}
+use Rattle.source_meaning.specs.Expressions.{SourcePart, source_eval, source_parts, some_source_part}
 use Rattle.source_meaning.specs.Statements.{SourceBody, SourceChoice, SourceHandling, position, store_place, store_places, source_store, source_stores, source_use, augment, delete, source_assert, assert_as, source_handlings, source_guard, source_remains, statements_listed, source_sequence, source_choices, script_body, source_written, with_part, default_parts, source_try, source_statement, source_act, source_entry}
 use Rattle.source_meaning.specs.py_world.World.{World, heap_of, unset}
 use Rattle.source_meaning.specs.py_world.Site.{site}
@@ -39,7 +39,7 @@ module _ (Good : World source_kinds → Type 0) (Fresh : List ℕ → Type 0) (c
   all_more (keep.cons x xs) e = keep.cons x (all_more xs e)
 
   mutual
-    eval_kept : (e : Tree) → PartKept (eval e)
+    eval_kept : (e : Tree) → PartKept (source_eval e)
     eval_kept (t.Name at name) = keep.noted_kept Good Fresh closed at (keep.name_kept Good Fresh closed name)
     eval_kept (t.Number at n) = keep.noted_kept Good Fresh closed at (keep.constant_kept Good Fresh closed (val.Int n))
     eval_kept (t.Text at text) = keep.noted_kept Good Fresh closed at (keep.text_kept Good Fresh closed text)
@@ -62,11 +62,11 @@ module _ (Good : World source_kinds → Type 0) (Fresh : List ℕ → Type 0) (c
     eval_kept (t.Subscript at e i) = keep.noted_kept Good Fresh closed at (flow.subscript_kept Good Fresh closed (eval_kept e) (eval_kept i))
     eval_kept (t.Slice at e from to by) = keep.noted_kept Good Fresh closed at (flow.slice_kept Good Fresh closed (eval_kept e) (some_kept from) (some_kept to) (some_kept by))
 
-    parts_kept : (es : Trees) → PartsKept (parts es)
+    parts_kept : (es : Trees) → PartsKept (source_parts es)
     parts_kept Empty = keep.nil
     parts_kept (More es e) = all_more (parts_kept es) (eval_kept e)
 
-    some_kept : (m : Maybe) → keep.SomeKept Good Fresh closed (some_part m)
+    some_kept : (m : Maybe) → keep.SomeKept Good Fresh closed (some_source_part m)
     some_kept Absent = keep.none
     some_kept (Present e) = keep.some (eval_kept e)
 

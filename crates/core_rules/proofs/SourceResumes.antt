@@ -10,12 +10,12 @@ use Rattle.py_values.specs.declared.object.FunctionObj.{FunctionObj}
 use Rattle.py_values.specs.declared.value.Value.{Value}
 use Rattle.py_values.specs.declared.value.Value.TheVariants as val
 use Rattle.source_meaning.specs.py_world.declared.trace.TraceFrame.{TraceFrame}
-use Rattle.source_meaning.specs.py_world.World.{Locals, Stored, Frozen, state, world_with_frozen}
+use Rattle.source_meaning.specs.py_world.World.{Locals, FunctionCode, Frozen, state, world_with_frozen}
 use Rattle.source_meaning.specs.py_world.Site.{no_call, frame}
-use Rattle.source_meaning.specs.py_world.Outcome.{Outcome, Spent, Paused, Rest, call_end}
+use Rattle.source_meaning.specs.py_world.Outcome.{Outcome, Exhaustion, Suspension, Rest, call_end}
 use Rattle.source_meaning.specs.py_world.Calls.{body_of}
 use Rattle.source_meaning.specs.py_world.Runs.{Told, told_by, ended_by, ended_spent, start, function_and, begun_by_runner}
-use Rattle.source_meaning.specs.py_world.Resuming.{Sent, SentValue, SentThrow, ToldBegun, frame_at, frozen_at, frozen_of, abandon_of, begun_over, begun_yielded, begun_by, sent_end, begin_arguments, begun_of, body_begun, function_opened, object_opened, opened_by_runner, resumed, resumed_by}
+use Rattle.source_meaning.specs.py_world.Resuming.{Sent, SentValue, SentThrow, ToldBegun, frame_at, frozen_at, frozen_body, abandon_of, begun_over, begun_yielded, begun_by, sent_end, begin_arguments, begun_of, body_begun, function_opened, object_opened, opened_by_runner, resumed, resumed_by}
 use Rattle.source_meaning.specs.Requests.{source_kinds, SourceLayer, Function}
 use Rattle.source_meaning.specs.Statements.{source_entry}
 use Rattle.source_meaning.specs.Meaning.{SourceWorld, source_semantics, source_begin, source_resume}
@@ -35,7 +35,7 @@ module _ (w : SourceWorld) where
   abbrev Kept : Rest source_kinds → Type 0
   Kept = keep.Kept (IsRunFrom w) (Fresh w) (run_from w)
 
-  spent_told : (budget : ℕ) (x : Spent source_kinds) → IsRunFrom w x.state.world → IsKeptIn w (told_by budget (tree.Spent x)).1
+  spent_told : (budget : ℕ) (x : Exhaustion source_kinds) → IsRunFrom w x.state.world → IsKeptIn w (told_by budget (tree.Spent x)).1
   spent_told budget x g = spent_kept_in budget x.trace w x.state.world (run_kept_in w x.state.world g)
 
   ended_told : (o : Outcome source_kinds) (steps : ℕ) → keep.GoodEnd (IsRunFrom w) (Fresh w) (run_from w) o → IsKeptIn w (ended_by o steps).1
@@ -44,12 +44,12 @@ module _ (w : SourceWorld) where
   over_behind : (t : Told source_kinds) → IsKeptIn w t.1 → IsKeptBehind w w.frozen (begun_over t)
   over_behind t h = record { kept = refrozen w t.1 h; frames = h.frozen }
 
-  yielded_behind : (f : Paused source_kinds) (steps : ℕ) → IsRunFrom w f.state.world → IsKeptBehind w w.frozen (begun_yielded f steps)
+  yielded_behind : (f : Suspension source_kinds) (steps : ℕ) → IsRunFrom w f.state.world → IsKeptBehind w w.frozen (begun_yielded f steps)
   yielded_behind f steps g =
       let h : IsKeptIn w f.state.world = run_kept_in w f.state.world g in
       record {
         kept = record { sources = h.sources; frozen = refl; objects = h.objects; codes = h.codes; printed = h.printed; loaded = h.loaded; failed = h.failed; known = h.known };
-        frames = (frozen_of f, ap length h.frozen, ap (λ (fs : List (Option (Frozen (List SourceLayer)))). fs ++ Some (frozen_of f) ∷ []) h.frozen);
+        frames = (frozen_body f, ap length h.frozen, ap (λ (fs : List (Option (Frozen (List SourceLayer)))). fs ++ Some (frozen_body f) ∷ []) h.frozen);
       }
 
   behind : (budget : ℕ) (e : SourceEnding) → kept.KeptEnding (keep.GoodSpent (IsRunFrom w) (Fresh w) (run_from w)) (keep.GoodRequest (IsRunFrom w) (Fresh w) (run_from w)) (keep.GoodEnd (IsRunFrom w) (Fresh w) (run_from w)) (keep.GoodPaused (IsRunFrom w) (Fresh w) (run_from w)) e → IsKeptBehind w w.frozen (begun_by budget e)
@@ -64,7 +64,7 @@ module _ (w : SourceWorld) where
   called_kept : (f : Value) (args : List Value) → Kept (begun_by_runner source_semantics f args (start w))
   called_kept f args = runs.begun_kept (IsRunFrom w) (IsKeptIn w) (Fresh w) (run_from w) (run_kept_in w) spent_told f args w (run_from-refl w)
 
-  body_kept : (st : Stored Function) (r : Result Locals Raise) (at : List TraceFrame) → Kept (body_begun source_semantics st r at (start w))
+  body_kept : (st : FunctionCode Function) (r : Result Locals Raise) (at : List TraceFrame) → Kept (body_begun source_semantics st r at (start w))
   body_kept st (Ok names) at = keep.entered_kept (IsRunFrom w) (Fresh w) (run_from w) source_entry (source_entries (IsRunFrom w) (Fresh w) (run_from w)) st (Ok names) no_call (start w) (run_from-refl w) (λ o. Done (call_end (start w) o)) (λ o d. keep.call_end_kept (IsRunFrom w) (Fresh w) (run_from w) (start w) o d)
   body_kept st (Err r) at = keep.raised_kept (IsRunFrom w) (Fresh w) (run_from w) r at (start w) (run_from-refl w)
 
@@ -72,7 +72,7 @@ module _ (w : SourceWorld) where
   kept_cond true t u h g = h
   kept_cond false t u h g = g
 
-  function_kept : (c : Option (Stored Function)) (x : FunctionObj) (all : List Value) (f : Value) (args : List Value) → Kept (function_opened source_semantics c x all f args (start w))
+  function_kept : (c : Option (FunctionCode Function)) (x : FunctionObj) (all : List Value) (f : Value) (args : List Value) → Kept (function_opened source_semantics c x all f args (start w))
   function_kept None x all f args = called_kept f args
   function_kept (Some st) x all f args = kept_cond x.yields _ _ (body_kept st (begin_arguments x all) (frame x.path x.line x.name ∷ [])) (called_kept f args)
 

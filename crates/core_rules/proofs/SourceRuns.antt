@@ -14,10 +14,10 @@ use Rattle.py_values.specs.Ends.{id_at}
 use Rattle.source_meaning.specs.py_world.declared.load.Load.{Load}
 use Rattle.source_meaning.specs.py_world.declared.load.Load.TheVariants.{Running, Loaded, Failed}
 use Rattle.source_meaning.specs.py_world.declared.trace.TraceFrame.{TraceFrame}
-use Rattle.source_meaning.specs.py_world.World.{Locals, Stored}
+use Rattle.source_meaning.specs.py_world.World.{Locals, FunctionCode}
 use Rattle.source_meaning.specs.py_world.Site.{no_call, frame}
 use Rattle.source_meaning.specs.py_world.Arguments.{positional_arguments}
-use Rattle.source_meaning.specs.py_world.Outcome.{Outcome, Gave, Next, Returned, Broke, Continued, Raised, Spent, Paused, Request, Rest, call_end}
+use Rattle.source_meaning.specs.py_world.Outcome.{Outcome, Gave, Next, Returned, Broke, Continued, Raised, Exhaustion, Suspension, Request, Rest, call_end}
 use Rattle.source_meaning.specs.py_world.Calls.{arguments_for, invoke, body_of}
 use Rattle.source_meaning.specs.py_world.Runs.{load_at, coded, source_at, told_by, ended_by, start, with_module, module_place, run_of, function_and, fitting_begun, function_begun, object_begun, begun_by_runner, loading, loaded_first, loaded_by}
 use Rattle.source_meaning.specs.Requests.{source_kinds, Script, Function}
@@ -30,11 +30,11 @@ use Rattle.core_rules.proofs.SourceKeeping.{entry_kept as source_entries, script
 use Rattle.core_rules.proofs.Worlds.{IsRunFrom, Fresh, run_from, run_from-refl, run_kept_in, spent_kept_in, known_closed, known_spent, put_here}
 
 abbrev pub SourceEnding : Type 0
-SourceEnding = tree.Ending Pos (Spent source_kinds) (Request source_kinds) (Outcome source_kinds) (Paused source_kinds)
+SourceEnding = tree.Ending Pos (Exhaustion source_kinds) (Request source_kinds) (Outcome source_kinds) (Suspension source_kinds)
 
 -- what holds where a run ends, and so of the world that is told
 module _ (Good Told : SourceWorld → Type 0) (Free : List ℕ → Type 0) (closed : Closed Good Free) (over : (x : SourceWorld) → Good x → Told x)
-    (out : (budget : ℕ) (x : Spent source_kinds) → Good x.state.world → Told (told_by budget (tree.Spent x)).1) where
+    (out : (budget : ℕ) (x : Exhaustion source_kinds) → Good x.state.world → Told (told_by budget (tree.Spent x)).1) where
   pub ended_kept : (o : Outcome source_kinds) (steps : ℕ) → keep.GoodEnd Good Free closed o → Told (ended_by o steps).1
   ended_kept (Gave v s) steps g = over s.world g
   ended_kept (Next s) steps g = over s.world g
@@ -58,7 +58,7 @@ module _ (Good Told : SourceWorld → Type 0) (Free : List ℕ → Type 0) (clos
   fitting_kept (Ok names) at f args w g = call_begun f args w g
   fitting_kept (Err r) at f args w g = keep.raised_kept Good Free closed r at (start w) g
 
-  function_kept : (c : Option (Stored Function)) (x : FunctionObj) (all : List Value) (f : Value) (args : List Value) (w : SourceWorld) → Good w → keep.Kept Good Free closed (function_begun source_semantics c x all f args (start w))
+  function_kept : (c : Option (FunctionCode Function)) (x : FunctionObj) (all : List Value) (f : Value) (args : List Value) (w : SourceWorld) → Good w → keep.Kept Good Free closed (function_begun source_semantics c x all f args (start w))
   function_kept None x all f args w g = call_begun f args w g
   function_kept (Some st) x all f args w g = fitting_kept (arguments_for x (positional_arguments all)) (frame x.path x.line x.name ∷ []) f args w g
 

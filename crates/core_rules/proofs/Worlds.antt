@@ -18,7 +18,7 @@ use Rattle.py_values.specs.Raises.{text_raise, thrown, thrown_by, thrown_with}
 use Rattle.source_meaning.specs.py_world.declared.load.Load.{Load}
 use Rattle.source_meaning.specs.py_world.declared.load.Load.TheVariants.{Running, Loaded, Failed}
 use Rattle.source_meaning.specs.py_world.declared.trace.TraceFrame.{TraceFrame}
-use Rattle.source_meaning.specs.py_world.World.{Kinds, World, Stored}
+use Rattle.source_meaning.specs.py_world.World.{Kinds, World, FunctionCode}
 use Rattle.source_meaning.specs.py_world.Runs.{load_at, with_load, failed, is_running, fail_running, out_of_steps, step_limit}
 use Rattle.core_rules.specs.Keeps.{IsKeptIn}
 use Rattle.core_rules.proofs.Keeping.{Closed, append-empty}
@@ -159,7 +159,7 @@ module _ {K : Kinds} where
     pub sources : x.sources ≡ w.sources
     pub frozen : x.frozen ≡ w.frozen
     pub objects : length w.heap ≤ length x.heap
-    pub codes : (more : List (Stored K.code)) × (x.codes ≡ w.codes ++ more)
+    pub codes : (more : List (FunctionCode K.code)) × (x.codes ≡ w.codes ++ more)
     pub printed : (more : List ℕ) × (x.printed ≡ w.printed ++ more)
     pub loads : (path : List ℕ) (l : Load) → load_at path w.modules ≡ Some l → load_at path x.modules ≡ Some l
 

@@ -4,7 +4,7 @@ use Rattle.py_values.specs.declared.value.ObjId.{ObjId}
 use Rattle.py_values.specs.declared.value.Value.{Value}
 use Rattle.source_meaning.specs.py_world.declared.load.Load.TheVariants.{Loaded, Failed}
 use Rattle.source_meaning.specs.py_world.declared.trace.TraceFrame.{TraceFrame}
-use Rattle.source_meaning.specs.py_world.World.{Kinds, World, Stored, Frozen, world_with_frozen}
+use Rattle.source_meaning.specs.py_world.World.{Kinds, World, FunctionCode, Frozen, world_with_frozen}
 use Rattle.source_meaning.specs.py_world.Runs.{load_at}
 use Rattle.source_meaning.specs.py_world.Resuming.{BegunOut, Yielded, Over, ToldBegun}
 
@@ -14,7 +14,7 @@ pub record IsKeptIn {K : Kinds} (w x : World K) : Type 0 where
   pub sources : x.sources ≡ w.sources
   pub frozen : x.frozen ≡ w.frozen
   pub objects : length w.heap ≤ length x.heap
-  pub codes : (more : List (Stored K.code)) × (x.codes ≡ w.codes ++ more)
+  pub codes : (more : List (FunctionCode K.code)) × (x.codes ≡ w.codes ++ more)
   pub printed : (more : List ℕ) × (x.printed ≡ w.printed ++ more)
   pub loaded : (path : List ℕ) (id : ObjId) → load_at path w.modules ≡ Some (Loaded id) → load_at path x.modules ≡ Some (Loaded id)
   pub failed : (path : List ℕ) (exc : Value) (trace : List TraceFrame) → load_at path w.modules ≡ Some (Failed exc trace) → load_at path x.modules ≡ Some (Failed exc trace)

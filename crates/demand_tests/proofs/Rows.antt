@@ -5,7 +5,7 @@ use Rattle.session_types.specs.Members.{IsMember}
 use Rattle.session_types.specs.declared.scope.Scope.{Scope}
 use Rattle.fixture_table.specs.declared.types.CollectionNode.{CollectionNode}
 use Rattle.fixture_table.specs.declared.types.FixtureDef.{FixtureDef}
-use Rattle.fixture_table.specs.Faults.{Settled}
+use Rattle.fixture_table.specs.Faults.{CanBeSetUp}
 use Rattle.fixture_table.specs.Nearest.{def_at}
 use Rattle.fixture_table.specs.Tables.{TableValue}
 use Rattle.fixture_table.specs.Tree.{IsTree, parent_of}
@@ -56,11 +56,11 @@ step_more parts defs p d same e =
     ∙ sym (map-append (λ (q : FixtureDef). q.scope) defs (d ∷ []))))
 
 -- what the closure of an item that binds nothing has is ready
-pub bench_ready : (script : Script) (table : TableValue) (item : ItemRef ℕ) (ids : List ℕ) → IsBench script table → item.bound ≡ [] → ((d : ℕ) → IsMember d ids → d < length table.defs) → Settled table.nodes table.defs item.node [] ids → AreReady (logging script) (item_for_session table item) (length table.defs) (length script.parts) ids
+pub bench_ready : (script : Script) (table : TableValue) (item : ItemRef ℕ) (ids : List ℕ) → IsBench script table → item.bound ≡ [] → ((d : ℕ) → IsMember d ids → d < length table.defs) → CanBeSetUp table.nodes table.defs item.node [] ids → AreReady (logging script) (item_for_session table item) (length table.defs) (length script.parts) ids
 bench_ready script table item ids b none within s =
     λ d m.
     closure_ready {L = spoken} (logging script) table item ids (bench_scopes script table b) (same_length script.parts table.defs b.step) within
-    (subst (λ (bound : List (BoundValue ℕ)). Settled table.nodes table.defs item.node (bound_names bound) ids) (sym none) s) d m
+    (subst (λ (bound : List (BoundValue ℕ)). CanBeSetUp table.nodes table.defs item.node (bound_names bound) ids) (sym none) s) d m
 
 -- a definition is as ready with the same script and the same table
 pub ready_there : (script other : Script) (table another : TableValue) (item : ItemRef ℕ) (d : ℕ) → script ≡ other → table ≡ another → IsReady (logging other) (item_for_session another item) (length another.defs) (length other.parts) d → IsReady (logging script) (item_for_session table item) (length table.defs) (length script.parts) d

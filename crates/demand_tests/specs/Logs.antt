@@ -9,8 +9,8 @@ use Rattle.fixture_table.specs.declared.types.NodeKind.TheVariants as kind
 use Rattle.fixture_table.specs.Tables.{TableValue}
 use Rattle.demand_tests.specs.declared.logs.Cause.{Cause}
 use Rattle.demand_tests.specs.declared.logs.Cause.TheVariants as cause
-use Rattle.demand_tests.specs.declared.logs.Done.{Done}
-use Rattle.demand_tests.specs.declared.logs.Done.TheVariants as done
+use Rattle.demand_tests.specs.declared.logs.LogEntry.{LogEntry}
+use Rattle.demand_tests.specs.declared.logs.LogEntry.TheVariants as done
 use Rattle.demand_tests.specs.declared.logs.Log.{Log}
 use Rattle.demand_tests.specs.declared.logs.Part.{Part}
 use Rattle.demand_tests.specs.declared.logs.Script.{Script}
@@ -62,7 +62,7 @@ resumed LoopsBehind d = Raised (cause.OutOfSteps d)
 abbrev pub finalizer_raised : Part → ℕ → Option Cause
 finalizer_raised part d = if part.fails then Some (cause.InFinalizer d) else None
 
-abbrev pub with_log_line : Done → Log → Log
+abbrev pub with_log_line : LogEntry → Log → Log
 with_log_line one w = record w { lines = w.lines ++ one ∷ [] }
 
 abbrev pub rest_given_up : ℕ → Log → Log

@@ -5,12 +5,12 @@ ghost use Rattle.setup_stack.specs.Asking.{AreReady, IsReady};
 ghost use Rattle.fixture_instances.specs.Items.{item_for_session};
 ghost use Rattle.demand_tests.specs.Logs.{IsBench, logging, two_items};
 
-use crate::logs::{Cause, Done, Log, Part, Script, Way};
+use crate::logs::{Cause, Log, LogEntry, Part, Script, Way};
 use fixture_instances::{ItemParam, ItemRef};
 use fixture_table::{CollectionNode, CollectionTree, FixtureDef, NodeKind, Table};
 use seq::{CharText, OutOfMemory, Seq};
 use session_types::{DefId, Scope};
-use setup_stack::{FixtureStack, SetupError};
+use setup_stack::{SetupError, SetupStack};
 use std::alloc::Global;
 
 /// A definition, whose name is its number; what it asks for, and what its function does.
@@ -29,7 +29,7 @@ pub enum Asking {
 
 /// What the test of an item asks for, how that is demanded, and whether the test raises.
 #[derive(Clone, Copy)]
-pub struct How<'h> {
+pub struct TestDemand<'h> {
     pub args: &'h [u32],
     pub asking: Asking,
     pub raises: bool,
@@ -40,7 +40,7 @@ pub struct Bench {
     pub script: Script,
     pub world: Log,
     pub table: Table,
-    pub stack: FixtureStack<u32, Cause, u32>,
+    pub stack: SetupStack<u32, Cause, u32>,
 }
 
 pub fn row_of<'r>(scope: Scope, args: &'r [u32], way: Way) -> Row<'r> {
@@ -102,7 +102,7 @@ fn stacked(alloc: Global, table: Table, script: Script) -> Result<Bench, OutOfMe
     requires { IsBench script table }
     ensures { IfOk result (λ bench. IsBench bench.script bench.table) }
 {
-    let stack = FixtureStack::new(alloc)?;
+    let stack = SetupStack::new(alloc)?;
     Ok(Bench {
         script,
         world: Log {
@@ -261,7 +261,7 @@ fn call(bench: &mut Bench, item: &ItemRef<u32>, raises: bool) -> Result<Seq<Caus
 {
     let mut raised = Seq::new(bench.script.alloc);
     bench.stack.call_begins(bench.script.alloc, item)?;
-    bench.world.lines.push(Done::Called(item.node))?;
+    bench.world.lines.push(LogEntry::Called(item.node))?;
     if raises {
         raised.push(Cause::InTest(item.node))?;
     }
@@ -270,7 +270,11 @@ fn call(bench: &mut Bench, item: &ItemRef<u32>, raises: bool) -> Result<Seq<Caus
 }
 
 /// An item's closure is demanded in order, and its test is called, unless something is refused.
-pub fn run(bench: &mut Bench, item: &ItemRef<u32>, how: How) -> Result<Seq<Cause>, OutOfMemory>
+pub fn run(
+    bench: &mut Bench,
+    item: &ItemRef<u32>,
+    how: TestDemand,
+) -> Result<Seq<Cause>, OutOfMemory>
     requires bench { IsBench bench.old.script bench.old.table }
     requires node { item.now.node < 4 }
     requires bound { item.now.bound ≡ [] }
@@ -349,7 +353,7 @@ pub fn both(
     bench: &mut Bench,
     one: &ItemRef<u32>,
     other: &ItemRef<u32>,
-    how: How,
+    how: TestDemand,
 ) -> Result<Seq<Cause>, OutOfMemory>
     requires bench { IsBench bench.old.script bench.old.table }
     requires one { one.now.node ≡ 2 }
@@ -373,15 +377,15 @@ fn add_all(out: &mut Seq<Cause>, more: Seq<Cause>) -> Result<(), OutOfMemory> {
 
 /// What was done and what was raised, where the items 2 and 3 run over these definitions.
 #[derive(Drop)]
-pub struct Told {
+pub struct BenchOutcome {
     pub world: Log,
     pub raised: Seq<Cause>,
 }
 
-pub fn told_of(alloc: Global, rows: &[Row], how: How) -> Result<Told, OutOfMemory> {
+pub fn told_of(alloc: Global, rows: &[Row], how: TestDemand) -> Result<BenchOutcome, OutOfMemory> {
     let mut made = bench_of(alloc, rows)?;
     let done = both(&mut made, &item(alloc, 2), &item(alloc, 3), how);
     let world = end(made);
     let raised = done?;
-    Ok(Told { world, raised })
+    Ok(BenchOutcome { world, raised })
 }

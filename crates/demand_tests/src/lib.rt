@@ -9,7 +9,7 @@
 //! # What is proved
 //!
 //! - [`Log`] does what its rules say (`logging`), as an `Executor`: a definition's function goes one of the ways of a script ([`Way`]), and
-//!   each call is noted ([`Done`]).
+//!   each call is noted ([`LogEntry`]).
 //! - The tests are safe and end.
 //!
 //! # What tests alone show
@@ -39,4 +39,4 @@ mod stack;
 #[cfg(test)]
 mod undoing;
 
-pub use logs::{Cause, Done, Log, Part, Script, Way};
+pub use logs::{Cause, Log, LogEntry, Part, Script, Way};

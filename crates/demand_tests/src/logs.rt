@@ -13,7 +13,7 @@ use std::alloc::Global;
 
 /// What was done in a world.
 #[derive(Clone, Copy, Debug, PartialEq, Eq)]
-pub enum Done {
+pub enum LogEntry {
     Begun(u32),
     Resumed(u32),
     Closed(u32),
@@ -71,7 +71,7 @@ pub struct Script {
 /// A world that notes what is done in it, and the two frames that were given up last.
 #[derive(Drop)]
 pub struct Log {
-    pub lines: Seq<Done>,
+    pub lines: Seq<LogEntry>,
     pub last: Option<u32>,
     pub before: Option<u32>,
 }
@@ -196,7 +196,7 @@ impl Executor for Log {
         ensures how { IfOk result (λ end. body_end (logging setting.now) end ≡ ((logging setting.now).begin _item.now.node def (parameter_in _item.now.params def) _own _values.now _request self.old).how) }
         ensures world { OnOk result (self.new ≡ ((logging setting.now).begin _item.now.node def (parameter_in _item.now.params def) _own _values.now _request self.old).world) }
     {
-        self.lines.push(Done::Begun(def.number()))?;
+        self.lines.push(LogEntry::Begun(def.number()))?;
         Ok(begun(setting, part_of(setting, def.number()).way, def.number()))
     }
 
@@ -215,7 +215,7 @@ impl Executor for Log {
         setting: &Script,
         rest: u32,
     ) -> Result<BodyEnd<u32, Cause, u32>, OutOfMemory> {
-        self.lines.push(Done::Resumed(rest))?;
+        self.lines.push(LogEntry::Resumed(rest))?;
         Ok(resumed(setting, part_of(setting, rest).way, rest))
     }
 
@@ -231,12 +231,12 @@ impl Executor for Log {
     fn close(&mut self, setting: &Script, request: u32) -> Result<Seq<u32>, OutOfMemory> {
         let mut list = Seq::new(setting.alloc);
         list.push(request)?;
-        self.lines.push(Done::Closed(request))?;
+        self.lines.push(LogEntry::Closed(request))?;
         Ok(list)
     }
 
     fn finalize(&mut self, setting: &Script, finalizer: u32) -> Result<Option<Cause>, OutOfMemory> {
-        self.lines.push(Done::Finalized(finalizer))?;
+        self.lines.push(LogEntry::Finalized(finalizer))?;
         Ok(finalizer_raised(part_of(setting, finalizer), finalizer))
     }
 

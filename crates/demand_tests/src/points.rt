@@ -1,7 +1,7 @@
 // A tree of four fixtures, in which each point raises in turn.
 
-use crate::benches::{Asking, How, Row, Told, told_of};
-use crate::logs::{Cause, Done, Part, Way};
+use crate::benches::{Asking, BenchOutcome, Row, TestDemand, told_of};
+use crate::logs::{Cause, LogEntry, Part, Way};
 use crate::undoing::all_is_undone;
 use seq::{OutOfMemory, Seq};
 use session_types::Scope;
@@ -10,7 +10,7 @@ use std::alloc::Global;
 /// What happened in the tree: the functions and tests that were called, in order, the exceptions, and whether all was undone.
 #[derive(Drop)]
 struct Went {
-    called: Vec<Done>,
+    called: Vec<LogEntry>,
     raised: Seq<Cause>,
     undone: bool,
 }
@@ -30,15 +30,15 @@ fn all_go(way: Way, fails: bool) -> [Part; 4] {
 }
 
 /// The functions of fixtures and the tests that were called.
-fn called_in(alloc: Global, lines: &[Done]) -> Result<Vec<Done>, OutOfMemory> {
+fn called_in(alloc: Global, lines: &[LogEntry]) -> Result<Vec<LogEntry>, OutOfMemory> {
     let mut called = Vec::new(alloc);
     for line in lines {
         match *line {
-            Done::Begun(_) => called.push(*line)?,
-            Done::Called(_) => called.push(*line)?,
-            Done::Closed(_) => {}
-            Done::Resumed(_) => {}
-            Done::Finalized(_) => {}
+            LogEntry::Begun(_) => called.push(*line)?,
+            LogEntry::Called(_) => called.push(*line)?,
+            LogEntry::Closed(_) => {}
+            LogEntry::Resumed(_) => {}
+            LogEntry::Finalized(_) => {}
         }
     }
     Ok(called)
@@ -64,12 +64,12 @@ fn run_tree(alloc: Global, parts: [Part; 4], raises: bool) -> Result<Went, OutOf
             part: parts[3],
         },
     ];
-    let how = How {
+    let how = TestDemand {
         args: &[3],
         asking: Asking::AtOnce,
         raises,
     };
-    let Told { world, raised } = told_of(alloc, &rows, how)?;
+    let BenchOutcome { world, raised } = told_of(alloc, &rows, how)?;
     let called = called_in(alloc, world.lines.items())?;
     let undone = all_is_undone(alloc, &rows, world.lines.items())?;
     Ok(Went {
@@ -84,7 +84,7 @@ fn run_tree(alloc: Global, parts: [Part; 4], raises: bool) -> Result<Went, OutOf
 struct Case<'c> {
     def: u32,
     ways: &'c [Way],
-    called: &'c [Done],
+    called: &'c [LogEntry],
     times: usize,
 }
 
@@ -143,15 +143,15 @@ const IN_TEARDOWN: [Way; 5] = [
     Way::Returns,
 ];
 
-const WHOLE: [Done; 8] = [
-    Done::Begun(0),
-    Done::Begun(1),
-    Done::Begun(2),
-    Done::Begun(3),
-    Done::Called(2),
-    Done::Begun(2),
-    Done::Begun(3),
-    Done::Called(3),
+const WHOLE: [LogEntry; 8] = [
+    LogEntry::Begun(0),
+    LogEntry::Begun(1),
+    LogEntry::Begun(2),
+    LogEntry::Begun(3),
+    LogEntry::Called(2),
+    LogEntry::Begun(2),
+    LogEntry::Begun(3),
+    LogEntry::Called(3),
 ];
 
 /// pytest's fixture guide, "Fixture errors" and "Yield fixtures": what asks for a fixture that raised isn't set up, its test isn't called, and
@@ -161,23 +161,23 @@ const CASES: [Case<'static>; 8] = [
     Case {
         def: 0,
         ways: &IN_SET_UP,
-        called: &[Done::Begun(0)],
+        called: &[LogEntry::Begun(0)],
         times: 2,
     },
     Case {
         def: 1,
         ways: &IN_SET_UP,
-        called: &[Done::Begun(0), Done::Begun(1)],
+        called: &[LogEntry::Begun(0), LogEntry::Begun(1)],
         times: 2,
     },
     Case {
         def: 2,
         ways: &IN_SET_UP,
         called: &[
-            Done::Begun(0),
-            Done::Begun(1),
-            Done::Begun(2),
-            Done::Begun(2),
+            LogEntry::Begun(0),
+            LogEntry::Begun(1),
+            LogEntry::Begun(2),
+            LogEntry::Begun(2),
         ],
         times: 2,
     },
@@ -185,12 +185,12 @@ const CASES: [Case<'static>; 8] = [
         def: 3,
         ways: &IN_SET_UP,
         called: &[
-            Done::Begun(0),
-            Done::Begun(1),
-            Done::Begun(2),
-            Done::Begun(3),
-            Done::Begun(2),
-            Done::Begun(3),
+            LogEntry::Begun(0),
+            LogEntry::Begun(1),
+            LogEntry::Begun(2),
+            LogEntry::Begun(3),
+            LogEntry::Begun(2),
+            LogEntry::Begun(3),
         ],
         times: 2,
     },

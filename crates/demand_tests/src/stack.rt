@@ -1,17 +1,17 @@
 // Demands and teardowns of two items that run one behind the other.
 
 use crate::benches::{
-    Asking, How, Row, bench_of, both, deep, end, item, row_of, run, told_of, with_parameter,
+    Asking, Row, TestDemand, bench_of, both, deep, end, item, row_of, run, told_of, with_parameter,
 };
-use crate::logs::{Cause, Done, Part, Way};
+use crate::logs::{Cause, LogEntry, Part, Way};
 use crate::undoing::all_is_undone;
 use seq::OutOfMemory;
 use session_types::Scope;
 use std::alloc::Global;
 
 /// Tests that pass and ask for these, each closure demanded in one call.
-fn asks_for<'h>(args: &'h [u32]) -> How<'h> {
-    How {
+fn asks_for<'h>(args: &'h [u32]) -> TestDemand<'h> {
+    TestDemand {
         args,
         asking: Asking::AtOnce,
         raises: false,
@@ -22,8 +22,8 @@ fn asks_for<'h>(args: &'h [u32]) -> How<'h> {
 fn is_told(
     alloc: Global,
     rows: &[Row],
-    how: How,
-    lines: &[Done],
+    how: TestDemand,
+    lines: &[LogEntry],
     raised: &[Cause],
 ) -> Result<bool, OutOfMemory> {
     let told = told_of(alloc, rows, how)?;
@@ -31,25 +31,25 @@ fn is_told(
 }
 
 /// What a fixture of the session, one of the file that asks for it, and one of each item that asks for both leave in a journal.
-const NESTED: [Done; 18] = [
-    Done::Begun(0),
-    Done::Begun(1),
-    Done::Begun(2),
-    Done::Called(2),
-    Done::Closed(2),
-    Done::Resumed(2),
-    Done::Finalized(2),
-    Done::Begun(2),
-    Done::Called(3),
-    Done::Closed(2),
-    Done::Resumed(2),
-    Done::Finalized(2),
-    Done::Closed(1),
-    Done::Resumed(1),
-    Done::Finalized(1),
-    Done::Closed(0),
-    Done::Resumed(0),
-    Done::Finalized(0),
+const NESTED: [LogEntry; 18] = [
+    LogEntry::Begun(0),
+    LogEntry::Begun(1),
+    LogEntry::Begun(2),
+    LogEntry::Called(2),
+    LogEntry::Closed(2),
+    LogEntry::Resumed(2),
+    LogEntry::Finalized(2),
+    LogEntry::Begun(2),
+    LogEntry::Called(3),
+    LogEntry::Closed(2),
+    LogEntry::Resumed(2),
+    LogEntry::Finalized(2),
+    LogEntry::Closed(1),
+    LogEntry::Resumed(1),
+    LogEntry::Finalized(1),
+    LogEntry::Closed(0),
+    LogEntry::Resumed(0),
+    LogEntry::Finalized(0),
 ];
 
 /// Whether they leave it where they are asked for so.
@@ -59,7 +59,7 @@ fn is_nested(alloc: Global, asking: Asking) -> Result<bool, OutOfMemory> {
         row_of(Scope::Module, &[0], Way::YieldsOnce),
         row_of(Scope::Function, &[1, 0], Way::YieldsOnce),
     ];
-    let how = How {
+    let how = TestDemand {
         args: &[2],
         asking,
         raises: false,
@@ -82,7 +82,11 @@ fn a_failure_is_kept(rt: HostRuntime) {
         row_of(Scope::Session, &[], Way::Raises),
         row_of(Scope::Function, &[0], Way::YieldsOnce),
     ];
-    let lines = [Done::Begun(0), Done::Closed(0), Done::Finalized(0)];
+    let lines = [
+        LogEntry::Begun(0),
+        LogEntry::Closed(0),
+        LogEntry::Finalized(0),
+    ];
     let raised = [Cause::InSetUp(0), Cause::InSetUp(0)];
     let told = is_told(rt.alloc(), &rows, asks_for(&[1]), &lines, &raised);
     assert!(rt; matches!(told, Ok(true)));
@@ -135,25 +139,25 @@ fn a_generator_must_yield(rt: HostRuntime) {
 }
 
 /// What a fixture with another parameter for each item, and one that asks for it, leave in a journal.
-const REPLACED: [Done; 18] = [
-    Done::Begun(0),
-    Done::Begun(1),
-    Done::Called(2),
-    Done::Closed(1),
-    Done::Resumed(1),
-    Done::Finalized(1),
-    Done::Closed(0),
-    Done::Resumed(0),
-    Done::Finalized(0),
-    Done::Begun(0),
-    Done::Begun(1),
-    Done::Called(3),
-    Done::Closed(1),
-    Done::Resumed(1),
-    Done::Finalized(1),
-    Done::Closed(0),
-    Done::Resumed(0),
-    Done::Finalized(0),
+const REPLACED: [LogEntry; 18] = [
+    LogEntry::Begun(0),
+    LogEntry::Begun(1),
+    LogEntry::Called(2),
+    LogEntry::Closed(1),
+    LogEntry::Resumed(1),
+    LogEntry::Finalized(1),
+    LogEntry::Closed(0),
+    LogEntry::Resumed(0),
+    LogEntry::Finalized(0),
+    LogEntry::Begun(0),
+    LogEntry::Begun(1),
+    LogEntry::Called(3),
+    LogEntry::Closed(1),
+    LogEntry::Resumed(1),
+    LogEntry::Finalized(1),
+    LogEntry::Closed(0),
+    LogEntry::Resumed(0),
+    LogEntry::Finalized(0),
 ];
 
 /// Whether they leave it, all is undone, and nothing is raised.
@@ -182,14 +186,15 @@ fn another_parameter_replaces(rt: HostRuntime) {
 /// Whether sixty are set up, the deepest first, and given up, the deepest first too.
 fn are_given_up(alloc: Global) -> Result<bool, OutOfMemory> {
     let mut made = deep(alloc, 60)?;
-    let how = How {
+    let how = TestDemand {
         args: &[0],
         asking: Asking::OneByOne,
         raises: false,
     };
     let done = run(&mut made, &item(alloc, 2), how);
     let world = end(made);
-    let is_begun = world.lines.len() == 61 && world.lines.items().first() == Some(&Done::Begun(59));
+    let is_begun = world.lines.len() == 61
+        && world.lines.items().first() == Some(&LogEntry::Begun(59));
     let are_given_up = world.last == Some(0) && world.before == Some(1);
     Ok(done?.is_empty() && is_begun && are_given_up)
 }

@@ -1,7 +1,7 @@
 // What a journal says of the fixtures that were set up: a short reading of it that knows nothing of the stack.
 
 use crate::benches::{Row, row_of};
-use crate::logs::{Done, Way};
+use crate::logs::{LogEntry, Way};
 use seq::OutOfMemory;
 use session_types::Scope;
 use std::alloc::Global;
@@ -10,7 +10,7 @@ use std::alloc::Global;
 #[derive(Drop)]
 struct Reading {
     up: Vec<u32>,
-    due: Vec<Done>,
+    due: Vec<LogEntry>,
 }
 
 /// Whether a function stands at its `yield` once its fixture is set up.
@@ -51,34 +51,34 @@ fn goes_down(rows: &[Row], reading: &mut Reading, def: u32) -> Result<bool, OutO
     if reading.up.pop() != Some(def) {
         return Ok(false);
     }
-    reading.due.push(Done::Finalized(def))?;
+    reading.due.push(LogEntry::Finalized(def))?;
     if is_standing(rows, def) {
-        reading.due.push(Done::Resumed(def))?;
+        reading.due.push(LogEntry::Resumed(def))?;
     }
     Ok(true)
 }
 
-fn goes_on(rows: &[Row], reading: &mut Reading, line: Done) -> Result<bool, OutOfMemory> {
+fn goes_on(rows: &[Row], reading: &mut Reading, line: LogEntry) -> Result<bool, OutOfMemory> {
     if let Some(due) = reading.due.pop() {
         return Ok(due == line);
     }
     match line {
-        Done::Begun(def) => {
+        LogEntry::Begun(def) => {
             if !may_begin(rows, &reading.up, def) {
                 return Ok(false);
             }
             reading.up.push(def)?;
             Ok(true)
         }
-        Done::Called(_) => Ok(true),
-        Done::Closed(def) => goes_down(rows, reading, def),
-        Done::Resumed(_) => Ok(false),
-        Done::Finalized(_) => Ok(false),
+        LogEntry::Called(_) => Ok(true),
+        LogEntry::Closed(def) => goes_down(rows, reading, def),
+        LogEntry::Resumed(_) => Ok(false),
+        LogEntry::Finalized(_) => Ok(false),
     }
 }
 
 /// Whether each fixture that was set up, or failed to, was undone once, the latest first, behind all that asked for it.
-pub fn all_is_undone(alloc: Global, rows: &[Row], lines: &[Done]) -> Result<bool, OutOfMemory> {
+pub fn all_is_undone(alloc: Global, rows: &[Row], lines: &[LogEntry]) -> Result<bool, OutOfMemory> {
     let mut reading = Reading {
         up: Vec::new(alloc),
         due: Vec::new(alloc),
@@ -92,92 +92,92 @@ pub fn all_is_undone(alloc: Global, rows: &[Row], lines: &[Done]) -> Result<bool
 }
 
 /// Journals, and whether all is undone in them: in the others something is undone too early, too late, twice or never.
-const JOURNALS: [(&[Done], bool); 7] = [
+const JOURNALS: [(&[LogEntry], bool); 7] = [
     (
         &[
-            Done::Begun(0),
-            Done::Begun(1),
-            Done::Called(2),
-            Done::Closed(1),
-            Done::Resumed(1),
-            Done::Finalized(1),
-            Done::Closed(0),
-            Done::Finalized(0),
+            LogEntry::Begun(0),
+            LogEntry::Begun(1),
+            LogEntry::Called(2),
+            LogEntry::Closed(1),
+            LogEntry::Resumed(1),
+            LogEntry::Finalized(1),
+            LogEntry::Closed(0),
+            LogEntry::Finalized(0),
         ],
         true,
     ),
     (
         &[
-            Done::Begun(0),
-            Done::Begun(1),
-            Done::Called(2),
-            Done::Closed(1),
-            Done::Resumed(1),
-            Done::Finalized(1),
-            Done::Closed(0),
+            LogEntry::Begun(0),
+            LogEntry::Begun(1),
+            LogEntry::Called(2),
+            LogEntry::Closed(1),
+            LogEntry::Resumed(1),
+            LogEntry::Finalized(1),
+            LogEntry::Closed(0),
         ],
         false,
     ),
     (
         &[
-            Done::Begun(0),
-            Done::Begun(1),
-            Done::Called(2),
-            Done::Closed(1),
-            Done::Resumed(1),
-            Done::Finalized(1),
+            LogEntry::Begun(0),
+            LogEntry::Begun(1),
+            LogEntry::Called(2),
+            LogEntry::Closed(1),
+            LogEntry::Resumed(1),
+            LogEntry::Finalized(1),
         ],
         false,
     ),
     (
         &[
-            Done::Begun(1),
-            Done::Called(2),
-            Done::Closed(1),
-            Done::Resumed(1),
-            Done::Finalized(1),
-            Done::Closed(0),
-            Done::Finalized(0),
+            LogEntry::Begun(1),
+            LogEntry::Called(2),
+            LogEntry::Closed(1),
+            LogEntry::Resumed(1),
+            LogEntry::Finalized(1),
+            LogEntry::Closed(0),
+            LogEntry::Finalized(0),
         ],
         false,
     ),
     (
         &[
-            Done::Begun(0),
-            Done::Begun(1),
-            Done::Closed(0),
-            Done::Finalized(0),
-            Done::Closed(1),
-            Done::Resumed(1),
-            Done::Finalized(1),
+            LogEntry::Begun(0),
+            LogEntry::Begun(1),
+            LogEntry::Closed(0),
+            LogEntry::Finalized(0),
+            LogEntry::Closed(1),
+            LogEntry::Resumed(1),
+            LogEntry::Finalized(1),
         ],
         false,
     ),
     (
         &[
-            Done::Begun(0),
-            Done::Begun(1),
-            Done::Closed(1),
-            Done::Finalized(1),
-            Done::Closed(0),
-            Done::Finalized(0),
+            LogEntry::Begun(0),
+            LogEntry::Begun(1),
+            LogEntry::Closed(1),
+            LogEntry::Finalized(1),
+            LogEntry::Closed(0),
+            LogEntry::Finalized(0),
         ],
         false,
     ),
     (
         &[
-            Done::Begun(0),
-            Done::Closed(0),
-            Done::Finalized(0),
-            Done::Closed(0),
-            Done::Finalized(0),
+            LogEntry::Begun(0),
+            LogEntry::Closed(0),
+            LogEntry::Finalized(0),
+            LogEntry::Closed(0),
+            LogEntry::Finalized(0),
         ],
         false,
     ),
 ];
 
 /// The first journal that is read otherwise.
-fn wrong_journal(alloc: Global) -> Result<Option<&'static [Done]>, OutOfMemory> {
+fn wrong_journal(alloc: Global) -> Result<Option<&'static [LogEntry]>, OutOfMemory> {
     let rows = [
         row_of(Scope::Session, &[], Way::Returns),
         row_of(Scope::Session, &[0], Way::YieldsOnce),

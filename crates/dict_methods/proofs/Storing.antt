@@ -1,7 +1,7 @@
 -- Turns of the loops over the pairs of dicts.
 use Rattle.std.proofs.Common.{ℕ, zero, suc, ◌+◌, ◌-◌, Bool, true, false, List, [], ◌∷◌, ◌++◌, ◌≡◌, ◌∙◌, refl, sym, ap, arith, length, take, drop, add-one, slice_get, Some}
 use Rattle.std.specs.Prelude.{option_map, if◌then◌else◌}
-use Rattle.dict_methods.specs.Copies.{keys_steps, stored, store_all, has_room, filled, Filled, Full}
+use Rattle.dict_methods.specs.Copies.{keys_steps, stored, store_all, has_room, filled, FillResult, Full}
 use Rattle.dict_methods.specs.Views.{values_of, value_in, pair_object, pair_objects, object_in}
 use Rattle.py_values.specs.declared.dict.Pair.{Pair}
 use Rattle.py_values.specs.declared.key.Atom.{Atom}
@@ -27,31 +27,31 @@ pub store_more : (ds : List (List Atom × Pair)) (i : ℕ) (d : List Atom × Pai
     → es' ≡ stored es d → all ≡ store_all es (drop i ds) → all ≡ store_all es' (drop (i + 1) ds)
 store_more ds i d es es' all h e f = rw e (store_goes ds i d es all h f)
 
-by_room : (b : Bool) (x y : Filled) → b ≡ true → (if b then x else y) ≡ x
+by_room : (b : Bool) (x y : FillResult) → b ≡ true → (if b then x else y) ≡ x
 by_room true x y e = refl
 by_room false x y e = absurd (cc)
 
-by_none : (b : Bool) (x y : Filled) → b ≡ false → (if b then x else y) ≡ y
+by_none : (b : Bool) (x y : FillResult) → b ≡ false → (if b then x else y) ≡ y
 by_none true x y e = absurd (cc)
 by_none false x y e = refl
 
-fill_goes : (ds : List (List Atom × Pair)) (i : ℕ) (d : List Atom × Pair) (es : List (List Atom × Pair)) (n : ℕ) (all : Filled) → Some d ≡ slice_get ds i
+fill_goes : (ds : List (List Atom × Pair)) (i : ℕ) (d : List Atom × Pair) (es : List (List Atom × Pair)) (n : ℕ) (all : FillResult) → Some d ≡ slice_get ds i
     → has_room es d.0 ≡ true → all ≡ filled es n (drop i ds) → all ≡ filled (stored es d) (n + (length d.0 - 1)) (drop (i + 1) ds)
 fill_goes ds i d es n all h r f =
     f ∙ (ap (filled es n) (from_entry ds i d h)
     ∙ by_room (has_room es d.0) (filled (stored es d) (n + (length d.0 - 1)) (drop (i + 1) ds)) (Full (n + (length d.0 - 1))) r)
 
-fill_stops : (ds : List (List Atom × Pair)) (i : ℕ) (d : List Atom × Pair) (es : List (List Atom × Pair)) (n : ℕ) (all : Filled) → Some d ≡ slice_get ds i
+fill_stops : (ds : List (List Atom × Pair)) (i : ℕ) (d : List Atom × Pair) (es : List (List Atom × Pair)) (n : ℕ) (all : FillResult) → Some d ≡ slice_get ds i
     → has_room es d.0 ≡ false → all ≡ filled es n (drop i ds) → Full (n + (length d.0 - 1)) ≡ all
 fill_stops ds i d es n all h r f =
     sym (f ∙ (ap (filled es n) (from_entry ds i d h)
     ∙ by_none (has_room es d.0) (filled (stored es d) (n + (length d.0 - 1)) (drop (i + 1) ds)) (Full (n + (length d.0 - 1))) r))
 
-pub fill_more : (ds : List (List Atom × Pair)) (i : ℕ) (d : List Atom × Pair) (es es' : List (List Atom × Pair)) (n n' : ℕ) (all : Filled) → Some d ≡ slice_get ds i
+pub fill_more : (ds : List (List Atom × Pair)) (i : ℕ) (d : List Atom × Pair) (es es' : List (List Atom × Pair)) (n n' : ℕ) (all : FillResult) → Some d ≡ slice_get ds i
     → has_room es d.0 ≡ true → es' ≡ stored es d → n' ≡ n + (length d.0 - 1) → all ≡ filled es n (drop i ds) → all ≡ filled es' n' (drop (i + 1) ds)
 fill_more ds i d es es' n n' all h r e g f = rw (e, g) (fill_goes ds i d es n all h r f)
 
-pub fill_full : (ds : List (List Atom × Pair)) (i : ℕ) (d : List Atom × Pair) (es : List (List Atom × Pair)) (n n' : ℕ) (all : Filled) → Some d ≡ slice_get ds i
+pub fill_full : (ds : List (List Atom × Pair)) (i : ℕ) (d : List Atom × Pair) (es : List (List Atom × Pair)) (n n' : ℕ) (all : FillResult) → Some d ≡ slice_get ds i
     → has_room es d.0 ≡ false → n' ≡ n + (length d.0 - 1) → all ≡ filled es n (drop i ds) → Full n' ≡ all
 fill_full ds i d es n n' all h r g f = rw g (fill_stops ds i d es n all h r f)
 

@@ -40,19 +40,19 @@ abbrev pub has_room : List (List Atom × Pair) → List Atom → Bool
 has_room es k = is_some (find_pair k es) || nat_lt (length es) most_elements
 
 -- pairs with others stored one by one, and the steps of their keys; or the steps up to the key for which there is no room
-pub data Filled : Type 0 where
-  Whole : List (List Atom × Pair) → ℕ → Filled
-  Full : ℕ → Filled
+pub data FillResult : Type 0 where
+  Whole : List (List Atom × Pair) → ℕ → FillResult
+  Full : ℕ → FillResult
 
-abbrev pub filled : List (List Atom × Pair) → ℕ → List (List Atom × Pair) → Filled
+abbrev pub filled : List (List Atom × Pair) → ℕ → List (List Atom × Pair) → FillResult
 filled es n [] = Whole es n
 filled es n (d ∷ ds) = if has_room es d.0 then filled (stored es d) (n + (length d.0 - 1)) ds else Full (n + (length d.0 - 1))
 
-abbrev pub filled_by : Fill → List (List Atom × Pair) → Filled
+abbrev pub filled_by : Fill → List (List Atom × Pair) → FillResult
 filled_by (fill.Whole n) es = Whole es n
 filled_by (fill.Full n) es = Full n
 
-abbrev pub updated : ObjId → Filled → Product
+abbrev pub updated : ObjId → FillResult → Product
 updated id (Whole es n) = plain (Put id (change.Whole (obj.Dict es)) val.None n)
 updated id (Full n) = failed MemoryError (codes "sequence too long") n
 

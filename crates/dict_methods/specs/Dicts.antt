@@ -11,7 +11,7 @@ use Rattle.py_values.specs.declared.builtin.DictMethod.{DictMethod}
 use Rattle.py_values.specs.declared.builtin.DictMethod.TheVariants as method
 use Rattle.py_values.specs.declared.change.Change.TheVariants as change
 use Rattle.py_values.specs.declared.dict.Pair.{Pair}
-use Rattle.py_values.specs.declared.end.Effect.TheVariants.{New, Put}
+use Rattle.py_values.specs.declared.end.Effect.TheVariants.{Put}
 use Rattle.py_values.specs.declared.key.Atom.{Atom}
 use Rattle.py_values.specs.declared.object.Obj.{Obj}
 use Rattle.py_values.specs.declared.object.Obj.TheVariants as obj
@@ -77,11 +77,3 @@ by_dict heap which id _ args named = wrong (dict_method_name which) 0
 -- A METHOD OF A DICT, read through an object
 unfoldable pub dict_method_of : List Obj → DictMethod → ObjId → List Value → List (List ℕ × Value) → Product
 dict_method_of heap which id args named = by_dict heap which id (slice_get heap id.at) args named
-
--- `dict()` and `dict(d)`
-abbrev pub copy_or_wrong : Option (List (List Atom × Pair)) → Product
-copy_or_wrong (Some es) = copy_made es 0
-copy_or_wrong None = wrong (codes "dict") 0
-
-abbrev pub dict_of : List Obj → List Value → List (List ℕ × Value) → Product
-dict_of heap args named = if has_none args named then plain (New (obj.Dict []) 0) else copy_or_wrong (dict_in heap (sole args named))

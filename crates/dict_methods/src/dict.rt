@@ -66,7 +66,7 @@ fn values_alone(alloc: Global, dict: &Dict, alone: bool) -> Result<Product, OutO
 }
 
 /// The dict that a value is.
-fn dict_in(heap: &Heap, v: Option<Value>) -> Option<&Dict>
+pub fn dict_in(heap: &Heap, v: Option<Value>) -> Option<&Dict>
     ensures { option_copied result ≡ dicts.dict_in heap.now v }
 {
     let Some(Value::Ref(id)) = v else {
@@ -143,23 +143,5 @@ pub fn dict_method(
     match heap.get(id) {
         Some(Obj::Dict(dict)) => dict_called(alloc, heap, which, id, dict, args, named),
         _ => wrong(alloc, dict_method_name(which), 0),
-    }
-}
-
-/// A call of `dict` (Python library reference, mapping types): an empty dict, or a copy of one.
-pub fn dict(
-    alloc: Global,
-    heap: &Heap,
-    args: &[Value],
-    named: &[(PyText, Value)],
-) -> Result<Product, OutOfMemory>
-    ensures { IfOk result (λ p. p ≡ dicts.dict_of heap.now args.now named.now) }
-{
-    if has_none(args, named) {
-        return Ok(plain(alloc, Effect::New(Obj::Dict(Dict::new(alloc)), 0)));
-    }
-    match dict_in(heap, sole(args, named)) {
-        Some(other) => copy_made(alloc, other, 0),
-        None => wrong(alloc, "dict", 0),
     }
 }

@@ -1,14 +1,13 @@
-//! The methods of dicts and the call of `dict`, with their cost: `clear`, `copy`, `get`, `items`, `keys`, `pop`, `setdefault`, `update` and
-//! `values`.
+//! The methods of dicts, with their cost: `clear`, `copy`, `get`, `items`, `keys`, `pop`, `setdefault`, `update` and `values`.
 //!
 //! # What it is for
 //!
-//! What a call makes is a function of the heap, the dict and the arguments that knows no budget (`dict_method_of`, `dict_of`). Where
+//! What a call makes is a function of the heap, the dict and the arguments that knows no budget (`dict_method_of`). Where
 //! Python gives a view, here it is a list.
 //!
 //! # What is proved
 //!
-//! - `dict_method` and `dict` give exactly the product that the definitions say: the value, the change of the dict, its new objects, its
+//! - [`dict::dict_method`] gives exactly the product that its definition says: the value, the change of the dict, its new objects, its
 //!   cost, or the raise with class, text (or the key) and cost.
 //! - `get`, `pop`, `setdefault` and `clear` cost what the use of their key costs; the others cost the dict's length, also where they raise,
 //!   and the length of what they give. A copy uses each key once, `update` those of the other dict.

@@ -6,9 +6,9 @@ use Rattle.edge_io.specs.declared.files.LoadFault.TheVariants as load
 use Rattle.edge_io.specs.Files.{TreeLimit, ManyFiles, LargeFile, LargeTree}
 
 -- a tree's answer, handed on
-abbrev pub fault_of : TreeFail → LoadFault
-fault_of tree.Failed = load.Tree
-fault_of tree.OutOfMemory = load.OutOfMemory
+abbrev pub load_fault : TreeFail → LoadFault
+load_fault tree.Failed = load.Tree
+load_fault tree.OutOfMemory = load.OutOfMemory
 
 -- the limit of which a fault tells
 abbrev pub limit_of : LoadFault → Option TreeLimit

@@ -36,9 +36,9 @@ pub enum LoadFault {
 
 impl From<TreeFail> for LoadFault {
     ghost use Rattle.std.specs.Prelude.{◌≡◌};
-    ghost use Rattle.edge_io.specs.LoadFaults.{fault_of};
+    ghost use Rattle.edge_io.specs.LoadFaults.{load_fault};
 
-    ghost from_gives = { λ e f. f ≡ fault_of e };
+    ghost from_gives = { λ e f. f ≡ load_fault e };
 
     fn from(e: TreeFail) -> LoadFault {
         match e {

@@ -22,46 +22,46 @@ use Rattle.source_meaning.specs.py_kinds.Kinds.{kind_name}
 use Rattle.source_meaning.specs.call_products.declared.product.Product.{Product}
 use Rattle.source_meaning.specs.pytest_calls.Marks.{mark_called}
 use Rattle.py_values.specs.Names.{bind_name}
-use Rattle.source_meaning.specs.py_calls.Called.{Called}
+use Rattle.source_meaning.specs.py_calls.Called.{CallEffect}
 use Rattle.source_meaning.specs.py_calls.Calls.{called_of}
 use Rattle.source_meaning.specs.py_world.declared.trace.TraceFrame.{TraceFrame}
-use Rattle.source_meaning.specs.py_world.World.{CallState, Stored, Locals, state, heap_of, unset, with_heap, with_objects, with_print}
+use Rattle.source_meaning.specs.py_world.World.{CallState, FunctionCode, Locals, state, heap_of, unset, with_heap, with_objects, with_print}
 use Rattle.source_meaning.specs.py_world.Site.{Around, Own, InModule, InFunction, InClass, Scene, Site, site, trace_of}
 use Rattle.source_meaning.specs.py_world.Arguments.{Arguments, with_plain}
 use Rattle.source_meaning.specs.py_world.Names.{bound, bound_by, bound_global, bound_local, bound_class}
 use Rattle.source_meaning.specs.py_world.Outcome.{Outcome, Rest, Continuation, Denotation, After, Body, Request, onward, gave_in, raised, product_end, on_next, on_turn}
-use Rattle.source_meaning.specs.py_world.Statements.{IfClause, asked, expression_statement, return_value, yield_value, pass, leave_loop, next_turn, assertion, fail, branches_on, choose, loop, turn_of}
+use Rattle.source_meaning.specs.py_world.Statements.{IfClause, asked, expression_statement, return_value, yield_value, pass_statement, leave_loop, next_turn, assertion, fail, branches_on, choose, loop, while_turn}
 use Rattle.source_meaning.specs.py_world.Calls.{Meaning, Entry, most_open, argument_error, not_callable, too_deep, arguments_for, function_of_object, class_takes, new_instance, init_of, init_end, scene_of, entered, function_called, function_with, builtin_called, mark_or, class_or, called_or, init_object, init_called, instance_made, class_called, value_called, invoke, body_of}
 use Rattle.source_meaning.specs.Requests.{Function, Script, SourceLayer, SourceTurn}
 use Rattle.explain_law.specs.Choices as alike
-use Rattle.explain_law.specs.Choices.{Choices, K, J, worlds, StatesAlike, states, EndsAlike, gave, next, returned, broke, continued, SpentAlike, out, PausedAlike, stops, RequestsAlike, calls, does, CodesAlike, CodesAt, ScriptsAt, LayersAt, TurnsAt, FailedApart, stored_with}
+use Rattle.explain_law.specs.Choices.{Choices, K, J, worlds, StatesByChoice, states, EndsByChoice, gave, next, returned, broke, continued, SpentByChoice, out, PausedByChoice, stops, RequestsByChoice, calls, does, CodesByChoice, CodesAt, ScriptsAt, LayersAt, TurnsAt, FailedApart, stored_with}
 use Rattle.explain_law.proofs.Parts as part
 
 module _ (R : Choices) where
   -- one more code
-  pub codes_more : {cs : List (Stored K.code)} {ds : List (Stored J.code)} → CodesAlike R cs ds → (path : List ℕ) (home : ℕ) (c : K.code) (d : J.code) → CodesAt R path c d → CodesAlike R (cs ++ stored_with path home c ∷ []) (ds ++ stored_with path home d ∷ [])
+  pub codes_more : {cs : List (FunctionCode K.code)} {ds : List (FunctionCode J.code)} → CodesByChoice R cs ds → (path : List ℕ) (home : ℕ) (c : K.code) (d : J.code) → CodesAt R path c d → CodesByChoice R (cs ++ stored_with path home c ∷ []) (ds ++ stored_with path home d ∷ [])
   codes_more alike.none path home c d h = alike.more path home h alike.none
   codes_more (alike.more p i x xs) path home c d h = alike.more p i x (codes_more xs path home c d h)
 
-  pub codes_length : {cs : List (Stored K.code)} {ds : List (Stored J.code)} → CodesAlike R cs ds → length cs ≡ length ds
+  pub codes_length : {cs : List (FunctionCode K.code)} {ds : List (FunctionCode J.code)} → CodesByChoice R cs ds → length cs ≡ length ds
   codes_length alike.none = refl
   codes_length (alike.more p i x xs) = ap suc (codes_length xs)
 
   -- the same code, or none
-  pub data FoundAlike : Option (Stored K.code) → Option (Stored J.code) → Type 0 where
+  pub data FoundAlike : Option (FunctionCode K.code) → Option (FunctionCode J.code) → Type 0 where
     absent : FoundAlike None None
     present : (path : List ℕ) (home : ℕ) {c : K.code} {d : J.code} → CodesAt R path c d → FoundAlike (Some (stored_with path home c)) (Some (stored_with path home d))
 
-  pub found : {cs : List (Stored K.code)} {ds : List (Stored J.code)} → CodesAlike R cs ds → (n : ℕ) → FoundAlike (slice_get cs n) (slice_get ds n)
+  pub found : {cs : List (FunctionCode K.code)} {ds : List (FunctionCode J.code)} → CodesByChoice R cs ds → (n : ℕ) → FoundAlike (slice_get cs n) (slice_get ds n)
   found alike.none n = absent
   found (alike.more p i x xs) zero = present p i x
   found (alike.more p i x xs) (suc n) = found xs n
 
   abbrev States : CallState K → CallState J → Type 0
-  States = StatesAlike R false
+  States = StatesByChoice R false
 
   abbrev Ends : Outcome K → Outcome J → Type 0
-  Ends = EndsAlike R false
+  Ends = EndsByChoice R false
 
   abbrev Follow : Rest K → Rest J → Type 0
   Follow = part.Follow R false
@@ -138,7 +138,7 @@ module _ (R : Choices) where
   yield_same part.absent rest = record { does = λ p is ss k l h. until.freeze (stops val.None p (rest_here is rest) ss) }
   yield_same (part.present x) rest = record { does = λ p is ss k l h. x.does p ss _ _ (λ o q n. part.value_same R false n k l h _ _ (λ v s r ss. until.freeze (stops v p (rest_here is rest) ss))) }
 
-  pub pass_same : PartSame pass pass
+  pub pass_same : PartSame pass_statement pass_statement
   pass_same = record { does = λ p ss k l h. h _ _ (next ss) }
 
   pub leave_same : PartSame leave_loop leave_loop
@@ -160,7 +160,7 @@ module _ (R : Choices) where
   pub loop_same : {path : List ℕ} {what other : SourceTurn} → TurnsAt R path what other → {e : Denotation K} {f : Denotation J} → PartSame e f → PartAt path (loop what e) (loop other f)
   loop_same turn x = record { does = λ p is ss k l h. x.does p ss _ _ (λ o q n. part.value_same R false n k l h _ _ (λ v s r ss. part.truth_same R false v ss _ _ _ _ (asked_same p (turn_here is turn) ss k l h) (h _ _ (next ss)))) }
 
-  pub turn_of_same : {path : List ℕ} {what other : SourceTurn} → TurnsAt R path what other → {e : Denotation K} {f : Denotation J} {b : Body K} {c : Body J} → PartSame e f → BodySame path b c → PartAt path (turn_of what e b) (turn_of other f c)
+  pub turn_of_same : {path : List ℕ} {what other : SourceTurn} → TurnsAt R path what other → {e : Denotation K} {f : Denotation J} {b : Body K} {c : Body J} → PartSame e f → BodySame path b c → PartAt path (while_turn what e b) (while_turn other f c)
   turn_of_same turn x b = record { does = λ p is ss k l h. b.does p.scene is ss _ _ (λ o q n. turn_same n k l h _ _ (λ s r ss. (loop_same turn x).does p is ss k l h)) }
 
   pub data ChoicesSame (path : List ℕ) : List (IfClause K) → List (IfClause J) → Type 0 where
@@ -236,24 +236,24 @@ module _ (R : Choices) where
         }
     entered_by path x home (Err r) a = record { does = λ ss k l h. (raise_same r a.trace).does ss k l h }
 
-    function_same : {c : Option (Stored K.code)} {d : Option (Stored J.code)} → FoundAlike c d → (f : FunctionObj) (e : Raise) (args : Arguments) (a : Around) → CallSame (function_called entry c f e args a) (function_called other d f e args a)
+    function_same : {c : Option (FunctionCode K.code)} {d : Option (FunctionCode J.code)} → FoundAlike c d → (f : FunctionObj) (e : Raise) (args : Arguments) (a : Around) → CallSame (function_called entry c f e args a) (function_called other d f e args a)
     function_same absent f e args a = record { does = λ ss k l h. (raise_same e a.trace).does ss k l h }
     function_same (present path home x) f e args a = record { does = λ ss k l h. (entered_by path x home (arguments_for f args) a).does ss k l h }
 
-    builtin_same : (c : Called) (a : Around) → CallSame (builtin_called entry c a) (builtin_called other c a)
+    builtin_same : (c : CallEffect) (a : Around) → CallSame (builtin_called entry c a) (builtin_called other c a)
     builtin_same c a =
-        record { does = λ ss k l h. spend_all_same (SpentAlike R) (RequestsAlike R) (EndsAlike R false) (PausedAlike R) (FailedApart R) (cost_of c.product.made) _ _ _ _ (out a.trace ss) (h _ _ (product_same c.product a.trace (printed_same c.printed ss))) }
+        record { does = λ ss k l h. spend_all_same (SpentByChoice R) (RequestsByChoice R) (EndsByChoice R false) (PausedByChoice R) (FailedApart R) (cost_of c.product.made) _ _ _ _ (out a.trace ss) (h _ _ (product_same c.product a.trace (printed_same c.printed ss))) }
 
     mark_same : (called : Bool) (x : Product) (e : Raise) (a : Around) → CallSame (mark_or entry called x e a) (mark_or other called x e a)
     mark_same true x e a = record { does = λ ss k l h. (raise_same e a.trace).does ss k l h }
     mark_same false x e a =
-        record { does = λ ss k l h. spend_all_same (SpentAlike R) (RequestsAlike R) (EndsAlike R false) (PausedAlike R) (FailedApart R) (cost_of x.made) _ _ _ _ (out a.trace ss) (h _ _ (product_same x a.trace ss)) }
+        record { does = λ ss k l h. spend_all_same (SpentByChoice R) (RequestsByChoice R) (EndsByChoice R false) (PausedByChoice R) (FailedApart R) (cost_of x.made) _ _ _ _ (out a.trace ss) (h _ _ (product_same x a.trace ss)) }
 
     mark_here : (called : Bool) (x : List Obj → Product) (e : Raise) (a : Around) {s : CallState K} {r : CallState J} → States s r → (k : Continuation K) (l : Continuation J) → Behind k l → Follow (mark_or entry called (x (heap_of s)) e a s k) (mark_or other called (x (heap_of r)) e a r l)
     mark_here called x e a (states b t (worlds xs ys zs modules heap printed traces)) k l h = (mark_same called (x heap) e a).does (states b t (worlds xs ys zs modules heap printed traces)) k l h
 
     -- what is called depends on the heap and the codes, which are alike
-    builtin_here : (c : List Obj → Called) (a : Around) {s : CallState K} {r : CallState J} → States s r → (k : Continuation K) (l : Continuation J) → Behind k l → Follow (builtin_called entry (c (heap_of s)) a s k) (builtin_called other (c (heap_of r)) a r l)
+    builtin_here : (c : List Obj → CallEffect) (a : Around) {s : CallState K} {r : CallState J} → States s r → (k : Continuation K) (l : Continuation J) → Behind k l → Follow (builtin_called entry (c (heap_of s)) a s k) (builtin_called other (c (heap_of r)) a r l)
     builtin_here c a (states b t (worlds xs ys zs modules heap printed traces)) k l h = (builtin_same (c heap) a).does (states b t (worlds xs ys zs modules heap printed traces)) k l h
 
     function_here : (f : FunctionObj) (e : Raise) (args : Arguments) (a : Around) {s : CallState K} {r : CallState J} → States s r → (k : Continuation K) (l : Continuation J) → Behind k l → Follow (function_called entry (slice_get s.world.codes f.code) f e args a s k) (function_called other (slice_get r.world.codes f.code) f e args a r l)
@@ -341,6 +341,6 @@ module _ (R : Choices) where
     invoke_same callee args a = record { does = λ ss k l h. invoke_here callee args a ss k l h }
 
   module _ (m : Meaning K) (n : Meaning J) (same : MeaningsSame m n) where
-    pub body_same : (r : Request K) (q : Request J) → RequestsAlike R r q → (k : Continuation K) (l : Continuation J) → Behind k l → Follow (body_of m r k) (body_of n q l)
+    pub body_same : (r : Request K) (q : Request J) → RequestsByChoice R r q → (k : Continuation K) (l : Continuation J) → Behind k l → Follow (body_of m r k) (body_of n q l)
     body_same _ _ (calls callee args a ss) k l h = (invoke_same m.entry n.entry same.entries callee args a).does ss k l h
     body_same _ _ (does p turn ss) k l h = same.acts _ _ p turn _ _ ss k l h

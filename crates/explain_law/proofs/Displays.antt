@@ -15,15 +15,15 @@ use Rattle.source_meaning.specs.py_world.Outcome.{Outcome, Rest, Continuation, D
 use Rattle.source_meaning.specs.py_world.Expressions.{arguments}
 use Rattle.source_meaning.specs.py_world.Displays.{displayed, dict_displayed, in_pairs, bound_given, collected, list_part, tuple_part, dict_part, subscript_part, slice_bound, sliced_at, slice_by, slice_to, slice_on, slice_part}
 use Rattle.source_meaning.specs.py_world.Attributes.{attribute_end, attribute_part}
-use Rattle.explain_law.specs.Choices.{Choices, K, J, worlds, StatesAlike, states, EndsAlike}
+use Rattle.explain_law.specs.Choices.{Choices, K, J, worlds, StatesByChoice, states, EndsByChoice}
 use Rattle.explain_law.proofs.Parts as part
 
 module _ (R : Choices) (m : Bool) where
   abbrev States : CallState K → CallState J → Type 0
-  States = StatesAlike R m
+  States = StatesByChoice R m
 
   abbrev Ends : Outcome K → Outcome J → Type 0
-  Ends = EndsAlike R m
+  Ends = EndsByChoice R m
 
   abbrev Follow : Rest K → Rest J → Type 0
   Follow = part.Follow R m

@@ -38,17 +38,17 @@ use Rattle.source_meaning.specs.py_world.Contexts.{bad_context, context_of, info
 use Rattle.source_meaning.specs.py_world.Loops.{turn_begun, for_from, iterated, for_statement, behind_target, turn_with, for_turn}
 use Rattle.source_meaning.specs.Requests.{SourceTurn}
 use Rattle.explain_law.specs.Choices as alike
-use Rattle.explain_law.specs.Choices.{Choices, K, J, worlds, StatesAlike, states, EndsAlike, TurnsAt, gave, next, returned, broke, continued}
+use Rattle.explain_law.specs.Choices.{Choices, K, J, worlds, StatesByChoice, states, EndsByChoice, TurnsAt, gave, next, returned, broke, continued}
 use Rattle.explain_law.proofs.Parts as part
 use Rattle.explain_law.proofs.Blocks as block
 use Rattle.explain_law.proofs.Displays as displays
 
 module _ (R : Choices) where
   abbrev States : CallState K → CallState J → Type 0
-  States = StatesAlike R false
+  States = StatesByChoice R false
 
   abbrev Ends : Outcome K → Outcome J → Type 0
-  Ends = EndsAlike R false
+  Ends = EndsByChoice R false
 
   abbrev Follow : Rest K → Rest J → Type 0
   Follow = part.Follow R false

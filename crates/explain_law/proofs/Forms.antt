@@ -18,12 +18,12 @@ use Rattle.source_meaning.specs.py_world.Explained.{kept_count, kept_count_all, 
 use Rattle.source_meaning.specs.py_world.Outcome.{Denotation, Continuation}
 use Rattle.source_meaning.specs.py_world.Statements.{assertion, fail, fail_explained, failed_with}
 use Rattle.source_meaning.specs.Requests.{Use, NoUse, Targets, ReturnIt, SourceLayer, SourceTurn, Script, Function}
-use Rattle.source_meaning.specs.Expressions.{eval, parts, some_part}
+use Rattle.source_meaning.specs.Expressions.{source_eval, source_parts, some_source_part}
 use Rattle.source_meaning.specs.Watched.{watch, watch_all}
 use Rattle.source_meaning.specs.Statements.{position, store_place, store_places, source_store, source_stores, source_use, augment, delete, source_assert, assert_as, statements_listed, source_sequence, source_block_body as block_of, source_handlings, source_remains, source_choices, source_entry, script_body, source_written, with_part, default_parts, source_statement, source_act}
 use Rattle.source_meaning.specs.Meaning.{source_semantics}
 use Rattle.explain_law.specs.Until as until
-use Rattle.explain_law.specs.Choices.{Choices, K, J, worlds, world_with, StatesAlike, states, EndsAlike, next, LayersAt, no_layer, statements_at, guard_at, receives_at, TurnsAt, statement_at, turn_at, for_at, CodesAt, code_at, ScriptsAt, script_at, plain_first, explained_first}
+use Rattle.explain_law.specs.Choices.{Choices, K, J, worlds, world_with, StatesByChoice, states, EndsByChoice, next, LayersAt, no_layer, statements_at, guard_at, receives_at, TurnsAt, statement_at, turn_at, for_at, CodesAt, code_at, ScriptsAt, script_at, plain_first, explained_first}
 use Rattle.explain_law.proofs.Parts as part
 use Rattle.explain_law.proofs.Displays as displays
 use Rattle.explain_law.proofs.Blocks as block
@@ -33,7 +33,7 @@ use Rattle.explain_law.proofs.Loads as loads
 
 module _ (R : Choices) where
   mutual
-    eval_same : (m : Bool) (e : Tree) → part.PartSame R m (eval e) (eval e)
+    eval_same : (m : Bool) (e : Tree) → part.PartSame R m (source_eval e) (source_eval e)
     eval_same m (t.Name at name) = part.noted_same R m at (part.name_same R m name)
     eval_same m (t.Number at n) = part.noted_same R m at (part.constant_same R m (val.Int n))
     eval_same m (t.Text at text) = part.noted_same R m at (part.text_same R m text)
@@ -56,11 +56,11 @@ module _ (R : Choices) where
     eval_same m (t.Subscript at e i) = part.noted_same R m at (displays.subscript_same R m (eval_same m e) (eval_same m i))
     eval_same m (t.Slice at e from to by) = part.noted_same R m at (displays.slice_same R m (eval_same m e) (some_same m from) (some_same m to) (some_same m by))
 
-    parts_same : (m : Bool) (es : Trees) → part.PartsSame R m (parts es) (parts es)
+    parts_same : (m : Bool) (es : Trees) → part.PartsSame R m (source_parts es) (source_parts es)
     parts_same m Empty = part.none
     parts_same m (More before e) = part.parts_push R m (parts_same m before) (eval_same m e)
 
-    some_same : (m : Bool) (e : Maybe) → part.SomeSame R m (some_part e) (some_part e)
+    some_same : (m : Bool) (e : Maybe) → part.SomeSame R m (some_source_part e) (some_source_part e)
     some_same m Absent = part.absent
     some_same m (Present e) = part.present (eval_same m e)
 
@@ -95,7 +95,7 @@ module _ (R : Choices) where
 
   -- one whose parts are kept under the second choice alone
   mutual
-    second_watch : (n : ℕ) (e : Tree) → part.PartSame R false (eval e) (watch n e)
+    second_watch : (n : ℕ) (e : Tree) → part.PartSame R false (source_eval e) (watch n e)
     second_watch n (t.Paren at e) = part.noted_same R false at (second_watch n e)
     second_watch n (t.Call at f args names) = part.second_kept R n (part.noted_same R false at (part.call_same R false (arguments_of names) (second_watch (suc n) f) (second_each (suc n + kept_count f) args)))
     second_watch n (t.Unary at op e) = part.noted_same R false at (part.unary_same R false op (second_watch n e))
@@ -118,13 +118,13 @@ module _ (R : Choices) where
     second_watch n (t.Slice at e from to by) = part.second_kept R n (eval_same false (t.Slice at e from to by))
     second_watch n (t.IfElse at e c o) = part.second_kept R n (eval_same false (t.IfElse at e c o))
 
-    second_each : (n : ℕ) (es : Trees) → part.PartsSame R false (parts es) (watch_all n es)
+    second_each : (n : ℕ) (es : Trees) → part.PartsSame R false (source_parts es) (watch_all n es)
     second_each n Empty = part.none
     second_each n (More before e) = part.parts_push R false (second_each n before) (second_watch (n + kept_count_all before) e)
 
   -- one whose parts are kept under the first choice alone
   mutual
-    first_watch : (n : ℕ) (e : Tree) → part.PartSame R false (watch n e) (eval e)
+    first_watch : (n : ℕ) (e : Tree) → part.PartSame R false (watch n e) (source_eval e)
     first_watch n (t.Paren at e) = part.noted_same R false at (first_watch n e)
     first_watch n (t.Call at f args names) = part.first_kept R n (part.noted_same R false at (part.call_same R false (arguments_of names) (first_watch (suc n) f) (first_each (suc n + kept_count f) args)))
     first_watch n (t.Unary at op e) = part.noted_same R false at (part.unary_same R false op (first_watch n e))
@@ -147,7 +147,7 @@ module _ (R : Choices) where
     first_watch n (t.Slice at e from to by) = part.first_kept R n (eval_same false (t.Slice at e from to by))
     first_watch n (t.IfElse at e c o) = part.first_kept R n (eval_same false (t.IfElse at e c o))
 
-    first_each : (n : ℕ) (es : Trees) → part.PartsSame R false (watch_all n es) (parts es)
+    first_each : (n : ℕ) (es : Trees) → part.PartsSame R false (watch_all n es) (source_parts es)
     first_each n Empty = part.none
     first_each n (More before e) = part.parts_push R false (first_each n before) (first_watch (n + kept_count_all before) e)
 
@@ -155,26 +155,26 @@ module _ (R : Choices) where
   tight : {k : Continuation K} {l : Continuation J} → part.Behind R false k l → part.Behind R true k l
   tight h o q n = h o q (part.loosen_end R true n)
 
-  unset_tight : {s : CallState K} {r : CallState J} → StatesAlike R false s r → StatesAlike R true (unset s) (unset r)
+  unset_tight : {s : CallState K} {r : CallState J} → StatesByChoice R false s r → StatesByChoice R true (unset s) (unset r)
   unset_tight (states a t ws) = states a (part.none_kept true) ws
 
-  failed_same : (e : Tree) (v : Option Value) (p : Site) {s : CallState K} {r : CallState J} → StatesAlike R true s r → EndsAlike R true (failed_with (explanation e s.temps v (heap_of s)) p s) (failed_with (explanation e r.temps v (heap_of r)) p r)
+  failed_same : (e : Tree) (v : Option Value) (p : Site) {s : CallState K} {r : CallState J} → StatesByChoice R true s r → EndsByChoice R true (failed_with (explanation e s.temps v (heap_of s)) p s) (failed_with (explanation e r.temps v (heap_of r)) p r)
   failed_same e v p (states a t (worlds {ss = ss} {ts = ts} {cs = cs} {ds = ds} {fs = fs} {gs = gs} xs ys zs modules heap printed traces)) =
       subst
-      (λ (u : Temps). EndsAlike R true (failed_with (explanation e t.first v heap) p (state a t.first (world_with ss modules heap cs printed fs traces))) (failed_with (explanation e u v heap) p (state a t.second (world_with ts modules heap ds printed gs traces))))
+      (λ (u : Temps). EndsByChoice R true (failed_with (explanation e t.first v heap) p (state a t.first (world_with ss modules heap cs printed fs traces))) (failed_with (explanation e u v heap) p (state a t.second (world_with ts modules heap ds printed gs traces))))
       t.tied
       (part.raised_same R true (assertion (Some (val.Ref (id_at (length heap))))) (trace_of p) (states a t (worlds xs ys zs modules (heap ++ obj.Text (explanation e t.first v heap) ∷ []) printed traces)))
 
-  both_fail : (c : Tree) (m : Maybe) → part.PartSame R true (fail_explained c (some_part m)) (fail_explained c (some_part m))
+  both_fail : (c : Tree) (m : Maybe) → part.PartSame R true (fail_explained c (some_source_part m)) (fail_explained c (some_source_part m))
   both_fail c Absent = record { does = λ p ss k l h. h _ _ (failed_same c None p ss) }
   both_fail c (Present m) = record { does = λ p ss k l h. (eval_same true m).does p ss _ _ (λ o q n. part.value_same R true n k l h _ _ (λ v s r ss. h _ _ (failed_same c (Some v) p ss))) }
 
-  second_explains : (path : List ℕ) → R.first path ≡ false → R.second path ≡ true → (c : Tree) (m : Maybe) → block.PartAt R path (fail (some_part m)) (fail_explained c (some_part m))
+  second_explains : (path : List ℕ) → R.first path ≡ false → R.second path ≡ true → (c : Tree) (m : Maybe) → block.PartAt R path (fail (some_source_part m)) (fail_explained c (some_source_part m))
   second_explains path f g c Absent = record { does = λ p is ss k l h. until.part _ _ k l (plain_first p (ap R.first is ∙ f) (ap R.second is ∙ g) c None ss) h refl refl }
   second_explains path f g c (Present m) =
       record { does = λ p is ss k l h. (eval_same false m).does p ss _ _ (λ o q n. part.value_same R false n k l h _ _ (λ v s r ss. until.part _ _ k l (plain_first p (ap R.first is ∙ f) (ap R.second is ∙ g) c (Some v) ss) h refl refl)) }
 
-  first_explains : (path : List ℕ) → R.first path ≡ true → R.second path ≡ false → (c : Tree) (m : Maybe) → block.PartAt R path (fail_explained c (some_part m)) (fail (some_part m))
+  first_explains : (path : List ℕ) → R.first path ≡ true → R.second path ≡ false → (c : Tree) (m : Maybe) → block.PartAt R path (fail_explained c (some_source_part m)) (fail (some_source_part m))
   first_explains path f g c Absent = record { does = λ p is ss k l h. until.part _ _ k l (explained_first p (ap R.first is ∙ f) (ap R.second is ∙ g) c None ss) h refl refl }
   first_explains path f g c (Present m) =
       record { does = λ p is ss k l h. (eval_same false m).does p ss _ _ (λ o q n. part.value_same R false n k l h _ _ (λ v s r ss. until.part _ _ k l (explained_first p (ap R.first is ∙ f) (ap R.second is ∙ g) c (Some v) ss) h refl refl)) }
@@ -183,14 +183,14 @@ module _ (R : Choices) where
   assert_same : {path : List ℕ} {e f : Denotation K} {e' f' : Denotation J} → part.PartSame R false e e' → block.PartAt R path f f' → block.PartAt R path (source_assert e f) (source_assert e' f')
   assert_same x y = record { does = λ p is ss k l h. x.does p (block.unset_same R ss) _ _ (λ o q n. part.value_same R false n k l h _ _ (λ v s r ss. part.truth_same R false v ss _ _ _ _ (h _ _ (next ss)) (y.does p is ss k l h))) }
 
-  both_explain : {path : List ℕ} (e : Tree) (m : Maybe) → block.PartAt R path (source_assert (watch 0 e) (fail_explained e (some_part m))) (source_assert (watch 0 e) (fail_explained e (some_part m)))
+  both_explain : {path : List ℕ} (e : Tree) (m : Maybe) → block.PartAt R path (source_assert (watch 0 e) (fail_explained e (some_source_part m))) (source_assert (watch 0 e) (fail_explained e (some_source_part m)))
   both_explain e m =
       record {
         does = λ p is ss k l h. (watch_same 0 e).does p (unset_tight ss) _ _
             (λ o q n. part.value_same R true n k l (tight h) _ _ (λ v s r ss. part.truth_same R true v ss _ _ _ _ (h _ _ (next (part.loosen R true ss))) ((both_fail e m).does p ss k l (tight h))));
       }
 
-  assert_chosen : (path : List ℕ) (z y : Bool) → z ≡ R.first path → y ≡ R.second path → (e : Tree) (m : Maybe) → block.PartAt R path (assert_as z e (some_part m)) (assert_as y e (some_part m))
+  assert_chosen : (path : List ℕ) (z y : Bool) → z ≡ R.first path → y ≡ R.second path → (e : Tree) (m : Maybe) → block.PartAt R path (assert_as z e (some_source_part m)) (assert_as y e (some_source_part m))
   assert_chosen path false false f g e m = assert_same (eval_same false e) (block.at_each R (block.fail_same R (some_same false m)))
   assert_chosen path false true f g e m = assert_same (second_watch 0 e) (second_explains path (sym f) (sym g) e m)
   assert_chosen path true false f g e m = assert_same (first_watch 0 e) (first_explains path (sym f) (sym g) e m)
@@ -214,7 +214,7 @@ module _ (R : Choices) where
   takers_same [] = flow.none
   takers_same (x ∷ xs) = flow.more (taker_same x) (takers_same xs)
 
-  augment_same : (p : Place) (op : BinOp) (e : Tree) → part.PartSame R false (augment p op (eval e)) (augment p op (eval e))
+  augment_same : (p : Place) (op : BinOp) (e : Tree) → part.PartSame R false (augment p op (source_eval e)) (augment p op (source_eval e))
   augment_same (NamePlace at name) op e = flow.augment_same R name op (eval_same false e)
   augment_same (AttributePlace at a name) op e = flow.augment_attribute_same R name op (eval_same false a) (eval_same false e)
   augment_same (SubscriptPlace at a i) op e = flow.augment_item_same R op (eval_same false a) (eval_same false i) (eval_same false e)
@@ -302,7 +302,7 @@ module _ (R : Choices) where
   statement_same hl (st.With at e name body) = flow.with_same R name (eval_same false e) (block_same no_layer body)
   statement_same hl (st.Class at ds word name base body) = classes.class_same R (parts_same false ds) (some_same false base) name word.line (block_same no_layer body)
 
-  acts_at : (p : Site) {what turn : SourceTurn} → TurnsAt R p.scene.path what turn → (s : CallState K) (r : CallState J) → StatesAlike R false s r → (k : Continuation K) (l : Continuation J) → part.Behind R false k l → part.Follow R false (source_act what p s k) (source_act turn p r l)
+  acts_at : (p : Site) {what turn : SourceTurn} → TurnsAt R p.scene.path what turn → (s : CallState K) (r : CallState J) → StatesByChoice R false s r → (k : Continuation K) (l : Continuation J) → part.Behind R false k l → part.Follow R false (source_act what p s k) (source_act turn p r l)
   acts_at p (statement_at x hl) s r ss k l h = (statement_same hl x).does p refl ss k l h
   acts_at p (turn_at e b) s r ss k l h = (block.turn_of_same R (turn_at e b) (eval_same false e) (block_same no_layer b)).does p refl ss k l h
   acts_at p (for_at x b at) s r ss k l h = (flow.for_turn_same R (λ i. for_at x b i) (taker_same x) (block_same no_layer b) at).does p refl ss k l h

@@ -11,7 +11,7 @@ use Rattle.py_values.specs.declared.value.Value.TheVariants as val
 use Rattle.source_meaning.specs.py_kinds.Builtins.{pytest_module}
 use Rattle.source_meaning.specs.py_world.declared.load.Load.{Load}
 use Rattle.source_meaning.specs.py_world.declared.load.Load.TheVariants.{Running, Loaded, Failed}
-use Rattle.source_meaning.specs.py_world.World.{World, CallState, CodedSource, Coded, heap_of}
+use Rattle.source_meaning.specs.py_world.World.{World, CallState, CodedSource, CodeOrFault, heap_of}
 use Rattle.source_meaning.specs.py_world.Site.{Around, Site, trace_of, around_of}
 use Rattle.source_meaning.specs.py_world.Names.{bound}
 use Rattle.source_meaning.specs.py_world.Outcome.{Outcome, Rest, Continuation, Denotation, Body, on_value, raised_at}
@@ -19,7 +19,7 @@ use Rattle.source_meaning.specs.py_world.Runs.{load_at, source_at, coded, with_m
 use Rattle.source_meaning.specs.py_world.Imports.{source_paths, import_path, prefixes_behind, is_pytest, pytest_or, submodule, alias_name, import_name, name_of_module, no_module, not_imported, fault_in, faulty_by, faulty, import_end, submodule_or, module_at, modules_at, imported, import_statement, own_or_submodule, import_each, import_from}
 use Rattle.source_meaning.specs.Requests.{Script}
 use Rattle.explain_law.specs.Choices as alike
-use Rattle.explain_law.specs.Choices.{Choices, K, J, WorldsAlike, worlds, StatesAlike, states, EndsAlike, ScriptsAt, gave, next, returned, broke, continued, SourcesAlike, source_with}
+use Rattle.explain_law.specs.Choices.{Choices, K, J, WorldsByChoice, worlds, StatesByChoice, states, EndsByChoice, ScriptsAt, gave, next, returned, broke, continued, SourcesByChoice, source_with}
 use Rattle.explain_law.proofs.Parts as part
 use Rattle.explain_law.proofs.Blocks as block
 
@@ -41,10 +41,10 @@ same_name (x ∷ xs) (y ∷ ys) h =
 
 module _ (R : Choices) where
   abbrev States : CallState K → CallState J → Type 0
-  States = StatesAlike R false
+  States = StatesByChoice R false
 
   abbrev Ends : Outcome K → Outcome J → Type 0
-  Ends = EndsAlike R false
+  Ends = EndsByChoice R false
 
   abbrev Follow : Rest K → Rest J → Type 0
   Follow = part.Follow R false
@@ -66,16 +66,16 @@ module _ (R : Choices) where
     none : CodeFound path None None
     some : {b code : Script} → ScriptsAt R path b code → CodeFound path (Some b) (Some code)
 
-  coded_same : {x y : Coded Script} (path bytes : List ℕ) → alike.CodedAlike R path x y → CodeFound path (coded (Some (source_with path bytes x))) (coded (Some (source_with path bytes y)))
+  coded_same : {x y : CodeOrFault Script} (path bytes : List ℕ) → alike.CodedByChoice R path x y → CodeFound path (coded (Some (source_with path bytes x))) (coded (Some (source_with path bytes y)))
   coded_same path bytes (alike.code h) = some h
   coded_same path bytes (alike.fault f) = none
 
-  code_by : (b : Bool) (path at bytes : List ℕ) {x y : Coded Script} (xs ys : Option (CodedSource Script)) → name_eq path at ≡ b → alike.CodedAlike R at x y → CodeFound path (coded xs) (coded ys) → CodeFound path (coded (cond b (Some (source_with at bytes x)) xs)) (coded (cond b (Some (source_with at bytes y)) ys))
+  code_by : (b : Bool) (path at bytes : List ℕ) {x y : CodeOrFault Script} (xs ys : Option (CodedSource Script)) → name_eq path at ≡ b → alike.CodedByChoice R at x y → CodeFound path (coded xs) (coded ys) → CodeFound path (coded (cond b (Some (source_with at bytes x)) xs)) (coded (cond b (Some (source_with at bytes y)) ys))
   code_by true path at bytes {x = x} {y = y} xs ys e h g =
       subst (λ q. CodeFound q (coded (Some (source_with at bytes x))) (coded (Some (source_with at bytes y)))) (sym (same_name path at e)) (coded_same at bytes h)
   code_by false path at bytes xs ys e h g = g
 
-  pub code_found : (path : List ℕ) {xs ys : List (CodedSource Script)} → SourcesAlike R xs ys → CodeFound path (coded (source_at path xs)) (coded (source_at path ys))
+  pub code_found : (path : List ℕ) {xs ys : List (CodedSource Script)} → SourcesByChoice R xs ys → CodeFound path (coded (source_at path xs)) (coded (source_at path ys))
   code_found path alike.none = none
   code_found path (alike.more at bytes h hs) = code_by (name_eq path at) path at bytes _ _ refl h (code_found path hs)
 
@@ -84,11 +84,11 @@ module _ (R : Choices) where
   fault_cond true x x' y y' h g = h
   fault_cond false x x' y y' h g = g
 
-  fault_same : {x y : Coded Script} (path : List ℕ) → alike.CodedAlike R path x y → (bytes : List ℕ) → fault_in (Some (source_with path bytes x)) ≡ fault_in (Some (source_with path bytes y))
+  fault_same : {x y : CodeOrFault Script} (path : List ℕ) → alike.CodedByChoice R path x y → (bytes : List ℕ) → fault_in (Some (source_with path bytes x)) ≡ fault_in (Some (source_with path bytes y))
   fault_same path (alike.code h) bytes = refl
   fault_same path (alike.fault f) bytes = refl
 
-  fault_found : (path : List ℕ) {xs : List (CodedSource Script)} {ys : List (CodedSource Script)} → SourcesAlike R xs ys → fault_in (source_at path xs) ≡ fault_in (source_at path ys)
+  fault_found : (path : List ℕ) {xs : List (CodedSource Script)} {ys : List (CodedSource Script)} → SourcesByChoice R xs ys → fault_in (source_at path xs) ≡ fault_in (source_at path ys)
   fault_found path alike.none = refl
   fault_found path (alike.more at bytes h hs) = fault_cond (name_eq path at) _ _ _ _ (fault_same at h bytes) (fault_found path hs)
 
@@ -96,7 +96,7 @@ module _ (R : Choices) where
   fault_here path (states a t (worlds xs ys zs modules heap printed traces)) = fault_found path xs
 
   -- the same paths
-  paths_same : {xs : List (CodedSource Script)} {ys : List (CodedSource Script)} → SourcesAlike R xs ys → source_paths xs ≡ source_paths ys
+  paths_same : {xs : List (CodedSource Script)} {ys : List (CodedSource Script)} → SourcesByChoice R xs ys → source_paths xs ≡ source_paths ys
   paths_same alike.none = refl
   paths_same (alike.more at bytes h hs) = ap (λ paths. at ∷ paths) (paths_same hs)
 
@@ -127,7 +127,7 @@ module _ (R : Choices) where
 
   -- sources that do the same
   module _ (body : Script → Body K) (other : Script → Body J) (same : (path : List ℕ) (b code : Script) → ScriptsAt R path b code → block.BodySame R path (body b) (other code)) where
-    pub executed_same : (path : List ℕ) (b code : Script) → ScriptsAt R path b code → (a : Around) {w : World K} {z : World J} → WorldsAlike R w z → (k : Continuation K) (l : Continuation J) → Behind k l → Follow (executed body path b a w k) (executed other path code a z l)
+    pub executed_same : (path : List ℕ) (b code : Script) → ScriptsAt R path b code → (a : Around) {w : World K} {z : World J} → WorldsByChoice R w z → (k : Continuation K) (l : Continuation J) → Behind k l → Follow (executed body path b a w k) (executed other path code a z l)
     executed_same path b code h a (worlds xs ys zs modules heap printed traces) k l g =
         (same path b code h).does (module_scene path (length (naming_heap path heap)) a) refl (states [] (part.none_kept false) (worlds xs ys zs _ _ printed traces)) _ _ (λ o q n. g _ _ (module_end_same path (length (naming_heap path heap)) n))
 

@@ -30,7 +30,7 @@ use Rattle.source_meaning.specs.py_world.Outcome.{Outcome, Gave, Rest, Continuat
 use Rattle.source_meaning.specs.py_world.Names.{value_of_name, name_end}
 use Rattle.source_meaning.specs.py_world.Expressions.{noted, constant, kept_part, name_part, text_part, unary_part, binary_part, compared, compare_on, compare_part, not_part, and_on, and_part, or_on, or_part, choice_part, called, call_on, call_part}
 use Rattle.explain_law.specs.Choices as alike
-use Rattle.explain_law.specs.Choices.{Choices, K, J, worlds, StatesAlike, states, TwoTemps, Tied, EndsAlike, FailedApart, gave, next, returned, broke, continued, SpentAlike, out, PausedAlike, RequestsAlike, calls, does}
+use Rattle.explain_law.specs.Choices.{Choices, K, J, worlds, StatesByChoice, states, TwoTemps, Tied, EndsByChoice, FailedApart, gave, next, returned, broke, continued, SpentByChoice, out, PausedByChoice, RequestsByChoice, calls, does}
 
 set_tied : (m : Bool) (i : ℕ) (v : Value) (t u : Temps) → Tied m t u → Tied m (set_at i v t) (set_at i v u)
 set_tied true i v t u h = ap (set_at i v) h
@@ -46,19 +46,19 @@ none_kept m = record { first = []; second = []; tied = tied_none m }
 
 module _ (R : Choices) (m : Bool) where
   abbrev pub States : CallState K → CallState J → Type 0
-  States = StatesAlike R m
+  States = StatesByChoice R m
 
   abbrev pub Ends : Outcome K → Outcome J → Type 0
-  Ends = EndsAlike R m
+  Ends = EndsByChoice R m
 
   abbrev pub Follow : Rest K → Rest J → Type 0
   Follow = law.Follow R
 
   -- whatever is kept
-  pub loosen : {s : CallState K} {r : CallState J} → States s r → StatesAlike R false s r
+  pub loosen : {s : CallState K} {r : CallState J} → States s r → StatesByChoice R false s r
   loosen (states a t ws) = states a (record { first = t.first; second = t.second; tied = tt }) ws
 
-  pub loosen_end : {o : Outcome K} {q : Outcome J} → Ends o q → EndsAlike R false o q
+  pub loosen_end : {o : Outcome K} {q : Outcome J} → Ends o q → EndsByChoice R false o q
   loosen_end (gave v ss) = gave v (loosen ss)
   loosen_end (next ss) = next (loosen ss)
   loosen_end (returned v ss) = returned v (loosen ss)
@@ -122,7 +122,7 @@ module _ (R : Choices) (m : Bool) where
 
   pub costing_same : (x : Effect) (trace : List TraceFrame) {s : CallState K} {r : CallState J} → States s r → (k : Continuation K) (l : Continuation J) → Behind k l → Follow (costing x trace s k) (costing x trace r l)
   costing_same x trace ss k l h =
-      spend_all_same (SpentAlike R) (RequestsAlike R) (EndsAlike R false) (PausedAlike R) (FailedApart R) (cost_of x) _ _ _ _ (out trace (loosen ss)) (h _ _ (made_same x trace ss))
+      spend_all_same (SpentByChoice R) (RequestsByChoice R) (EndsByChoice R false) (PausedByChoice R) (FailedApart R) (cost_of x) _ _ _ _ (out trace (loosen ss)) (h _ _ (made_same x trace ss))
 
   pub operated_same : (f : List Obj → Effect) (p : Site) {s : CallState K} {r : CallState J} → States s r → (k : Continuation K) (l : Continuation J) → Behind k l → Follow (operated (f (heap_of s)) p s k) (operated (f (heap_of r)) p r l)
   operated_same f p (states a t (worlds ss cs fs modules heap printed traces)) k l h =
@@ -195,10 +195,10 @@ module _ (R : Choices) (m : Bool) where
   compare_same ops e es = record { does = λ p ss k l h. e.does p ss _ _ (λ o q n. value_same n k l h _ _ (λ x s r ss. (compare_on_same ops es x).does p ss k l h)) }
 
   -- the caller has its names and temporaries again
-  back_same : {s s' : CallState K} {r r' : CallState J} → States s r → StatesAlike R false s' r' → States (back_to s s') (back_to r r')
+  back_same : {s s' : CallState K} {r r' : CallState J} → States s r → StatesByChoice R false s' r' → States (back_to s s') (back_to r r')
   back_same (states a t ws) (states b u xs) = states a t xs
 
-  pub call_end_same : {s : CallState K} {r : CallState J} → States s r → {o : Outcome K} {q : Outcome J} → EndsAlike R false o q → Ends (call_end s o) (call_end r q)
+  pub call_end_same : {s : CallState K} {r : CallState J} → States s r → {o : Outcome K} {q : Outcome J} → EndsByChoice R false o q → Ends (call_end s o) (call_end r q)
   call_end_same ss (gave v n) = gave v (back_same ss n)
   call_end_same ss (next n) = gave val.None (back_same ss n)
   call_end_same ss (returned v n) = gave v (back_same ss n)
@@ -239,10 +239,10 @@ module _ (R : Choices) where
   abbrev Loose : Denotation K → Denotation J → Type 0
   Loose = PartSame R false
 
-  kept_second : (i : ℕ) (v : Value) {s : CallState K} {r : CallState J} → StatesAlike R false s r → StatesAlike R false s (with_temp i v r)
+  kept_second : (i : ℕ) (v : Value) {s : CallState K} {r : CallState J} → StatesByChoice R false s r → StatesByChoice R false s (with_temp i v r)
   kept_second i v (states a t ws) = states a (record { first = t.first; second = set_at i v t.second; tied = tt }) ws
 
-  kept_first : (i : ℕ) (v : Value) {s : CallState K} {r : CallState J} → StatesAlike R false s r → StatesAlike R false (with_temp i v s) r
+  kept_first : (i : ℕ) (v : Value) {s : CallState K} {r : CallState J} → StatesByChoice R false s r → StatesByChoice R false (with_temp i v s) r
   kept_first i v (states a t ws) = states a (record { first = set_at i v t.first; second = t.second; tied = tt }) ws
 
   to_second : (i : ℕ) (l : Continuation J) → {k : Continuation K} → Behind R false k l → Behind R false k (λ o. on_value o l (λ v s. l (Gave v (with_temp i v s))))

@@ -13,19 +13,19 @@ use Rattle.py_values.specs.declared.value.Value.TheVariants as val
 use Rattle.source_meaning.specs.py_world.declared.load.Load.{Load}
 use Rattle.source_meaning.specs.py_world.declared.load.Load.TheVariants.{Running, Loaded, Failed}
 use Rattle.source_meaning.specs.py_world.declared.trace.TraceFrame.{TraceFrame}
-use Rattle.source_meaning.specs.py_world.World.{World, Locals, Stored}
+use Rattle.source_meaning.specs.py_world.World.{World, Locals, FunctionCode}
 use Rattle.source_meaning.specs.py_world.Site.{no_call, frame}
 use Rattle.source_meaning.specs.py_world.Arguments.{positional_arguments}
-use Rattle.source_meaning.specs.py_world.Outcome.{Outcome, Rest, Spent, Paused, Request, call_end}
+use Rattle.source_meaning.specs.py_world.Outcome.{Outcome, Rest, Exhaustion, Suspension, Request, call_end}
 use Rattle.source_meaning.specs.py_world.Calls.{arguments_for, invoke, body_of}
 use Rattle.source_meaning.specs.py_world.Runs.{ended_value, ended_spent, is_running, out_of_steps, ended_by, told_by, start, run_of, function_and, fitting_begun, function_begun, object_begun, begun_by_runner, loading, loaded_first, loaded_by, load_at}
 use Rattle.source_meaning.specs.Requests.{Script, Function}
 use Rattle.source_meaning.specs.Meaning.{SourceWorld, source_semantics, source_call, source_module}
 use Rattle.explain_law.specs.Until as until
 use Rattle.explain_law.specs.Choices as alike
-use Rattle.explain_law.specs.Choices.{Choices, K, J, WorldsAlike, worlds, states, EndsAlike, gave, next, returned, broke, continued, SpentAlike, out, PausedAlike, stops, RequestsAlike, FailedApart, ScriptsAt}
+use Rattle.explain_law.specs.Choices.{Choices, K, J, WorldsByChoice, worlds, states, EndsByChoice, gave, next, returned, broke, continued, SpentByChoice, out, PausedByChoice, stops, RequestsByChoice, FailedApart, ScriptsAt}
 use Rattle.explain_law.specs.Law as law
-use Rattle.explain_law.specs.Law.{Follow, RunsAlike, SourceRun, SameTold, ToldUntil}
+use Rattle.explain_law.specs.Law.{Follow, RunsAlike, SourceRun, ToldByChoice, ToldUntil}
 use Rattle.explain_law.proofs.Runs.{run_until}
 use Rattle.explain_law.proofs.Parts as part
 use Rattle.explain_law.proofs.Blocks as block
@@ -33,10 +33,10 @@ use Rattle.explain_law.proofs.Loads as loads
 use Rattle.explain_law.proofs.Forms.{meanings_same, bodies_same}
 
 abbrev pub SourceEnding : Type 0
-SourceEnding = tree.Ending Pos (Spent K) (Request K) (Outcome K) (Paused K)
+SourceEnding = tree.Ending Pos (Exhaustion K) (Request K) (Outcome K) (Suspension K)
 
 module _ (R : Choices) where
-  ended_with : {o : Outcome K} {q : Outcome J} → EndsAlike R false o q → (n : ℕ) → SameTold R (ended_by o n) (ended_by q n)
+  ended_with : {o : Outcome K} {q : Outcome J} → EndsByChoice R false o q → (n : ℕ) → ToldByChoice R (ended_by o n) (ended_by q n)
   ended_with (gave v (states a t ws)) n = (refl, ws)
   ended_with (next (states a t ws)) n = (refl, ws)
   ended_with (returned v (states a t ws)) n = (refl, ws)
@@ -44,26 +44,26 @@ module _ (R : Choices) where
   ended_with (continued (states a t ws)) n = (refl, ws)
   ended_with (alike.raised e trace (states a t ws)) n = (refl, ws)
 
-  pub ended_same : {o : Outcome K} {q : Outcome J} → EndsAlike R false o q → (budget m n : ℕ) → m ≡ n → SameTold R (ended_by o (budget - m)) (ended_by q (budget - n))
-  ended_same {o = o} {q = q} e budget m n is = subst (λ k. SameTold R (ended_by o (budget - m)) (ended_by q (budget - k))) is (ended_with e (budget - m))
+  pub ended_same : {o : Outcome K} {q : Outcome J} → EndsByChoice R false o q → (budget m n : ℕ) → m ≡ n → ToldByChoice R (ended_by o (budget - m)) (ended_by q (budget - n))
+  ended_same {o = o} {q = q} e budget m n is = subst (λ k. ToldByChoice R (ended_by o (budget - m)) (ended_by q (budget - k))) is (ended_with e (budget - m))
 
-  world_cond : (b : Bool) (w w' : World K) (z z' : World J) → WorldsAlike R w z → WorldsAlike R w' z' → WorldsAlike R (cond b w w') (cond b z z')
+  world_cond : (b : Bool) (w w' : World K) (z z' : World J) → WorldsByChoice R w z → WorldsByChoice R w' z' → WorldsByChoice R (cond b w w') (cond b z z')
   world_cond true w w' z z' h g = h
   world_cond false w w' z z' h g = g
 
-  spent_world : (budget : ℕ) (trace : List TraceFrame) {w : World K} {z : World J} → WorldsAlike R w z → WorldsAlike R (out_of_steps budget trace w) (out_of_steps budget trace z)
+  spent_world : (budget : ℕ) (trace : List TraceFrame) {w : World K} {z : World J} → WorldsByChoice R w z → WorldsByChoice R (out_of_steps budget trace w) (out_of_steps budget trace z)
   spent_world budget trace (worlds xs ys zs modules heap printed traces) = world_cond (list_any is_running modules) _ _ _ _ (worlds xs ys zs _ _ printed traces) (worlds xs ys zs modules heap printed traces)
 
-  pub spent_told : (budget : ℕ) {x : Spent K} {y : Spent J} → SpentAlike R x y → SameTold R (ended_spent budget x) (ended_spent budget y)
+  pub spent_told : (budget : ℕ) {x : Exhaustion K} {y : Exhaustion J} → SpentByChoice R x y → ToldByChoice R (ended_spent budget x) (ended_spent budget y)
   spent_told budget (out trace (states a t ws)) = (refl, spent_world budget trace ws)
 
-  stopped_with : {f : Paused K} {g : Paused J} → PausedAlike R f g → (n : ℕ) → SameTold R (ended_value f.value n f.state.world) (ended_value g.value n g.state.world)
+  stopped_with : {f : Suspension K} {g : Suspension J} → PausedByChoice R f g → (n : ℕ) → ToldByChoice R (ended_value f.value n f.state.world) (ended_value g.value n g.state.world)
   stopped_with (stops v p rest (states a t ws)) n = (refl, ws)
 
-  stopped_same : {f : Paused K} {g : Paused J} → PausedAlike R f g → (budget m n : ℕ) → m ≡ n → SameTold R (ended_value f.value (budget - m) f.state.world) (ended_value g.value (budget - n) g.state.world)
-  stopped_same {f = f} {g = g} e budget m n is = subst (λ k. SameTold R (ended_value f.value (budget - m) f.state.world) (ended_value g.value (budget - k) g.state.world)) is (stopped_with e (budget - m))
+  stopped_same : {f : Suspension K} {g : Suspension J} → PausedByChoice R f g → (budget m n : ℕ) → m ≡ n → ToldByChoice R (ended_value f.value (budget - m) f.state.world) (ended_value g.value (budget - n) g.state.world)
+  stopped_same {f = f} {g = g} e budget m n is = subst (λ k. ToldByChoice R (ended_value f.value (budget - m) f.state.world) (ended_value g.value (budget - k) g.state.world)) is (stopped_with e (budget - m))
 
-  told_same : (budget : ℕ) (a b : SourceEnding) → SameEnding (SpentAlike R) (RequestsAlike R) (EndsAlike R false) (PausedAlike R) a b → SameTold R (told_by budget a) (told_by budget b)
+  told_same : (budget : ℕ) (a b : SourceEnding) → SameEnding (SpentByChoice R) (RequestsByChoice R) (EndsByChoice R false) (PausedByChoice R) a b → ToldByChoice R (told_by budget a) (told_by budget b)
   told_same budget (tree.Ended o m) (tree.Ended q n) h = ended_same h.0 budget m n h.1
   told_same budget (tree.Spent x) (tree.Spent y) h = spent_told budget h
   told_same budget (tree.Frozen f m) (tree.Frozen g n) h = stopped_same h.0 budget m n h.1
@@ -88,48 +88,48 @@ module _ (R : Choices) where
   abbrev begun_plain : Value → List Value → SourceWorld → Rest K
   begun_plain f args w = invoke source_semantics.entry f (positional_arguments args) no_call (start w) (λ o. Done (call_end (start w) o))
 
-  invoked : (f : Value) (args : List Value) (w z : SourceWorld) → WorldsAlike R w z → Follow R (begun_plain f args w) (begun_plain f args z)
+  invoked : (f : Value) (args : List Value) (w z : SourceWorld) → WorldsByChoice R w z → Follow R (begun_plain f args w) (begun_plain f args z)
   invoked f args w z ws =
       (block.invoke_same R source_semantics.entry source_semantics.entry (meanings_same R).entries f (positional_arguments args) no_call).does (states [] (part.none_kept false) ws) _ _ (λ o q n. until.done (part.call_end_same R false (states [] (part.none_kept false) ws) n))
 
-  fitting_begun_same : (r : Result Locals Raise) (at : List TraceFrame) (f : Value) (args : List Value) (w z : SourceWorld) → WorldsAlike R w z → Follow R (fitting_begun source_semantics r at f args (start w)) (fitting_begun source_semantics r at f args (start z))
+  fitting_begun_same : (r : Result Locals Raise) (at : List TraceFrame) (f : Value) (args : List Value) (w z : SourceWorld) → WorldsByChoice R w z → Follow R (fitting_begun source_semantics r at f args (start w)) (fitting_begun source_semantics r at f args (start z))
   fitting_begun_same (Ok names) at f args w z ws = invoked f args w z ws
   fitting_begun_same (Err r) at f args w z ws = until.done (part.raised_same R false r at (states [] (part.none_kept false) ws))
 
-  function_begun_same : {x y : Option (Stored Function)} → block.FoundAlike R x y → (g : FunctionObj) (all : List Value) (f : Value) (args : List Value) (w z : SourceWorld) → WorldsAlike R w z → Follow R (function_begun source_semantics x g all f args (start w)) (function_begun source_semantics y g all f args (start z))
+  function_begun_same : {x y : Option (FunctionCode Function)} → block.FoundAlike R x y → (g : FunctionObj) (all : List Value) (f : Value) (args : List Value) (w z : SourceWorld) → WorldsByChoice R w z → Follow R (function_begun source_semantics x g all f args (start w)) (function_begun source_semantics y g all f args (start z))
   function_begun_same block.absent g all f args w z ws = invoked f args w z ws
   function_begun_same (block.present path home h) g all f args w z ws = fitting_begun_same (arguments_for g (positional_arguments all)) (frame g.path g.line g.name ∷ []) f args w z ws
 
-  object_begun_same : (o : Option (FunctionObj × List Value)) (f : Value) (args : List Value) {w z : SourceWorld} → WorldsAlike R w z → Follow R (object_begun source_semantics o f args (start w)) (object_begun source_semantics o f args (start z))
+  object_begun_same : (o : Option (FunctionObj × List Value)) (f : Value) (args : List Value) {w z : SourceWorld} → WorldsByChoice R w z → Follow R (object_begun source_semantics o f args (start w)) (object_begun source_semantics o f args (start z))
   object_begun_same (Some x) f args (worlds xs ys zs modules heap printed traces) = function_begun_same (block.found R ys x.0.code) x.0 x.1 f args _ _ (worlds xs ys zs modules heap printed traces)
   object_begun_same None f args ws = invoked f args _ _ ws
 
-  pub begun_by_runner_same : (f : Value) (args : List Value) {w z : SourceWorld} → WorldsAlike R w z → Follow R (begun_by_runner source_semantics f args (start w)) (begun_by_runner source_semantics f args (start z))
+  pub begun_by_runner_same : (f : Value) (args : List Value) {w z : SourceWorld} → WorldsByChoice R w z → Follow R (begun_by_runner source_semantics f args (start w)) (begun_by_runner source_semantics f args (start z))
   begun_by_runner_same (val.Ref id) args (worlds xs ys zs modules heap printed traces) = object_begun_same (function_and heap args (slice_get heap id.at)) (val.Ref id) args (worlds xs ys zs modules heap printed traces)
   begun_by_runner_same val.None args ws = invoked val.None args _ _ ws
   begun_by_runner_same (val.Bool b) args ws = invoked (val.Bool b) args _ _ ws
   begun_by_runner_same (val.Int n) args ws = invoked (val.Int n) args _ _ ws
 
   -- CALLS
-  pub calls_until : (w z : SourceWorld) → WorldsAlike R w z → (f : Value) (args : List Value) (budget : ℕ) → ToldUntil R (source_call f args budget w) (source_call f args budget z)
+  pub calls_until : (w z : SourceWorld) → WorldsByChoice R w z → (f : Value) (args : List Value) (budget : ℕ) → ToldUntil R (source_call f args budget w) (source_call f args budget z)
   calls_until w z ws f args budget = run_told budget _ _ (begun_by_runner_same f args ws)
 
-  loading_same : (path : List ℕ) (b code : Script) → ScriptsAt R path b code → {w z : SourceWorld} → WorldsAlike R w z → Follow R (loading source_semantics path b w) (loading source_semantics path code z)
+  loading_same : (path : List ℕ) (b code : Script) → ScriptsAt R path b code → {w z : SourceWorld} → WorldsByChoice R w z → Follow R (loading source_semantics path b w) (loading source_semantics path code z)
   loading_same path b code h ws = loads.executed_same R source_semantics.body source_semantics.body (bodies_same R) path b code h no_call ws (λ o. Done o) (λ o. Done o) (λ o q n. until.done n)
 
-  loaded_first_until : {b code : Option Script} (path : List ℕ) → loads.CodeFound R path b code → (budget : ℕ) {w z : SourceWorld} → WorldsAlike R w z → ToldUntil R (loaded_first source_semantics b path budget w) (loaded_first source_semantics code path budget z)
+  loaded_first_until : {b code : Option Script} (path : List ℕ) → loads.CodeFound R path b code → (budget : ℕ) {w z : SourceWorld} → WorldsByChoice R w z → ToldUntil R (loaded_first source_semantics b path budget w) (loaded_first source_semantics code path budget z)
   loaded_first_until path loads.none budget ws = law.told (refl, ws)
   loaded_first_until path (loads.some {b = b} {code = code} h) budget ws = run_told budget _ _ (loading_same path b code h ws)
 
-  loaded_by_until : (load : Option Load) (path : List ℕ) (budget : ℕ) {w z : SourceWorld} → WorldsAlike R w z → ToldUntil R (loaded_by source_semantics load path budget w) (loaded_by source_semantics load path budget z)
+  loaded_by_until : (load : Option Load) (path : List ℕ) (budget : ℕ) {w z : SourceWorld} → WorldsByChoice R w z → ToldUntil R (loaded_by source_semantics load path budget w) (loaded_by source_semantics load path budget z)
   loaded_by_until (Some (Running id)) path budget ws = law.told (refl, ws)
   loaded_by_until (Some (Loaded id)) path budget ws = law.told (refl, ws)
   loaded_by_until (Some (Failed e trace)) path budget ws = law.told (refl, ws)
   loaded_by_until None path budget (worlds xs ys zs modules heap printed traces) = loaded_first_until path (loads.code_found R path xs) budget (worlds xs ys zs modules heap printed traces)
 
-  modules_from : (path : List ℕ) (budget : ℕ) {w z : SourceWorld} → WorldsAlike R w z → ToldUntil R (source_module path budget w) (source_module path budget z)
+  modules_from : (path : List ℕ) (budget : ℕ) {w z : SourceWorld} → WorldsByChoice R w z → ToldUntil R (source_module path budget w) (source_module path budget z)
   modules_from path budget (worlds xs ys zs modules heap printed traces) = loaded_by_until (load_at path modules) path budget (worlds xs ys zs modules heap printed traces)
 
   -- LOADS OF MODULES
-  pub modules_until : (w z : SourceWorld) → WorldsAlike R w z → (path : List ℕ) (budget : ℕ) → ToldUntil R (source_module path budget w) (source_module path budget z)
+  pub modules_until : (w z : SourceWorld) → WorldsByChoice R w z → (path : List ℕ) (budget : ℕ) → ToldUntil R (source_module path budget w) (source_module path budget z)
   modules_until w z ws path budget = modules_from path budget ws

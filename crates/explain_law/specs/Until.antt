@@ -1,6 +1,6 @@
 -- When two trees are runs of the same things up to where they part.
 use Rattle.std.specs.Prelude.{ℕ, ◌≡◌, List}
-use Rattle.run_tree.specs.Todo.{Todo, Done, Note, Spend, Ask, Freeze, NotedRun, run, noted}
+use Rattle.run_tree.specs.Todo.{Todo, Done, Note, Spend, Ask, Freeze, NotedRun, run, with_notes}
 use Rattle.run_tree.specs.Same.{SameRun}
 
 -- Spents relates what is said where the budget ends, Asks the requests, Ends the ends, Stops what stands frozen; notes are the same.
@@ -26,7 +26,7 @@ module _ {N X Y R S O P F G : Type 0} (Spents : X → Y → Type 0) (Asks : R �
   module _ (body : R → (O → Todo N X R O F) → Todo N X R O F) (other : S → (P → Todo N Y S P G) → Todo N Y S P G) where
     -- TWO RUNS THAT COME TO ENDS THAT PART: as much was noted, as much of the budget is left, and behind any two ends that are alike
     -- both would do the same
-    pub record Apart (r : NotedRun N X R O F) (s : NotedRun N Y S P G) : Type 0 where
+    pub record PartAtEnds (r : NotedRun N X R O F) (s : NotedRun N Y S P G) : Type 0 where
       pub notes : List N
       pub left : ℕ
       pub end : O
@@ -35,10 +35,10 @@ module _ {N X Y R S O P F G : Type 0} (Spents : X → Y → Type 0) (Asks : R �
       pub other_then : P → Todo N Y S P G
       pub ends : Parts end other_end
       pub behind : UntilBehind then other_then
-      pub comes : r ≡ noted notes (run body left (then end))
-      pub other_comes : s ≡ noted notes (run other left (other_then other_end))
+      pub comes : r ≡ with_notes notes (run body left (then end))
+      pub other_comes : s ≡ with_notes notes (run other left (other_then other_end))
 
     -- two runs that are the same, or come to ends that part
     pub data SameUntil : NotedRun N X R O F → NotedRun N Y S P G → Type 0 where
       same : {r : NotedRun N X R O F} {s : NotedRun N Y S P G} → SameRun Spents Asks Ends Stops r s → SameUntil r s
-      apart : {r : NotedRun N X R O F} {s : NotedRun N Y S P G} → Apart r s → SameUntil r s
+      apart : {r : NotedRun N X R O F} {s : NotedRun N Y S P G} → PartAtEnds r s → SameUntil r s

@@ -23,7 +23,7 @@
 ghost use Rattle.std.specs.Prelude.{ℕ, List};
 ghost use Rattle.py_values.specs.declared.value.Value.{Value as PyValue};
 ghost use Rattle.source_meaning.specs.Meaning.{SourceWorld, source_call, source_module, source_begin, source_resume};
-ghost use Rattle.explain_law.specs.Choices.{Choices, WorldsAlike};
+ghost use Rattle.explain_law.specs.Choices.{Choices, WorldsByChoice};
 ghost use Rattle.explain_law.specs.Law.{ToldUntil, BegunUntil};
 ghost use Rattle.source_meaning.specs.py_world.Resuming.{Sent};
 
@@ -31,8 +31,8 @@ ghost use Rattle.source_meaning.specs.py_world.Resuming.{Sent};
 /// the raise of the first failed assert of a module for which the choices differ; and that raise differs in its exception's argument
 /// alone (pytest, assertion rewriting).
 pub fn a_choice_changes_failed_asserts_alone()
-    ensures calls { (choices : Choices) (w x : SourceWorld) → WorldsAlike choices w x → (f : PyValue) (args : List PyValue) (budget : ℕ) → ToldUntil choices (source_call f args budget w) (source_call f args budget x) }
-    ensures loads { (choices : Choices) (w x : SourceWorld) → WorldsAlike choices w x → (path : List ℕ) (budget : ℕ) → ToldUntil choices (source_module path budget w) (source_module path budget x) }
-    ensures begins { (choices : Choices) (w x : SourceWorld) → WorldsAlike choices w x → (f : PyValue) (args : List PyValue) (budget : ℕ) → BegunUntil choices (source_begin f args budget w) (source_begin f args budget x) }
-    ensures resumes { (choices : Choices) (w x : SourceWorld) → WorldsAlike choices w x → (n : ℕ) (sent : Sent) (budget : ℕ) → BegunUntil choices (source_resume n sent budget w) (source_resume n sent budget x) }
+    ensures calls { (choices : Choices) (w x : SourceWorld) → WorldsByChoice choices w x → (f : PyValue) (args : List PyValue) (budget : ℕ) → ToldUntil choices (source_call f args budget w) (source_call f args budget x) }
+    ensures loads { (choices : Choices) (w x : SourceWorld) → WorldsByChoice choices w x → (path : List ℕ) (budget : ℕ) → ToldUntil choices (source_module path budget w) (source_module path budget x) }
+    ensures begins { (choices : Choices) (w x : SourceWorld) → WorldsByChoice choices w x → (f : PyValue) (args : List PyValue) (budget : ℕ) → BegunUntil choices (source_begin f args budget w) (source_begin f args budget x) }
+    ensures resumes { (choices : Choices) (w x : SourceWorld) → WorldsByChoice choices w x → (n : ℕ) (sent : Sent) (budget : ℕ) → BegunUntil choices (source_resume n sent budget w) (source_resume n sent budget x) }
 {}

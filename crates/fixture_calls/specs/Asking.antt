@@ -3,7 +3,7 @@ use Rattle.std.specs.Prelude.{ℕ, Bool, true, false, List, [], Option, Some, No
 use Rattle.py_values.specs.declared.object.RequestObj.{RequestObj}
 use Rattle.py_values.specs.declared.value.Value.{Value}
 use Rattle.py_world.specs.World.{world_with_heap}
-use Rattle.py_machine.specs.runner_values.Given.{open_request, with_object}
+use Rattle.py_machine.specs.runner_values.Given.{open_request, added_object}
 use Rattle.py_machine.specs.runner_values.Requests.{finalizers_of, request_changed}
 use Rattle.session_types.specs.declared.scope.Scope.{Scope}
 use Rattle.session_types.specs.declared.scope.Scope.TheVariants.{Session, Module, Class, Function}
@@ -25,7 +25,7 @@ as_request made = (Some made.0, made.1)
 
 -- a new `request`, without parameter and open, where one is taken
 abbrev pub request_if : Bool → Option (List ℕ) → List ℕ → SourceWorld → Option Value × SourceWorld
-request_if true name scope w = as_request (in_heap (with_object (open_request name scope None) w.heap) w)
+request_if true name scope w = as_request (in_heap (added_object (open_request name scope None) w.heap) w)
 request_if false name scope w = (None, w)
 
 -- THE `request` of a fixture, where its function takes one: it has the fixture's name and scope

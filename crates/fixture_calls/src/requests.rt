@@ -17,7 +17,7 @@ use std::alloc::Global;
 use test_suite::{Fixture, Item};
 
 fn new_request(world: &mut World, name: Option<PyText>, scope: PyText) -> Result<Value, OutOfMemory>
-    ensures { IfOk result (λ v. (v, world.new) ≡ failing.in_heap (given.with_object (given.open_request name scope None) world.old.heap) world.old) }
+    ensures { IfOk result (λ v. (v, world.new) ≡ failing.in_heap (given.added_object (given.open_request name scope None) world.old.heap) world.old) }
 {
     make(
         world,

@@ -7,7 +7,7 @@ use Rattle.fixture_instances.specs.declared.ends.CachedResult.{CachedResult}
 use Rattle.fixture_instances.specs.declared.live.Kept.{Kept}
 use Rattle.live_chains.specs.declared.id.LiveId.{LiveId}
 use Rattle.fixture_instances.specs.Joined.{InstanceList, ArePaired, with_slots, with_slot}
-use Rattle.fixture_instances.specs.Resting.{AreKeptSpent, AreSpent, abandoned, abandoned_kept, given_up, spent, spent_held, spent_kept}
+use Rattle.fixture_instances.specs.Resting.{AreKeptSpent, AreSpent, abandoned, abandoned_kept, given_up, spent_instance, spent_held, spent_kept}
 
 pub not_both : {R : Type 0} (o : Option R) (x : R) → o ≡ None → o ≡ Some x → ⊥
 not_both o x n s = (let z : None ≡ Some x = sym n ∙ s in cc)
@@ -26,7 +26,7 @@ module _ {V E R : Type 0} where
   kept_spent (i ∷ is) [] p s = absurd p
   kept_spent (i ∷ is) (k ∷ ks) p s = (s.0, kept_spent is ks p.1 s.1)
 
-  pub joined_spent : (is : List (Instance ℕ)) (ks : List (Kept V E R)) → with_slots is (map spent_kept ks) ≡ map spent (with_slots is ks)
+  pub joined_spent : (is : List (Instance ℕ)) (ks : List (Kept V E R)) → with_slots is (map spent_kept ks) ≡ map spent_instance (with_slots is ks)
   joined_spent [] ks = refl
   joined_spent (i ∷ is) [] = refl
   joined_spent (i ∷ is) (k ∷ ks) = ap (λ (l : List (Instance (CachedResult V E R))). with_slot (spent_held k.held) i ∷ l) (joined_spent is ks)
@@ -37,7 +37,7 @@ module _ {V E R : Type 0} where
   pairs_spent (i ∷ is) [] p = absurd p
   pairs_spent (i ∷ is) (k ∷ ks) p = (p.0, pairs_spent is ks p.1)
 
-  pub all_spent : (is : List (Instance (CachedResult V E R))) → AreSpent (map spent is)
+  pub all_spent : (is : List (Instance (CachedResult V E R))) → AreSpent (map spent_instance is)
   all_spent [] = tt
   all_spent (i ∷ is) = (refl, all_spent is)
 
@@ -79,7 +79,7 @@ abbrev pub listed : {V E R : Type 0} → List LiveId → ℕ → ℕ → List (I
 listed ids spare next live = record { live = live; ids = ids; spare = spare; next = next }
 
 abbrev pub all_given : {V E R : Type 0} → InstanceList V E R → InstanceList V E R
-all_given v = record { live = map spent v.live; ids = v.ids; spare = v.spare; next = v.next }
+all_given v = record { live = map spent_instance v.live; ids = v.ids; spare = v.spare; next = v.next }
 
 pub list_given : {V E R : Type 0} (is : List (Instance ℕ)) (ids : List LiveId) (ks new : List (Kept V E R)) (spare next : ℕ) (v : InstanceList V E R) → new ≡ map spent_kept ks → listed ids spare next (with_slots is ks) ≡ v → listed ids spare next (with_slots is new) ≡ all_given v
 list_given {V} {E} {R} is ids ks new spare next v e view =
@@ -91,5 +91,5 @@ world_given {L} rules is ids ks lent spare next v w e p view =
     ap (λ (l : List (Kept L.Value L.Thrown L.Rest)). abandoned_kept rules l w) e
     ∙ (sym (abandoned_joined rules is ks w p) ∙ ap (λ (u : InstanceList L.Value L.Thrown L.Rest). abandoned rules u.live w) view)
 
-pub spent_now : {V E R : Type 0} (is new : List (Instance (CachedResult V E R))) → new ≡ map spent is → AreSpent new
+pub spent_now : {V E R : Type 0} (is new : List (Instance (CachedResult V E R))) → new ≡ map spent_instance is → AreSpent new
 spent_now {V} {E} {R} is new e = subst (λ (l : List (Instance (CachedResult V E R))). AreSpent l) (sym e) (all_spent is)

@@ -10,8 +10,8 @@ use Rattle.fixture_instances.specs.Joined.{with_slot}
 abbrev pub spent_held : {V E R : Type 0} → CachedResult V E R → CachedResult V E R
 spent_held h = record h { rest = None }
 
-abbrev pub spent : {V E R : Type 0} → Instance (CachedResult V E R) → Instance (CachedResult V E R)
-spent i = with_slot (spent_held i.slot) i
+abbrev pub spent_instance : {V E R : Type 0} → Instance (CachedResult V E R) → Instance (CachedResult V E R)
+spent_instance i = with_slot (spent_held i.slot) i
 
 abbrev pub spent_kept : {V E R : Type 0} → Kept V E R → Kept V E R
 spent_kept k = record k { held = spent_held k.held }

@@ -7,7 +7,7 @@ ghost use Rattle.session_types.specs.declared.instance.Instance.{Instance};
 ghost use Rattle.live_chains.specs.declared.id.LiveId.{LiveId};
 ghost use Rattle.live_chains.specs.Chained.{Apart, RisingBy, id_order, ids_without};
 ghost use Rattle.fixture_instances.specs.Joined.{with_slot, kept_at, kept_order, kept_without, def_and_node};
-ghost use Rattle.fixture_instances.specs.Resting.{AreKeptSpent, AreSpent, abandoned, abandoned_kept, given_up, spent, spent_kept};
+ghost use Rattle.fixture_instances.specs.Resting.{AreKeptSpent, AreSpent, abandoned, abandoned_kept, given_up, spent_instance, spent_kept};
 
 use crate::ends::CachedResult;
 use crate::executor::Executor;
@@ -296,7 +296,7 @@ pub fn abandon_all<W: Executor>(
     world: &mut W,
     setting: &W::Setting,
 )
-    ensures live { live.new ≡ record live.old { live = map spent live.old.live } }
+    ensures live { live.new ≡ record live.old { live = map spent_instance live.old.live } }
     ensures world { world.new ≡ abandoned (W.rules setting.now) live.old.live world.old }
 {
     give_up_each(&mut live.kept, world, setting);

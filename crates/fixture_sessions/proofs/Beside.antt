@@ -4,7 +4,7 @@ use Rattle.session_types.specs.Live.{dependents, down_order, find, instance_by_n
 use Rattle.session_rules.specs.World.{Item, Language, LiveInstance, Rules}
 use Rattle.session_rules.specs.Teardown.{Grant, SessionState, Step, down_all, down_more, down_one, session_step}
 use Rattle.session_rules.specs.Demand.{Answer, JointAnswer, AllGiven, Given, OneRefused, Refused, Replies, Reply, answer_of, answer_with, ask_all, ask_next, demand, is_same, replace, replies, reply, set_up_after, settle, with_arguments}
-use Rattle.session_rules.specs.Session.{demand_closure, demand_next, finalize_own, noted, set_up_by, set_up_item, pyfunc_call, test_with, values_for}
+use Rattle.session_rules.specs.Session.{demand_closure, demand_next, finalize_own, with_grant, set_up_by, set_up_item, pyfunc_call, test_with, values_for}
 
 -- a session's state, with what the loop uses from another
 abbrev pub beside : {L : Language} → SessionState L → SessionState L → SessionState L
@@ -68,7 +68,7 @@ module _ {L : Language} (rules : Rules L) (x : SessionState L) where
         ∙ with_beside d r.answers r.state
 
     noted_beside : (rest : SessionState L → Step L) → ((t : SessionState L) → rest (beside x t) ≡ beside_step x (rest t)) → (a : Answer L) (t : SessionState L) → demand_next rest a (beside x t) ≡ beside_step x (demand_next rest a t)
-    noted_beside rest law (Given i) t = law (noted i t)
+    noted_beside rest law (Given i) t = law (with_grant i t)
     noted_beside rest law (Refused es) t = refl
 
     closure_beside : (ds : List ℕ) (t : SessionState L) → demand_closure rules item ds (beside x t) ≡ beside_step x (demand_closure rules item ds t)

@@ -5,10 +5,10 @@ use Rattle.fixture_sessions.proofs.Ended.{session_empty}
 use Rattle.fixture_sessions.specs.FixtureFrames.{AddsNone, KeepsFrames, StandsAt}
 use Rattle.fixture_sessions.specs.FixtureSession.{all_down_where, bad_call, bad_in, call_unless, ends_of, ends_with, fixture_call, fixture_item, fixture_leave, fixture_session, fixture_set_up, fixture_teardown, next_object, next_where, object_stands, onto_session, own_object, phase_run, session_from, skip_asked, skipped_or_set_up}
 use Rattle.session_rules.proofs.Holds.{rising_one}
-use Rattle.session_rules.specs.Demand.{AllGiven, Answer, JointAnswer, Given, NewInstance, OneRefused, Refused, Replies, Reply, answer_of, ask_all, ask_next, call_fixture_func, demand, failed_with, fresh, is_same, made, making, making_of, numbers_of, replace, reply, set_up, set_up_after, settle, values_of, with_arguments}
+use Rattle.session_rules.specs.Demand.{AllGiven, Answer, JointAnswer, Given, NewInstance, OneRefused, Refused, Replies, Reply, answer_of, ask_all, ask_next, call_fixture_func, demand, failed_instance, fresh, is_same, instance_reply, making, making_of, numbers_of, replace, reply, set_up, set_up_after, settle, values_of, with_arguments}
 use Rattle.session_rules.specs.Hooks.{HookAnswer, HookGave, HookRaised}
-use Rattle.session_rules.specs.Session.{chain_of, demand_closure, demand_next, finalize_own, next_of, noted, with_new_instance, reaches, set_up_by, initial_state, telling, test_with, values_for}
-use Rattle.session_rules.specs.Teardown.{Grant, SessionState, Step, TeardownEnd, also_raised, closed_request, down_all, down_more, down_one, emit, finalize_all, in_world, rest_ended, resumed, torn, torn_of}
+use Rattle.session_rules.specs.Session.{chain_of, demand_closure, demand_next, finalize_own, next_of, with_grant, with_new_instance, reaches, set_up_by, initial_state, telling, test_with, values_for}
+use Rattle.session_rules.specs.Teardown.{Grant, SessionState, Step, TeardownEnd, also_raised, closed_request, down_all, down_more, down_one, emit, finalize_all, in_world, rest_ended, rest_resumed, torn, torn_of}
 use Rattle.session_rules.specs.World.{BodyEnd, Call, Item, Language, LiveInstance, Phase, Raised, Returned, Rules, SetUp, Teardown, Value, Yielded}
 use Rattle.session_types.proofs.Lists.{In-append, In-filter, In-left, In-right, filter-In}
 use Rattle.session_types.proofs.Order.{Rising, Rising-filter, Rising-push}
@@ -62,7 +62,7 @@ module _ {L : Language} (rules : Rules L) (is_out : L.Rest → L.World → Bool)
       let k = tame.abandon y v r (tame.yielded_again d (rules.abandon y v) r o) in
       elim (h r k.0) [ inl a ↦ a | inr b ↦ absurd (k.1 b) ]
 
-  resumed_spends : (d : ℕ) (rest : Option L.Rest) (w : L.World) (r : L.Rest) → is_out r (resumed rules d rest w).world ≡ true → (is_out r w ≡ true) × (rest ≡ Some r → ⊥)
+  resumed_spends : (d : ℕ) (rest : Option L.Rest) (w : L.World) (r : L.Rest) → is_out r (rest_resumed rules d rest w).world ≡ true → (is_out r w ≡ true) × (rest ≡ Some r → ⊥)
   resumed_spends d None w r o = (o, λ e. cc)
   resumed_spends d (Some x) w r o =
       let k = ended_spends d x w (rules.resume x w).world (rules.resume x w).how (tame.resume x w) r o in
@@ -71,7 +71,7 @@ module _ {L : Language} (rules : Rules L) (is_out : L.Rest → L.World → Bool)
   torn_spends : (i : LiveInstance L) (w : L.World) (r : L.Rest) → is_out r (torn_of rules i w).world ≡ true → (is_out r w ≡ true) × (i.slot.rest ≡ Some r → ⊥)
   torn_spends i w r o =
       let c = closed_request rules i.slot.request w in
-      let k = resumed_spends i.def i.slot.rest c.world r (finalize_adds c.finalizers (resumed rules i.def i.slot.rest c.world) r o) in
+      let k = resumed_spends i.def i.slot.rest c.world r (finalize_adds c.finalizers (rest_resumed rules i.def i.slot.rest c.world) r o) in
       (closed_adds i.slot.request w r k.0, k.1)
 
   one_good : (n : ℕ) (s : SessionState L) (o : Option (LiveInstance L)) → instance_by_number n s.live ≡ o → IsGood s → IsGood (down_one rules o s).state
@@ -106,7 +106,7 @@ module _ {L : Language} (rules : Rules L) (is_out : L.Rest → L.World → Bool)
   made_adds d request (Yielded v rest) w = λ r o. o
   made_adds d request (Raised e) w = λ r o. o
   made_adds d request (Returned v) w =
-      elim (rules.yields d) as (λ b. Adds w (cond b (failed_with request (rules.did_not_yield d w)) (making {L = L} (Value v) None request w)).world) [
+      elim (rules.yields d) as (λ b. Adds w (cond b (failed_instance request (rules.did_not_yield d w)) (making {L = L} (Value v) None request w)).world) [
         | true ↦ tame.did_not_yield d w
         | false ↦ λ r o. o
       ]
@@ -116,7 +116,7 @@ module _ {L : Language} (rules : Rules L) (is_out : L.Rest → L.World → Bool)
   made_rest d request (Yielded v rest) w r s = ap (λ (x : L.Rest). Some x) s
   made_rest d request (Raised e) w r s = absurd s
 
-  born_good : (item : Item) (d : ℕ) (given : List (Grant L)) (m : NewInstance L) (s : SessionState L) → ((r : L.Rest) → is_out r m.world ≡ true → (is_out r s.world ≡ true) ⊎ (m.held.rest ≡ Some r)) → IsGood s → IsGood (made rules item d given m s).state
+  born_good : (item : Item) (d : ℕ) (given : List (Grant L)) (m : NewInstance L) (s : SessionState L) → ((r : L.Rest) → is_out r m.world ≡ true → (is_out r s.world ≡ true) ⊎ (m.held.rest ≡ Some r)) → IsGood s → IsGood (instance_reply rules item d given m s).state
   born_good item d given m s h g =
       let i = fresh rules item d given s.next m.held in
       record {
@@ -173,7 +173,7 @@ module _ {L : Language} (rules : Rules L) (is_out : L.Rest → L.World → Bool)
       with_good item d r.answers r.state (asked_good (demand rules item depth) (demand_good item depth) (item.requests d) [] s g)
 
   noted_good : (rest : SessionState L → Step L) → ((s : SessionState L) → IsGood s → IsGood (rest s).state) → (a : Answer L) (s : SessionState L) → IsGood s → IsGood (demand_next rest a s).state
-  noted_good rest law (Given i) s g = law (noted i s) g
+  noted_good rest law (Given i) s g = law (with_grant i s) g
   noted_good rest law (Refused es) s g = g
 
   closure_good : (item : Item) (ds : List ℕ) (s : SessionState L) → IsGood s → IsGood (demand_closure rules item ds s).state

@@ -8,7 +8,7 @@ use Rattle.fixture_table.specs.declared.types.FixtureDef.{FixtureDef}
 use Rattle.fixture_table.specs.declared.entry.Entry.{Entry}
 use Rattle.fixture_table.specs.declared.entry.Entry.TheVariants.{Definition, Missing}
 use Rattle.session_types.specs.Numbers.{among}
-use Rattle.fixture_table.specs.Closing.{same_entry, has, with_one, with_unseen, asked, entry_at, entries_for, autouse_up, first_entries, Grown, Done, More}
+use Rattle.fixture_table.specs.Closing.{same_entry, has, with_one, with_unseen, requested_by, entry_at, entries_for, autouse_up, first_entries, Grown, Done, More}
 use Rattle.fixture_table.specs.Faults.{definitions_of}
 use Rattle.fixture_table.specs.Index.{IsShut}
 use Rattle.fixture_table.specs.Tree.{iter_parents}
@@ -29,28 +29,28 @@ stays es ys p x lt = ap (λ (zs : List Entry). entry_at zs p) x.is ∙ get_or-ap
 module _ (nodes : List CollectionNode) (defs : List FixtureDef) (item : ℕ) (bound : List ℕ) where
   -- what each entry asks for, up to a place, is there
   abbrev pub Has : List Entry → ℕ → Type 0
-  Has es p = (q : ℕ) (x : Entry) → q < p → q < length es → has x (asked nodes defs item bound (entry_at es q)) ≡ true → has x es ≡ true
+  Has es p = (q : ℕ) (x : Entry) → q < p → q < length es → has x (requested_by nodes defs item bound (entry_at es q)) ≡ true → has x es ≡ true
 
-  has_more : (es : List Entry) (p : ℕ) (e : Entry) → slice_get es p ≡ Some e → Has es p → Has (with_unseen (asked nodes defs item bound e) es) (suc p)
+  has_more : (es : List Entry) (p : ℕ) (e : Entry) → slice_get es p ≡ Some e → Has es p → Has (with_unseen (requested_by nodes defs item bound e) es) (suc p)
   has_more es p e at old q x below there h =
       let w = within es p e at in
       let lt = w.0 in
-      let u = unseen_has (asked nodes defs item bound e) es in
-      let ys = with_unseen (asked nodes defs item bound e) es in
-      let g : has x (asked nodes defs item bound (entry_at es q)) ≡ true = subst (λ (y : Entry). has x (asked nodes defs item bound y) ≡ true) (stays es ys q u.0 (omega arith)) h in
+      let u = unseen_has (requested_by nodes defs item bound e) es in
+      let ys = with_unseen (requested_by nodes defs item bound e) es in
+      let g : has x (requested_by nodes defs item bound (entry_at es q)) ≡ true = subst (λ (y : Entry). has x (requested_by nodes defs item bound y) ≡ true) (stays es ys q u.0 (omega arith)) h in
       elim (cases_lt q p) [
         | inl less ↦ has_extends x es ys u.0 (old q x less (omega arith) g)
-        | inr more ↦ let s : q ≡ p = omega arith in u.1 x (subst (λ (y : Entry). has x (asked nodes defs item bound y) ≡ true) (ap (entry_at es) s ∙ w.1) g)
+        | inr more ↦ let s : q ≡ p = omega arith in u.1 x (subst (λ (y : Entry). has x (requested_by nodes defs item bound y) ≡ true) (ap (entry_at es) s ∙ w.1) g)
       ]
 
-  closed_from : (es : List Entry) (p : ℕ) (end : List Entry) → Grown nodes defs item bound es p end → Has es p → (q : ℕ) (x : Entry) → q < length end → has x (asked nodes defs item bound (entry_at end q)) ≡ true → has x end ≡ true
+  closed_from : (es : List Entry) (p : ℕ) (end : List Entry) → Grown nodes defs item bound es p end → Has es p → (q : ℕ) (x : Entry) → q < length end → has x (requested_by nodes defs item bound (entry_at end q)) ≡ true → has x end ≡ true
   closed_from _ _ _ (Done es p le) old q x lt h = old q x (omega arith) lt h
-  closed_from _ _ _ (More es p e end at g) old q x lt h = closed_from (with_unseen (asked nodes defs item bound e) es) (suc p) end g (has_more es p e at old) q x lt h
+  closed_from _ _ _ (More es p e end at g) old q x lt h = closed_from (with_unseen (requested_by nodes defs item bound e) es) (suc p) end g (has_more es p e at old) q x lt h
 
-  pub closed : (es end : List Entry) → Grown nodes defs item bound es 0 end → (e x : Entry) → has e end ≡ true → has x (asked nodes defs item bound e) ≡ true → has x end ≡ true
+  pub closed : (es end : List Entry) → Grown nodes defs item bound es 0 end → (e x : Entry) → has e end ≡ true → has x (requested_by nodes defs item bound e) ≡ true → has x end ≡ true
   closed es end g e x there h =
       let at = entry_place e end there in
-      closed_from es 0 end g (λ q y below. absurd (omega arith)) at.0 x at.1 (subst (λ (y : Entry). has x (asked nodes defs item bound y) ≡ true) (sym at.2) h)
+      closed_from es 0 end g (λ q y below. absurd (omega arith)) at.0 x at.1 (subst (λ (y : Entry). has x (requested_by nodes defs item bound y) ≡ true) (sym at.2) h)
 
 pub defs_has : (d : ℕ) (es : List Entry) → among d (definitions_of es) ≡ true → has (Definition d) es ≡ true
 defs_has d [] h = absurd cc
@@ -89,7 +89,7 @@ single_unseen (e ∷ new) es s = single_unseen new (with_one e es) (single_one e
 
 pub single_grown : (nodes : List CollectionNode) (defs : List FixtureDef) (item : ℕ) (bound : List ℕ) (es : List Entry) (p : ℕ) (end : List Entry) → Grown nodes defs item bound es p end → Single es → Single end
 single_grown nodes defs item bound _ _ _ (Done es p le) s = s
-single_grown nodes defs item bound _ _ _ (More es p e end at g) s = single_grown nodes defs item bound (with_unseen (asked nodes defs item bound e) es) (suc p) end g (single_unseen (asked nodes defs item bound e) es s)
+single_grown nodes defs item bound _ _ _ (More es p e end at g) s = single_grown nodes defs item bound (with_unseen (requested_by nodes defs item bound e) es) (suc p) end g (single_unseen (requested_by nodes defs item bound e) es s)
 
 pub first_single : (nodes : List CollectionNode) (defs : List FixtureDef) (item : ℕ) (bound uses args : List ℕ) → Single (first_entries nodes defs item bound uses args)
 first_single nodes defs item bound uses args = single_unseen (entries_for nodes defs item bound (autouse_up defs (iter_parents nodes item) ++ (uses ++ args))) [] tt

@@ -9,7 +9,7 @@ use Rattle.fixture_table.specs.declared.fault.FixtureFault.TheVariants.{Recursiv
 use Rattle.fixture_table.specs.declared.entry.Entry.{Entry}
 use Rattle.fixture_table.specs.declared.entry.Entry.TheVariants.{Definition, Missing}
 use Rattle.fixture_table.specs.Closing.{Grown, entry_at, first_entries}
-use Rattle.fixture_table.specs.Faults.{FirstFault, HasFault, IsClosure, IsFault, IsRecursive, IsSound, Once, RequestPath, SoundTo, asks_in_vain, by_scope, definitions_of, first_narrower, requests}
+use Rattle.fixture_table.specs.Faults.{IsFirstFault, HasFault, IsClosure, IsFault, IsRecursive, IsSoundEntry, Once, RequestPath, SoundTo, asks_in_vain, by_scope, definitions_of, first_narrower, requests}
 use Rattle.fixture_table.specs.Nearest.{def_at}
 use Rattle.fixture_table.proofs.Ends.{ends, grown_one, requests_low}
 use Rattle.fixture_table.proofs.Reached.{complete, reaches_more}
@@ -192,28 +192,28 @@ module _ (nodes : List CollectionNode) (defs : List FixtureDef) (item : ℕ) (bo
     ]
   ]
 
-  judged : (e : Entry) → IsSound nodes defs item bound e ⊎ ((fault : FixtureFault) × HasFault nodes defs item bound e fault)
+  judged : (e : Entry) → IsSoundEntry nodes defs item bound e ⊎ ((fault : FixtureFault) × HasFault nodes defs item bound e fault)
   judged (Missing name) = inr (Unknown name, refl)
   judged (Definition d) = elim (recursive d) [
     | inl r ↦ inr (Recursive (def_at defs d).name, inl (r, refl))
     | inr none ↦ scoped (first_narrower nodes defs item bound d) refl none
   ]
     where
-      scoped : (r : Option ℕ) → first_narrower nodes defs item bound d ≡ r → (IsRecursive nodes defs item bound d → ⊥) → IsSound nodes defs item bound (Definition d) ⊎ ((fault : FixtureFault) × HasFault nodes defs item bound (Definition d) fault)
+      scoped : (r : Option ℕ) → first_narrower nodes defs item bound d ≡ r → (IsRecursive nodes defs item bound d → ⊥) → IsSoundEntry nodes defs item bound (Definition d) ⊎ ((fault : FixtureFault) × HasFault nodes defs item bound (Definition d) fault)
       scoped None e none = inl (none, e)
       scoped (Some name) e none = inr (ScopeMismatch d name, inr (none, name, e, refl))
 
-  all_judged : (es : List Entry) (n p : ℕ) → p + n ≡ length es → SoundTo nodes defs item bound es p → SoundTo nodes defs item bound es (length es) ⊎ ((fault : FixtureFault) × FirstFault nodes defs item bound es fault)
+  all_judged : (es : List Entry) (n p : ℕ) → p + n ≡ length es → SoundTo nodes defs item bound es p → SoundTo nodes defs item bound es (length es) ⊎ ((fault : FixtureFault) × IsFirstFault nodes defs item bound es fault)
   all_judged es zero p e s = inl (let q : p ≡ length es = omega (arith, e) in subst (λ (k : ℕ). SoundTo nodes defs item bound es k) q s)
   all_judged es (suc n) p e s = elim (judged (entry_at es p)) [
     | inl fine ↦ all_judged es n (suc p) (omega (arith, e)) (λ q lt. elim (cases_eq q p) [
-      | inl same ↦ subst (λ (k : ℕ). IsSound nodes defs item bound (entry_at es k)) (sym same) fine
+      | inl same ↦ subst (λ (k : ℕ). IsSoundEntry nodes defs item bound (entry_at es k)) (sym same) fine
       | inr ne ↦ s q (omega (arith, lt, ne))
     ])
     | inr bad ↦ inr (bad.0, record { place = p; within = omega (arith, e); sound = s; faulty = bad.1 })
   ]
 
-  sound_or_faulty : (e : Entry) (fault : FixtureFault) → IsSound nodes defs item bound e → HasFault nodes defs item bound e fault → ⊥
+  sound_or_faulty : (e : Entry) (fault : FixtureFault) → IsSoundEntry nodes defs item bound e → HasFault nodes defs item bound e fault → ⊥
   sound_or_faulty (Missing name) fault s f = s
   sound_or_faulty (Definition d) fault s (inl r) = s.0 r.0
   sound_or_faulty (Definition d) fault s (inr r) = (let z : Some r.1 ≡ None = sym r.2 ∙ s.1 in cc)
@@ -230,7 +230,7 @@ module _ (nodes : List CollectionNode) (defs : List FixtureDef) (item : ℕ) (bo
       same_name : (x y : ℕ) → Some x ≡ Some y → x ≡ y
       same_name x y e = cc
 
-  first_one : (es : List Entry) (a b : FixtureFault) → FirstFault nodes defs item bound es a → FirstFault nodes defs item bound es b → a ≡ b
+  first_one : (es : List Entry) (a b : FixtureFault) → IsFirstFault nodes defs item bound es a → IsFirstFault nodes defs item bound es b → a ≡ b
   first_one es a b f g = elim (cases_lt f.place g.place) [
     | inl less ↦ absurd (sound_or_faulty (entry_at es f.place) a (g.sound f.place less) f.faulty)
     | inr more ↦ elim (cases_lt g.place f.place) [
@@ -262,4 +262,4 @@ module _ (nodes : List CollectionNode) (defs : List FixtureDef) (item : ℕ) (bo
     one_closure a b c d = c.sorted ∙ (ap (λ (es : List Entry). by_scope defs (definitions_of es)) (one_list c.entries d.entries c.grown d.grown) ∙ sym d.sorted)
 
     pub one_fault : (a b : FixtureFault) → IsFault nodes defs item bound uses args a → IsFault nodes defs item bound uses args b → a ≡ b
-    one_fault a b f g = first_one g.entries a b (subst (λ (es : List Entry). FirstFault nodes defs item bound es a) (one_list f.entries g.entries f.grown g.grown) f.first) g.first
+    one_fault a b f g = first_one g.entries a b (subst (λ (es : List Entry). IsFirstFault nodes defs item bound es a) (one_list f.entries g.entries f.grown g.grown) f.first) g.first

@@ -7,7 +7,7 @@ use Rattle.fixture_table.specs.declared.types.CollectionNode.{CollectionNode}
 use Rattle.fixture_table.specs.declared.types.FixtureDef.{FixtureDef}
 use Rattle.fixture_table.specs.declared.entry.Entry.{Entry}
 use Rattle.fixture_table.specs.declared.entry.Entry.TheVariants.{Definition, Missing}
-use Rattle.fixture_table.specs.Closing.{Done, Grown, More, asked, asked_all, asked_one, autouse_at, autouse_up, definition_if, entries_for, entry_at, entry_for, entry_or, first_entries, has, same_entry, with_one, with_unseen}
+use Rattle.fixture_table.specs.Closing.{Done, Grown, More, requested_by, asked_all, asked_one, autouse_at, autouse_up, definition_if, entries_for, entry_at, entry_for, entry_or, first_entries, has, same_entry, with_one, with_unseen}
 use Rattle.fixture_table.specs.Nearest.{def_at, nearest_of}
 use Rattle.fixture_table.specs.Tree.{iter_parents}
 use Rattle.fixture_table.proofs.Asked.{has_at, same_is, same_refl}
@@ -26,14 +26,14 @@ module _ (nodes : List CollectionNode) (defs : List FixtureDef) (item : ℕ) (bo
   done_end es p b (Done _ _ _) le = refl
   done_end es p b (More _ _ e _ at g) le = (let w = within es p e at in let lt = w.0 in absurd (omega (arith, le, lt)))
 
-  more_end : (es : List Entry) (p : ℕ) (b : List Entry) → Grown nodes defs item bound es p b → (e : Entry) → slice_get es p ≡ Some e → Grown nodes defs item bound (with_unseen (asked nodes defs item bound e) es) (suc p) b
+  more_end : (es : List Entry) (p : ℕ) (b : List Entry) → Grown nodes defs item bound es p b → (e : Entry) → slice_get es p ≡ Some e → Grown nodes defs item bound (with_unseen (requested_by nodes defs item bound e) es) (suc p) b
   more_end es p b (Done _ _ le) e at = (let w = within es p e at in let lt = w.0 in absurd (omega (arith, le, lt)))
-  more_end es p b (More _ _ f _ there k) e at = (let s : f ≡ e = some_is f e (sym there ∙ at) in subst (λ (x : Entry). Grown nodes defs item bound (with_unseen (asked nodes defs item bound x) es) (suc p) b) s k)
+  more_end es p b (More _ _ f _ there k) e at = (let s : f ≡ e = some_is f e (sym there ∙ at) in subst (λ (x : Entry). Grown nodes defs item bound (with_unseen (requested_by nodes defs item bound x) es) (suc p) b) s k)
 
   -- a list that grows has one end
   pub grown_one : (es : List Entry) (p : ℕ) (a b : List Entry) → Grown nodes defs item bound es p a → Grown nodes defs item bound es p b → a ≡ b
   grown_one es p a b (Done _ _ le) h = done_end es p b h le
-  grown_one es p a b (More _ _ e _ at g) h = grown_one (with_unseen (asked nodes defs item bound e) es) (suc p) a b g (more_end es p b h e at)
+  grown_one es p a b (More _ _ e _ at g) h = grown_one (with_unseen (requested_by nodes defs item bound e) es) (suc p) a b g (more_end es p b h e at)
 
 -- THERE ARE NO MORE ENTRIES THAN THERE ARE DEFINITIONS AND NAMES
 
@@ -195,7 +195,7 @@ module _ (nodes : List CollectionNode) (defs : List FixtureDef) (item : ℕ) (bo
     | inr r ↦ all_in d list x (λ m k. sub m (or_right (nat_eq n m) (among m list) k)) r
   ]
 
-  asked_in : (e x : Entry) → has x (asked nodes defs item bound e) ≡ true → has x all ≡ true
+  asked_in : (e x : Entry) → has x (requested_by nodes defs item bound e) ≡ true → has x all ≡ true
   asked_in (Missing n) x h = cc
   asked_in (Definition d) x h = all_in d (def_at defs d).args x (λ n m. among_append n (names_of defs) (args_of defs ++ (uses ++ args)) ∙ or_right (among n (names_of defs)) (among n (args_of defs ++ (uses ++ args)))
       (among_append n (args_of defs) (uses ++ args) ∙ or_true (among n (args_of defs)) (among n (uses ++ args)) (args_among n d defs m))) h
@@ -219,9 +219,9 @@ module _ (nodes : List CollectionNode) (defs : List FixtureDef) (item : ℕ) (bo
     | inr past ↦ (es, Done es p past)
     | inl lt ↦
         (let x = entry_at es p in
-        let more = with_unseen (asked nodes defs item bound x) es in
-        let r = ends_from n (suc p) more (omega (arith, e)) (single_unseen (asked nodes defs item bound x) es s)
-        (λ y h. elim (has_unseen (asked nodes defs item bound x) es y h) [ inl a ↦ asked_in x y a | inr b ↦ sub y b ]) in
+        let more = with_unseen (requested_by nodes defs item bound x) es in
+        let r = ends_from n (suc p) more (omega (arith, e)) (single_unseen (requested_by nodes defs item bound x) es s)
+        (λ y h. elim (has_unseen (requested_by nodes defs item bound x) es y h) [ inl a ↦ asked_in x y a | inr b ↦ sub y b ]) in
         (r.0, More es p x r.0 (slice_get-get_or es p (Missing 0) lt) r.1))
   ]
 

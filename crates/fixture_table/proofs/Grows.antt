@@ -10,7 +10,7 @@ use Rattle.fixture_table.specs.declared.types.CollectionNode.{CollectionNode}
 use Rattle.fixture_table.specs.declared.types.FixtureDef.{FixtureDef}
 use Rattle.fixture_table.specs.declared.entry.Entry.{Entry}
 use Rattle.fixture_table.specs.declared.entry.Entry.TheVariants.{Missing}
-use Rattle.fixture_table.specs.Closing.{with_one, with_unseen, entry_for, entries_for, asked_one, asked_all, asked, Grown, More, entry_at, autouse_at, autouse_up}
+use Rattle.fixture_table.specs.Closing.{with_one, with_unseen, entry_for, entries_for, asked_one, asked_all, requested_by, Grown, More, entry_at, autouse_at, autouse_up}
 
 -- a list of numbers below a bound, and one more
 pub all_push : (most : ℕ) (xs : List ℕ) (x : ℕ) → ((q : ℕ) → q < length xs → get_or xs q 0 < most) → x < most → (q : ℕ) → q < length (xs ++ x ∷ []) → get_or (xs ++ x ∷ []) q 0 < most
@@ -54,7 +54,7 @@ module _ (nodes : List CollectionNode) (defs : List FixtureDef) (item : ℕ) (bo
       let cut : drop i args ≡ name ∷ rest = drop-cons args i 0 lt ∙ ap (λ (n : ℕ). name ∷ drop n args) (sym (add-one i)) in
       sym (ap (λ (l : List ℕ). with_unseen (asked_all nodes defs item bound d l) es) cut ∙ unseen_append (asked_one nodes defs item bound d name) (asked_all nodes defs item bound d rest) es)
 
-  pub grown_more : (es : List Entry) (p : ℕ) (end : List Entry) → p < length es → Grown nodes defs item bound (with_unseen (asked nodes defs item bound (entry_at es p)) es) (p + 1) end → Grown nodes defs item bound es p end
+  pub grown_more : (es : List Entry) (p : ℕ) (end : List Entry) → p < length es → Grown nodes defs item bound (with_unseen (requested_by nodes defs item bound (entry_at es p)) es) (p + 1) end → Grown nodes defs item bound es p end
   grown_more es p end lt g = More es p (entry_at es p) end (slice_get-get_or es p (Missing 0) lt) (rw (add-one p) at g)
 
   -- the nodes from a place on, the last first

@@ -6,9 +6,9 @@ use Rattle.fixture_table.specs.declared.types.CollectionNode.{CollectionNode}
 use Rattle.fixture_table.specs.declared.types.FixtureDef.{FixtureDef}
 use Rattle.fixture_table.specs.declared.entry.Entry.{Entry}
 use Rattle.fixture_table.specs.declared.entry.Entry.TheVariants.{Definition, Missing}
-use Rattle.fixture_table.specs.Closing.{asked, entry_at, has, same_entry}
+use Rattle.fixture_table.specs.Closing.{requested_by, entry_at, has, same_entry}
 use Rattle.fixture_table.specs.Faults.{Once, RequestPath, Then, definitions_of, requests}
-use Rattle.fixture_table.specs.Index.{AreRows}
+use Rattle.fixture_table.specs.Index.{AreEntryRows}
 use Rattle.fixture_table.specs.Marks.{Below, row_of}
 use Rattle.fixture_table.proofs.Asked.{same_is, same_refl}
 use Rattle.fixture_table.proofs.Closed.{Single, defs_has, one_at}
@@ -36,7 +36,7 @@ none_among : (q : ℕ) (row : List ℕ) (f : ℕ → Entry) → map f row ≡ []
 none_among q [] f e h = cc
 none_among q (x ∷ row) f e h = cc
 
-module _ (nodes : List CollectionNode) (defs : List FixtureDef) (item : ℕ) (bound : List ℕ) (es : List Entry) (single : Single es) (asks : List (List ℕ)) (are : AreRows nodes defs item bound es asks) where
+module _ (nodes : List CollectionNode) (defs : List FixtureDef) (item : ℕ) (bound : List ℕ) (es : List Entry) (single : Single es) (asks : List (List ℕ)) (are : AreEntryRows nodes defs item bound es asks) where
   pub below : (p : ℕ) → Below (row_of asks p) (length asks)
   below p q h = elim (cases_lt p (length es)) [
     | inl lt ↦ (let b = (are.rows p lt).below q h in let m = are.many in omega (arith, b, m))
@@ -48,14 +48,14 @@ module _ (nodes : List CollectionNode) (defs : List FixtureDef) (item : ℕ) (bo
   step : (p q d e : ℕ) → p < length es → entry_at es p ≡ Definition d → entry_at es q ≡ Definition e → among q (row_of asks p) ≡ true → among e (requests nodes defs item bound d) ≡ true
   step p q d e lt at there h =
       let row = (are.rows p lt).same in
-      let a : has (entry_at es q) (asked nodes defs item bound (entry_at es p)) ≡ true = subst (λ (l : List Entry). has (entry_at es q) l ≡ true) row (among_has (entry_at es) q (row_of asks p) h) in
-      let b : has (Definition e) (asked nodes defs item bound (Definition d)) ≡ true = subst (λ (x : Entry). has (Definition e) (asked nodes defs item bound x) ≡ true) at (subst (λ (x : Entry). has x (asked nodes defs item bound (entry_at es p)) ≡ true) there a) in
-      has_defs e (asked nodes defs item bound (Definition d)) b
+      let a : has (entry_at es q) (requested_by nodes defs item bound (entry_at es p)) ≡ true = subst (λ (l : List Entry). has (entry_at es q) l ≡ true) row (among_has (entry_at es) q (row_of asks p) h) in
+      let b : has (Definition e) (requested_by nodes defs item bound (Definition d)) ≡ true = subst (λ (x : Entry). has (Definition e) (requested_by nodes defs item bound x) ≡ true) at (subst (λ (x : Entry). has x (requested_by nodes defs item bound (entry_at es p)) ≡ true) there a) in
+      has_defs e (requested_by nodes defs item bound (Definition d)) b
 
   -- a name without a definition asks for nothing
   missing_ends : (c q n : ℕ) → c < length es → entry_at es c ≡ Missing n → RequestPath (row_of asks) c q → ⊥
   missing_ends c q n lt m r =
-      let none : map (entry_at es) (row_of asks c) ≡ [] = (are.rows c lt).same ∙ ap (asked nodes defs item bound) m in
+      let none : map (entry_at es) (row_of asks c) ≡ [] = (are.rows c lt).same ∙ ap (requested_by nodes defs item bound) m in
       elim r [
         | Once _ _ h ↦ none_among q (row_of asks c) (entry_at es) none h
         | Then _ b _ h s ↦ none_among b (row_of asks c) (entry_at es) none h
@@ -73,8 +73,8 @@ module _ (nodes : List CollectionNode) (defs : List FixtureDef) (item : ℕ) (bo
 
   found : (p d e : ℕ) → p < length es → entry_at es p ≡ Definition d → among e (requests nodes defs item bound d) ≡ true → (q : ℕ) × (q < length es) × (among q (row_of asks p) ≡ true) × (entry_at es q ≡ Definition e)
   found p d e lt at h =
-      let a : has (Definition e) (asked nodes defs item bound (Definition d)) ≡ true = defs_has e (asked nodes defs item bound (Definition d)) h in
-      let b : has (Definition e) (map (entry_at es) (row_of asks p)) ≡ true = subst (λ (l : List Entry). has (Definition e) l ≡ true) (sym ((are.rows p lt).same ∙ ap (asked nodes defs item bound) at)) a in
+      let a : has (Definition e) (requested_by nodes defs item bound (Definition d)) ≡ true = defs_has e (requested_by nodes defs item bound (Definition d)) h in
+      let b : has (Definition e) (map (entry_at es) (row_of asks p)) ≡ true = subst (λ (l : List Entry). has (Definition e) l ≡ true) (sym ((are.rows p lt).same ∙ ap (requested_by nodes defs item bound) at)) a in
       let r = has_among (entry_at es) (Definition e) (row_of asks p) b in
       (r.0, (are.rows p lt).below r.0 r.1, r.1, r.2)
 

@@ -11,8 +11,8 @@ use Rattle.session_types.specs.Numbers.{among}
 use Rattle.fixture_table.specs.Nearest.{nearest_of, def_at}
 use Rattle.session_types.proofs.Lists.{In-among}
 use Rattle.session_types.specs.Members.{IsMember}
-use Rattle.fixture_table.specs.Closing.{IsKnown, Known, has, asked, asked_one, asked_all, entry_or, definition_if}
-use Rattle.fixture_table.specs.Faults.{definitions_of, of_rank, by_ranks, by_scope, rank_or, is_narrower, IsSound, IsClosure, Settled}
+use Rattle.fixture_table.specs.Closing.{IsKnown, Known, has, requested_by, asked_one, asked_all, entry_or, definition_if}
+use Rattle.fixture_table.specs.Faults.{definitions_of, of_rank, by_ranks, by_scope, rank_or, is_narrower, IsSoundEntry, IsClosure, CanBeSetUp}
 use Rattle.fixture_table.proofs.Asked.{definitions_append, entry_place}
 use Rattle.fixture_table.proofs.Closed.{closed, defs_has}
 use Rattle.fixture_table.proofs.Reached.{or_true, or_right, among_append}
@@ -126,9 +126,9 @@ module _ (nodes : List CollectionNode) (defs : List FixtureDef) (item : ℕ) (bo
         | inr g ↦ all_rank d e names n.1 g
       ]
 
-  pub settled : (uses args closure : List ℕ) → IsClosure nodes defs item bound uses args closure → Settled nodes defs item bound closure
-  settled uses args closure c = subst (Settled nodes defs item bound) (sym c.sorted) (record {
-    within = λ d e there h. in_scope defs e (definitions_of c.entries) (has_defs e c.entries (closed nodes defs item bound _ c.entries c.grown (Definition d) (Definition e) (inside d there) (defs_has e (asked nodes defs item bound (Definition d)) h)));
+  pub settled : (uses args closure : List ℕ) → IsClosure nodes defs item bound uses args closure → CanBeSetUp nodes defs item bound closure
+  settled uses args closure c = subst (CanBeSetUp nodes defs item bound) (sym c.sorted) (record {
+    within = λ d e there h. in_scope defs e (definitions_of c.entries) (has_defs e c.entries (closed nodes defs item bound _ c.entries c.grown (Definition d) (Definition e) (inside d there) (defs_has e (requested_by nodes defs item bound (Definition d)) h)));
     apart = λ d there r. (sound d there).0 (inl r);
     broader = λ d e there h. all_rank d e (def_at defs d).args (sound d there).1 h;
   })
@@ -136,10 +136,10 @@ module _ (nodes : List CollectionNode) (defs : List FixtureDef) (item : ℕ) (bo
       inside : (d : ℕ) → among d (by_scope defs (definitions_of c.entries)) ≡ true → has (Definition d) c.entries ≡ true
       inside d there = defs_has d c.entries (scope_in defs d (definitions_of c.entries) there)
 
-      sound : (d : ℕ) → among d (by_scope defs (definitions_of c.entries)) ≡ true → IsSound nodes defs item bound (Definition d)
+      sound : (d : ℕ) → among d (by_scope defs (definitions_of c.entries)) ≡ true → IsSoundEntry nodes defs item bound (Definition d)
       sound d there =
           let at = entry_place (Definition d) c.entries (inside d there) in
-          subst (IsSound nodes defs item bound) at.2 (c.sound at.0 at.1)
+          subst (IsSoundEntry nodes defs item bound) at.2 (c.sound at.0 at.1)
 
 -- a closure is of the table
 pub closure_known : (defs : List FixtureDef) (entries : List Entry) → Known defs entries → (d : ℕ) → IsMember d (by_scope defs (definitions_of entries)) → d < length defs

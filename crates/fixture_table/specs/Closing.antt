@@ -67,14 +67,14 @@ module _ (nodes : List CollectionNode) (defs : List FixtureDef) (item : ℕ) (bo
   asked_all d (name ∷ names) = asked_one d name ++ asked_all d names
 
   -- what an entry asks for
-  abbrev pub asked : Entry → List Entry
-  asked (Missing name) = []
-  asked (Definition d) = asked_all d (def_at defs d).args
+  abbrev pub requested_by : Entry → List Entry
+  requested_by (Missing name) = []
+  requested_by (Definition d) = asked_all d (def_at defs d).args
 
   -- the list grows: each entry in turn, from a place on, appends what it asks for and isn't there yet
   pub data Grown : List Entry → ℕ → List Entry → Type 0 where
     Done : (es : List Entry) (p : ℕ) → length es ≤ p → Grown es p es
-    More : (es : List Entry) (p : ℕ) (e : Entry) (end : List Entry) → slice_get es p ≡ Some e → Grown (with_unseen (asked e) es) (suc p) end → Grown es p end
+    More : (es : List Entry) (p : ℕ) (e : Entry) (end : List Entry) → slice_get es p ≡ Some e → Grown (with_unseen (requested_by e) es) (suc p) end → Grown es p end
 
   -- the visible autouse fixtures, then what is used, then the arguments
   abbrev pub first_entries : List ℕ → List ℕ → List Entry

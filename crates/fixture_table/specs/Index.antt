@@ -4,7 +4,7 @@ use Rattle.fixture_table.specs.declared.types.CollectionNode.{CollectionNode}
 use Rattle.fixture_table.specs.declared.types.FixtureDef.{FixtureDef}
 use Rattle.fixture_table.specs.declared.entry.Entry.{Entry}
 use Rattle.fixture_table.specs.Nearest.{def_at, is_beyond}
-use Rattle.fixture_table.specs.Closing.{asked, entry_at, has}
+use Rattle.fixture_table.specs.Closing.{requested_by, entry_at, has}
 use Rattle.fixture_table.specs.Marks.{Below, row_of}
 
 -- those that stand at a node, in order, numbered from a place on
@@ -44,14 +44,14 @@ HoldsOfNone holds row = (q : ℕ) → q < length row → holds (slice_index_or r
 module _ (nodes : List CollectionNode) (defs : List FixtureDef) (item : ℕ) (bound : List ℕ) where
   -- what each entry asks for is among the entries
   abbrev pub IsShut : List Entry → Type 0
-  IsShut entries = (p : ℕ) (x : Entry) → p < length entries → has x (asked nodes defs item bound (entry_at entries p)) ≡ true → has x entries ≡ true
+  IsShut entries = (p : ℕ) (x : Entry) → p < length entries → has x (requested_by nodes defs item bound (entry_at entries p)) ≡ true → has x entries ≡ true
 
   -- the places of what an entry asks for
   pub record IsRow (entries : List Entry) (entry : Entry) (row : List ℕ) : Type 0 where
-    pub same : map (entry_at entries) row ≡ asked nodes defs item bound entry
+    pub same : map (entry_at entries) row ≡ requested_by nodes defs item bound entry
     pub below : Below row (length entries)
 
   -- a row for each entry
-  pub record AreRows (entries : List Entry) (asks : List (List ℕ)) : Type 0 where
+  pub record AreEntryRows (entries : List Entry) (asks : List (List ℕ)) : Type 0 where
     pub many : length asks ≡ length entries
     pub rows : (p : ℕ) → p < length entries → IsRow entries (entry_at entries p) (row_of asks p)

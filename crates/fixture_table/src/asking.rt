@@ -1,7 +1,7 @@
 ghost use Rattle.std.specs.Prelude.{◌≡◌, ◌<◌, ◌++◌, ◌∷◌, [], length, map, true, IfOk};
 ghost use Rattle.fixture_table.specs.declared.entry.Entry.{Entry};
-ghost use Rattle.fixture_table.specs.Closing.{IsKnown, Known, asked, asked_all, entry_at, has};
-ghost use Rattle.fixture_table.specs.Index.{AreRows, IsRow, IsShut};
+ghost use Rattle.fixture_table.specs.Closing.{IsKnown, Known, requested_by, asked_all, entry_at, has};
+ghost use Rattle.fixture_table.specs.Index.{AreEntryRows, IsRow, IsShut};
 ghost use Rattle.fixture_table.specs.Marks.{Below};
 ghost use Rattle.fixture_table.specs.Nearest.{def_at};
 
@@ -54,7 +54,7 @@ impl View<'_> {
         entry: Entry,
     ) -> Result<Seq<usize>, OutOfMemory>
         requires known { IsKnown self.now.defs.now entry }
-        requires shut { (x : Entry) → has x (asked self.now.nodes.now self.now.defs.now self.now.item self.now.bound.now entry) ≡ true → has x entries.now ≡ true }
+        requires shut { (x : Entry) → has x (requested_by self.now.nodes.now self.now.defs.now self.now.item self.now.bound.now entry) ≡ true → has x entries.now ≡ true }
         ensures { IfOk result (λ row. IsRow self.now.nodes.now self.now.defs.now self.now.item self.now.bound.now entries.now entry row) }
     {
         match entry {
@@ -67,7 +67,7 @@ impl View<'_> {
     pub fn asks(&self, alloc: Global, entries: &[Entry]) -> Result<Vec<Seq<usize>>, OutOfMemory>
         requires known { Known self.now.defs.now entries.now }
         requires shut { IsShut self.now.nodes.now self.now.defs.now self.now.item self.now.bound.now entries.now }
-        ensures { IfOk result (λ asks. AreRows self.now.nodes.now self.now.defs.now self.now.item self.now.bound.now entries.now asks.items) }
+        ensures { IfOk result (λ asks. AreEntryRows self.now.nodes.now self.now.defs.now self.now.item self.now.bound.now entries.now asks.items) }
     {
         let mut asks = Vec::new(alloc);
         for entry in entries {

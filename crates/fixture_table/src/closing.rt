@@ -3,7 +3,7 @@ ghost use Rattle.std.specs.Option.{ForSome, option_to_list};
 ghost use Rattle.fixture_table.specs.Tree.{IsTree, iter_parents};
 ghost use Rattle.session_types.specs.Numbers.{among};
 ghost use Rattle.fixture_table.specs.Nearest.{StandAtNodes, def_at, nearest_of};
-ghost use Rattle.fixture_table.specs.Closing.{Known, IsKnown, entry_at, same_entry, has, with_one, with_unseen, entry_for, entries_for, asked_one, asked_all, asked, entry_or, definition_if, Grown, autouse_at, autouse_up, first_entries};
+ghost use Rattle.fixture_table.specs.Closing.{Known, IsKnown, entry_at, same_entry, has, with_one, with_unseen, entry_for, entries_for, asked_one, asked_all, requested_by, entry_or, definition_if, Grown, autouse_at, autouse_up, first_entries};
 ghost use Rattle.fixture_table.specs.Index.{IsIndex};
 
 use crate::entry::Entry;
@@ -239,7 +239,7 @@ impl View<'_> {
     fn grow_at(&self, entries: &mut Vec<Entry>, place: usize) -> Result<(), OutOfMemory>
         requires known { Known self.now.defs.now entries.old.items }
         requires place { place < length entries.old.items }
-        ensures ok { OnOk result (entries.new.items ≡ with_unseen (asked self.now.nodes.now self.now.defs.now self.now.item self.now.bound.now (entry_at entries.old.items place)) entries.old.items) }
+        ensures ok { OnOk result (entries.new.items ≡ with_unseen (requested_by self.now.nodes.now self.now.defs.now self.now.item self.now.bound.now (entry_at entries.old.items place)) entries.old.items) }
         ensures known { OnOk result (Known self.now.defs.now entries.new.items) }
     {
         match entries[place] {

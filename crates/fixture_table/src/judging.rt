@@ -1,6 +1,6 @@
 ghost use Rattle.std.specs.Prelude.{◌≡◌, ◌<◌, ℕ, length, None, Some, IfSome, IfOk, true, if◌then◌else◌};
 ghost use Rattle.fixture_table.specs.Nearest.{def_at};
-ghost use Rattle.fixture_table.specs.Faults.{asks_in_vain, rank_or, rank_at, is_narrower, first_narrower, requests, RequestPath, IsRecursive, HasFault, IsSound, SoundTo, FirstFault};
+ghost use Rattle.fixture_table.specs.Faults.{asks_in_vain, rank_or, rank_at, is_narrower, first_narrower, requests, RequestPath, IsRecursive, HasFault, IsSoundEntry, SoundTo, IsFirstFault};
 ghost use Rattle.fixture_table.specs.declared.entry.Entry.TheVariants.{Definition};
 ghost use Rattle.fixture_table.specs.declared.fault.FixtureFault.{FixtureFault};
 ghost use Rattle.fixture_table.specs.Closing.{Known, IsKnown, entry_at};
@@ -115,7 +115,7 @@ impl View<'_> {
         requires out { (d : ℕ) → entry ≡ Definition d → RequestPath (row_of asks.now) at at → RequestPath (requests self.now.nodes.now self.now.defs.now self.now.item self.now.bound.now) d d }
         requires back { (d : ℕ) → entry ≡ Definition d → RequestPath (requests self.now.nodes.now self.now.defs.now self.now.item self.now.bound.now) d d → RequestPath (row_of asks.now) at at }
         ensures fault { IfOk result (λ found. (fault : FixtureFault) → found ≡ Some fault → HasFault self.now.nodes.now self.now.defs.now self.now.item self.now.bound.now entry fault) }
-        ensures sound { IfOk result (λ found. found ≡ None → IsSound self.now.nodes.now self.now.defs.now self.now.item self.now.bound.now entry) }
+        ensures sound { IfOk result (λ found. found ≡ None → IsSoundEntry self.now.nodes.now self.now.defs.now self.now.item self.now.bound.now entry) }
     {
         match entry {
             Entry::Missing(name) => Ok(Some(FixtureFault::Unknown(name))),
@@ -146,7 +146,7 @@ impl View<'_> {
         requires below { (p : ℕ) → Below (row_of asks.now p) (length asks.now) }
         requires out { (p d : ℕ) → p < length entries.now → entry_at entries.now p ≡ Definition d → RequestPath (row_of asks.now) p p → RequestPath (requests self.now.nodes.now self.now.defs.now self.now.item self.now.bound.now) d d }
         requires back { (p d : ℕ) → p < length entries.now → entry_at entries.now p ≡ Definition d → RequestPath (requests self.now.nodes.now self.now.defs.now self.now.item self.now.bound.now) d d → RequestPath (row_of asks.now) p p }
-        ensures fault { IfOk result (λ found. (fault : FixtureFault) → found ≡ Some fault → FirstFault self.now.nodes.now self.now.defs.now self.now.item self.now.bound.now entries.now fault) }
+        ensures fault { IfOk result (λ found. (fault : FixtureFault) → found ≡ Some fault → IsFirstFault self.now.nodes.now self.now.defs.now self.now.item self.now.bound.now entries.now fault) }
         ensures sound { IfOk result (λ found. found ≡ None → SoundTo self.now.nodes.now self.now.defs.now self.now.item self.now.bound.now entries.now (length entries.now)) }
     {
         for (at, entry) in entries.iter().enumerate() {

@@ -15,7 +15,7 @@
 //!   a definition of the table (`within`).
 //! - `closure` answers `IsClosure` (`closure`): there is a list that grows from the visible autouse names (outer nodes first),
 //!   `uses` and `args`, each entry once and no name of `bound`, an own name entering the next definition outwards; no entry has a
-//!   fault; the answer is its definitions, sorted stably by scope. They are definitions of the table (`within`), and `Settled`
+//!   fault; the answer is its definitions, sorted stably by scope. They are definitions of the table (`within`), and `CanBeSetUp`
 //!   (`settled`): their requests stay within the closure, none is reached from itself, and none is for a narrower scope.
 //! - Or it answers `IsFault` (`fault`): the first entry of that list that has a fault, and which: `Unknown` for a name without
 //!   definition, else `Recursive` (reached from itself by requests, or its own name with none outwards), else `ScopeMismatch` with

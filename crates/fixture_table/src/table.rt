@@ -5,7 +5,7 @@ ghost use Rattle.fixture_table.specs.Marks.{row_of};
 ghost use Rattle.fixture_table.specs.Tree.{covers, node_at};
 ghost use Rattle.session_types.specs.Members.{IsMember};
 ghost use Rattle.fixture_table.specs.Nearest.{def_at, nearest_of};
-ghost use Rattle.fixture_table.specs.Faults.{IsClosure, IsFault, Settled};
+ghost use Rattle.fixture_table.specs.Faults.{IsClosure, IsFault, CanBeSetUp};
 
 use crate::closing::View;
 use crate::fault::FixtureFault;
@@ -148,7 +148,7 @@ impl Table {
         requires { item < length self.now.nodes }
         ensures within { IfOk result (λ ids. (d : ℕ) → IsMember d ids.items → d < length self.now.defs) }
         ensures closure { IfOk result (λ ids. IsClosure self.now.nodes self.now.defs item bound.now uses.now args.now ids.items) }
-        ensures settled { IfOk result (λ ids. Settled self.now.nodes self.now.defs item bound.now ids.items) }
+        ensures settled { IfOk result (λ ids. CanBeSetUp self.now.nodes self.now.defs item bound.now ids.items) }
         ensures fault { IfErr result (λ fault. fault ≡ NoMemory ⊎ IsFault self.now.nodes self.now.defs item bound.now uses.now args.now fault) }
     {
         let asking = View {

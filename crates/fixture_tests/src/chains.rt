@@ -132,25 +132,25 @@ fn set_up<L: Ledger>(
 
 /// Numbers by the chains, and by the plain list.
 #[derive(Drop)]
-struct Told {
+struct NumberLists {
     chains: Vec<u64>,
     plain: Vec<u64>,
 }
 
-impl Told {
+impl NumberLists {
     fn is(&self, numbers: &[u64]) -> bool {
         self.chains.as_slice() == numbers && self.plain.as_slice() == numbers
     }
 }
 
 /// What goes down.
-fn down_of(alloc: Global, both: &Both, which: &Dying<'_>) -> Result<Told, OutOfMemory> {
+fn down_of(alloc: Global, both: &Both, which: &Dying<'_>) -> Result<NumberLists, OutOfMemory> {
     let mut chains = Vec::new(alloc);
     for id in &both.chains.down_of(alloc, which)? {
         chains.push(id.order())?;
     }
     let plain = both.plain.down_of(alloc, which)?;
-    Ok(Told { chains, plain })
+    Ok(NumberLists { chains, plain })
 }
 
 /// What is to go down, by number.
@@ -160,7 +160,12 @@ enum Which<'w> {
     NotOn(&'w [u32]),
 }
 
-fn going(alloc: Global, both: &Both, rows: &[Row], which: Which) -> Result<Told, OutOfMemory> {
+fn going(
+    alloc: Global,
+    both: &Both,
+    rows: &[Row],
+    which: Which,
+) -> Result<NumberLists, OutOfMemory> {
     match which {
         Which::NotOn(chain) => down_of(alloc, both, &Dying::NotOn(chain)),
         Which::Dependents(order) => {
@@ -176,8 +181,8 @@ fn going(alloc: Global, both: &Both, rows: &[Row], which: Which) -> Result<Told,
 /// What goes down, and what is left then.
 #[derive(Drop)]
 struct Seen {
-    down: Told,
-    left: Told,
+    down: NumberLists,
+    left: NumberLists,
     all_there: bool,
 }
 

@@ -6,7 +6,7 @@ use Rattle.parsing.proofs.Rules.{start_then, go_then, start_nothing, start_loop,
 use Rattle.parsing.proofs.Until.{start_pass, go_on}
 use Rattle.parsing.proofs.Seen.{seen_with, seen_firsts, go_seen}
 use Rattle.grammar.specs.Table.{less, taken, token, give, node, line, inner, join, far, fork, ◌⨾◌, ◌∣◌, many, when, room, lift, seen, until, Grammar, In, Fars}
-use Rattle.grammar.specs.Levels.{Langs, takes, as_high, shown, lang, first, firsts, nul, goes, Stand, parts, whole, low, enter, leveled, closes, out, able, leads, below, good, sub, meet, takes_line}
+use Rattle.grammar.specs.Levels.{Langs, takes, as_high, shown, lang, first, first_set, nul, goes, Stand, parts, whole, low, enter, leveled, closes, out, able, leads, below, good, sub, meet, takes_line}
 use Rattle.grammar.proofs.Stands.{and_true, or_true, not_true, alike_same, is_whole_same, loosen, leveled_back, meet_same, sub_self, both_true, Know, le_of, of_le, node_know, line_know, join_know, inner_know, room_know, lift_know, take_know, taken_low, keeps}
 
 -- what a check of a part says of its parts
@@ -15,7 +15,7 @@ pub record ThenGood (g : Grammar) (k : ℕ) (s : Stand) (S A B : g.Sort) (p : In
   pub two : good g k (out g s p) q ≡ true
   pub able_two : able g (out g s p) q ≡ true
   pub solid : nul g p ≡ false
-  pub clear : apart (firsts g q) (goes g p) ≡ true
+  pub clear : apart (first_set g q) (goes g p) ≡ true
 
 pub then_good : (g : Grammar) (k : ℕ) (s : Stand) {S A B : g.Sort} (p : In g S A) (q : In g A B) → good g k s (p ⨾ q) ≡ true → ThenGood g k s S A B p q
 then_good g k s p q e = let a = and_true _ _ e in let b = and_true _ _ a.0 in let c = and_true _ _ a.1 in let d = and_true _ _ c.1 in
@@ -27,7 +27,7 @@ pub record OrGood (g : Grammar) (k : ℕ) (s : Stand) (S A : g.Sort) (p q : In g
   pub one_out : sub (out g s p) (meet (out g s p) (out g s q)) ≡ true
   pub two_out : sub (out g s q) (meet (out g s p) (out g s q)) ≡ true
   pub solid : nul g p ≡ false
-  pub clear : apart (firsts g p) (firsts g q) ≡ true
+  pub clear : apart (first_set g p) (first_set g q) ≡ true
 
 pub or_good : (g : Grammar) (k : ℕ) (s : Stand) {S A : g.Sort} (p q : In g S A) → good g k s (p ∣ q) ≡ true → OrGood g k s S A p q
 or_good g k s p q e = let a = and_true _ _ e in let b = and_true _ _ a.0 in let c = and_true _ _ a.1 in let d = and_true _ _ c.1 in let o = and_true _ _ c.0 in
@@ -42,8 +42,8 @@ pub record ManyGood (g : Grammar) (k : ℕ) (s : Stand) (S : g.Sort) (p : In g S
   pub enters : sub s (loop_at g s p) ≡ true
   pub again_out : sub (out g (loop_at g s p) p) (loop_at g s p) ≡ true
   pub solid : nul g p ≡ false
-  pub clear : apart (firsts g p) (goes g p) ≡ true
-  pub rest : (not (nul g p) && apart (firsts g p) (goes g p)) ≡ true
+  pub clear : apart (first_set g p) (goes g p) ≡ true
+  pub rest : (not (nul g p) && apart (first_set g p) (goes g p)) ≡ true
 
 pub many_good : (g : Grammar) (k : ℕ) (s : Stand) {S : g.Sort} (p : In g S S) → good g k s (many p) ≡ true → ManyGood g k s S p
 many_good g k s p e = let a = and_true _ _ e in let c = and_true _ _ a.1 in let d = and_true _ _ c.1 in let o = and_true _ _ c.0 in
@@ -52,7 +52,7 @@ many_good g k s p e = let a = and_true _ _ e in let c = and_true _ _ a.1 in let 
 -- and so where they go on
 pub many_again : (g : Grammar) (k : ℕ) (s : Stand) {S : g.Sort} (p : In g S S) → good g k s (many p) ≡ true → good g k (loop_at g s p) (many p) ≡ true
 many_again g k s p e = let b = many_good g k s p e in let l = loop_at g s p in
-    subst (λ v. (good g k v p && ((sub (loop_at g s p) v && sub (out g v p) v) && (not (nul g p) && apart (firsts g p) (goes g p)))) ≡ true) (sym (meet_same (out g (loop_at g s p) p) (loop_at g s p) b.again_out))
+    subst (λ v. (good g k v p && ((sub (loop_at g s p) v && sub (out g v p) v) && (not (nul g p) && apart (first_set g p) (goes g p)))) ≡ true) (sym (meet_same (out g (loop_at g s p) p) (loop_at g s p) b.again_out))
     (both_true _ _ b.one (both_true _ _ (both_true _ _ (sub_self (loop_at g s p)) b.again_out) b.rest))
 
 pub when_good : (g : Grammar) (k : ℕ) (s : Stand) {S A : g.Sort} (c : g.El S → Bool) (p : In g S A) → good g k s (when c p) ≡ true → (good g k s p ≡ true) × (nul g p ≡ false)
@@ -88,8 +88,8 @@ pub record UntilGood (g : Grammar) (k : ℕ) (s : Stand) (S A B : g.Sort) (e : I
   pub lead_two : leads g k 1 p ≡ true
   pub solid_one : nul g e ≡ false
   pub solid_two : nul g p ≡ false
-  pub apart_two : apart (firsts g e) (firsts g p) ≡ true
-  pub clear : apart (firsts g e ++ firsts g p) (goes g e ++ (goes g p ++ [])) ≡ true
+  pub apart_two : apart (first_set g e) (first_set g p) ≡ true
+  pub clear : apart (first_set g e ++ first_set g p) (goes g e ++ (goes g p ++ [])) ≡ true
 
 pub until_good : (g : Grammar) (k : ℕ) (s : Stand) {S A B D : g.Sort} (c : g.El S → Option (g.El D)) (tk : g.El S → g.El B) (f : g.El A → g.El S) (i : (a : g.El A) → is_some (c (f a)) ≡ true) (e : In g B A) (p : In g B S) → good g k s (until c tk f i e p) ≡ true → UntilGood g k s S A B e p
 until_good g k s c tk f i e p o = let x = and_true _ _ o in let y = and_true _ _ x.0 in let a = and_true _ _ y.0 in let b = and_true _ _ y.1 in let z = and_true _ _ x.1 in let d = and_true _ _ z.0 in
@@ -101,7 +101,7 @@ when_firsts : (b : Bool) (j : ℕ) (F U : List ℕ) → (has j F ≡ true → ha
 when_firsts true j F U f e = f e
 when_firsts false j F U f e = no_false e
 
-pub first_firsts : (g : Grammar) {S A : g.Sort} (p : In g S A) (x : g.El S) (j : ℕ) → has j (first g p x) ≡ true → has j (firsts g p) ≡ true
+pub first_firsts : (g : Grammar) {S A : g.Sort} (p : In g S A) (x : g.El S) (j : ℕ) → has j (first g p x) ≡ true → has j (first_set g p) ≡ true
 first_firsts g (token F f) x j e = e
 first_firsts g (give f) x j e = e
 first_firsts g (node f) x j e = e
@@ -112,17 +112,17 @@ first_firsts g (far q f) x j e = e
 first_firsts g (fork c d f p q y) x j e = e
 first_firsts g (p ⨾ q) x j e = first_firsts g p x j e
 first_firsts g (p ∣ q) x j e = elim (has_either j (first g p x) (first g q x) e) [
-  | inl l ↦ has_left j (firsts g p) (firsts g q) (first_firsts g p x j l)
-  | inr l ↦ has_right j (firsts g p) (firsts g q) (first_firsts g q x j l)
+  | inl l ↦ has_left j (first_set g p) (first_set g q) (first_firsts g p x j l)
+  | inr l ↦ has_right j (first_set g p) (first_set g q) (first_firsts g q x j l)
 ]
 first_firsts g (many p) x j e = first_firsts g p x j e
-first_firsts g (when c p) x j e = when_firsts (c x) j (first g p x) (firsts g p) (first_firsts g p x j) e
-first_firsts g (seen v p) x j e = seen_firsts (v x) j (λ b. first g p b) (firsts g p) (λ b. first_firsts g p b j) e
+first_firsts g (when c p) x j e = when_firsts (c x) j (first g p x) (first_set g p) (first_firsts g p x j) e
+first_firsts g (seen v p) x j e = seen_firsts (v x) j (λ b. first g p b) (first_set g p) (λ b. first_firsts g p b j) e
 first_firsts g (room p) x j e = first_firsts g p x j e
 first_firsts g (lift lf p) x j e = first_firsts g p (lf x) j e
 first_firsts g (until c tk f i d p) x j e = elim (has_either j (first g d (tk x)) (first g p (tk x)) e) [
-  | inl l ↦ has_left j (firsts g d) (firsts g p) (first_firsts g d (tk x) j l)
-  | inr l ↦ has_right j (firsts g d) (firsts g p) (first_firsts g p (tk x) j l)
+  | inl l ↦ has_left j (first_set g d) (first_set g p) (first_firsts g d (tk x) j l)
+  | inr l ↦ has_right j (first_set g d) (first_set g p) (first_firsts g p (tk x) j l)
 ]
 
 -- what is seen is as high as what it is seen of

@@ -8,7 +8,7 @@ use Rattle.parsing.proofs.Until.{pass_rule}
 use Rattle.parsing.proofs.Seen.{seen_step}
 use Rattle.parsing.proofs.Two.{Two, two_steps}
 use Rattle.grammar.specs.Table.{taken, token, give, node, line, inner, join, far, fork, ◌⨾◌, ◌∣◌, many, when, room, lift, seen, until, Grammar, In, Fars}
-use Rattle.grammar.specs.Levels.{Langs, Readers, FarReaders, fits, takes, shown, lang, first, firsts, nul, goes, read, Stand, parts, whole, low, enter, closes, out, able, leads, below, good, takes_line}
+use Rattle.grammar.specs.Levels.{Langs, Readers, FarReaders, fits, takes, shown, lang, first, first_set, nul, goes, read, Stand, parts, whole, low, enter, closes, out, able, leads, below, good, takes_line}
 use Rattle.grammar.proofs.Stands.{and_true, loosen, Know, room_know, lift_know, take_know, takes_wide, le_of, of_le, wide_know, left_know, keeps, apart_less, apart_both}
 use Rattle.grammar.proofs.Parts.{loop_at, then_good, or_good, many_good, when_good, seen_good, room_good, lift_good, fork_good, UntilGood, until_good, first_firsts, fits_of, until_fits, ended, taken_room, able_of, starts_of}
 
@@ -125,14 +125,14 @@ module _ (g : Grammar) (A : Type 0) (n m k : ℕ) (lt : A → suc n < m) (fl fm 
   step_of (p ⨾ q) s e x = let b = then_good g k s p q e in
       bind_step {Y = λ y. Know (out g s p) n y.1} (λ y. read g n fr hr ur q y.0 y.1) (solid b.solid (step_of p s b.one x))
       (λ y. able_rule q (out g s p) b.two b.able_two y (step_of q (out g s p) b.two y))
-      (λ y. apart_less (first g q y.0) (firsts g q) (goes g p) (first_firsts g q y.0) b.clear)
+      (λ y. apart_less (first g q y.0) (first_set g q) (goes g p) (first_firsts g q y.0) b.clear)
       (λ _ z y w l. fits_of g n k fl hn un here_low under_low p s b.one x w y z l)
   step_of (p ∣ q) s e x = let b = or_good g k s p q e in
-      loose _ (λ j. or_within j (nul g q) (goes g p) (goes g q) (first g p x.0) (firsts g p) (first_firsts g p x.0))
-      (or_steps (solid b.solid (step_of p s b.one x)) (step_of q s b.two x) (apart_both (first g p x.0) (firsts g p) (first g q x.0) (firsts g q) (first_firsts g p x.0) (first_firsts g q x.0) b.clear))
+      loose _ (λ j. or_within j (nul g q) (goes g p) (goes g q) (first g p x.0) (first_set g p) (first_firsts g p x.0))
+      (or_steps (solid b.solid (step_of p s b.one x)) (step_of q s b.two x) (apart_both (first g p x.0) (first_set g p) (first g q x.0) (first_set g q) (first_firsts g p x.0) (first_firsts g q x.0) b.clear))
   step_of (many p) s e x = let b = many_good g k s p e in
-      wanting (λ _ z. loosen _ _ n x.1 b.enters z) (step (loop_fit {Fits = λ y. Know (loop_at g s p) n y.1} {F = λ y. first g p y.0} (firsts g p) (λ y. read g n fr hr ur p y.0 y.1) x (λ y. solid b.solid (step_of p (loop_at g s p) b.one y))
-      (λ y. apart_less (first g p y.0) (firsts g p) (goes g p) (first_firsts g p y.0) b.clear) (λ y. first_firsts g p y.0)
+      wanting (λ _ z. loosen _ _ n x.1 b.enters z) (step (loop_fit {Fits = λ y. Know (loop_at g s p) n y.1} {F = λ y. first g p y.0} (first_set g p) (λ y. read g n fr hr ur p y.0 y.1) x (λ y. solid b.solid (step_of p (loop_at g s p) b.one y))
+      (λ y. apart_less (first g p y.0) (first_set g p) (goes g p) (first_firsts g p y.0) b.clear) (λ y. first_firsts g p y.0)
       (λ _ y w t z l. loosen _ _ n t.1 b.again_out (fits_of g n k fl hn un here_low under_low p (loop_at g s p) b.one y w t z l))))
   step_of (when c p) s e x = let b = when_good g k s c p e in when_step (c x.0) (solid b.1 (step_of p s b.0 x))
   step_of (seen v p) s e x = let b = seen_good g k s v p e in seen_step (v x.0) (λ y. solid b.1 (step_of p s b.0 (y, x.1)))
@@ -143,20 +143,20 @@ module _ (g : Grammar) (A : Type 0) (n m k : ℕ) (lt : A → suc n < m) (fl fm 
       room_step (nat_le (1 + x.1) n) (nat_le (1 + x.1) m) (solid b.1 (step_of p parts b.0 (lf x.0, 1 + x.1))) (λ a z. of_le (1 + x.1) m (lifted_wide x.1 m (wide_know s n m x.1 (lt a) z))) (λ z i. lift_know n x.1 (le_of (1 + x.1) n i))
       (λ a z h i. starts a p parts b.0 0 b.2 (lf x.0, 1 + x.1) (lifted_room x.1 m (wide_know s n m x.1 (lt a) z)) h i)
   step_of (until c tk f i d p) s e x = let b = until_good g k s c tk f i d p e in
-      subst (λ v. Step A (Know v n x.1) g.kind (lang g n fl hn un (until c tk f i d p) x) (lang g m fm hm um (until c tk f i d p) x) (read g n fr hr ur (until c tk f i d p) x) true (first g d (tk x.0) ++ first g p (tk x.0)) ((goes g d ++ (goes g p ++ [])) ++ (firsts g d ++ firsts g p))) (sym b.at_whole)
+      subst (λ v. Step A (Know v n x.1) g.kind (lang g n fl hn un (until c tk f i d p) x) (lang g m fm hm um (until c tk f i d p) x) (read g n fr hr ur (until c tk f i d p) x) true (first g d (tk x.0) ++ first g p (tk x.0)) ((goes g d ++ (goes g p ++ [])) ++ (first_set g d ++ first_set g p))) (sym b.at_whole)
       (step (pass_rule (shown c) x
-      (loop_fit {Fits = λ y. Know whole n y.1} {F = λ y. first g d (tk y.0) ++ first g p (tk y.0)} (firsts g d ++ firsts g p)
+      (loop_fit {Fits = λ y. Know whole n y.1} {F = λ y. first g d (tk y.0) ++ first g p (tk y.0)} (first_set g d ++ first_set g p)
       (λ y. guard_at (takes (is_some (c y.0.0)) n y.0.1) (λ t. has (g.kind t) (first g d (tk y.0.0) ++ first g p (tk y.0.0)))
       (λ ts. cond (head_is (λ t. has (g.kind t) (first g d (tk y.0.0))) ts) (read g n fr hr ur d (tk y.0.0, taken (is_some (c y.0.0)) y.0.1) ts >>= λ z. Found (f z.0.0, z.0.1) z.1) (read g n fr hr ur p (tk y.0.0, taken (is_some (c y.0.0)) y.0.1) ts)) y.1) x
       (λ y. room_step (takes (is_some (c y.0)) n y.1) (takes (is_some (c y.0)) m y.1)
       (or_steps (bind_step {Y = λ _. Unit {0}} (λ z. Found (f z.0.0, z.0.1) z.1) (solid b.solid_one (step_of d low b.one (tk y.0, taken (is_some (c y.0)) y.1))) (λ z. nothing (f z.0, z.1)) (λ _. refl) (λ _ _ _ _ _. tt))
-      (solid b.solid_two (step_of p low b.two (tk y.0, taken (is_some (c y.0)) y.1))) (apart_both (first g d (tk y.0)) (firsts g d) (first g p (tk y.0)) (firsts g p) (first_firsts g d (tk y.0)) (first_firsts g p (tk y.0)) b.apart_two))
+      (solid b.solid_two (step_of p low b.two (tk y.0, taken (is_some (c y.0)) y.1))) (apart_both (first g d (tk y.0)) (first_set g d) (first g p (tk y.0)) (first_set g p) (first_firsts g d (tk y.0)) (first_firsts g p (tk y.0)) b.apart_two))
       (λ a z. takes_wide (is_some (c y.0)) n m y.1 (lt a) z) (λ z t. take_know (is_some (c y.0)) n y.1 z t)
       (λ a z h t. elim (has_either (g.kind h) (first g d (tk y.0)) (first g p (tk y.0)) t) [
         | inl j ↦ go_left (go_then (starts a d low b.one 1 b.lead_one (tk y.0, taken (is_some (c y.0)) y.1) (taken_room (is_some (c y.0)) 1 y.1 m (wide_know whole n m y.1 (lt a) z)) h j) (λ y. start_nothing))
         | inr j ↦ go_right (starts a p low b.two 1 b.lead_two (tk y.0, taken (is_some (c y.0)) y.1) (taken_room (is_some (c y.0)) 1 y.1 m (wide_know whole n m y.1 (lt a) z)) h j)
       ]))
-      (λ y. apart_less (first g d (tk y.0) ++ first g p (tk y.0)) (firsts g d ++ firsts g p) (goes g d ++ (goes g p ++ [])) (first_firsts g (until c tk f i d p) y.0) b.clear)
+      (λ y. apart_less (first g d (tk y.0) ++ first g p (tk y.0)) (first_set g d ++ first_set g p) (goes g d ++ (goes g p ++ [])) (first_firsts g (until c tk f i d p) y.0) b.clear)
       (λ y. first_firsts g (until c tk f i d p) y.0)
       (λ a y w t z l. until_fits g n k fl hn un here_low under_low c tk f d p (subst (λ v. UntilGood g k v _ _ _ d p) b.at_whole b) y w t z l))
       (λ a t w z l. keeps (λ v. Know whole n v.1) (λ y w t z l. until_fits g n k fl hn un here_low under_low c tk f d p (subst (λ v. UntilGood g k v _ _ _ d p) b.at_whole b) y w t z l) x w t z l)

@@ -66,23 +66,23 @@ first g (lift lf p) s = first g p (lf s)
 first g (seen v p) s = seen_or [] (λ b. first g p b) (v s)
 first g (until c tk f i e p) s = first g e (tk s) ++ first g p (tk s)
 
-abbrev pub firsts : (g : Grammar) {S A : g.Sort} → In g S A → List ℕ
-firsts g (token F f) = F
-firsts g (give f) = []
-firsts g (node f) = []
-firsts g (line r f) = g.begins r
-firsts g (inner r f) = g.begins r
-firsts g (join r f) = g.begins r
-firsts g (far q f) = g.far_begins q
-firsts g (fork c d f p q j) = (c ∷ []) ++ g.far_begins q
-firsts g (p ⨾ q) = firsts g p
-firsts g (p ∣ q) = firsts g p ++ firsts g q
-firsts g (many p) = firsts g p
-firsts g (when c p) = firsts g p
-firsts g (room p) = firsts g p
-firsts g (lift lf p) = firsts g p
-firsts g (seen v p) = firsts g p
-firsts g (until c tk f i e p) = firsts g e ++ firsts g p
+abbrev pub first_set : (g : Grammar) {S A : g.Sort} → In g S A → List ℕ
+first_set g (token F f) = F
+first_set g (give f) = []
+first_set g (node f) = []
+first_set g (line r f) = g.begins r
+first_set g (inner r f) = g.begins r
+first_set g (join r f) = g.begins r
+first_set g (far q f) = g.far_begins q
+first_set g (fork c d f p q j) = (c ∷ []) ++ g.far_begins q
+first_set g (p ⨾ q) = first_set g p
+first_set g (p ∣ q) = first_set g p ++ first_set g q
+first_set g (many p) = first_set g p
+first_set g (when c p) = first_set g p
+first_set g (room p) = first_set g p
+first_set g (lift lf p) = first_set g p
+first_set g (seen v p) = first_set g p
+first_set g (until c tk f i e p) = first_set g e ++ first_set g p
 
 -- whether it reads nothing too
 abbrev pub nul : (g : Grammar) {S A : g.Sort} → In g S A → Bool
@@ -113,13 +113,13 @@ goes g (join r f) = g.goes r
 goes g (far q f) = g.far_goes q
 goes g (fork c d f p q j) = ((goes g p ++ cond (nul g p) [] []) ++ []) ++ (((d ∷ []) ++ g.far_goes q) ++ [])
 goes g (p ⨾ q) = goes g q ++ cond (nul g q) (goes g p) []
-goes g (p ∣ q) = goes g p ++ (goes g q ++ cond (nul g q) (firsts g p) [])
-goes g (many p) = goes g p ++ firsts g p
+goes g (p ∣ q) = goes g p ++ (goes g q ++ cond (nul g q) (first_set g p) [])
+goes g (many p) = goes g p ++ first_set g p
 goes g (when c p) = goes g p
 goes g (room p) = goes g p
 goes g (lift lf p) = goes g p
 goes g (seen v p) = goes g p
-goes g (until c tk f i e p) = (goes g e ++ (goes g p ++ [])) ++ (firsts g e ++ firsts g p)
+goes g (until c tk f i e p) = (goes g e ++ (goes g p ++ [])) ++ (first_set g e ++ first_set g p)
 
 -- THE READER of a part
 abbrev pub read : (g : Grammar) (n : ℕ) (fr : FarReaders g) (here below : Readers g) {S A : g.Sort} → In g S A → g.El S × ℕ → List g.Tok → Read g.Tok (g.El A × ℕ)
@@ -199,7 +199,8 @@ abbrev pub loose : Stand → Bool
 loose bare = true
 loose parts = true
 loose low = true
-loose _ = false
+loose opened = false
+loose whole = false
 
 -- whether what stands so stands as that too
 abbrev pub sub : Stand → Stand → Bool
@@ -237,7 +238,10 @@ leveled low = false
 
 abbrev pub is_whole : Stand → Bool
 is_whole whole = true
-is_whole _ = false
+is_whole bare = false
+is_whole opened = false
+is_whole parts = false
+is_whole low = false
 
 -- whether a lower line may be read
 abbrev pub takes_line : Stand → Bool
@@ -315,15 +319,15 @@ good g k s (inner r f) = takes_inner s
 good g k s (join r f) = below (g.rank r) k && closes s
 good g k s (far q f) = true
 good g k s (fork c d f p q j) = (good g k s p && able g s p) && (alike (out g s p) s && (g.forked q c d && has (g.kind (g.sample d)) (d ∷ [])))
-good g k s (p ⨾ q) = (good g k s p && good g k (out g s p) q) && (able g (out g s p) q && (not (nul g p) && apart (firsts g q) (goes g p)))
-good g k s (p ∣ q) = (good g k s p && good g k s q) && ((sub (out g s p) (meet (out g s p) (out g s q)) && sub (out g s q) (meet (out g s p) (out g s q))) && (not (nul g p) && apart (firsts g p) (firsts g q)))
-good g k s (many p) = good g k (meet (out g s p) s) p && ((sub s (meet (out g s p) s) && sub (out g (meet (out g s p) s) p) (meet (out g s p) s)) && (not (nul g p) && apart (firsts g p) (goes g p)))
+good g k s (p ⨾ q) = (good g k s p && good g k (out g s p) q) && (able g (out g s p) q && (not (nul g p) && apart (first_set g q) (goes g p)))
+good g k s (p ∣ q) = (good g k s p && good g k s q) && ((sub (out g s p) (meet (out g s p) (out g s q)) && sub (out g s q) (meet (out g s p) (out g s q))) && (not (nul g p) && apart (first_set g p) (first_set g q)))
+good g k s (many p) = good g k (meet (out g s p) s) p && ((sub s (meet (out g s p) s) && sub (out g (meet (out g s p) s) p) (meet (out g s p) s)) && (not (nul g p) && apart (first_set g p) (goes g p)))
 good g k s (when c p) = good g k s p && not (nul g p)
 good g k s (seen v p) = good g k s p && not (nul g p)
 good g k s (room p) = good g k (enter s) p && (not (nul g p) && leads g k 1 p)
 good g k s (lift lf p) = good g k parts p && (not (nul g p) && leads g k 0 p)
 good g k s (until c tk f i e p) = ((is_whole s && able g low e) && (good g k low e && good g k low p)) && ((is_whole (out g low e) && is_whole (out g low p))
-    && ((leads g k 1 e && leads g k 1 p) && ((not (nul g e) && not (nul g p)) && (apart (firsts g e) (firsts g p) && apart (firsts g e ++ firsts g p) (goes g e ++ (goes g p ++ []))))))
+    && ((leads g k 1 e && leads g k 1 p) && ((not (nul g e) && not (nul g p)) && (apart (first_set g e) (first_set g p) && apart (first_set g e ++ first_set g p) (goes g e ++ (goes g p ++ []))))))
 
 abbrev pub within : List ℕ → List ℕ → Bool
 within [] ys = true

@@ -6,7 +6,7 @@ use Rattle.parsing.proofs.Chain.{bind_found}
 use Rattle.grammar.specs.Table.{one_of, lookup_key, token, give, node, line, inner, join, far, fork, ◌⨾◌, ◌∣◌, many, when, room, lift, seen, until, taken, Grammar, In}
 use Rattle.grammar.specs.Levels.{Readers, FarReaders, fits, takes, shown, first, read, readers, IsGood}
 use Rattle.grammar.proofs.Along.{reader_line}
-use Rattle.grammar_code.specs.Walk.{first_if, first_of, with_meaning, first_meant, pick, wanted, Up, ground, up, tall, above, starts_with, entered, round, pursue, walk, onto, whole}
+use Rattle.grammar_code.specs.Walk.{first_if, first_of, with_meaning, first_meant, pick, wanted, Up, ground, up, tall, above, starts_with, enter_if_level, round, pursue, walk, behind_height, whole}
 
 above_is : (u : Up) (k : ℕ) → up (max (tall u) k) ≡ above u k
 above_is ground k = ap up (none k)
@@ -92,7 +92,7 @@ pub cond_eq : {Y : Type 0} (b : Bool) (x y z : Y) → x ≡ y → cond b x z ≡
 cond_eq true x y z e = e
 cond_eq false x y z e = refl
 
-entered_eq : {R : Type 0} (s b : Bool) (d x y : R) (z : Option R) → x ≡ y → entered s b d x z ≡ entered s b d y z
+entered_eq : {R : Type 0} (s b : Bool) (d x y : R) (z : Option R) → x ≡ y → enter_if_level s b d x z ≡ enter_if_level s b d y z
 entered_eq s b d x y None e = e
 entered_eq s b d x y (Some z) e = ap (λ v. cond s (cond b v d) z) e
 
@@ -129,20 +129,20 @@ module _ (g : Grammar) (n : ℕ) (fr : FarReaders g) (here below : Readers g) wh
   behind q k r a (up h) ts = refl
 
   passing : (b : Bool) {S A B : g.Sort} (c : g.El S → Bool) (p : In g S A) (x : g.El S × Up) (ts : List g.Tok) (k : (g.El A × Up) × List g.Tok → Read g.Tok (g.El B × ℕ)) (z : Read g.Tok (g.El B × ℕ))
-      → cond (starts_with g.kind (first g p x.0) ts) (cond b (read g n fr here below p (x.0, tall x.1) ts >>= onto k) (Deep ts)) z ≡ walk g n fr here below b p x ts k (Some z)
-      → (v : Bool) → cond (starts_with g.kind (cond v (first g p x.0) []) ts) (cond b (cond v (read g n fr here below p (x.0, tall x.1) ts) (Bad ts) >>= onto k) (Deep ts)) z ≡ cond v (walk g n fr here below b p x ts k (Some z)) z
+      → cond (starts_with g.kind (first g p x.0) ts) (cond b (read g n fr here below p (x.0, tall x.1) ts >>= behind_height k) (Deep ts)) z ≡ walk g n fr here below b p x ts k (Some z)
+      → (v : Bool) → cond (starts_with g.kind (cond v (first g p x.0) []) ts) (cond b (cond v (read g n fr here below p (x.0, tall x.1) ts) (Bad ts) >>= behind_height k) (Deep ts)) z ≡ cond v (walk g n fr here below b p x ts k (Some z)) z
   passing b c p x ts k z h true = h
   passing b c p x ts k z h false = ap (λ v. cond v (cond b (Bad ts) (Deep ts)) z) (starts_none g.kind ts)
 
   seeing : {S A B C : g.Sort} (v : g.El S → Option (g.El C)) (p : In g C A) (x : g.El S × Up) (ts : List g.Tok) (k : (g.El A × Up) × List g.Tok → Read g.Tok (g.El B × ℕ))
-      → ((y : g.El C) → (read g n fr here below p (y, tall x.1) ts >>= onto k) ≡ walk g n fr here below true p (y, x.1) ts k None)
-      → (o : Option (g.El C)) → (seen_at o (λ y. read g n fr here below p (y, tall x.1)) ts >>= onto k) ≡ seen_or (Bad ts) (λ y. walk g n fr here below true p (y, x.1) ts k None) o
+      → ((y : g.El C) → (read g n fr here below p (y, tall x.1) ts >>= behind_height k) ≡ walk g n fr here below true p (y, x.1) ts k None)
+      → (o : Option (g.El C)) → (seen_at o (λ y. read g n fr here below p (y, tall x.1)) ts >>= behind_height k) ≡ seen_or (Bad ts) (λ y. walk g n fr here below true p (y, x.1) ts k None) o
   seeing v p x ts k h None = refl
   seeing v p x ts k h (Some y) = h y
 
   seen_begun : (b : Bool) {S A B C : g.Sort} (v : g.El S → Option (g.El C)) (p : In g C A) (x : g.El S × Up) (ts : List g.Tok) (k : (g.El A × Up) × List g.Tok → Read g.Tok (g.El B × ℕ)) (z : Read g.Tok (g.El B × ℕ))
-      → ((y : g.El C) → cond (starts_with g.kind (first g p y) ts) (cond b (read g n fr here below p (y, tall x.1) ts >>= onto k) (Deep ts)) z ≡ walk g n fr here below b p (y, x.1) ts k (Some z))
-      → (o : Option (g.El C)) → cond (starts_with g.kind (seen_or [] (λ y. first g p y) o) ts) (cond b (seen_at o (λ y. read g n fr here below p (y, tall x.1)) ts >>= onto k) (Deep ts)) z ≡ seen_or z (λ y. walk g n fr here below b p (y, x.1) ts k (Some z)) o
+      → ((y : g.El C) → cond (starts_with g.kind (first g p y) ts) (cond b (read g n fr here below p (y, tall x.1) ts >>= behind_height k) (Deep ts)) z ≡ walk g n fr here below b p (y, x.1) ts k (Some z))
+      → (o : Option (g.El C)) → cond (starts_with g.kind (seen_or [] (λ y. first g p y) o) ts) (cond b (seen_at o (λ y. read g n fr here below p (y, tall x.1)) ts >>= behind_height k) (Deep ts)) z ≡ seen_or z (λ y. walk g n fr here below b p (y, x.1) ts k (Some z)) o
   seen_begun b v p x ts k z h None = ap (λ v. cond v (cond b (Bad ts) (Deep ts)) z) (starts_none g.kind ts)
   seen_begun b v p x ts k z h (Some y) = h y
 
@@ -154,21 +154,21 @@ module _ (g : Grammar) (n : ℕ) (fr : FarReaders g) (here below : Readers g) wh
   guarding false c p x ts k z = refl
 
   by_line : {S A B C : g.Sort} (t : Read g.Tok (g.El C × ℕ)) (f : g.El S → g.El C → g.El A) (x : g.El S × Up) (k : (g.El A × Up) × List g.Tok → Read g.Tok (g.El B × ℕ))
-      → ((t >>= λ y. Found (f x.0 y.0.0, max (tall x.1) y.0.1) y.1) >>= onto k) ≡ (t >>= λ y. k ((f x.0 y.0.0, above x.1 y.0.1), y.1))
+      → ((t >>= λ y. Found (f x.0 y.0.0, max (tall x.1) y.0.1) y.1) >>= behind_height k) ≡ (t >>= λ y. k ((f x.0 y.0.0, above x.1 y.0.1), y.1))
   by_line t f x k = bind_assoc t _ _ ∙ bind_eq t _ _ (λ a rest. ap (λ u. k ((f x.0 a.0, u), rest)) (above_is x.1 a.1))
 
   by_far : {S A B C : g.Sort} (t : Read g.Tok (g.El C)) (f : g.El S → g.El C → g.El A) (x : g.El S × Up) (k : (g.El A × Up) × List g.Tok → Read g.Tok (g.El B × ℕ)) → Respects k
-      → ((t >>= λ y. Found (f x.0 y.0, tall x.1) y.1) >>= onto k) ≡ (t >>= λ y. k ((f x.0 y.0, x.1), y.1))
+      → ((t >>= λ y. Found (f x.0 y.0, tall x.1) y.1) >>= behind_height k) ≡ (t >>= λ y. k ((f x.0 y.0, x.1), y.1))
   by_far t f x k r = bind_assoc t _ _ ∙ bind_eq t _ _ (λ a rest. r (f x.0 a) x.1 rest)
 
   mutual
     unfolding round pursue
 
-    last : {S A B : g.Sort} (p : In g S A) (x : g.El S × Up) (ts : List g.Tok) (k : (g.El A × Up) × List g.Tok → Read g.Tok (g.El B × ℕ)) → Respects k → (read g n fr here below p (x.0, tall x.1) ts >>= onto k) ≡ walk g n fr here below true p x ts k None
+    last : {S A B : g.Sort} (p : In g S A) (x : g.El S × Up) (ts : List g.Tok) (k : (g.El A × Up) × List g.Tok → Read g.Tok (g.El B × ℕ)) → Respects k → (read g n fr here below p (x.0, tall x.1) ts >>= behind_height k) ≡ walk g n fr here below true p x ts k None
     last (token F f) x [] k r = refl
     last (token F f) x (t ∷ ts) k r = go (has (g.kind t) F)
       where
-        go : (b : Bool) → (cond b (Found (f x.0 t, tall x.1) ts) (Bad (t ∷ ts)) >>= onto k) ≡ (pick {X = g.Tok × List g.Tok} (first_if b (t, ts)) (λ o. Found o.0 o.1) (Bad (t ∷ ts)) >>= λ o. k ((f x.0 o.0, x.1), o.1))
+        go : (b : Bool) → (cond b (Found (f x.0 t, tall x.1) ts) (Bad (t ∷ ts)) >>= behind_height k) ≡ (pick {X = g.Tok × List g.Tok} (first_if b (t, ts)) (λ o. Found o.0 o.1) (Bad (t ∷ ts)) >>= λ o. k ((f x.0 o.0, x.1), o.1))
         go true = r (f x.0 t) x.1 ts
         go false = refl
     last (give f) x ts k r = r (f x.0) x.1 ts
@@ -179,26 +179,26 @@ module _ (g : Grammar) (n : ℕ) (fr : FarReaders g) (here below : Readers g) wh
     last (far q f) x ts k r = by_far (fr q ts) f x k r
     last (fork c d f p q j) x ts k r = refl
     last (p ⨾ q) x ts k r = bind_assoc (read g n fr here below p (x.0, tall x.1) ts) _ _ ∙ bind_eq (read g n fr here below p (x.0, tall x.1) ts) _ _ (λ a rest. last q (a.0, up a.1) rest k r) ∙ last p x ts (λ y. walk g n fr here below true q y.0 y.1 k None) (behind q k r)
-    last (p ∣ q) x ts k r = push (starts_with g.kind (first g p x.0) ts) (read g n fr here below p (x.0, tall x.1) ts) (read g n fr here below q (x.0, tall x.1) ts) (onto k)
-        ∙ ap (λ v. cond (starts_with g.kind (first g p x.0) ts) (read g n fr here below p (x.0, tall x.1) ts >>= onto k) v) (last q x ts k r)
+    last (p ∣ q) x ts k r = push (starts_with g.kind (first g p x.0) ts) (read g n fr here below p (x.0, tall x.1) ts) (read g n fr here below q (x.0, tall x.1) ts) (behind_height k)
+        ∙ ap (λ v. cond (starts_with g.kind (first g p x.0) ts) (read g n fr here below p (x.0, tall x.1) ts >>= behind_height k) v) (last q x ts k r)
         ∙ begun true p x ts k (walk g n fr here below true q x ts k None) r
     last (many p) x ts k r = refl
-    last (when c p) x ts k r = push (c x.0) (read g n fr here below p (x.0, tall x.1) ts) (Bad ts) (onto k) ∙ ap (λ v. cond (c x.0) v (Bad ts)) (last p x ts k r)
-    last (room p) x ts k r = push (fits n (tall x.1)) (read g n fr here below p (x.0, tall x.1) ts) (deep_at (λ t. has (g.kind t) (first g p x.0)) ts) (onto k)
-        ∙ ap (λ v. cond (fits n (tall x.1)) v (deep_at (λ t. has (g.kind t) (first g p x.0)) ts >>= onto k)) (last p x ts k r)
-        ∙ ap (λ v. cond (fits n (tall x.1)) (walk g n fr here below true p x ts k None) v) (deep_bind (λ t. has (g.kind t) (first g p x.0)) (onto k) ts)
-    last (lift lf p) x ts k r = push (nat_le (1 + tall x.1) n) (read g n fr here below p (lf x.0, 1 + tall x.1) ts) (deep_at (λ t. has (g.kind t) (first g p (lf x.0))) ts) (onto k)
-        ∙ ap (λ v. cond (nat_le (1 + tall x.1) n) v (deep_at (λ t. has (g.kind t) (first g p (lf x.0))) ts >>= onto k)) (last p (lf x.0, up (1 + tall x.1)) ts k r)
-        ∙ ap (λ v. cond (nat_le (1 + tall x.1) n) (walk g n fr here below true p (lf x.0, up (1 + tall x.1)) ts k None) v) (deep_bind (λ t. has (g.kind t) (first g p (lf x.0))) (onto k) ts)
+    last (when c p) x ts k r = push (c x.0) (read g n fr here below p (x.0, tall x.1) ts) (Bad ts) (behind_height k) ∙ ap (λ v. cond (c x.0) v (Bad ts)) (last p x ts k r)
+    last (room p) x ts k r = push (fits n (tall x.1)) (read g n fr here below p (x.0, tall x.1) ts) (deep_at (λ t. has (g.kind t) (first g p x.0)) ts) (behind_height k)
+        ∙ ap (λ v. cond (fits n (tall x.1)) v (deep_at (λ t. has (g.kind t) (first g p x.0)) ts >>= behind_height k)) (last p x ts k r)
+        ∙ ap (λ v. cond (fits n (tall x.1)) (walk g n fr here below true p x ts k None) v) (deep_bind (λ t. has (g.kind t) (first g p x.0)) (behind_height k) ts)
+    last (lift lf p) x ts k r = push (nat_le (1 + tall x.1) n) (read g n fr here below p (lf x.0, 1 + tall x.1) ts) (deep_at (λ t. has (g.kind t) (first g p (lf x.0))) ts) (behind_height k)
+        ∙ ap (λ v. cond (nat_le (1 + tall x.1) n) v (deep_at (λ t. has (g.kind t) (first g p (lf x.0))) ts >>= behind_height k)) (last p (lf x.0, up (1 + tall x.1)) ts k r)
+        ∙ ap (λ v. cond (nat_le (1 + tall x.1) n) (walk g n fr here below true p (lf x.0, up (1 + tall x.1)) ts k None) v) (deep_bind (λ t. has (g.kind t) (first g p (lf x.0))) (behind_height k) ts)
     last (seen v p) x ts k r = seeing v p x ts k (λ y. last p (y, x.1) ts k r) (v x.0)
     last (until c tk f i e p) x ts k r = refl
 
     begun : (b : Bool) {S A B : g.Sort} (p : In g S A) (x : g.El S × Up) (ts : List g.Tok) (k : (g.El A × Up) × List g.Tok → Read g.Tok (g.El B × ℕ)) (z : Read g.Tok (g.El B × ℕ)) → Respects k
-        → cond (starts_with g.kind (first g p x.0) ts) (cond b (read g n fr here below p (x.0, tall x.1) ts >>= onto k) (Deep ts)) z ≡ walk g n fr here below b p x ts k (Some z)
+        → cond (starts_with g.kind (first g p x.0) ts) (cond b (read g n fr here below p (x.0, tall x.1) ts >>= behind_height k) (Deep ts)) z ≡ walk g n fr here below b p x ts k (Some z)
     begun b (token F f) x [] k z r = refl
     begun b (token F f) x (t ∷ ts) k z r = go (has (g.kind t) F)
       where
-        go : (c : Bool) → cond c (cond b (cond c (Found (f x.0 t, tall x.1) ts) (Bad (t ∷ ts)) >>= onto k) (Deep (t ∷ ts))) z ≡ pick {X = g.Tok × List g.Tok} (first_if c (t, ts)) (λ o. cond b (k ((f x.0 o.0, x.1), o.1)) (Deep (t ∷ ts))) z
+        go : (c : Bool) → cond c (cond b (cond c (Found (f x.0 t, tall x.1) ts) (Bad (t ∷ ts)) >>= behind_height k) (Deep (t ∷ ts))) z ≡ pick {X = g.Tok × List g.Tok} (first_if c (t, ts)) (λ o. cond b (k ((f x.0 o.0, x.1), o.1)) (Deep (t ∷ ts))) z
         go true = cond_eq b _ _ (Deep (t ∷ ts)) (r (f x.0 t) x.1 ts)
         go false = refl
     begun b (give f) x ts k z r = ap (λ v. cond v (cond b (k ((f x.0, up (tall x.1)), ts)) (Deep ts)) z) (starts_none g.kind ts)
@@ -211,15 +211,15 @@ module _ (g : Grammar) (n : ℕ) (fr : FarReaders g) (here below : Readers g) wh
     begun b (p ⨾ q) x ts k z r = ap (λ v. cond (starts_with g.kind (first g p x.0) ts) (cond b v (Deep ts)) z) (bind_assoc (read g n fr here below p (x.0, tall x.1) ts) _ _ ∙ bind_eq (read g n fr here below p (x.0, tall x.1) ts) _ _ (λ a rest. last q (a.0, up a.1) rest k r))
         ∙ begun b p x ts (λ y. walk g n fr here below true q y.0 y.1 k None) z (behind q k r)
     begun b (p ∣ q) x ts k z r = let s = starts_with g.kind (first g p x.0) ts in let t = starts_with g.kind (first g q x.0) ts in
-        ap (λ v. cond v (cond b (cond s (read g n fr here below p (x.0, tall x.1) ts) (read g n fr here below q (x.0, tall x.1) ts) >>= onto k) (Deep ts)) z) (starts_append g.kind (first g p x.0) (first g q x.0) ts)
-        ∙ ap (λ v. cond (s || t) (cond b v (Deep ts)) z) (push s (read g n fr here below p (x.0, tall x.1) ts) (read g n fr here below q (x.0, tall x.1) ts) (onto k))
-        ∙ split s t b (read g n fr here below p (x.0, tall x.1) ts >>= onto k) (read g n fr here below q (x.0, tall x.1) ts >>= onto k) (Deep ts) z
-        ∙ ap (λ v. cond s (cond b (read g n fr here below p (x.0, tall x.1) ts >>= onto k) (Deep ts)) v) (begun b q x ts k z r)
+        ap (λ v. cond v (cond b (cond s (read g n fr here below p (x.0, tall x.1) ts) (read g n fr here below q (x.0, tall x.1) ts) >>= behind_height k) (Deep ts)) z) (starts_append g.kind (first g p x.0) (first g q x.0) ts)
+        ∙ ap (λ v. cond (s || t) (cond b v (Deep ts)) z) (push s (read g n fr here below p (x.0, tall x.1) ts) (read g n fr here below q (x.0, tall x.1) ts) (behind_height k))
+        ∙ split s t b (read g n fr here below p (x.0, tall x.1) ts >>= behind_height k) (read g n fr here below q (x.0, tall x.1) ts >>= behind_height k) (Deep ts) z
+        ∙ ap (λ v. cond s (cond b (read g n fr here below p (x.0, tall x.1) ts >>= behind_height k) (Deep ts)) v) (begun b q x ts k z r)
         ∙ begun b p x ts k (walk g n fr here below b q x ts k (Some z)) r
     begun b (many p) x ts k z r = refl
     begun b (when c p) x ts k z r = passing b c p x ts k z (begun b p x ts k z r) (c x.0)
-    begun b (room p) x ts k z r = guarding b (fits n (tall x.1)) p (x.0, tall x.1) ts (onto k) z ∙ begun (cond b (fits n (tall x.1)) false) p x ts k z r
-    begun b (lift lf p) x ts k z r = guarding b (nat_le (1 + tall x.1) n) p (lf x.0, 1 + tall x.1) ts (onto k) z ∙ begun (cond b (nat_le (1 + tall x.1) n) false) p (lf x.0, up (1 + tall x.1)) ts k z r
+    begun b (room p) x ts k z r = guarding b (fits n (tall x.1)) p (x.0, tall x.1) ts (behind_height k) z ∙ begun (cond b (fits n (tall x.1)) false) p x ts k z r
+    begun b (lift lf p) x ts k z r = guarding b (nat_le (1 + tall x.1) n) p (lf x.0, 1 + tall x.1) ts (behind_height k) z ∙ begun (cond b (nat_le (1 + tall x.1) n) false) p (lf x.0, up (1 + tall x.1)) ts k z r
     begun b (seen v p) x ts k z r = seen_begun b v p x ts k z (λ y. begun b p (y, x.1) ts k z r) (v x.0)
     begun b (until c tk f i e p) x ts k z r = refl
 

@@ -45,17 +45,17 @@ above ground k = up k
 above (up h) k = up (max h k)
 
 -- behind a height that is known
-abbrev pub onto : {T A B : Type 0} → ((A × Up) × List T → Read T B) → (A × ℕ) × List T → Read T B
-onto k y = k ((y.0.0, up y.0.1), y.1)
+abbrev pub behind_height : {T A B : Type 0} → ((A × Up) × List T → Read T B) → (A × ℕ) × List T → Read T B
+behind_height k y = k ((y.0.0, up y.0.1), y.1)
 
 -- whether a list of tokens begins with one of a set
 abbrev pub starts_with : {T : Type 0} → (T → ℕ) → List ℕ → List T → Bool
 starts_with kind F ts = head_is (λ t. has (kind t) F) ts
 
 -- What begins with one of a set: x, where a level is left. Else z; where there is no z, x has to stand here.
-abbrev pub entered : {R : Type 0} → Bool → Bool → (deep x : R) → Option R → R
-entered starts b deep x None = x
-entered starts b deep x (Some z) = cond starts (cond b x deep) z
+abbrev pub enter_if_level : {R : Type 0} → Bool → Bool → (deep x : R) → Option R → R
+enter_if_level starts b deep x None = x
+enter_if_level starts b deep x (Some z) = cond starts (cond b x deep) z
 
 module _ (g : Grammar) (n : ℕ) (fr : FarReaders g) (here below : Readers g) where
   -- a part again and again
@@ -72,14 +72,14 @@ module _ (g : Grammar) (n : ℕ) (fr : FarReaders g) (here below : Readers g) wh
   walk b (token F f) x ts k (Some z) = pick (first_of g.kind F ts) (λ o. cond b (k ((f x.0 o.0, x.1), o.1)) (Deep ts)) z
   walk b (give f) x ts k z = pick z (λ y. y) (k ((f x.0, x.1), ts))
   walk b (node f) x ts k z = pick z (λ y. y) (k ((f x.0, up (1 + tall x.1)), ts))
-  walk b (line r f) x ts k z = entered (starts_with g.kind (g.begins r) ts) b (Deep ts) (here r ts >>= λ y. k ((f x.0 y.0.0, above x.1 y.0.1), y.1)) z
-  walk b (inner r f) x ts k z = entered (starts_with g.kind (g.begins r) ts) b (Deep ts) (below r ts >>= λ y. k ((f x.0 y.0.0, above x.1 y.0.1), y.1)) z
-  walk b (join r f) x ts k z = entered (starts_with g.kind (g.begins r) ts) b (Deep ts) (here r ts >>= λ y. k ((f x.0 y.0.0, up (max (1 + tall x.1) y.0.1)), y.1)) z
-  walk b (far q f) x ts k z = entered (starts_with g.kind (g.far_begins q) ts) b (Deep ts) (fr q ts >>= λ y. k ((f x.0 y.0, x.1), y.1)) z
-  walk b (fork c d f p q j) x ts k z = entered (starts_with g.kind (first g (fork c d f p q j) x.0) ts) b (Deep ts) (read g n fr here below (fork c d f p q j) (x.0, tall x.1) ts >>= onto k) z
+  walk b (line r f) x ts k z = enter_if_level (starts_with g.kind (g.begins r) ts) b (Deep ts) (here r ts >>= λ y. k ((f x.0 y.0.0, above x.1 y.0.1), y.1)) z
+  walk b (inner r f) x ts k z = enter_if_level (starts_with g.kind (g.begins r) ts) b (Deep ts) (below r ts >>= λ y. k ((f x.0 y.0.0, above x.1 y.0.1), y.1)) z
+  walk b (join r f) x ts k z = enter_if_level (starts_with g.kind (g.begins r) ts) b (Deep ts) (here r ts >>= λ y. k ((f x.0 y.0.0, up (max (1 + tall x.1) y.0.1)), y.1)) z
+  walk b (far q f) x ts k z = enter_if_level (starts_with g.kind (g.far_begins q) ts) b (Deep ts) (fr q ts >>= λ y. k ((f x.0 y.0, x.1), y.1)) z
+  walk b (fork c d f p q j) x ts k z = enter_if_level (starts_with g.kind (first g (fork c d f p q j) x.0) ts) b (Deep ts) (read g n fr here below (fork c d f p q j) (x.0, tall x.1) ts >>= behind_height k) z
   walk b (p ⨾ q) x ts k z = walk b p x ts (λ y. walk true q y.0 y.1 k None) z
   walk b (p ∣ q) x ts k z = walk b p x ts k (Some (walk b q x ts k z))
-  walk b (many p) x ts k z = entered (starts_with g.kind (first g p x.0) ts) b (Deep ts) (round p (x.0, tall x.1) ts >>= onto k) z
+  walk b (many p) x ts k z = enter_if_level (starts_with g.kind (first g p x.0) ts) b (Deep ts) (round p (x.0, tall x.1) ts >>= behind_height k) z
   walk b (when c p) x ts k None = cond (c x.0) (walk true p x ts k None) (Bad ts)
   walk b (when c p) x ts k (Some z) = cond (c x.0) (walk b p x ts k (Some z)) z
   walk b (room p) x ts k None = cond (fits n (tall x.1)) (walk true p x ts k None) (deep_at (λ t. has (g.kind t) (first g p x.0)) ts)
@@ -88,7 +88,7 @@ module _ (g : Grammar) (n : ℕ) (fr : FarReaders g) (here below : Readers g) wh
   walk b (lift lf p) x ts k (Some z) = walk (cond b (nat_le (1 + tall x.1) n) false) p (lf x.0, up (1 + tall x.1)) ts k (Some z)
   walk b (seen v p) x ts k None = seen_or (Bad ts) (λ y. walk true p (y, x.1) ts k None) (v x.0)
   walk b (seen v p) x ts k (Some z) = seen_or z (λ y. walk b p (y, x.1) ts k (Some z)) (v x.0)
-  walk b (until c tk f i e p) x ts k z = entered (starts_with g.kind (first g (until c tk f i e p) x.0) ts) b (Deep ts) (pursue c tk f i e p (x.0, tall x.1) ts >>= onto k) z
+  walk b (until c tk f i e p) x ts k z = enter_if_level (starts_with g.kind (first g (until c tk f i e p) x.0) ts) b (Deep ts) (pursue c tk f i e p (x.0, tall x.1) ts >>= behind_height k) z
 
 -- what is read, with nothing behind it
 abbrev pub whole : {T A : Type 0} → (A × Up) × List T → Read T (A × ℕ)

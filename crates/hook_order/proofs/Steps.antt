@@ -8,33 +8,33 @@ use Rattle.std.proofs.Math.Seq.{drop-cons}
 use Rattle.hook_order.specs.Answers.{handed, HandsOnWant}
 use Rattle.hook_order.specs.HookCall.{EachAfter, CallsEach, FirstAfter, FindsFirst, AroundAfter, HookCall}
 use Rattle.hook_order.specs.Begun.{BegunAfter, Begun, Unwinds}
-use Rattle.hook_order.specs.declared.answers.ImplEnd.{ImplEnd}
+use Rattle.hook_order.specs.declared.answers.Ran.{Ran}
 use Rattle.hook_order.specs.declared.answers.Inner.{Inner}
 use Rattle.hook_order.specs.declared.answers.Inner.TheVariants as inner
-use Rattle.hook_order.specs.declared.answers.WrapperStart.{WrapperStart}
-use Rattle.hook_order.specs.declared.answers.WrapperStart.TheVariants as opened
+use Rattle.hook_order.specs.declared.answers.Opened.{Opened}
+use Rattle.hook_order.specs.declared.answers.Opened.TheVariants as opened
 use Rattle.hook_order.specs.declared.implementation.Impl.{Impl}
 
-module _ {Runner Got Exc : Type 0} (calls : Runner → Impl → ImplEnd Got Exc → Runner → Type 0) where
+module _ {Runner Got Exc : Type 0} (calls : Runner → Impl → Ran Got Exc → Runner → Type 0) where
   -- the call at a place, and what follows it
-  pub each_step : (impls : List Impl) (i : ℕ) (d : Impl) (before now : Runner) (answer : ImplEnd Got Exc) (end : Inner Got Exc) (values : List Got) (after : Runner)
+  pub each_step : (impls : List Impl) (i : ℕ) (d : Impl) (before now : Runner) (answer : Ran Got Exc) (end : Inner Got Exc) (values : List Got) (after : Runner)
       → i < length impls → calls before (get_or impls i d) answer now → EachAfter calls (CallsEach calls (drop (i + 1) impls) now) answer now end values after
       → CallsEach calls (drop i impls) before end values after
   each_step impls i d before now answer end values after lt call follows = rw (drop-cons impls i d lt) (answer, now, call, rw (add-one i) at follows)
 
-  pub first_step : (impls : List Impl) (i : ℕ) (d : Impl) (before now : Runner) (answer : ImplEnd Got Exc) (end : Inner Got Exc) (values : List Got) (after : Runner)
+  pub first_step : (impls : List Impl) (i : ℕ) (d : Impl) (before now : Runner) (answer : Ran Got Exc) (end : Inner Got Exc) (values : List Got) (after : Runner)
       → i < length impls → calls before (get_or impls i d) answer now → FirstAfter calls (FindsFirst calls (drop (i + 1) impls) now) answer now end values after
       → FindsFirst calls (drop i impls) before end values after
   first_step impls i d before now answer end values after lt call follows = rw (drop-cons impls i d lt) (answer, now, call, rw (add-one i) at follows)
 
-module _ {Runner Got Exc Frozen : Type 0} (begins : Runner → Impl → WrapperStart Frozen Exc → Runner → Type 0) where
-  pub begun_step : (impls : List Impl) (i : ℕ) (d : Impl) (before now : Runner) (answer : WrapperStart Frozen Exc) (frames : List Frozen) (end : Option (Inner Got Exc)) (after : Runner)
+module _ {Runner Got Exc Frozen : Type 0} (begins : Runner → Impl → Opened Frozen Exc → Runner → Type 0) where
+  pub begun_step : (impls : List Impl) (i : ℕ) (d : Impl) (before now : Runner) (answer : Opened Frozen Exc) (frames : List Frozen) (end : Option (Inner Got Exc)) (after : Runner)
       → i < length impls → (get_or impls i d).wrapper ≡ true → begins before (get_or impls i d) answer now
       → BegunAfter begins (Begun begins (drop (i + 1) impls) now) answer now frames end after
       → Begun begins (drop i impls) before frames end after
   begun_step impls i d before now answer frames end after lt is begin follows = rw (drop-cons impls i d lt, is) (answer, now, begin, rw (add-one i) at follows)
 
-pub begun_others : {Runner Got Exc Frozen : Type 0} (begins : Runner → Impl → WrapperStart Frozen Exc → Runner → Type 0) (end : Option (Inner Got Exc)) → end ≡ None
+pub begun_others : {Runner Got Exc Frozen : Type 0} (begins : Runner → Impl → Opened Frozen Exc → Runner → Type 0) (end : Option (Inner Got Exc)) → end ≡ None
     → (impls : List Impl) (i : ℕ) (d : Impl) (now : Runner) → i < length impls → (get_or impls i d).wrapper ≡ false
     → Begun begins (drop i impls) now [] end now
 begun_others begins end none impls i d now lt is = rw (drop-cons impls i d lt, is) (refl, none, refl)
@@ -53,12 +53,12 @@ match_bool false P Q R S f g h = g h
 
 module _ {Runner Got Exc Frozen : Type 0}
     (others : List Impl → Runner → Inner Got Exc → List Got → Runner → Type 0)
-    (begins : Runner → Impl → WrapperStart Frozen Exc → Runner → Type 0)
-    (resumes : Runner → Frozen → Inner Got Exc → ImplEnd Got Exc → Runner → Type 0) where
+    (begins : Runner → Impl → Opened Frozen Exc → Runner → Type 0)
+    (resumes : Runner → Frozen → Inner Got Exc → Ran Got Exc → Runner → Type 0) where
   -- the last of the frames is resumed last
   unwinds_last : (xs : List Frozen) (frozen : Frozen) (start : Inner Got Exc) (before : Runner) (end : Inner Got Exc) (after : Runner)
       → Unwinds resumes (xs ++ frozen ∷ []) start before end after
-      → (middle : Inner Got Exc) × (now : Runner) × (answer : ImplEnd Got Exc) × Unwinds resumes xs start before middle now × resumes now frozen middle answer after × HandsOnWant middle answer × (end ≡ handed answer)
+      → (middle : Inner Got Exc) × (now : Runner) × (answer : Ran Got Exc) × Unwinds resumes xs start before middle now × resumes now frozen middle answer after × HandsOnWant middle answer × (end ≡ handed answer)
   unwinds_last [] frozen start before end after (answer, now, run, want, same) =
       (start, before, answer, (refl, refl), subst (λ (x : Runner). resumes before frozen start answer x) (sym same.1) run, want, same.0)
   unwinds_last (x ∷ xs) frozen start before end after (answer, now, run, want, rest) =
@@ -77,7 +77,7 @@ module _ {Runner Got Exc Frozen : Type 0}
       → ((frames : List Frozen) (now : Runner) (inside : Inner Got Exc) (values : List Got) (behind : Runner) (end : Inner Got Exc) (after : Runner)
       → Begun begins rest at frames NoEnd now → others (drop (length frames) rest) now inside values behind
       → Unwinds resumes (reverse frames) inside behind end after → HookCall others begins resumes rest at end values after)
-      → (which : Impl) (answer : WrapperStart Frozen Exc) (frames : List Frozen) (now : Runner) (inside : Inner Got Exc) (values : List Got) (behind : Runner) (end : Inner Got Exc) (after : Runner)
+      → (which : Impl) (answer : Opened Frozen Exc) (frames : List Frozen) (now : Runner) (inside : Inner Got Exc) (values : List Got) (behind : Runner) (end : Inner Got Exc) (after : Runner)
       → BegunAfter begins (Begun begins rest at) answer at frames NoEnd now → others (drop (length frames) (which ∷ rest)) now inside values behind
       → Unwinds resumes (reverse frames) inside behind end after → AroundAfter others begins resumes (HookCall others begins resumes rest at) answer at end values after
   wrapped rest at inner_call which (opened.Yielded frozen) frames now inside values behind end after (more, is, begun) run unwinds =
@@ -111,7 +111,7 @@ module _ {Runner Got Exc Frozen : Type 0}
   ended : (rest : List Impl) (at : Runner) (stop : Inner Got Exc)
       → ((frames : List Frozen) (now : Runner) (end : Inner Got Exc) (after : Runner)
       → Begun begins rest at frames (Some stop) now → Unwinds resumes (reverse frames) stop now end after → HookCall others begins resumes rest at end [] after)
-      → (answer : WrapperStart Frozen Exc) (frames : List Frozen) (now : Runner) (end : Inner Got Exc) (after : Runner)
+      → (answer : Opened Frozen Exc) (frames : List Frozen) (now : Runner) (end : Inner Got Exc) (after : Runner)
       → BegunAfter begins (Begun begins rest at) answer at frames (Some stop) now
       → Unwinds resumes (reverse frames) stop now end after → AroundAfter others begins resumes (HookCall others begins resumes rest at) answer at end [] after
   ended rest at stop inner_call (opened.Yielded frozen) frames now end after (more, is, begun) unwinds =

@@ -1,24 +1,24 @@
 -- What the answers of a runner mean for the hook call around them.
 use Rattle.std.specs.Prelude.{◌≡◌, List, [], ◌∷◌, ◌++◌}
-use Rattle.hook_order.specs.declared.answers.WrapperStart.{WrapperStart}
-use Rattle.hook_order.specs.declared.answers.WrapperStart.TheVariants as opened
-use Rattle.hook_order.specs.declared.answers.ImplEnd.{ImplEnd}
-use Rattle.hook_order.specs.declared.answers.ImplEnd.TheVariants as ran
+use Rattle.hook_order.specs.declared.answers.Opened.{Opened}
+use Rattle.hook_order.specs.declared.answers.Opened.TheVariants as opened
+use Rattle.hook_order.specs.declared.answers.Ran.{Ran}
+use Rattle.hook_order.specs.declared.answers.Ran.TheVariants as ran
 use Rattle.hook_order.specs.declared.answers.Inner.{Inner}
 use Rattle.hook_order.specs.declared.answers.Inner.TheVariants as inner
 
 -- what a wrapper's answer is for the wrapper around it
-abbrev pub handed : {Got Exc : Type 0} → ImplEnd Got Exc → Inner Got Exc
+abbrev pub handed : {Got Exc : Type 0} → Ran Got Exc → Inner Got Exc
 handed (ran.Gave value) = inner.Gave value
 handed (ran.Raised exception) = inner.Raised exception
 handed ran.OutOfMemory = inner.OutOfMemory
 
 -- a wrapper that stands at its yield is a frame more
-abbrev pub frames_with : {Frozen Exc : Type 0} → WrapperStart Frozen Exc → List Frozen → List Frozen
+abbrev pub frames_with : {Frozen Exc : Type 0} → Opened Frozen Exc → List Frozen → List Frozen
 frames_with (opened.Yielded frozen) frames = frames ++ frozen ∷ []
 frames_with (opened.Raised exception) frames = frames
 frames_with opened.OutOfMemory frames = frames
 
 -- want of memory goes through: a wrapper that is resumed with it answers it
-abbrev pub HandsOnWant : {Got Exc : Type 0} → Inner Got Exc → ImplEnd Got Exc → Type 0
+abbrev pub HandsOnWant : {Got Exc : Type 0} → Inner Got Exc → Ran Got Exc → Type 0
 HandsOnWant end answer = end ≡ inner.OutOfMemory → answer ≡ ran.OutOfMemory

@@ -4,7 +4,7 @@ ghost use Rattle.hook_order.specs.HookOrder.{InHookOrder};
 ghost use Rattle.hook_order.specs.HookCall.{CallsEach, FindsFirst, AnswersAll, AnswersFirst, answer_as_list, all_of, first_of};
 ghost use Rattle.hook_order.specs.Begun.{Begun, Unwinds};
 
-use crate::answers::{ImplEnd, Inner, WrapperStart, handed};
+use crate::answers::{Inner, Opened, Ran, handed};
 use crate::implementation::Impl;
 use crate::runner::Runner;
 use std::alloc::Global;
@@ -18,16 +18,16 @@ pub fn call_all<R: Runner>(
     alloc: Global,
     runner: &mut R,
     impls: &[Impl],
-) -> ImplEnd<Vec<R::Got>, R::Exc>
+) -> Ran<Vec<R::Got>, R::Exc>
     requires { InHookOrder impls.now }
     ensures run { AnswersAll R.calls R.begins R.resumes impls.now runner.old result runner.new }
     ensures frames { R.frames runner.new ≡ R.frames runner.old }
 {
     let Ok(mut values) = Vec::with_capacity(alloc, impls.len() + 1) else {
-        return ImplEnd::OutOfMemory;
+        return Ran::OutOfMemory;
     };
     let Ok(mut frames) = Vec::with_capacity(alloc, impls.len()) else {
-        return ImplEnd::OutOfMemory;
+        return Ran::OutOfMemory;
     };
     let inner = match begin_wrappers(runner, impls, &mut frames) {
         Some(inner) => inner,
@@ -41,17 +41,13 @@ pub fn call_all<R: Runner>(
 /// "First result only").
 ///
 /// Want of memory is handed to each wrapper that has begun, innermost first.
-pub fn call_first<R: Runner>(
-    alloc: Global,
-    runner: &mut R,
-    impls: &[Impl],
-) -> ImplEnd<R::Got, R::Exc>
+pub fn call_first<R: Runner>(alloc: Global, runner: &mut R, impls: &[Impl]) -> Ran<R::Got, R::Exc>
     requires { InHookOrder impls.now }
     ensures run { AnswersFirst R.calls R.begins R.resumes impls.now runner.old result runner.new }
     ensures frames { R.frames runner.new ≡ R.frames runner.old }
 {
     let Ok(mut frames) = Vec::with_capacity(alloc, impls.len()) else {
-        return ImplEnd::OutOfMemory;
+        return Ran::OutOfMemory;
     };
     let inner = match begin_wrappers(runner, impls, &mut frames) {
         Some(stopped) => stopped,
@@ -78,9 +74,9 @@ fn begin_wrappers<R: Runner>(
             return None;
         }
         match runner.begin(which) {
-            WrapperStart::Yielded(frozen) => frames.push(frozen).unwrap(),
-            WrapperStart::Raised(exception) => return Some(Inner::Raised(exception)),
-            WrapperStart::OutOfMemory => return Some(Inner::OutOfMemory),
+            Opened::Yielded(frozen) => frames.push(frozen).unwrap(),
+            Opened::Raised(exception) => return Some(Inner::Raised(exception)),
+            Opened::OutOfMemory => return Some(Inner::OutOfMemory),
         }
     }
     None
@@ -100,9 +96,9 @@ fn call_each<R: Runner>(
 {
     for which in impls {
         match runner.call(which) {
-            ImplEnd::Gave(given) => keep(values, given),
-            ImplEnd::Raised(exception) => return Inner::Raised(exception),
-            ImplEnd::OutOfMemory => return Inner::OutOfMemory,
+            Ran::Gave(given) => keep(values, given),
+            Ran::Raised(exception) => return Inner::Raised(exception),
+            Ran::OutOfMemory => return Inner::OutOfMemory,
         }
     }
     Inner::List
@@ -127,7 +123,7 @@ fn find_first<R: Runner>(runner: &mut R, impls: &[Impl]) -> Inner<R::Got, R::Exc
 {
     for which in impls {
         match runner.call(which) {
-            ImplEnd::Gave(None) => {}
+            Ran::Gave(None) => {}
             answer => return handed(answer),
         }
     }
@@ -153,31 +149,31 @@ fn resume_wrappers<R: Runner>(
 }
 
 /// The answer of a hook call that wants all values.
-fn all_of<Got: Drop, Exc>(outcome: Inner<Got, Exc>, mut values: Vec<Got>) -> ImplEnd<Vec<Got>, Exc>
+fn all_of<Got: Drop, Exc>(outcome: Inner<Got, Exc>, mut values: Vec<Got>) -> Ran<Vec<Got>, Exc>
     requires { 1 ≤ vec_capacity values }
     ensures { answer_as_list result ≡ all_of outcome values.items }
 {
     match outcome {
-        Inner::List => ImplEnd::Gave(Some(values)),
-        Inner::Gave(None) => ImplEnd::Gave(None),
+        Inner::List => Ran::Gave(Some(values)),
+        Inner::Gave(None) => Ran::Gave(None),
         Inner::Gave(Some(value)) => {
             values.clear();
             values.push(value).unwrap();
-            ImplEnd::Gave(Some(values))
+            Ran::Gave(Some(values))
         }
-        Inner::Raised(exception) => ImplEnd::Raised(exception),
-        Inner::OutOfMemory => ImplEnd::OutOfMemory,
+        Inner::Raised(exception) => Ran::Raised(exception),
+        Inner::OutOfMemory => Ran::OutOfMemory,
     }
 }
 
 /// The answer of a hook call that stops at its first value.
-fn first_of<Got, Exc>(outcome: Inner<Got, Exc>) -> ImplEnd<Got, Exc>
+fn first_of<Got, Exc>(outcome: Inner<Got, Exc>) -> Ran<Got, Exc>
     ensures { result ≡ first_of outcome }
 {
     match outcome {
-        Inner::List => ImplEnd::Gave(None),
-        Inner::Gave(value) => ImplEnd::Gave(value),
-        Inner::Raised(exception) => ImplEnd::Raised(exception),
-        Inner::OutOfMemory => ImplEnd::OutOfMemory,
+        Inner::List => Ran::Gave(None),
+        Inner::Gave(value) => Ran::Gave(value),
+        Inner::Raised(exception) => Ran::Raised(exception),
+        Inner::OutOfMemory => Ran::OutOfMemory,
     }
 }

@@ -27,7 +27,7 @@ mod implementation;
 mod runner;
 mod sorting;
 
-pub use answers::{ImplEnd, Inner, WrapperStart};
+pub use answers::{Inner, Opened, Ran};
 pub use calling::{call_all, call_first};
 pub use implementation::Impl;
 pub use runner::Runner;

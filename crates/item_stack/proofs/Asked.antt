@@ -7,7 +7,7 @@ use Rattle.item_stack.specs.Plain.{plain_item}
 use Rattle.item_stack.specs.States.{item_state}
 use Rattle.item_stack.specs.declared.holding.ItemStack.{ItemStack}
 use Rattle.session_rules.specs.Demand.{Answer, Given, Refused, Reply, demand}
-use Rattle.session_rules.specs.Session.{demand_closure, demand_next, noted}
+use Rattle.session_rules.specs.Session.{demand_closure, demand_next, with_grant}
 use Rattle.session_rules.specs.Teardown.{SessionState, Step, session_step}
 use Rattle.session_rules.specs.World.{Item, Language, Rules}
 use Rattle.setup_stack.proofs.Passing.{demand_alike, demand_over}
@@ -36,7 +36,7 @@ asked_through one other third a b =
 module _ {L : Language} (rules : Rules L) where
   -- demands of a closure pass over what they don't look at
   next_over : (h : SessionState L) (item : Item) (ds : List ℕ) → ((t : SessionState L) → demand_closure rules item ds (over h t) ≡ over_step h (demand_closure rules item ds t)) → (a : Answer L) (t : SessionState L) → demand_next (demand_closure rules item ds) a (over h t) ≡ over_step h (demand_next (demand_closure rules item ds) a t)
-  next_over h item ds law (Given i) t = law (noted i t)
+  next_over h item ds law (Given i) t = law (with_grant i t)
   next_over h item ds law (Refused es) t = refl
 
   closure_over : (h : SessionState L) (item : Item) (ds : List ℕ) (t : SessionState L) → demand_closure rules item ds (over h t) ≡ over_step h (demand_closure rules item ds t)
@@ -46,7 +46,7 @@ module _ {L : Language} (rules : Rules L) where
       ∙ next_over h item ds (closure_over h item ds) (demand rules item rules.depth d t).answer (demand rules item rules.depth d t).state
 
   next_alike : (one other : Item) (ds : List ℕ) → ((t : SessionState L) → demand_closure rules one ds t ≡ demand_closure rules other ds t) → (a : Answer L) (t : SessionState L) → demand_next (demand_closure rules one ds) a t ≡ demand_next (demand_closure rules other ds) a t
-  next_alike one other ds law (Given i) t = law (noted i t)
+  next_alike one other ds law (Given i) t = law (with_grant i t)
   next_alike one other ds law (Refused es) t = refl
 
   closure_alike : (one other : Item) → AreAsked one other → (ds : List ℕ) (t : SessionState L) → demand_closure rules one ds t ≡ demand_closure rules other ds t

@@ -4,12 +4,12 @@ ghost use Rattle.std.specs.Prelude.{IfOk};
 ghost use Rattle.item_stack.specs.States.{IsNew};
 
 use seq::OutOfMemory;
-use setup_stack::FixtureStack;
+use setup_stack::SetupStack;
 use std::alloc::Global;
 
 /// The fixtures that are set up, and the `request` of the test at hand, where it took one.
 pub struct ItemStack<V, E, R> {
-    pub stack: FixtureStack<V, E, R>,
+    pub stack: SetupStack<V, E, R>,
     pub request: Option<V>,
 }
 
@@ -18,7 +18,7 @@ impl<V: Copy, E: Drop, R> ItemStack<V, E, R> {
     pub fn new(alloc: Global) -> Result<Self, OutOfMemory>
         ensures { IfOk result (λ made. IsNew made) }
     {
-        let stack = FixtureStack::new(alloc)?;
+        let stack = SetupStack::new(alloc)?;
         Ok(ItemStack {
             stack,
             request: None,

@@ -9,18 +9,18 @@ use Rattle.link_cells.specs.declared.link.Link.{Link}
 use Rattle.link_cells.specs.declared.link.Link.TheVariants.{Cell, Head}
 use Rattle.link_cells.specs.declared.id.CellId.{CellId}
 use Rattle.link_cells.specs.Rings.{CellWords, ahead_of, back_of, Linked, count}
-use Rattle.link_cells.specs.Arena.{walk, cells_of_head, entries, entry_onto, is_used, list_if_used, lists_of, IsArena, first_name, last_name, named}
+use Rattle.link_cells.specs.Arena.{cells_from, cells_of_head, entries, entry_onto, is_used, list_if_used, lists_of, IsArena, first_name, last_name, named}
 use Rattle.link_cells.proofs.Around.{count_same, count_here, count_more, one_le}
 
-walk_head : (w : CellWords) (n h : ℕ) → walk w n (Head h) ≡ []
+walk_head : (w : CellWords) (n h : ℕ) → cells_from w n (Head h) ≡ []
 walk_head w zero h = refl
 walk_head w (suc n) h = refl
 
 -- the walk from a word on finds the cells that are linked there
-walk_linked : (w : CellWords) (n : ℕ) (a : Link) (xs : List ℕ) (h : ℕ) → Linked w a xs (Head h) → length xs ≤ n → walk w n (ahead_of w a) ≡ xs
-walk_linked w n a [] h l le = subst (λ (at : Link). walk w n at ≡ []) (sym l.0) (walk_head w n h)
+walk_linked : (w : CellWords) (n : ℕ) (a : Link) (xs : List ℕ) (h : ℕ) → Linked w a xs (Head h) → length xs ≤ n → cells_from w n (ahead_of w a) ≡ xs
+walk_linked w n a [] h l le = subst (λ (at : Link). cells_from w n at ≡ []) (sym l.0) (walk_head w n h)
 walk_linked w zero a (c ∷ cs) h l le = absurd (omega arith)
-walk_linked w (suc n) a (c ∷ cs) h l le = subst (λ (at : Link). walk w (suc n) at ≡ c ∷ cs) (sym l.0) (ap (λ (r : List ℕ). c ∷ r) (walk_linked w n (Cell c) cs h l.2 (omega arith)))
+walk_linked w (suc n) a (c ∷ cs) h l le = subst (λ (at : Link). cells_from w (suc n) at ≡ c ∷ cs) (sym l.0) (ap (λ (r : List ℕ). c ∷ r) (walk_linked w n (Cell c) cs h l.2 (omega arith)))
 
 -- lists by number that differ at one place
 pub map_set : {A : Type 0} (f g : ℕ → A) (h m : ℕ) (x : A) → h < m → g h ≡ x → ((k : ℕ) → k < m → (k ≡ h → ⊥) → g k ≡ f k) → map g (range_with_len 0 m) ≡ set (map f (range_with_len 0 m)) h x

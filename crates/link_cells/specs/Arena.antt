@@ -39,13 +39,13 @@ last_name (entry ∷ []) = Some entry.0
 last_name (entry ∷ (next ∷ rest)) = last_name (next ∷ rest)
 
 -- the cells from a word on, up to a head
-abbrev pub walk : CellWords → ℕ → Link → List ℕ
-walk w zero at = []
-walk w (suc most) (Head h) = []
-walk w (suc most) (Cell c) = c ∷ walk w most (ahead_of w (Cell c))
+abbrev pub cells_from : CellWords → ℕ → Link → List ℕ
+cells_from w zero at = []
+cells_from w (suc most) (Head h) = []
+cells_from w (suc most) (Cell c) = c ∷ cells_from w most (ahead_of w (Cell c))
 
 abbrev pub cells_of_head : CellWords → ℕ → List ℕ
-cells_of_head w h = walk w (length w.cells) (ahead_of w (Head h))
+cells_of_head w h = cells_from w (length w.cells) (ahead_of w (Head h))
 
 abbrev pub entry_onto : {T : Type 0} → Option T → ℕ → List (CellId × T) → List (CellId × T)
 entry_onto None c rest = rest

@@ -5,18 +5,18 @@ use Rattle.list_methods.specs.declared.search.Search.{Search}
 use Rattle.list_methods.specs.declared.search.Search.TheVariants as search
 use Rattle.list_methods.specs.declared.search.Tally.{Tally}
 use Rattle.list_methods.specs.declared.search.Tally.TheVariants as tally
-use Rattle.py_compare.specs.Equal.{Found, Holding, Holds, Fails, Deep, Unordered}
+use Rattle.py_compare.specs.Equal.{ComparisonResult, ComparisonVerdict, Holds, Fails, Deep, Unordered}
 use Rattle.py_values.specs.declared.value.Value.{Value}
 
 -- behind an element that was tested the search goes on, where it is unequal
-abbrev pub search_by : Holding → ℕ → ℕ → (ℕ → Search) → Search
+abbrev pub search_by : ComparisonVerdict → ℕ → ℕ → (ℕ → Search) → Search
 search_by Holds n i f = search.At i n
 search_by Fails n i f = f n
 search_by Deep n i f = search.TooDeep n
 search_by Unordered n i f = search.TooDeep n
 
 -- the first equal element, counted on from a place and behind so many steps
-abbrev pub search_from : (Value → Found) → ℕ → ℕ → List Value → Search
+abbrev pub search_from : (Value → ComparisonResult) → ℕ → ℕ → List Value → Search
 search_from f i n [] = search.Nowhere n
 search_from f i n (x ∷ xs) = search_by (f x).verdict (n + (f x).cost) i (λ m. search_from f (suc i) m xs)
 
@@ -29,14 +29,14 @@ abbrev pub search_within : ℕ → Search → Option Search
 search_within budget s = if nat_lt budget (search_cost s) then None else Some s
 
 -- behind an element that was tested the count goes on
-abbrev pub tally_by : Holding → ℕ → ℕ → (ℕ → ℕ → Tally) → Tally
+abbrev pub tally_by : ComparisonVerdict → ℕ → ℕ → (ℕ → ℕ → Tally) → Tally
 tally_by Holds n k f = f (suc k) n
 tally_by Fails n k f = f k n
 tally_by Deep n k f = tally.TooDeep n
 tally_by Unordered n k f = tally.TooDeep n
 
 -- the number of equal elements, counted on from one and behind so many steps
-abbrev pub tally_from : (Value → Found) → ℕ → ℕ → List Value → Tally
+abbrev pub tally_from : (Value → ComparisonResult) → ℕ → ℕ → List Value → Tally
 tally_from f k n [] = tally.Count k n
 tally_from f k n (x ∷ xs) = tally_by (f x).verdict (n + (f x).cost) k (λ j m. tally_from f j m xs)
 

@@ -15,7 +15,7 @@ use Rattle.source_meaning.specs.py_world.Exceptions.{no_exception}
 use Rattle.source_meaning.specs.py_world.Outcome.{Outcome, Rest, Continuation, Denotation, Body, on_value, raised_at}
 use Rattle.source_meaning.specs.py_world.Calls.{Entry}
 use Rattle.source_meaning.specs.py_world.Raising.{raise_init, raise_it, raise_on, raise_value}
-use Rattle.source_meaning.specs.py_world.Definitions.{Written, Decoration, Replaced, Marked, Same, Refused, with_defaults, function_object, bad_decorator, with_function, decoration, decorated_by, decorated, define_as, function_made, define_behind, define, based_on, class_base, class_scene, class_made, class_behind, class_statement}
+use Rattle.source_meaning.specs.py_world.Definitions.{Written, Decoration, Replaced, Marked, Same, Refused, with_defaults, function_object, bad_decorator, with_function, decoration, decorated_by, decorated, define_as, function_made, define_behind, define, based_on, class_base, class_scene, class_made, class_behind_decorators, class_statement}
 use Rattle.lower_law.specs.Alike.{Likeness, worlds, StatesAlike, states, EndsAlike, gave, next, stored_from, world_from}
 use Rattle.lower_law.proofs.Parts as part
 use Rattle.lower_law.proofs.Blocks as block
@@ -98,13 +98,13 @@ module _ {K J : Kinds} (R : Likeness K J) where
       b.does (class_scene name (length heap) p) (states [] [] (worlds xs ys zs modules _ printed traces)) _ _
       (λ o q n. value_same (part.call_end_same R (states a t (worlds xs ys zs modules heap printed traces)) n) k l h (λ w r. define_as ds name (val.Ref (id_at (length heap))) p r k) (λ w r. define_as ds name (val.Ref (id_at (length heap))) p r l) (λ w s r ss. (define_as_same ds name (val.Ref (id_at (length heap)))).does p ss k l h))
 
-  class_behind_same : {e : Option (Denotation K)} {f : Option (Denotation J)} → block.SomeSame R e f → (name : List ℕ) (line : ℕ) {b : Body K} {c : Body J} → block.BodySame R b c → (ds : List Value) → PartSame (class_behind e name line b ds) (class_behind f name line c ds)
+  class_behind_same : {e : Option (Denotation K)} {f : Option (Denotation J)} → block.SomeSame R e f → (name : List ℕ) (line : ℕ) {b : Body K} {c : Body J} → block.BodySame R b c → (ds : List Value) → PartSame (class_behind_decorators e name line b ds) (class_behind_decorators f name line c ds)
   class_behind_same x name line {b = b} {c = c} y ds =
       record { does = λ p ss k l h. base_same x p ss k l h (λ base s. class_made name line b ds base p s k) (λ base s. class_made name line c ds base p s l) (λ base s r ss. class_made_here name line y ds base p ss k l h) }
 
   pub class_same : {ds : List (Denotation K)} {ds' : List (Denotation J)} → part.PartsSame R ds ds' → {e : Option (Denotation K)} {f : Option (Denotation J)} → block.SomeSame R e f → (name : List ℕ) (line : ℕ) {b : Body K} {c : Body J} → block.BodySame R b c → PartSame (class_statement ds e name line b) (class_statement ds' f name line c)
   class_same xs {e = e} {f = f} x name line {b = b} {c = c} y =
-      record { does = λ p ss k l h. flow.arguments_same R xs [] p ss k l h (λ vs s. class_behind e name line b vs p s k) (λ vs s. class_behind f name line c vs p s l) (λ vs s r ss. (class_behind_same x name line y vs).does p ss k l h) }
+      record { does = λ p ss k l h. flow.arguments_same R xs [] p ss k l h (λ vs s. class_behind_decorators e name line b vs p s k) (λ vs s. class_behind_decorators f name line c vs p s l) (λ vs s r ss. (class_behind_same x name line y vs).does p ss k l h) }
 
   -- `raise`
   raise_it_same : (v : Value) → PartSame (raise_it v) (raise_it v)

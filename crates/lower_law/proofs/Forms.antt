@@ -90,15 +90,15 @@ map_more : {A B : Type 0} (g : A → B) (xs : List A) (y : A) → map g (xs ++ y
 map_more g [] y = refl
 map_more g (x ∷ xs) y = ap (λ zs. g x ∷ zs) (map_more g xs y)
 
-parts_listed : (es : Trees) → source.parts es ≡ map source.eval (trees_listed es)
+parts_listed : (es : Trees) → source.source_parts es ≡ map source.source_eval (trees_listed es)
 parts_listed Empty = refl
-parts_listed (More es e) = ap (λ xs. xs ++ source.eval e ∷ []) (parts_listed es) ∙ sym (map_more source.eval (trees_listed es) e)
+parts_listed (More es e) = ap (λ xs. xs ++ source.source_eval e ∷ []) (parts_listed es) ∙ sym (map_more source.source_eval (trees_listed es) e)
 
 parts_row : {m : _} (row : Row m) → core.parts row ≡ map (λ (e : Rc CoreExpr Global). core.eval e.value) (row_items m row)
 parts_row end = refl
 parts_row (more_of p a e row) = ap (λ xs. core.eval_at a e ∷ xs) (parts_row row)
 
-listed_same : (es : Trees) {m : _} (row : Row m) → PartsSame (map source.eval (trees_listed es)) (map (λ (e : Rc CoreExpr Global). core.eval e.value) (row_items m row)) → PartsSame (source.parts es) (core.parts row)
+listed_same : (es : Trees) {m : _} (row : Row m) → PartsSame (map source.source_eval (trees_listed es)) (map (λ (e : Rc CoreExpr Global). core.eval e.value) (row_items m row)) → PartsSame (source.source_parts es) (core.parts row)
 listed_same es row h = rw (parts_listed es, parts_row row) h
 
 compare_as : (ops cops : List CmpOp) → cops ≡ ops → {e : source.SourcePart} {f : core.CorePart} {es : List source.SourcePart} {fs : List core.CorePart} → PartSame e f → PartsSame es fs → PartSame (compare_part e ops es) (compare_part f cops fs)
@@ -108,7 +108,7 @@ call_as : (names cnames : List (Option ArgName)) → cnames ≡ names → {e : s
 call_as names cnames is {e = e} {f = f} {es = es} {fs = fs} x xs = subst (λ ns. PartSame (call_part e (arguments_of ns) es) (call_part f (arguments_of cnames) fs)) is (part.call_same _ (arguments_of cnames) x xs)
 
 mutual
-  eval_same : {e : Tree} {at : Pos} {x : CoreExprKind} → Lowered e at x → PartSame (source.eval e) (core.eval_at at x)
+  eval_same : {e : Tree} {at : Pos} {x : CoreExprKind} → Lowered e at x → PartSame (source.source_eval e) (core.eval_at at x)
   eval_same (low.name at n) = part.noted_same _ at (part.name_same _ n)
   eval_same (low.number at n) = part.noted_same _ at (part.constant_same _ (val.Int n))
   eval_same (low.text at n) = part.noted_same _ at (part.text_same _ n)
@@ -131,11 +131,11 @@ mutual
   eval_same (low.subscript at x y) = part.noted_same _ at (flow.subscript_same _ (eval_same x) (eval_same y))
   eval_same (low.slice at x a b c) = part.noted_same _ at (flow.slice_same _ (eval_same x) (held_same a) (held_same b) (held_same c))
 
-  held_same : {m : Maybe} {x : Held} → LoweredHeld m x → block.SomeSame Lowering (source.some_part m) (core.held x)
+  held_same : {m : Maybe} {x : Held} → LoweredHeld m x → block.SomeSame Lowering (source.some_source_part m) (core.held x)
   held_same low.absent = block.none
   held_same (low.present x) = block.some (eval_same x)
 
-  each_same : {es : List Tree} {xs : List (Rc CoreExpr Global)} → LoweredEach es xs → PartsSame (map source.eval es) (map (λ (e : Rc CoreExpr Global). core.eval e.value) xs)
+  each_same : {es : List Tree} {xs : List (Rc CoreExpr Global)} → LoweredEach es xs → PartsSame (map source.source_eval es) (map (λ (e : Rc CoreExpr Global). core.eval e.value) xs)
   each_same low.nil = none
   each_same (low.cons x xs) = more (eval_same x) (each_same xs)
 
@@ -167,7 +167,7 @@ watch_listed n (More es e) = ap₂ (λ zs m. zs ++ watch (n + m) e ∷ []) (watc
 watched_rows : (n : ℕ) (es : Trees) {m : _} (row : Row m) → PartsSame (watch_list n (trees_listed es)) (map (λ (e : Rc CoreExpr Global). core.eval e.value) (row_items m row)) → PartsSame (watch_all n es) (core.parts row)
 watched_rows n es row h = rw (watch_listed n es, parts_row row) h
 
-watch_leaf : (n : ℕ) (e : Tree) → IsLeaf e → watch n e ≡ kept_part n (source.eval e)
+watch_leaf : (n : ℕ) (e : Tree) → IsLeaf e → watch n e ≡ kept_part n (source.source_eval e)
 watch_leaf n (tree.Paren at e) h = absurd h
 watch_leaf n (tree.Call at e es names) h = absurd h
 watch_leaf n (tree.Unary at op e) h = absurd h
@@ -196,10 +196,10 @@ mutual
   watch_each (low.nil n) = none
   watch_each (low.cons n x xs) = more (watch_same x) (watch_each xs)
 
-pub expression_same : {e : Tree} {x : CoreExpr} → LoweredExpr e x → PartSame (source.eval e) (core.eval x)
+pub expression_same : {e : Tree} {x : CoreExpr} → LoweredExpr e x → PartSame (source.source_eval e) (core.eval x)
 expression_same h = eval_same h
 
-some_same : {m : Maybe} {y : Option (Rc CoreExpr Global)} → LoweredSome m y → block.SomeSame Lowering (source.some_part m) (cor.some_part y)
+some_same : {m : Maybe} {y : Option (Rc CoreExpr Global)} → LoweredSome m y → block.SomeSame Lowering (source.some_source_part m) (cor.some_part y)
 some_same low.LoweredSome.none = block.none
 some_same (low.LoweredSome.some x) = block.some (eval_same x)
 
@@ -313,11 +313,11 @@ sequence_same hl {b = b} (low.body flag from h) = from_same hl b 0 flag from ref
 
 -- handlers
 abbrev handling_of : Bool → List s.SourceLayer → low.ListedHandler → src.SourceHandling
-handling_of z ls (catch_at class name b) = (source.some_part class, (name, src.source_block_body z ls b))
+handling_of z ls (catch_at class name b) = (source.some_source_part class, (name, src.source_block_body z ls b))
 
 handlings_listed : (z : Bool) (ls : List s.SourceLayer) (hs : Handlers) → src.source_handlings z ls hs ≡ map (handling_of z ls) (handlers_listed hs)
 handlings_listed z ls st.NoHandler = refl
-handlings_listed z ls (st.Handler before at class name b) = ap (λ xs. xs ++ (source.some_part class, (name, src.source_block_body z ls b)) ∷ []) (handlings_listed z ls before) ∙ sym (map_more (handling_of z ls) (handlers_listed before) (catch_at class name b))
+handlings_listed z ls (st.Handler before at class name b) = ap (λ xs. xs ++ (source.some_source_part class, (name, src.source_block_body z ls b)) ∷ []) (handlings_listed z ls before) ∙ sym (map_more (handling_of z ls) (handlers_listed before) (catch_at class name b))
 
 catches_same : {z : Bool} {ls : List s.SourceLayer} {ks : List c.Layer} → LoweredLayers z ls ks → {hs : List low.ListedHandler} {xs : List handler.CoreHandler} → LoweredHandlers z hs xs → flow.HandlersSame Lowering (map (handling_of z ls) hs) (cor.handlings ks xs)
 catches_same hl low.unhandled = flow.none
@@ -352,11 +352,11 @@ try_here hl source_block {hs = hs} {g = g} b (low.guard from h other last) p ss 
     (flow.try_same _ (sequence_same (low.LoweredLayers.guarded g p.line (low.guard from h other last) hl) b) (handlings_same hl hs h) (sequence_same hl other) (sequence_same hl last)).does p ss k l f
 
 abbrev choice_of : Bool → List s.SourceLayer → low.ListedBranch → src.SourceChoice
-choice_of z ls (choice_at at e b) = (at.line, (source.eval e, src.source_block_body z ls b))
+choice_of z ls (choice_at at e b) = (at.line, (source.source_eval e, src.source_block_body z ls b))
 
 choices_listed : (z : Bool) (ls : List s.SourceLayer) (bs : Branches) → src.source_choices z ls bs ≡ map (choice_of z ls) (branches_listed bs)
 choices_listed z ls st.NoBranch = refl
-choices_listed z ls (st.Branch before at e b) = ap (λ xs. xs ++ (at.line, (source.eval e, src.source_block_body z ls b)) ∷ []) (choices_listed z ls before) ∙ sym (map_more (choice_of z ls) (branches_listed before) (choice_at at e b))
+choices_listed z ls (st.Branch before at e b) = ap (λ xs. xs ++ (at.line, (source.source_eval e, src.source_block_body z ls b)) ∷ []) (choices_listed z ls before) ∙ sym (map_more (choice_of z ls) (branches_listed before) (choice_at at e b))
 
 choices_same : {z : Bool} {ls : List s.SourceLayer} {ks : List c.Layer} → LoweredLayers z ls ks → {bs : List low.ListedBranch} {xs : List branch.CoreBranch} → LoweredBranches z bs xs → block.ChoicesSame Lowering (map (choice_of z ls) bs) (cor.choices ks xs)
 choices_same hl low.LoweredBranches.none = block.none
@@ -378,7 +378,7 @@ asserted at ks _ _ _ _ _ x y scene ss k l h =
     x.does (site scene at.line) (block.unset_same Lowering ss) _ _ (λ o q n. part.value_same _ n k l h _ _ (λ v s r ss. part.truth_same _ v ss _ _ _ _ (h _ _ (next ss)) (y.does (site scene at.line) ss _ _ (λ o q n. through n k l h))))
 
 assert_at : (at : Pos) (ks : List c.Layer) {e : source.SourcePart} {f : source.SourcePart} (x : Rc CoreExpr Global) (template : Template) (y : Option (Rc CoreExpr Global)) (p n q r : _) (branches : Row_of-CoreBranch _) (other body : CoreBlock) → PartSame e (core.eval x.value) → PartSame f (cor.failure template y) → items-the_row-CoreBranch _ branches ≡ branch.CoreBranch' at x r body ∷ [] → stmts_in body ≡ [] → stmts_in other ≡ core_at at (kind.FailWith template y) ∷ []
-    → (scene : Scene) {u : CallState source_kinds} {z : CallState core_kinds} → States u z → (k : Continuation source_kinds) (l : Continuation core_kinds) → Behind k l → Follow (src.source_assert e f (site scene at.line) u k) (cor.statement_at ks (kinds.If' p n branches q other) (site scene at.line) z l)
+    → (scene : Scene) {u : CallState source_kinds} {z : CallState core_kinds} → States u z → (k : Continuation source_kinds) (l : Continuation core_kinds) → Behind k l → Follow (src.source_assert e f (site scene at.line) u k) (cor.core_statement_at ks (kinds.If' p n branches q other) (site scene at.line) z l)
 assert_at at ks c template m p n q r branches other body x y bs bb ob scene ss k l g = rw (bs, bb, ob) (asserted at ks c.value template m body other x y scene ss k l g)
 
 explained_as : (c : Rc Expr Global) (e : Tree) (y : Option (Rc CoreExpr Global)) → tree.tree c.value ≡ e → {m : Option source.SourcePart} → block.SomeSame Lowering m (cor.some_part y) → PartSame (fail_explained e m) (cor.failure (Explain c) y)
@@ -395,26 +395,26 @@ bodies_same : (m : Script) (code : Core) → LoweredModule m code → BodySame (
 bodies_same m code h = sequence_same low.LoweredLayers.none (module_same m code h.0 h.1)
 
 -- expressions one after another
-each_of : {es : List Tree} {xs : List (Rc CoreExpr Global)} → LoweredEach es xs → PartsSame (map source.eval es) (core.parts_of xs)
+each_of : {es : List Tree} {xs : List (Rc CoreExpr Global)} → LoweredEach es xs → PartsSame (map source.source_eval es) (core.parts_of xs)
 each_of low.nil = none
 each_of (low.cons x xs) = more (eval_same x) (each_of xs)
 
-decorators_same : (ds : Trees) {xs : List (Rc CoreExpr Global)} → LoweredEach (trees_listed ds) xs → PartsSame (source.parts ds) (core.parts_of xs)
+decorators_same : (ds : Trees) {xs : List (Rc CoreExpr Global)} → LoweredEach (trees_listed ds) xs → PartsSame (source.source_parts ds) (core.parts_of xs)
 decorators_same ds h = rw (parts_listed ds) (each_of h)
 
 -- the defaults of parameters
-with_listed : (default : Maybe) (es : List source.SourcePart) (ts : List Tree) → es ≡ map source.eval ts → src.with_part default es ≡ map source.eval (low.with_default default ts)
+with_listed : (default : Maybe) (es : List source.SourcePart) (ts : List Tree) → es ≡ map source.source_eval ts → src.with_part default es ≡ map source.source_eval (low.with_default default ts)
 with_listed tree.Absent es ts h = h
-with_listed (tree.Present e) es ts h = ap (λ xs. source.eval e ∷ xs) h
+with_listed (tree.Present e) es ts h = ap (λ xs. source.source_eval e ∷ xs) h
 
-defaults_as : (ps : List Parameter) → src.default_parts ps ≡ map source.eval (defaults_listed ps)
+defaults_as : (ps : List Parameter) → src.default_parts ps ≡ map source.source_eval (defaults_listed ps)
 defaults_as [] = refl
 defaults_as (st.Parameter_at at name annotation default ∷ ps) = with_listed default (src.default_parts ps) (defaults_listed ps) (defaults_as ps)
 
 defaults_same : (ps : List Parameter) {xs : List (Rc CoreExpr Global)} → LoweredEach (defaults_listed ps) xs → PartsSame (src.default_parts ps) (core.parts_of xs)
 defaults_same ps h = rw (defaults_as ps) (each_of h)
 
-define_same : (word : Pos) {f : Function} {x : CoreFn} → LoweredFunction word f x → (ds : Trees) {xs ys : List (Rc CoreExpr Global)} → LoweredEach (trees_listed ds) xs → LoweredEach (defaults_listed f.params) ys → PartSame (define (source.parts ds) (src.default_parts f.params) (src.source_written f.params) f.name word.line (yields_in f.body) f) (cor.define_fn (core.parts_of xs) (core.parts_of ys) x)
+define_same : (word : Pos) {f : Function} {x : CoreFn} → LoweredFunction word f x → (ds : Trees) {xs ys : List (Rc CoreExpr Global)} → LoweredEach (trees_listed ds) xs → LoweredEach (defaults_listed f.params) ys → PartSame (define (source.source_parts ds) (src.default_parts f.params) (src.source_written f.params) f.name word.line (yields_in f.body) f) (cor.define_fn (core.parts_of xs) (core.parts_of ys) x)
 define_same word (low.made {z = z} _ name {params = params} {body = body} {ps = ps} {ls = ls} {ys = ys} {source = source} {p = p} {block = b} from is own yielding h) ds hs es =
     rw (sym is, sym yielding) (classes.define_same _ (decorators_same ds hs) (defaults_same params es) (cor.written ps.value.items) name word.line ys (word, low.made word name from is own yielding h))
 
@@ -426,7 +426,7 @@ import_from_as names xs is all ys are =
     subst (λ ns. PartSame (import_from src.script_body ns all) (import_from core_body xs ys)) is (subst (λ zs. PartSame (import_from src.script_body xs zs) (import_from core_body xs ys)) are (loads.from_same _ src.script_body core_body bodies_same xs ys))
 
 -- WHAT A STATEMENT DOES
-statement_same : {z : Bool} {ls : List s.SourceLayer} {ks : List c.Layer} → LoweredLayers z ls ks → {sm : Statement} {at : Pos} {x : CoreStmtKind} → LoweredStatement z sm at x → (scene : Scene) {u : CallState source_kinds} {r : CallState core_kinds} → States u r → (k : Continuation source_kinds) (l : Continuation core_kinds) → Behind k l → Follow (src.source_statement z ls sm (site scene at.line) u k) (cor.statement_at ks x (site scene at.line) r l)
+statement_same : {z : Bool} {ls : List s.SourceLayer} {ks : List c.Layer} → LoweredLayers z ls ks → {sm : Statement} {at : Pos} {x : CoreStmtKind} → LoweredStatement z sm at x → (scene : Scene) {u : CallState source_kinds} {r : CallState core_kinds} → States u r → (k : Continuation source_kinds) (l : Continuation core_kinds) → Behind k l → Follow (src.source_statement z ls sm (site scene at.line) u k) (cor.core_statement_at ks x (site scene at.line) r l)
 statement_same hl (low.do_it at x) scene = (block.expression_same _ (eval_same x)).does (site scene at.line)
 statement_same hl (low.assign at ts x) scene = (flow.assign_same _ (targets_same ts) (eval_same x)).does (site scene at.line)
 statement_same hl (low.augment at op p x) scene = (augment_same p op (eval_same x)).does (site scene at.line)
@@ -454,7 +454,7 @@ statement_same hl (low.import_from at is all) scene = (import_from_as _ _ is _ _
 
 pub acts_same : (what : s.SourceTurn) (other : c.CoreTurn) (p : Site) → LoweredTurn p.line what other → (u : CallState source_kinds) (r : CallState core_kinds) → States u r → (k : Continuation source_kinds) (l : Continuation core_kinds) → Behind k l → Follow (src.source_act what p u k) (cor.act other p r l)
 acts_same _ _ p (statement {z = z} {ls = ls} {ks = ks} {st = sm} {at = at} {x = x} is hl h) u r ss k l g =
-    subst (λ n. Follow (src.source_statement z ls sm (site p.scene n) u k) (cor.statement_at ks x (site p.scene n) r l)) (sym is) (statement_same hl h p.scene ss k l g)
+    subst (λ n. Follow (src.source_statement z ls sm (site p.scene n) u k) (cor.core_statement_at ks x (site p.scene n) r l)) (sym is) (statement_same hl h p.scene ss k l g)
 acts_same _ _ p (for_turn {b = loop_block} t b at) u r ss k l g = (flow.for_turn_same _ (λ n i. for_turn {b = loop_block} t b i) (target_same t) (sequence_same low.LoweredLayers.none b) at).does p ss k l g
 acts_same _ _ p (turn x b) u r ss k l g = (block.turn_of_same _ (λ n. turn x b) (eval_same x) (sequence_same low.LoweredLayers.none b)).does p ss k l g
 

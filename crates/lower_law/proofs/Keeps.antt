@@ -16,10 +16,10 @@ use Rattle.py_values.specs.declared.value.Value.TheVariants as val
 use Rattle.source_meaning.specs.py_world.declared.load.Load.{Load}
 use Rattle.source_meaning.specs.py_world.declared.load.Load.TheVariants.{Running, Loaded, Failed}
 use Rattle.source_meaning.specs.py_world.declared.trace.TraceFrame.{TraceFrame}
-use Rattle.source_meaning.specs.py_world.World.{Kinds, World, Locals, Stored}
+use Rattle.source_meaning.specs.py_world.World.{Kinds, World, Locals, FunctionCode}
 use Rattle.source_meaning.specs.py_world.Site.{no_call, frame}
 use Rattle.source_meaning.specs.py_world.Arguments.{positional_arguments}
-use Rattle.source_meaning.specs.py_world.Outcome.{Outcome, Rest, Spent, Paused, Request, call_end}
+use Rattle.source_meaning.specs.py_world.Outcome.{Outcome, Rest, Exhaustion, Suspension, Request, call_end}
 use Rattle.source_meaning.specs.py_world.Calls.{Meaning, arguments_for, invoke, body_of}
 use Rattle.source_meaning.specs.py_world.Runs.{ended_value, ended_spent, is_running, out_of_steps, ended_by, told_by, start, run_of, function_and, fitting_begun, function_begun, object_begun, begun_by_runner, loading, loaded_first, loaded_by, load_at}
 use Rattle.source_meaning.specs.Requests.{source_kinds, Script, Function}
@@ -39,10 +39,10 @@ abbrev pub Ends : Outcome source_kinds → Outcome core_kinds → Type 0
 Ends = EndsAlike Lowering
 
 abbrev pub SourceEnding : Type 0
-SourceEnding = tree.Ending Pos (Spent source_kinds) (Request source_kinds) (Outcome source_kinds) (Paused source_kinds)
+SourceEnding = tree.Ending Pos (Exhaustion source_kinds) (Request source_kinds) (Outcome source_kinds) (Suspension source_kinds)
 
 abbrev pub CoreEnding : Type 0
-CoreEnding = tree.Ending Pos (Spent core_kinds) (Request core_kinds) (Outcome core_kinds) (Paused core_kinds)
+CoreEnding = tree.Ending Pos (Exhaustion core_kinds) (Request core_kinds) (Outcome core_kinds) (Suspension core_kinds)
 
 abbrev pub SameEnd : SourceEnding → CoreEnding → Type 0
 SameEnd = SameEnding (SpentAlike Lowering) (RequestsAlike Lowering) Ends (PausedAlike Lowering)
@@ -65,13 +65,13 @@ world_cond false w w' z z' h g = g
 spent_world : (budget : ℕ) (trace : List TraceFrame) {w : SourceWorld} {z : CoreWorld} → LoweredWorld w z → LoweredWorld (out_of_steps budget trace w) (out_of_steps budget trace z)
 spent_world budget trace (worlds xs ys zs modules heap printed traces) = world_cond (list_any is_running modules) _ _ _ _ (worlds xs ys zs _ _ printed traces) (worlds xs ys zs modules heap printed traces)
 
-pub spent_told : (budget : ℕ) {x : Spent source_kinds} {y : Spent core_kinds} → SpentAlike Lowering x y → SameTold (ended_spent budget x) (ended_spent budget y)
+pub spent_told : (budget : ℕ) {x : Exhaustion source_kinds} {y : Exhaustion core_kinds} → SpentAlike Lowering x y → SameTold (ended_spent budget x) (ended_spent budget y)
 spent_told budget (out trace (states a t ws)) = (refl, spent_world budget trace ws)
 
-stopped_with : {f : Paused source_kinds} {g : Paused core_kinds} → PausedAlike Lowering f g → (n : ℕ) → SameTold (ended_value f.value n f.state.world) (ended_value g.value n g.state.world)
+stopped_with : {f : Suspension source_kinds} {g : Suspension core_kinds} → PausedAlike Lowering f g → (n : ℕ) → SameTold (ended_value f.value n f.state.world) (ended_value g.value n g.state.world)
 stopped_with (stops v p rest (states a t ws)) n = (refl, ws)
 
-stopped_same : {f : Paused source_kinds} {g : Paused core_kinds} → PausedAlike Lowering f g → (budget m n : ℕ) → m ≡ n → SameTold (ended_value f.value (budget - m) f.state.world) (ended_value g.value (budget - n) g.state.world)
+stopped_same : {f : Suspension source_kinds} {g : Suspension core_kinds} → PausedAlike Lowering f g → (budget m n : ℕ) → m ≡ n → SameTold (ended_value f.value (budget - m) f.state.world) (ended_value g.value (budget - n) g.state.world)
 stopped_same {f = f} {g = g} e budget m n is = subst (λ k. SameTold (ended_value f.value (budget - m) f.state.world) (ended_value g.value (budget - k) g.state.world)) is (stopped_with e (budget - m))
 
 told_same : (budget : ℕ) (a : SourceEnding) (b : CoreEnding) → SameEnd a b → SameTold (told_by budget a) (told_by budget b)
@@ -106,7 +106,7 @@ fitting_begun_same : (r : Result Locals Raise) (at : List TraceFrame) (f : Value
 fitting_begun_same (Ok names) at f args w z ws = invoked f args w z ws
 fitting_begun_same (Err r) at f args w z ws = part.raised_same Lowering r at (states [] [] ws)
 
-function_begun_same : {x : Option (Stored Function)} {y : Option (Stored CoreFn)} → block.FoundAlike Lowering x y → (g : FunctionObj) (all : List Value) (f : Value) (args : List Value) (w : SourceWorld) (z : CoreWorld) → LoweredWorld w z → Follow (function_begun source_semantics x g all f args (start w)) (function_begun core y g all f args (start z))
+function_begun_same : {x : Option (FunctionCode Function)} {y : Option (FunctionCode CoreFn)} → block.FoundAlike Lowering x y → (g : FunctionObj) (all : List Value) (f : Value) (args : List Value) (w : SourceWorld) (z : CoreWorld) → LoweredWorld w z → Follow (function_begun source_semantics x g all f args (start w)) (function_begun core y g all f args (start z))
 function_begun_same block.absent g all f args w z ws = invoked f args w z ws
 function_begun_same (block.present path home h) g all f args w z ws = fitting_begun_same (arguments_for g (positional_arguments all)) (frame g.path g.line g.name ∷ []) f args w z ws
 

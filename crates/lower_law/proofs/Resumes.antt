@@ -10,9 +10,9 @@ use Rattle.py_values.specs.declared.value.Value.{Value}
 use Rattle.py_values.specs.declared.value.Value.TheVariants as val
 use Rattle.source_meaning.specs.py_world.declared.ended.Ended.{Ended}
 use Rattle.source_meaning.specs.py_world.declared.trace.TraceFrame.{TraceFrame}
-use Rattle.source_meaning.specs.py_world.World.{Frozen, Locals, Stored, state}
+use Rattle.source_meaning.specs.py_world.World.{Frozen, Locals, FunctionCode, state}
 use Rattle.source_meaning.specs.py_world.Site.{Site, no_call, frame}
-use Rattle.source_meaning.specs.py_world.Outcome.{Rest, Paused, call_end}
+use Rattle.source_meaning.specs.py_world.Outcome.{Rest, Suspension, call_end}
 use Rattle.source_meaning.specs.py_world.Runs.{Told, start, function_and}
 use Rattle.source_meaning.specs.py_world.Resuming.{Sent, SentValue, SentThrow, Yielded, Over, ToldBegun, begun_with, frame_at, bare, abandon_of, begun_over, begun_yielded, begun_by, sent_end, begin_arguments, begun_of, body_begun, function_opened, object_opened, opened_by_runner, resumed, resumed_by}
 use Rattle.source_meaning.specs.Requests as s
@@ -76,10 +76,10 @@ abandoned n (worlds xs ys zs modules heap printed traces) = worlds xs ys (frozen
 over_same : (a : Told source_kinds) (b : Told core_kinds) → SameTold a b → SameBegun (begun_over a) (begun_over b)
 over_same a b h = (ap (λ (e : Ended). begun_with (Over e.out) e.steps) h.0, h.1)
 
-yielded_with : {f : Paused source_kinds} {g : Paused core_kinds} → PausedAlike Lowering f g → (n : ℕ) → SameBegun (begun_yielded f n) (begun_yielded g n)
+yielded_with : {f : Suspension source_kinds} {g : Suspension core_kinds} → PausedAlike Lowering f g → (n : ℕ) → SameBegun (begun_yielded f n) (begun_yielded g n)
 yielded_with (stops v p rest (states a t (worlds xs ys zs modules heap printed traces))) n = (ap (λ k. begun_with (Yielded v k) n) (frozen_length zs), worlds xs ys (frozen_more zs (bare p) a rest) modules heap printed traces)
 
-yielded_same : {f : Paused source_kinds} {g : Paused core_kinds} → PausedAlike Lowering f g → (budget m n : ℕ) → m ≡ n → SameBegun (begun_yielded f (budget - m)) (begun_yielded g (budget - n))
+yielded_same : {f : Suspension source_kinds} {g : Suspension core_kinds} → PausedAlike Lowering f g → (budget m n : ℕ) → m ≡ n → SameBegun (begun_yielded f (budget - m)) (begun_yielded g (budget - n))
 yielded_same {f = f} {g = g} e budget m n is = subst (λ k. SameBegun (begun_yielded f (budget - m)) (begun_yielded g (budget - k))) is (yielded_with e (budget - m))
 
 begun_same : (budget : ℕ) (a : SourceEnding) (b : CoreEnding) → SameEnd a b → SameBegun (begun_by budget a) (begun_by budget b)
@@ -101,7 +101,7 @@ body_begun_same : (path : List ℕ) (home : ℕ) {f : Function} {x : CoreFn} →
 body_begun_same path home h (Ok names) at ws = (block.entered_by _ source_semantics.entry core.entry meanings_same.entries h path home (Ok names) no_call).does (states [] [] ws) _ _ (λ o q n. part.call_end_same Lowering (states [] [] ws) n)
 body_begun_same path home h (Err r) at ws = part.raised_same Lowering r at (states [] [] ws)
 
-function_opened_same : {x : Option (Stored Function)} {y : Option (Stored CoreFn)} → block.FoundAlike Lowering x y → (g : FunctionObj) (all : List Value) (f : Value) (args : List Value) {w : SourceWorld} {z : CoreWorld} → LoweredWorld w z → Follow (function_opened source_semantics x g all f args (start w)) (function_opened core y g all f args (start z))
+function_opened_same : {x : Option (FunctionCode Function)} {y : Option (FunctionCode CoreFn)} → block.FoundAlike Lowering x y → (g : FunctionObj) (all : List Value) (f : Value) (args : List Value) {w : SourceWorld} {z : CoreWorld} → LoweredWorld w z → Follow (function_opened source_semantics x g all f args (start w)) (function_opened core y g all f args (start z))
 function_opened_same block.absent g all f args ws = begun_by_runner_same f args ws
 function_opened_same (block.present path home h) g all f args ws = follow_cond g.yields _ _ _ _ (body_begun_same path home h (begin_arguments g all) (frame g.path g.line g.name ∷ []) ws) (begun_by_runner_same f args ws)
 

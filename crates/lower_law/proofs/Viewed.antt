@@ -13,7 +13,7 @@ use Rattle.core_meaning.specs.Requests as c
 use Rattle.core_meaning.specs.Requests.{core_kinds}
 use Rattle.source_meaning.specs.Meaning.{SourceWorld, source_semantics, source_call, source_module, source_begin, source_resume}
 use Rattle.core_meaning.specs.Meaning.{CoreWorld, core, core_call, core_module, core_begin, core_resume}
-use Rattle.source_meaning.specs.py_world.World.{CodedSource, Coded, Code, Stored, Frozen}
+use Rattle.source_meaning.specs.py_world.World.{CodedSource, CodeOrFault, Code, FunctionCode, Frozen}
 use Rattle.source_meaning.specs.py_world.Runs.{Told}
 use Rattle.source_meaning.specs.py_world.Resuming.{Sent, ToldBegun, abandon_of}
 use Rattle.lower_law.specs.Alike as alike
@@ -29,11 +29,11 @@ use Rattle.lower_law.proofs.Resumes.{SameBegun, abandoned, begins_same, resumes_
 code_carries : (f : Function) (c : CoreFn) → LoweredCode f c → source_of c ≡ f
 code_carries _ _ (word, low.made _ name {source = source_semantics} from is own yielding (low.body flag _ h)) = ap (λ x. function_in x source_semantics.value) flag ∙ from
 
-codes_viewed : {fs : List (Stored Function)} {cs : List (Stored CoreFn)} → CodesAlike Lowering fs cs → map stored_view cs ≡ fs
+codes_viewed : {fs : List (FunctionCode Function)} {cs : List (FunctionCode CoreFn)} → CodesAlike Lowering fs cs → map stored_view cs ≡ fs
 codes_viewed alike.none = refl
 codes_viewed (alike.more path home {c = f} {d = c} h hs) = λ i. stored_from path home (code_carries f c h i) ∷ codes_viewed hs i
 
-coded_viewed : {b : Coded Script} {c : Coded Core} → CodedAlike Lowering b c → coded_view c ≡ b
+coded_viewed : {b : CodeOrFault Script} {c : CodeOrFault Core} → CodedAlike Lowering b c → coded_view c ≡ b
 coded_viewed (alike.code h) = λ i. Code (h.0 i)
 coded_viewed (alike.fault f) = refl
 

@@ -12,16 +12,16 @@ use Rattle.source_meaning.specs.Meaning.{SourceWorld}
 use Rattle.core_meaning.specs.Requests as c
 use Rattle.core_meaning.specs.Requests.{core_kinds}
 use Rattle.core_meaning.specs.Meaning.{CoreWorld}
-use Rattle.source_meaning.specs.py_world.World.{CodedSource, Coded, Code, Fault, Stored, Frozen}
+use Rattle.source_meaning.specs.py_world.World.{CodedSource, CodeOrFault, Code, Fault, FunctionCode, Frozen}
 use Rattle.source_meaning.specs.py_world.Runs.{Told}
 use Rattle.source_meaning.specs.py_world.Resuming.{ToldBegun}
 use Rattle.lower_law.specs.Law.{LoweredWorld}
 use Rattle.lower_law.specs.Sourced.{source_of, module_of, sources_in}
 
-abbrev pub stored_view : Stored CoreFn → Stored Function
+abbrev pub stored_view : FunctionCode CoreFn → FunctionCode Function
 stored_view c = record { path = c.path; home = c.home; code = source_of c.code }
 
-abbrev pub coded_view : Coded Core → Coded Script
+abbrev pub coded_view : CodeOrFault Core → CodeOrFault Script
 coded_view (Code m) = Code (module_of m)
 coded_view (Fault f) = Fault f
 

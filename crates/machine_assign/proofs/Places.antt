@@ -13,7 +13,7 @@ use Rattle.machine_turns.specs.py_world.Site.{Site}
 use Rattle.machine_turns.specs.py_world.Targets.{elements_from, store_each, store_elements, unpack_by, wrong_count}
 use Rattle.machine_turns.specs.py_world.World.{heap_of, with_heap}
 use Rattle.machine_turns.specs.core_meaning.Statements.{CoreStore, store_at, store_singles}
-use Rattle.machine_turns.specs.machine_state.declared.place.Here.{Here}
+use Rattle.machine_turns.specs.machine_state.declared.place.Location.{Location}
 use Rattle.machine_turns.specs.machine_state.declared.frame.Frame.{Frame}
 use Rattle.machine_turns.specs.machine_state.declared.frame.Frame.TheVariants.{Target}
 use Rattle.machine_turns.specs.machine_state.declared.frame.TargetFrame.TheVariants.{Each}
@@ -40,7 +40,7 @@ each_from ss vs i s v w h w' h' p t k =
     ∙ ap (λ (ts : List CoreStore). store_at s.kind v p t (λ o. on_next o k (λ t. store_each ts (drop (i + 1) vs) p t k))) (sym (singles_from ss (i + 1)))
 
 -- a target of an unpacking begins
-pub each_turns : (h : Here) (fs fs' : List Frame) (ss again : Rc (Vec CoreSingle Global) Global) (vs : Vec Value Global) (i : ℕ) (s : CoreSingle) (v : Value) (t : CoreState)
+pub each_turns : (h : Location) (fs fs' : List Frame) (ss again : Rc (Vec CoreSingle Global) Global) (vs : Vec Value Global) (i : ℕ) (s : CoreSingle) (v : Value) (t : CoreState)
     → i < length ss.value.items → s ≡ get_or ss.value.items i s → i < length vs.items → v ≡ get_or vs.items i v → fs' ≡ Target (Each again vs (i + 1)) ∷ fs → again.value ≡ ss.value
     → store_at s.kind v (site_of h (outer_of fs') (handled_exception fs')) t (after_stack fs' h) ≡ store_each (drop i (store_singles ss.value.items)) (drop i vs.items) (site_of h (outer_of fs) (handled_exception fs)) t (after_stack fs h)
 each_turns h fs fs' ss again vs i s v t w is w' is' pushed same =

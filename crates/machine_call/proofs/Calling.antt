@@ -7,7 +7,7 @@ use Rattle.py_values.specs.declared.end.Effect.TheVariants.{Give, New, Put, Fail
 use Rattle.py_values.specs.Ends.{cost_of}
 use Rattle.call_products.specs.Products.{product_within}
 use Rattle.call_products.specs.declared.product.Product.{Product}
-use Rattle.py_calls.specs.Called.{Called}
+use Rattle.py_calls.specs.Called.{CallEffect}
 use Rattle.py_calls.specs.Calls.{printed_within}
 use Rattle.machine_state.specs.py_world.declared.trace.TraceFrame.{TraceFrame}
 use Rattle.machine_state.specs.py_world.World.{heap_of, with_objects, with_print, with_world, world_with_printed}
@@ -22,7 +22,7 @@ use Rattle.py_values.specs.declared.object.ClassObj.{ClassObj}
 use Rattle.py_values.specs.declared.object.FunctionObj.{FunctionObj}
 use Rattle.py_values.specs.declared.object.Obj.{Obj}
 use Rattle.py_values.specs.declared.object.Obj.TheVariants as obj
-use Rattle.machine_state.specs.py_world.World.{Stored, Locals}
+use Rattle.machine_state.specs.py_world.World.{FunctionCode, Locals}
 use Rattle.machine_state.specs.py_world.Calls.{arguments_for, builtin_called, called_or, class_called, entered, function_called, function_of_object, function_with, invoke, mark_or, not_callable}
 use Rattle.std.specs.Prelude.{Result, is_some, slice_get}
 use Rattle.machine_call.specs.Depth.{code_called}
@@ -73,7 +73,7 @@ short_is true x printed e = refl
 short_is false x printed e = absurd cc
 
 -- a built-in call whose cost is paid
-pub builtin_paid : (n : ℕ) (c : Called) (a : Around) (s : CoreState) (k : CoreThen) (x : Product) (p : List ℕ)
+pub builtin_paid : (n : ℕ) (c : CallEffect) (a : Around) (s : CoreState) (k : CoreThen) (x : Product) (p : List ℕ)
     → Some x ≡ product_within n c.product → p ≡ s.world.printed ++ printed_within n c
     → ends n (builtin_called entry c a s (λ o. k (call_end s o))) ≡ ends (n - cost_of x.made) (k (product_end x a.trace (printing p s)))
 builtin_paid n c a s k x p e q =
@@ -85,7 +85,7 @@ builtin_paid n c a s k x p e q =
     ∙ ap (λ (y : Product). ends (n - cost_of x.made) (k (product_end y a.trace (printing p s)))) f.0
 
 -- one whose cost is too much
-pub builtin_unpaid : (n : ℕ) (c : Called) (a : Around) (s : CoreState) (k : CoreThen) (p : List ℕ)
+pub builtin_unpaid : (n : ℕ) (c : CallEffect) (a : Around) (s : CoreState) (k : CoreThen) (p : List ℕ)
     → None ≡ product_within n c.product → p ≡ s.world.printed ++ printed_within n c
     → ends n (builtin_called entry c a s (λ o. k (call_end s o))) ≡ tree.Spent (spent a.trace (printing p s))
 builtin_unpaid n c a s k p e q =
@@ -131,7 +131,7 @@ arrives o m m2 x n l t s here stack rest less is =
     ap (λ (tr : List TraceFrame). ends n (machine_rest m (product_end x tr s))) (around_trace o m ∙ sym (opened_same o m m2 here stack))
     ∙ ap (λ (k : CoreThen). ends n (k (product_end x (opened o m2) s))) (sym rest) ∙ ap (ends n) (sym is) ∙ ap (λ (i : ℕ). ends i t) (sym less)
 
-module _ (o : Origin) (m m2 : Machine) (c : Called) where
+module _ (o : Origin) (m m2 : Machine) (c : CallEffect) where
   -- a built-in call goes on with what it makes
   pub builtin_goes : (x : Product) (l : ℕ) (t : CoreRest) → Some x ≡ product_within m.left c.product → m2.printed.items ≡ m.printed.items ++ printed_within m.left c
       → m2.here ≡ m.here → m2.stack ≡ m.stack → state_of m2 ≡ printing m2.printed.items (state_of m) → machine_rest m2 ≡ machine_rest m
@@ -170,7 +170,7 @@ module _ (o : Origin) (m m2 : Machine) (x : Product) where
       product_unpaid m.left x (around_by o m) (state_of m) (machine_rest m) e ∙ sym (rw (is, around_trace o m) refl)
 
 -- a function's call is by its code, with its local names
-called_by_code : (st : Option (Stored CoreFn)) (f : FunctionObj) (none : Raise) (args : Arguments) (a : Around) (s : CoreState) (k : CoreThen)
+called_by_code : (st : Option (FunctionCode CoreFn)) (f : FunctionObj) (none : Raise) (args : Arguments) (a : Around) (s : CoreState) (k : CoreThen)
     → function_called entry st f none args a s k ≡ code_called st (arguments_for f args) none a s k
 called_by_code None f none args a s k = refl
 called_by_code (Some st) f none args a s k = refl
@@ -196,8 +196,8 @@ with_goes None v none args a s k = refl
 with_goes (Some f) v none args a s k = refl
 
 -- a function whose code is there, and one whose code is not
-module _ (n l : ℕ) (st : Option (Stored CoreFn)) (none : Raise) (names : Result Locals Raise) (a : Around) (s : CoreState) (k : CoreThen) (t : CoreRest) where
-  pub code_there : (code : Stored CoreFn) → st ≡ Some code → l ≡ n → t ≡ entered entry code names a s k → ends n (code_called st names none a s k) ≡ ends l t
+module _ (n l : ℕ) (st : Option (FunctionCode CoreFn)) (none : Raise) (names : Result Locals Raise) (a : Around) (s : CoreState) (k : CoreThen) (t : CoreRest) where
+  pub code_there : (code : FunctionCode CoreFn) → st ≡ Some code → l ≡ n → t ≡ entered entry code names a s k → ends n (code_called st names none a s k) ≡ ends l t
   code_there code there less is = rw (there, less, is) refl
 
   pub code_missing : st ≡ None → l ≡ n → t ≡ k (raised none a.trace s) → ends n (code_called st names none a s k) ≡ ends l t

@@ -19,7 +19,7 @@ use crate::objects::call_function;
 use machine_state::arguments::CallArguments;
 use machine_state::frame::{CallerFrame, End};
 use machine_state::machine::{Machine, NextAction, Origin, TurnEnd};
-use machine_state::place::Here;
+use machine_state::place::Location;
 use py_text::OutOfMemory;
 use py_values::value::Value;
 
@@ -132,7 +132,7 @@ pub fn take_caller(m: &mut Machine, caller: CallerFrame, end: End) -> NextAction
     }
 }
 
-fn go_back(m: &mut Machine, from: Option<Here>)
+fn go_back(m: &mut Machine, from: Option<Location>)
     ensures { m.new ≡ record m.old { here = here_from from m.old.here } }
 {
     if let Some(here) = from {

@@ -14,7 +14,7 @@ use machine_state::code::Code;
 use machine_state::frame::{CallerFrame, End, FlowFrame, Frame};
 use machine_state::locals::Locals;
 use machine_state::machine::{Machine, NextAction, Origin, TurnEnd};
-use machine_state::place::{Here, Place};
+use machine_state::place::{Location, Place};
 use py_kinds::kinds::push_kind;
 use py_text::OutOfMemory;
 use py_values::class::ExcClass;
@@ -45,7 +45,7 @@ fn open(
     ensures opened { IfOk result (λ c. (m.new.temps.items ≡ []) × (m.new ≡ record m.old { here = record { place = Place.Function code; around = around; line = 0 }; locals = names; temps = m.new.temps })) }
     ensures left { m.new.left ≡ m.old.left }
 {
-    let here = Here {
+    let here = Location {
         place: Place::Function(code),
         around,
         line: 0,

@@ -15,7 +15,7 @@ use Rattle.py_values.specs.declared.value.Value.TheVariants as val
 use Rattle.machine_state.specs.py_world.Definitions.{define_as, function_made, function_object, stored_code, with_defaults}
 use Rattle.machine_state.specs.py_world.Expressions.{arguments}
 use Rattle.machine_state.specs.py_world.Site.{Site}
-use Rattle.machine_state.specs.py_world.World.{Stored, state}
+use Rattle.machine_state.specs.py_world.World.{FunctionCode, state}
 use Rattle.machine_state.specs.core_meaning.Expressions.{CorePart, eval, parts_of}
 use Rattle.machine_state.specs.core_meaning.Statements.{define_fn, written}
 use Rattle.machine_state.specs.declared.machine.Machine.{Machine}
@@ -67,7 +67,7 @@ made_is : (f : CoreFn) (ds vs : List Value) → fn_made f ds vs ≡ function_mad
 made_is (fn.CoreFn' source at name params locals yields q body) ds vs = rw (fn.outs-CoreFn') refl
 
 -- a function is made, and what is defined goes to its decorators
-pub makes : (f g : CoreFn) (m : Machine) (codes : List (Stored CoreFn)) (heap : List Obj) (code : Stored CoreFn) (params : List Param) (o : Obj) (at id : ℕ) (ds vs : List Value)
+pub makes : (f g : CoreFn) (m : Machine) (codes : List (FunctionCode CoreFn)) (heap : List Obj) (code : FunctionCode CoreFn) (params : List Param) (o : Obj) (at id : ℕ) (ds vs : List Value)
     → g ≡ f → code ≡ stored_code f (site_now m).scene → params ≡ with_defaults (written (out-CoreFn f).params.value.items) vs
     → o ≡ function_object (out-CoreFn f).name (out-CoreFn f).at.line params (out-CoreFn f).yields at (site_now m).scene → at ≡ length m.codes.items
     → codes ≡ m.codes.items ++ code ∷ [] → heap ≡ m.heap ++ o ∷ [] → id ≡ length m.heap

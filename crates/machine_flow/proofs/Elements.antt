@@ -25,7 +25,7 @@ use Rattle.py_world.specs.Statements.{asked}
 use Rattle.machine_state.specs.core_meaning.Requests.{ForOf, CoreTurn}
 use Rattle.machine_state.specs.core_meaning.Expressions.{eval}
 use Rattle.machine_state.specs.core_meaning.Statements.{core_block_body, store}
-use Rattle.machine_state.specs.declared.place.Here.{Here}
+use Rattle.machine_state.specs.declared.place.Location.{Location}
 use Rattle.machine_state.specs.declared.frame.Frame.{Frame}
 use Rattle.machine_state.specs.declared.frame.Frame.TheVariants.{Flow}
 use Rattle.machine_state.specs.declared.frame.FlowFrame.TheVariants.{Iterable, Taken, ForTurn}
@@ -35,7 +35,7 @@ use Rattle.machine_flow.specs.declared.turns.Look.TheVariants as look
 use Rattle.machine_flow.specs.Looks.{look_of}
 use Rattle.machine_flow.proofs.Flows.{asked_runs}
 
-module _ (h : Here) (fs : List Frame) (s : CoreState) where
+module _ (h : Location) (fs : List Frame) (s : CoreState) where
   -- a `for` begins with what it goes over
   pub for_begins : (t t' : Rc CoreTarget Global) (e : Rc CoreExpr Global) (b b' : Rc CoreBlock Global) → t'.value ≡ t.value → b'.value ≡ b.value
       → eval e.value (site_of h (outer_of fs) (handled_exception fs)) s (after_stack (Flow (Iterable t' b') ∷ fs) h)
@@ -94,7 +94,7 @@ failed_raises (Some (Put id change v n)) turn p s k r is = absurd cc
 failed_raises (Some (Fail q n)) turn p s k r is = let same : q ≡ r = cc in rw same refl
 
 -- a turn takes its step, and then its element is made
-pub for_runs : (n l l' : ℕ) (h h1 : Here) (fs fs1 : List Frame) (s s1 : CoreState) (t : CoreTarget) (b : CoreBlock) (at : IterAt) (u : CoreRest)
+pub for_runs : (n l l' : ℕ) (h h1 : Location) (fs fs1 : List Frame) (s s1 : CoreState) (t : CoreTarget) (b : CoreBlock) (at : IterAt) (u : CoreRest)
     → n ≡ suc l → l' ≡ l → h1 ≡ h → fs1 ≡ fs → s1 ≡ s
     → u ≡ for_turn (ForOf t b) (store t) (core_block_body [] b) at (site_of h1 (outer_of fs1) (handled_exception fs1)) s1 (after_stack fs1 h1)
     → ends n (asked (ForOf t b at) (site_of h (outer_of fs) (handled_exception fs)) s (after_stack fs h)) ≡ ends l' u

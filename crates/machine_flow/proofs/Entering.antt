@@ -18,7 +18,7 @@ use Rattle.py_world.specs.Site.{Scene, Site, trace_of}
 use Rattle.py_world.specs.World.{heap_of, with_object, with_trace}
 use Rattle.machine_state.specs.core_meaning.Expressions.{eval}
 use Rattle.machine_state.specs.core_meaning.Statements.{core_block_body}
-use Rattle.machine_state.specs.declared.place.Here.{Here}
+use Rattle.machine_state.specs.declared.place.Location.{Location}
 use Rattle.machine_state.specs.declared.frame.Frame.{Frame}
 use Rattle.machine_state.specs.declared.frame.Frame.TheVariants.{Flow, Simple}
 use Rattle.machine_state.specs.declared.frame.FlowFrame.TheVariants.{Context, Raises}
@@ -27,13 +27,13 @@ use Rattle.machine_state.specs.Places.{CoreState, CoreThen, site_of}
 use Rattle.machine_state.specs.Frames.{after_stack, handled_exception, layers_of, outer_of}
 
 -- a `with` begins with its context
-pub with_begins : (h : Here) (fs : List Frame) (s : CoreState) (e : Rc CoreExpr Global) (name name' : Option (List ℕ)) (b b' : Rc CoreBlock Global) → name' ≡ name → b'.value ≡ b.value
+pub with_begins : (h : Location) (fs : List Frame) (s : CoreState) (e : Rc CoreExpr Global) (name name' : Option (List ℕ)) (b b' : Rc CoreBlock Global) → name' ≡ name → b'.value ≡ b.value
     → eval e.value (site_of h (outer_of fs) (handled_exception fs)) s (after_stack (Flow (Context name' b') ∷ fs) h)
     ≡ with_statement (eval e.value) name (core_block_body [] b.value) (site_of h (outer_of fs) (handled_exception fs)) s (after_stack fs h)
 with_begins h fs s e name name' b b' same_name same_body = rw (same_name, same_body) refl
 
 -- its block begins behind its info object
-pub context_begins : (h h1 : Here) (fs fs1 fs2 : List Frame) (s s1 : CoreState) (name : Option (List ℕ)) (b : CoreBlock) (r : RaisesObj) (info : ObjId)
+pub context_begins : (h h1 : Location) (fs fs1 fs2 : List Frame) (s s1 : CoreState) (name : Option (List ℕ)) (b : CoreBlock) (r : RaisesObj) (info : ObjId)
     → h1 ≡ h → fs1 ≡ fs → s1 ≡ with_info name (site_of h (outer_of fs) (handled_exception fs)).scene s → info.at ≡ length (heap_of s) → fs2 ≡ Flow (Raises r info h1.line) ∷ fs1
     → core_block_body (layers_of fs2) b (site_of h1 (outer_of fs2) (handled_exception fs2)).scene s1 (after_stack fs2 h1)
     ≡ context_entered (Some r) name (core_block_body [] b) (site_of h (outer_of fs) (handled_exception fs)) s (after_stack fs h)
@@ -48,13 +48,13 @@ info_made name scene s s1 id place is =
     ap (λ (i : ObjId). info_named name (val.Ref i) scene s1) same ∙ ap (λ (x : CoreState). info_named name (val.Ref (id_at (length (heap_of s)))) scene x) is
 
 -- the pattern is searched, behind whose end the block is over
-pub searches : (h : Here) (fs fs1 : List Frame) (s : CoreState) (pattern : Option (List ℕ)) (e : Value) → fs1 ≡ Simple Forget ∷ fs
+pub searches : (h : Location) (fs fs1 : List Frame) (s : CoreState) (pattern : Option (List ℕ)) (e : Value) → fs1 ≡ Simple Forget ∷ fs
     → costing (pattern_end (heap_of s) pattern e) (trace_of (site_of h (outer_of fs1) (handled_exception fs1))) s (after_stack fs1 h)
     ≡ searched pattern e (site_of h (outer_of fs) (handled_exception fs)) s (after_stack fs h)
 searches h fs fs1 s pattern e pushed = rw pushed refl
 
 -- an exception that is taken, and one that is not
-pub taken_goes : (h h1 : Here) (fs fs1 : List Frame) (s s1 : CoreState) (b : Bool) (r : RaisesObj) (info : ObjId) (e : Value) (trace : List TraceFrame)
+pub taken_goes : (h h1 : Location) (fs fs1 : List Frame) (s s1 : CoreState) (b : Bool) (r : RaisesObj) (info : ObjId) (e : Value) (trace : List TraceFrame)
     → b ≡ true → h1 ≡ h → fs1 ≡ fs → s1 ≡ info_taken info e (with_trace e trace s)
     → searched r.pattern e (site_of h1 (outer_of fs1) (handled_exception fs1)) s1 (after_stack fs1 h1)
     ≡ taken_or b r info e trace (site_of h (outer_of fs) (handled_exception fs)) s (after_stack fs h)

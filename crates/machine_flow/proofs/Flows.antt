@@ -10,11 +10,11 @@ use Rattle.py_core.specs.declared.stmt.CoreBranch as branch
 use Rattle.py_core.specs.declared.stmt.CoreBranch.{CoreBranch, out-CoreBranch}
 use Rattle.py_world.specs.World.{state}
 use Rattle.py_world.specs.Site.{Site}
-use Rattle.py_world.specs.Statements.{asked, branches_on, loop, turn_of}
+use Rattle.py_world.specs.Statements.{asked, branches_on, loop, while_turn}
 use Rattle.machine_state.specs.core_meaning.Requests.{Layer, CoreTurn, TurnOf}
 use Rattle.machine_state.specs.core_meaning.Expressions.{eval}
 use Rattle.machine_state.specs.core_meaning.Statements.{act, core_block_body, choice, choices}
-use Rattle.machine_state.specs.declared.place.Here.{Here}
+use Rattle.machine_state.specs.declared.place.Location.{Location}
 use Rattle.machine_state.specs.declared.frame.Frame.{Frame}
 use Rattle.machine_state.specs.declared.frame.Frame.TheVariants.{Flow}
 use Rattle.machine_state.specs.declared.frame.FlowFrame.TheVariants.{Branch, Test, Turn as Turns}
@@ -29,7 +29,7 @@ choice_is ls (branch.CoreBranch' at condition p body) = rw (branch.outs-CoreBran
 pub branch_weighs : (b : CoreBranch) → branch_work b ≡ weight (out-CoreBranch b).condition.value + block_work (stmts_in (out-CoreBranch b).body.value) + 2
 branch_weighs (branch.CoreBranch' at condition p body) = rw (branch.outs-CoreBranch') refl
 
-module _ (h : Here) (fs : List Frame) (s : CoreState) where
+module _ (h : Location) (fs : List Frame) (s : CoreState) where
   -- a loop begins with its condition
   pub loop_tests : (test test' : Rc CoreExpr Global) (body body' : Rc CoreBlock Global) → test'.value ≡ test.value → body'.value ≡ body.value
       → eval test.value (site_of h (outer_of fs) (handled_exception fs)) s (after_stack (Flow (Test test' body') ∷ fs) h)
@@ -48,13 +48,13 @@ pub asked_runs : (n m : ℕ) (what : CoreTurn) (p : Site) (s : CoreState) (k : C
 asked_runs n m what p s k e = rw e refl
 
 -- a turn begins with its block
-turn_begins : (h h1 : Here) (fs fs1 fs' : List Frame) (s s1 : CoreState) (test : Rc CoreExpr Global) (body again : Rc CoreBlock Global)
+turn_begins : (h h1 : Location) (fs fs1 fs' : List Frame) (s s1 : CoreState) (test : Rc CoreExpr Global) (body again : Rc CoreBlock Global)
     → h1 ≡ h → fs1 ≡ fs → s1 ≡ s → fs' ≡ Flow (Turns test again h1.line) ∷ fs1 → again.value ≡ body.value
     → core_block_body (layers_of fs') body.value (site_of h1 (outer_of fs') (handled_exception fs')).scene s1 (after_stack fs' h1)
-    ≡ turn_of (TurnOf test.value body.value) (eval test.value) (core_block_body [] body.value) (site_of h (outer_of fs) (handled_exception fs)) s (after_stack fs h)
+    ≡ while_turn (TurnOf test.value body.value) (eval test.value) (core_block_body [] body.value) (site_of h (outer_of fs) (handled_exception fs)) s (after_stack fs h)
 turn_begins h h1 fs fs1 fs' s s1 test body again here stack state pushed same = rw (pushed, here, stack, state, same) refl
 
-pub turn_runs : (n l l' : ℕ) (h h1 : Here) (fs fs1 fs' : List Frame) (s s1 : CoreState) (test : Rc CoreExpr Global) (body again : Rc CoreBlock Global) (t : CoreRest)
+pub turn_runs : (n l l' : ℕ) (h h1 : Location) (fs fs1 fs' : List Frame) (s s1 : CoreState) (test : Rc CoreExpr Global) (body again : Rc CoreBlock Global) (t : CoreRest)
     → n ≡ suc l → l' ≡ l → h1 ≡ h → fs1 ≡ fs → s1 ≡ s → fs' ≡ Flow (Turns test again h1.line) ∷ fs1 → again.value ≡ body.value
     → t ≡ core_block_body (layers_of fs') body.value (site_of h1 (outer_of fs') (handled_exception fs')).scene s1 (after_stack fs' h1)
     → ends n (asked (TurnOf test.value body.value) (site_of h (outer_of fs) (handled_exception fs)) s (after_stack fs h)) ≡ ends l' t

@@ -16,7 +16,7 @@ use Rattle.machine_state.specs.py_world.World.{state}
 use Rattle.machine_state.specs.core_meaning.Meaning.{CoreWorld}
 use Rattle.machine_state.specs.core_meaning.Requests.{Layer, Statements, Guard, Receives}
 use Rattle.machine_state.specs.core_meaning.Statements.{block_from, guard, remains, use_of}
-use Rattle.machine_state.specs.declared.place.Here.{Here}
+use Rattle.machine_state.specs.declared.place.Location.{Location}
 use Rattle.machine_state.specs.declared.place.Place.{Place}
 use Rattle.machine_state.specs.declared.frame.CallerFrame.{CallerFrame}
 use Rattle.machine_state.specs.declared.frame.FlowFrame.{FlowFrame}
@@ -43,7 +43,7 @@ ends_so w (Continued s) = refl
 ends_so w (Raised e trace s) = refl
 
 module _ (at : Place) (around line : ℕ) (k : CoreThen) where
-  abbrev here : ℕ → Here
+  abbrev here : ℕ → Location
   here n = record { place = at; around = around; line = n }
 
   abbrev p : Site

@@ -6,7 +6,7 @@ use Rattle.machine_state.specs.py_world.Runs.{start}
 use Rattle.machine_state.specs.py_world.Site.{site}
 use Rattle.machine_state.specs.core_meaning.Meaning.{CoreWorld}
 use Rattle.machine_state.specs.core_meaning.Statements.{remains}
-use Rattle.machine_state.specs.declared.place.Here.{Here}
+use Rattle.machine_state.specs.declared.place.Location.{Location}
 use Rattle.machine_state.specs.declared.frame.FlowFrame.{FlowFrame}
 use Rattle.machine_state.specs.declared.frame.FlowFrame.TheVariants as flow
 use Rattle.machine_state.specs.declared.frame.Frame.{Frame}
@@ -79,7 +79,28 @@ part_of (on.New v) = Ended
 -- what a `yield` is given is used on the line on which the body stopped
 abbrev pub received_on : ℕ → Frame → Frame
 received_on n (on.Simple (simple.Receive u line)) = on.Simple (simple.Receive u n)
-received_on n f = f
+received_on n (on.Simple simple.Forget) = on.Simple simple.Forget
+received_on n (on.Simple (simple.Assign ts)) = on.Simple (simple.Assign ts)
+received_on n (on.Simple (simple.Targets ts at v)) = on.Simple (simple.Targets ts at v)
+received_on n (on.Simple (simple.Augment x op place)) = on.Simple (simple.Augment x op place)
+received_on n (on.Simple (simple.Store place)) = on.Simple (simple.Store place)
+received_on n (on.Simple simple.Raise) = on.Simple simple.Raise
+received_on n (on.Simple simple.Throw) = on.Simple simple.Throw
+received_on n (on.Simple simple.Return) = on.Simple simple.Return
+received_on n (on.Simple simple.Fail) = on.Simple simple.Fail
+received_on n (on.Simple (simple.Explain e)) = on.Simple (simple.Explain e)
+received_on n (on.Simple (simple.Yield u)) = on.Simple (simple.Yield u)
+received_on n (on.Operand f) = on.Operand f
+received_on n (on.Chain f) = on.Chain f
+received_on n (on.Call f) = on.Call f
+received_on n (on.Item f) = on.Item f
+received_on n (on.Target f) = on.Target f
+received_on n (on.Flow f) = on.Flow f
+received_on n (on.Unwind f) = on.Unwind f
+received_on n (on.Define f) = on.Define f
+received_on n (on.Module f) = on.Module f
+received_on n (on.Caller c) = on.Caller c
+received_on n (on.New v) = on.New v
 
 abbrev pub kept_in : Part → ℕ → Frame → List Frame → List Frame
 kept_in Kept n f below = received_on n f ∷ below
@@ -93,5 +114,5 @@ frames_kept n (f ∷ fs) = kept_in (part_of f) n f (frames_kept n fs)
 
 -- what follows a stack is what remains of another, whatever end it is given, and then a call by the runner ends
 abbrev pub IsRemainder : List Frame → ℕ → List Frame → Type 0
-IsRemainder rest line stack = (h : Here) (o : CoreOutcome) (w : CoreWorld)
+IsRemainder rest line stack = (h : Location) (o : CoreOutcome) (w : CoreWorld)
     → after_stack rest h o ≡ remains (layers_of stack) (site (scene_in h.place h.around [] None) line) o (λ o. Done (call_end (start w) o))

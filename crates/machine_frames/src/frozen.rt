@@ -9,15 +9,15 @@ ghost use Rattle.machine_frames.specs.Frozen.{FoundAt};
 use machine_state::frozen::FrozenFrame;
 use machine_state::locals::Locals;
 use machine_state::machine::Machine;
-use machine_state::place::{Here, Place};
+use machine_state::place::{Location, Place};
 use machine_state::stack::ControlStack;
 use py_text::{OutOfMemory, PyText};
 use std::alloc::Global;
 use std::mem;
 
-fn nowhere(alloc: Global) -> Result<Here, OutOfMemory> {
+fn nowhere(alloc: Global) -> Result<Location, OutOfMemory> {
     let path = PyText::from_chars(alloc, &[])?;
-    Ok(Here {
+    Ok(Location {
         place: Place::Module(path, 0),
         around: 0,
         line: 0,
@@ -28,7 +28,7 @@ fn nowhere(alloc: Global) -> Result<Here, OutOfMemory> {
 #[tactic(auto, using(crate::proofs::Found::frozen_more, crate::proofs::Found::as_many))]
 pub fn freeze(m: &mut Machine) -> Result<usize, OutOfMemory>
     ensures number { IfOk result (λ n. n ≡ length (world_of m.old).frozen) }
-    ensures world { OnOk result ((v : Value) → world_of m.new ≡ resuming.with_frame (resuming.frozen_of (paused_at v m.old)) (world_of m.old)) }
+    ensures world { OnOk result ((v : Value) → world_of m.new ≡ resuming.with_frame (resuming.frozen_body (paused_at v m.old)) (world_of m.old)) }
 {
     let number = m.frozen.len();
     let nowhere = nowhere(m.alloc)?;

@@ -26,7 +26,7 @@ use Rattle.py_ops.specs.Unary.{unary_of}
 use Rattle.machine_state.specs.py_world.declared.trace.TraceFrame.{TraceFrame}
 use Rattle.machine_state.specs.py_world.declared.ended.Thrown.{Thrown}
 use Rattle.machine_state.specs.py_core.declared.stmt.CoreFn.{CoreFn}
-use Rattle.machine_state.specs.py_world.World.{Locals, Stored, heap_of, state, temp}
+use Rattle.machine_state.specs.py_world.World.{Locals, FunctionCode, heap_of, state, temp}
 use Rattle.machine_state.specs.py_world.Site.{trace_of}
 use Rattle.machine_state.specs.py_world.Outcome.{Gave, call_end, made, on_value, operated}
 use Rattle.machine_state.specs.py_world.Arguments.{Arguments, arguments_of, fitted, positional_arguments}
@@ -35,7 +35,7 @@ use Rattle.machine_state.specs.Found.{OnTrue}
 use Rattle.machine_arguments.proofs.Shapes.{without_names}
 use Rattle.machine_state.specs.core_meaning.Expressions.{CorePart, eval, eval_at}
 use Rattle.machine_state.specs.declared.machine.Machine.{Machine}
-use Rattle.machine_state.specs.declared.place.Here.{Here}
+use Rattle.machine_state.specs.declared.place.Location.{Location}
 use Rattle.machine_state.specs.Places.{CoreState, CoreThen, at_line, ends, parts_from, site_of}
 use Rattle.machine_state.specs.Frames.{handled_exception, machine_rest, outer_of, site_now, state_of, world_of}
 use Rattle.machine_state.proofs.Costs.{ends_note}
@@ -58,7 +58,7 @@ param_at : (ps : List Param) (i : ℕ) (p : Param) → i < length ps → p ≡ g
 param_at ps i p w h = rw add-one (drop-cons ps i p w ∙ ap (λ q. q ∷ drop (suc i) ps) (sym h))
 
 -- in a place with names and temporaries
-module _ (m : Machine) (here : Here) (names : Locals) (temps : List (Option Value)) where
+module _ (m : Machine) (here : Location) (names : Locals) (temps : List (Option Value)) where
   abbrev There : CorePart → ℕ → Immediate → Type 0
   There part left d = HasValueIn part left d m here names temps
 
@@ -254,7 +254,7 @@ module _ (m : Machine) (here : Here) (names : Locals) (temps : List (Option Valu
       further
 
   -- A CALL: what is called, the arguments, and the run of its code
-  call_there : (f : CorePart) (ns : List (Option ArgName)) (parts : List CorePart) (left n : ℕ) (x d : Immediate) (o : FunctionObj) (st : Stored CoreFn) (around : ℕ) (bound : Locals)
+  call_there : (f : CorePart) (ns : List (Option ArgName)) (parts : List CorePart) (left n : ℕ) (x d : Immediate) (o : FunctionObj) (st : FunctionCode CoreFn) (around : ℕ) (bound : Locals)
       → There f left x → list_any (λ n. is_some n) ns ≡ false → IsCallee x.value o st around m here → AreBound parts o.params [] bound x.left n m here names temps → IsRunNow st around bound n d m → There (call_part f (arguments_of ns) parts) left d
   call_there f ns parts left n x d o st around bound hf plain callee given run =
       let a : x.left ≤ left = hf.fewer in
@@ -273,7 +273,7 @@ module _ (m : Machine) (here : Here) (names : Locals) (temps : List (Option Valu
             ∙ run.goes_on the_state (trace_of p) handled k refl;
       }
 
-  pub call_step : (ns : List (Option ArgName)) (f : Rc CoreExpr Global) (f' : CoreExpr) (es : Rc (Vec (Rc CoreExpr Global) Global) Global) (left n : ℕ) (ix : Bool) (x : Immediate) (o : FunctionObj) (st : Stored CoreFn) (around : ℕ) (params : List Param) (none bound : Locals) (ib : Bool) (is : Bool) (d : Immediate)
+  pub call_step : (ns : List (Option ArgName)) (f : Rc CoreExpr Global) (f' : CoreExpr) (es : Rc (Vec (Rc CoreExpr Global) Global) Global) (left n : ℕ) (ix : Bool) (x : Immediate) (o : FunctionObj) (st : FunctionCode CoreFn) (around : ℕ) (params : List Param) (none bound : Locals) (ib : Bool) (is : Bool) (d : Immediate)
       → f' ≡ f.value → ix ≡ true → OnTrue ix (There (eval f') left x) → list_any (λ n. is_some n) ns ≡ false → IsCallee x.value o st around m here → params ≡ o.params → none ≡ []
       → ib ≡ true → OnTrue ib (AreBound (parts_from 0 es) params none bound x.left n m here names temps) → OnTrue is (IsRunNow st around bound n d m)
       → OnTrue is (There (call_part (eval f.value) (arguments_of ns) (parts_from 0 es)) left d)

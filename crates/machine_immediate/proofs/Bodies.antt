@@ -19,16 +19,16 @@ use Rattle.py_values.specs.declared.value.Value.TheVariants as val
 use Rattle.machine_state.specs.py_world.declared.trace.TraceFrame.{TraceFrame}
 use Rattle.machine_state.specs.py_world.declared.ended.Thrown.{Thrown}
 use Rattle.machine_state.specs.py_core.declared.stmt.CoreFn.{CoreFn}
-use Rattle.machine_state.specs.py_world.World.{Locals, Stored, heap_of, state}
+use Rattle.machine_state.specs.py_world.World.{Locals, FunctionCode, heap_of, state}
 use Rattle.machine_state.specs.py_world.Site.{site}
 use Rattle.machine_state.specs.py_world.Outcome as Outcome
 use Rattle.machine_state.specs.py_world.Outcome.{Gave, call_end, if_true, on_next, on_value}
 use Rattle.machine_state.specs.py_world.Statements.{asked, branches_on, choose, return_value}
 use Rattle.machine_state.specs.core_meaning.Requests.{Layer, StatementOf, Statements}
 use Rattle.machine_state.specs.core_meaning.Expressions.{eval}
-use Rattle.machine_state.specs.core_meaning.Statements.{CoreBody, CoreChoice, begun, begun_at, block_from, choice, choices, core_block_body, entry, statement_at}
+use Rattle.machine_state.specs.core_meaning.Statements.{CoreBody, CoreChoice, begun, begun_at, block_from, choice, choices, core_block_body, entry, core_statement_at}
 use Rattle.machine_state.specs.declared.machine.Machine.{Machine}
-use Rattle.machine_state.specs.declared.place.Here.{Here}
+use Rattle.machine_state.specs.declared.place.Location.{Location}
 use Rattle.machine_state.specs.declared.place.Place.TheVariants.{Function}
 use Rattle.machine_state.specs.Places.{CoreState, CoreThen, at_line, ends, scene_in, site_of}
 use Rattle.machine_state.specs.Frames.{world_of}
@@ -56,7 +56,7 @@ called_end (Some v) caller names m same = rw (sym same) refl
 
 module _ (m : Machine) where
   -- THE RUN OF A CODE whose body's end is there
-  run_now : (code : Stored CoreFn) (around : ℕ) (bound : Locals) (b : CoreBlock) (here : Here) (left n behind : ℕ) (r : Option Value) → left ≡ suc n → core_block_body [] b ≡ (entry code.code).body → here ≡ record { place = Function code; around = around; line = 0 }
+  run_now : (code : FunctionCode CoreFn) (around : ℕ) (bound : Locals) (b : CoreBlock) (here : Location) (left n behind : ℕ) (r : Option Value) → left ≡ suc n → core_block_body [] b ≡ (entry code.code).body → here ≡ record { place = Function code; around = around; line = 0 }
       → BodyEnds (λ ls. core_block_body ls b) n r behind m here bound → IsRunNow code around bound left (record { value = given_by r; left = behind }) m
   run_now code around bound b here left n behind r one body is ended =
       record {
@@ -64,20 +64,20 @@ module _ (m : Machine) where
         paid = one;
         fewer = ended.fewer;
         goes_on = λ caller outer handled k same.
-            ap (λ (h : Here). ends n ((entry code.code).body (scene_in h.place h.around outer handled) (state bound [] (world_of m)) (λ o. k (call_end caller o)))) (sym is)
+            ap (λ (h : Location). ends n ((entry code.code).body (scene_in h.place h.around outer handled) (state bound [] (world_of m)) (λ o. k (call_end caller o)))) (sym is)
             ∙ ap (λ (c : CoreBody). ends n (c (scene_in here.place here.around outer handled) (state bound [] (world_of m)) (λ o. k (call_end caller o)))) (sym body)
             ∙ ended.goes_on [] outer handled (λ o. k (call_end caller o))
             ∙ ap (λ o. ends behind (k o)) (called_end r caller bound m same);
       }
 
-  pub run_step : (code : Stored CoreFn) (around : ℕ) (bound : Locals) (b : CoreBlock) (here : Here) (left behind : ℕ) (r : Option BodyEnd) (end : BodyEnd) (x : Value) → left ≢ 0 → core_block_body [] b ≡ (entry code.code).body
+  pub run_step : (code : FunctionCode CoreFn) (around : ℕ) (bound : Locals) (b : CoreBlock) (here : Location) (left behind : ℕ) (r : Option BodyEnd) (end : BodyEnd) (x : Value) → left ≢ 0 → core_block_body [] b ≡ (entry code.code).body
       → here ≡ record { place = Function code; around = around; line = 0 } → r ≡ Some end → IfSome r (λ e. BodyEnds (λ ls. block_from ls b 0 (drop 0 (stmts_in b))) (left - 1) (value_of_end e x) behind m here bound)
       → IsRunNow code around bound left (record { value = given_by (value_of_end end x); left = behind }) m
   run_step code around bound b here left behind r end x some body is found h =
       run_now code around bound b here left (left - 1) behind (value_of_end end x) (omega arith) body is
       (subst (λ (o : Option BodyEnd). IfSome o (λ e. BodyEnds (λ ls. core_block_body ls b) (left - 1) (value_of_end e x) behind m here bound)) found h)
 
-  module _ (here : Here) (names : Locals) where
+  module _ (here : Location) (names : Locals) where
     abbrev Ends : (List Layer → CoreBody) → ℕ → Option Value → ℕ → Type 0
     Ends body left r behind = BodyEnds body left r behind m here names
 
@@ -136,7 +136,7 @@ module _ (m : Machine) where
           goes_on = λ ls outer handled k.
               let p = site_of (at_line st.at.line here) outer handled in
               ap (λ (kind : CoreStmtKind). ends left (begun_at kind ls st p the_state k)) is ∙ ap (λ (l : ℕ). ends l (asked (StatementOf ls st) p the_state k)) one
-              ∙ ap (λ (kind : CoreStmtKind). ends n (statement_at ls kind p the_state k)) is ∙ h.goes_on outer handled st.at.line k;
+              ∙ ap (λ (kind : CoreStmtKind). ends n (core_statement_at ls kind p the_state k)) is ∙ h.goes_on outer handled st.at.line k;
         }
 
     pub return_ends : (st : CoreStmt) (e : Rc CoreExpr Global) (left behind : ℕ) (r : Option BodyEnd) (x : Value) → left ≢ 0 → st.kind ≡ v.Return (Some e) → IfSome r (λ o. PartEnds (return_value (Some (eval e.value))) (left - 1) (value_of_end o x) behind m here names)
@@ -154,7 +154,7 @@ module _ (m : Machine) where
           goes_on = λ ls outer handled k.
               let p = site_of (at_line st.at.line here) outer handled in
               ap (λ (kind : CoreStmtKind). ends left (begun_at kind ls st p the_state k)) is ∙ ap (λ (l : ℕ). ends l (asked (StatementOf ls st) p the_state k)) one
-              ∙ ap (λ (kind : CoreStmtKind). ends n (statement_at ls kind p the_state k)) is
+              ∙ ap (λ (kind : CoreStmtKind). ends n (core_statement_at ls kind p the_state k)) is
               ∙ ap (λ (xs : List CoreBranch). ends n (choose (choices ls xs) (core_block_body ls other.value) p the_state k)) (items_hidden-the_row-CoreBranch-0 bs.value) ∙ h.goes_on ls outer handled k;
         }
 

@@ -10,7 +10,7 @@ use Rattle.py_values.specs.declared.value.Value.{Value}
 use Rattle.py_values.specs.declared.value.Value.TheVariants as val
 use Rattle.py_kinds.specs.Kinds.{kind_name}
 use Rattle.machine_state.specs.py_core.declared.stmt.CoreFn.{CoreFn}
-use Rattle.machine_state.specs.py_world.World.{Locals, Stored, heap_of, state}
+use Rattle.machine_state.specs.py_world.World.{Locals, FunctionCode, heap_of, state}
 use Rattle.machine_state.specs.py_world.Site.{Around, around_of, trace_of}
 use Rattle.machine_state.specs.py_world.declared.trace.TraceFrame.{TraceFrame}
 use Rattle.machine_state.specs.py_world.declared.ended.Thrown.{Thrown}
@@ -18,7 +18,7 @@ use Rattle.machine_state.specs.py_world.Arguments.{Arguments, fitted}
 use Rattle.machine_state.specs.py_world.Calls.{arguments_for, called_or, class_called, entered, function_called, function_of_object, invoke, most_open, not_callable, scene_of}
 use Rattle.machine_state.specs.core_meaning.Statements.{entry}
 use Rattle.machine_state.specs.declared.machine.Machine.{Machine}
-use Rattle.machine_state.specs.declared.place.Here.{Here}
+use Rattle.machine_state.specs.declared.place.Location.{Location}
 use Rattle.machine_state.specs.declared.place.Place.TheVariants.{Function}
 use Rattle.machine_state.specs.Places.{CoreRest, CoreState, CoreThen, at_line, scene_in, site_of}
 use Rattle.machine_state.specs.Frames.{world_of}
@@ -63,11 +63,11 @@ arguments_fit : (f : FunctionObj) (args : Arguments) (names : Locals) → f.yiel
 arguments_fit f args names plain fits = rw (plain, fits) refl
 
 -- its body runs, where one more function may be open
-entered_body : (st : Stored CoreFn) (names : Locals) (a : Around) (s : CoreState) (k : CoreThen) → nat_lt a.depth most_open ≡ true → entered entry st (Ok names) a s k ≡ (entry st.code).body (scene_of entry st a) (state names [] s.world) k
+entered_body : (st : FunctionCode CoreFn) (names : Locals) (a : Around) (s : CoreState) (k : CoreThen) → nat_lt a.depth most_open ≡ true → entered entry st (Ok names) a s k ≡ (entry st.code).body (scene_of entry st a) (state names [] s.world) k
 entered_body st names a s k room = rw room refl
 
 -- A CALL IS THE BODY of the function's code, in a place of its own with its own names
-pub call_opened : (m : Machine) (here : Here) (callee : Value) (args : Arguments) (f : FunctionObj) (st : Stored CoreFn) (around : ℕ) (bound : Locals) → IsCallee callee f st around m here → fitted f.params args.plain args.named [] ≡ Some bound
+pub call_opened : (m : Machine) (here : Location) (callee : Value) (args : Arguments) (f : FunctionObj) (st : FunctionCode CoreFn) (around : ℕ) (bound : Locals) → IsCallee callee f st around m here → fitted f.params args.plain args.named [] ≡ Some bound
     → (outer : List TraceFrame) (handled : Option Thrown) (line : ℕ) (names : Locals) (temps : List (Option Value)) (k : CoreThen)
     → invoke entry callee args (around_of (site_of (at_line line here) outer handled)) (state names temps (world_of m)) k
     ≡ (entry st.code).body (scene_in (Function st) around (trace_of (site_of (at_line line here) outer handled)) handled) (state bound [] (world_of m)) k
@@ -75,7 +75,7 @@ call_opened m here callee args f st around bound is fits outer handled line name
     let p = site_of (at_line line here) outer handled in
     let s = state names temps (world_of m) in
     value_called_function callee f args (around_of p) s k is.called
-    ∙ ap (λ (x : Option (Stored CoreFn)). function_called entry x f (not_callable (kind_name m.heap callee)) args (around_of p) s k) is.coded
+    ∙ ap (λ (x : Option (FunctionCode CoreFn)). function_called entry x f (not_callable (kind_name m.heap callee)) args (around_of p) s k) is.coded
     ∙ ap (λ (x : Result Locals Raise). entered entry st x (around_of p) s k) (arguments_fit f args bound is.returns fits)
     ∙ entered_body st bound (around_of p) s k is.room
     ∙ ap (λ (n : ℕ). (entry st.code).body (scene_in (Function st) n (trace_of p) handled) (state bound [] (world_of m)) k) (sym is.inside)

@@ -8,7 +8,7 @@ use Rattle.py_values.specs.Ends.{payable}
 use Rattle.machine_state.specs.py_world.declared.trace.TraceFrame.{TraceFrame}
 use Rattle.machine_state.specs.py_world.declared.ended.Thrown.{Thrown}
 use Rattle.machine_state.specs.py_core.declared.stmt.CoreFn.{CoreFn}
-use Rattle.machine_state.specs.py_world.World.{Locals, Stored, state}
+use Rattle.machine_state.specs.py_world.World.{Locals, FunctionCode, state}
 use Rattle.machine_state.specs.py_world.Site.{Site}
 use Rattle.machine_state.specs.py_world.Arguments.{fitted}
 use Rattle.machine_state.specs.py_world.Names.{named_in}
@@ -19,7 +19,7 @@ use Rattle.machine_state.specs.core_meaning.Requests.{Layer}
 use Rattle.machine_state.specs.core_meaning.Expressions.{CorePart}
 use Rattle.machine_state.specs.core_meaning.Statements.{CoreBody, entry}
 use Rattle.machine_state.specs.declared.machine.Machine.{Machine}
-use Rattle.machine_state.specs.declared.place.Here.{Here}
+use Rattle.machine_state.specs.declared.place.Location.{Location}
 use Rattle.machine_state.specs.declared.place.Place.TheVariants.{Function}
 use Rattle.machine_state.specs.Places.{CoreOutcome, CoreRest, CoreState, CoreThen, at_line, ends, home_in, own_in, scene_in, site_of}
 use Rattle.machine_state.specs.Frames.{site_now, state_of, world_of}
@@ -38,7 +38,7 @@ pub record IsImmediate (part : CorePart) (left : ℕ) (d : Immediate) (m : Machi
 
 -- the same in a place with these names and temporaries, over this machine's objects and functions, whatever is open around the place, on
 -- whatever line of it
-pub record HasValueIn (part : CorePart) (left : ℕ) (d : Immediate) (m : Machine) (here : Here) (names : Locals) (temps : List (Option Value)) : Type 0 where
+pub record HasValueIn (part : CorePart) (left : ℕ) (d : Immediate) (m : Machine) (here : Location) (names : Locals) (temps : List (Option Value)) : Type 0 where
   pub fewer : d.left ≤ left
   pub goes_on : (outer : List TraceFrame) (handled : Option Thrown) (line : ℕ) (k : CoreThen)
       → ends left (part (site_of (at_line line here) outer handled) (state names temps (world_of m)) k) ≡ ends d.left (k (Gave d.value (state names temps (world_of m))))
@@ -59,12 +59,12 @@ PutIn None is d = is ≡ false
 PutIn (Some e) is d = (is ≡ true) × (d ≡ e)
 
 -- a name's value is there in a place with these names, at no cost
-pub record IsNameNow (name : List ℕ) (left : ℕ) (d : Immediate) (m : Machine) (here : Here) (names : Locals) : Type 0 where
+pub record IsNameNow (name : List ℕ) (left : ℕ) (d : Immediate) (m : Machine) (here : Location) (names : Locals) : Type 0 where
   pub free : d.left ≡ left
   pub bound : named_in (own_in here.place) name (home_in here.place) names m.heap ≡ Give d.value 0
 
 -- THE VALUES OF ARGUMENTS ARE THERE, and parameters are bound to them behind the names that are bound so far
-pub record AreBound (parts : List CorePart) (params : List Param) (so_far bound : Locals) (left behind : ℕ) (m : Machine) (here : Here) (names : Locals) (temps : List (Option Value)) : Type 0 where
+pub record AreBound (parts : List CorePart) (params : List Param) (so_far bound : Locals) (left behind : ℕ) (m : Machine) (here : Location) (names : Locals) (temps : List (Option Value)) : Type 0 where
   pub values : List Value
   pub fits : fitted params values [] so_far ≡ Some bound
   pub fewer : behind ≤ left
@@ -73,7 +73,7 @@ pub record AreBound (parts : List CorePart) (params : List Param) (so_far bound 
 
 -- A CALL'S VALUE IS THERE: that of the body of a code with these names, behind the call's own step, where so many functions are open around
 -- it; the caller goes on with it in its own state
-pub record IsRunNow (code : Stored CoreFn) (around : ℕ) (bound : Locals) (left : ℕ) (d : Immediate) (m : Machine) : Type 0 where
+pub record IsRunNow (code : FunctionCode CoreFn) (around : ℕ) (bound : Locals) (left : ℕ) (d : Immediate) (m : Machine) : Type 0 where
   pub behind : ℕ
   pub paid : left ≡ suc behind
   pub fewer : d.left ≤ behind
@@ -90,13 +90,13 @@ outcome_of_body None s = Next s
 outcome_of_body (Some v) s = Outcome.Returned v s
 
 -- THE END OF A BODY IS THERE, with what it returns if it does, in a place with these names and no temporaries
-pub record BodyEnds (body : List Layer → CoreBody) (left : ℕ) (returned : Option Value) (behind : ℕ) (m : Machine) (here : Here) (names : Locals) : Type 0 where
+pub record BodyEnds (body : List Layer → CoreBody) (left : ℕ) (returned : Option Value) (behind : ℕ) (m : Machine) (here : Location) (names : Locals) : Type 0 where
   pub fewer : behind ≤ left
   pub goes_on : (ls : List Layer) (outer : List TraceFrame) (handled : Option Thrown) (k : CoreThen)
       → ends left (body ls (scene_in here.place here.around outer handled) (state names [] (world_of m)) k) ≡ ends behind (k (outcome_of_body returned (state names [] (world_of m))))
 
 -- the end of a statement's part is there, on whatever line
-pub record PartEnds (part : CorePart) (left : ℕ) (returned : Option Value) (behind : ℕ) (m : Machine) (here : Here) (names : Locals) : Type 0 where
+pub record PartEnds (part : CorePart) (left : ℕ) (returned : Option Value) (behind : ℕ) (m : Machine) (here : Location) (names : Locals) : Type 0 where
   pub fewer : behind ≤ left
   pub goes_on : (outer : List TraceFrame) (handled : Option Thrown) (line : ℕ) (k : CoreThen)
       → ends left (part (site_of (at_line line here) outer handled) (state names [] (world_of m)) k) ≡ ends behind (k (outcome_of_body returned (state names [] (world_of m))))

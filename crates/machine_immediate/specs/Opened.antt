@@ -5,10 +5,10 @@ use Rattle.py_values.specs.declared.object.Obj.{Obj}
 use Rattle.py_values.specs.declared.value.Value.{Value}
 use Rattle.py_values.specs.declared.value.Value.TheVariants as val
 use Rattle.machine_state.specs.py_core.declared.stmt.CoreFn.{CoreFn}
-use Rattle.machine_state.specs.py_world.World.{Stored}
+use Rattle.machine_state.specs.py_world.World.{FunctionCode}
 use Rattle.machine_state.specs.py_world.Calls.{function_of_object, most_open}
 use Rattle.machine_state.specs.declared.machine.Machine.{Machine}
-use Rattle.machine_state.specs.declared.place.Here.{Here}
+use Rattle.machine_state.specs.declared.place.Location.{Location}
 use Rattle.machine_state.specs.Places.{depth_of}
 
 -- the function that a value is
@@ -19,7 +19,7 @@ function_called_by heap (val.Bool b) = None
 function_called_by heap (val.Int n) = None
 
 -- a value is this function with this code, which doesn't yield, and around its call from a place so many functions are open
-pub record IsCallee (callee : Value) (f : FunctionObj) (code : Stored CoreFn) (around : ℕ) (m : Machine) (here : Here) : Type 0 where
+pub record IsCallee (callee : Value) (f : FunctionObj) (code : FunctionCode CoreFn) (around : ℕ) (m : Machine) (here : Location) : Type 0 where
   pub called : function_called_by m.heap callee ≡ Some f
   pub coded : slice_get m.codes.items f.code ≡ Some code
   pub returns : f.yields ≡ false

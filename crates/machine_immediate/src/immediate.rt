@@ -25,7 +25,7 @@ use machine_arguments::shape::has_names;
 use machine_state::code::Code;
 use machine_state::locals::Locals;
 use machine_state::machine::Machine;
-use machine_state::place::{Here, Place};
+use machine_state::place::{Location, Place};
 use py_core::{
     ArgName, BinOp, CmpOp, CoreBlock, CoreBranch, CoreExpr, CoreExprKind, CoreStmt, CoreStmtKind,
     SrcText, UnOp,
@@ -48,7 +48,7 @@ pub struct Immediate {
 #[derive(Clone, Copy)]
 struct Scope<'s> {
     m: &'s Machine,
-    here: &'s Here,
+    here: &'s Location,
     locals: &'s Locals,
     temps: &'s [Option<Value>],
 }
@@ -346,7 +346,7 @@ fn run_code(
         return Ok(false);
     }
     found.left -= 1;
-    let here = Here {
+    let here = Location {
         place: Place::Function(code.share()?),
         around,
         line: 0,

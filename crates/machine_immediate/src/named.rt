@@ -8,7 +8,7 @@ ghost use Rattle.machine_state.specs.Owning.{is_own};
 
 use machine_names::names::{class_value, module_value};
 use machine_state::locals::Locals;
-use machine_state::place::Here;
+use machine_state::place::Location;
 use py_core::SrcText;
 use py_kinds::builtins::builtin_value;
 use py_text::OutOfMemory;
@@ -20,7 +20,7 @@ use std::alloc::Global;
 fn global_in(
     alloc: Global,
     heap: &Heap,
-    here: &Here,
+    here: &Location,
     name: &SrcText,
 ) -> Result<Option<Value>, OutOfMemory>
     ensures { IfOk result (λ r. IfSome r (λ v. world.value_of_global name.now (home_in here.now.place) heap.now ≡ Give v 0)) }
@@ -36,7 +36,7 @@ fn global_in(
 fn other_in(
     alloc: Global,
     heap: &Heap,
-    here: &Here,
+    here: &Location,
     locals: &Locals,
     name: &SrcText,
 ) -> Result<Option<Value>, OutOfMemory>
@@ -57,7 +57,7 @@ fn other_in(
 pub(crate) fn bound_in(
     alloc: Global,
     heap: &Heap,
-    here: &Here,
+    here: &Location,
     locals: &Locals,
     name: &SrcText,
 ) -> Result<Option<Value>, OutOfMemory>

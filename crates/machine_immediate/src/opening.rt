@@ -5,7 +5,7 @@ ghost use Rattle.machine_immediate.specs.Opened.{function_called_by, IsCallee};
 
 use machine_state::code::Code;
 use machine_state::machine::Machine;
-use machine_state::place::Here;
+use machine_state::place::Location;
 use py_values::heap::Heap;
 use py_values::object::{FunctionObj, Obj};
 use py_values::value::Value;
@@ -56,7 +56,7 @@ fn code_at(codes: &[Code], at: usize) -> Option<&Code>
 /// may be open.
 pub(crate) fn callee_at<'m>(
     m: &'m Machine,
-    here: &Here,
+    here: &Location,
     callee: Value,
 ) -> Option<(&'m FunctionObj, &'m Code, usize)>
     ensures { IfSome result (λ x. IsCallee callee x.0.now x.1.now x.2 m.now here.now) }

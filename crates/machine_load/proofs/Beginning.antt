@@ -23,7 +23,7 @@ use Rattle.machine_state.specs.declared.frame.Frame.{Frame}
 use Rattle.machine_state.specs.declared.frame.Frame.TheVariants as on
 use Rattle.machine_state.specs.declared.frame.FlowFrame.TheVariants.{Block}
 use Rattle.machine_state.specs.declared.frame.ModuleFrame.TheVariants as loads
-use Rattle.machine_state.specs.declared.place.Here.{Here}
+use Rattle.machine_state.specs.declared.place.Location.{Location}
 use Rattle.machine_state.specs.declared.place.Place.TheVariants.{Module}
 use Rattle.machine_state.specs.Places.{CoreOutcome, CoreRest, CoreState, CoreThen, depth_of, no_world}
 use Rattle.machine_state.specs.Frames.{after_stack, machine_rest, site_now, state_of, world_of}
@@ -63,7 +63,7 @@ behind_load : (path : List ℕ) (id : ℕ) (s : CoreState) (w : CoreWorld) (k : 
 behind_load path id s w k = λ i o. k (call_end_same s w (module_end path id o) i)
 
 -- a load that the code makes
-pub code_begins : (m : Machine) (path shown : List ℕ) (body : Rc CoreBlock Global) (c : CallerFrame) (fs fs1 fs2 fs3 : List Frame) (h : Here) (locals : List (List ℕ × Value)) (temps : Temps) (w1 : CoreWorld) (around id : ℕ)
+pub code_begins : (m : Machine) (path shown : List ℕ) (body : Rc CoreBlock Global) (c : CallerFrame) (fs fs1 fs2 fs3 : List Frame) (h : Location) (locals : List (List ℕ × Value)) (temps : Temps) (w1 : CoreWorld) (around id : ℕ)
     → c ≡ record { from = Some m.here; locals = m.locals; temps = m.temps }
     → fs ≡ on.Flow (Block body 0 0) ∷ fs1 → fs1 ≡ on.Module (loads.Load path id) ∷ fs2 → fs2 ≡ on.Caller c ∷ fs3 → fs3 ≡ m.stack
     → h ≡ record { place = Module shown id; around = around; line = 0 } → around ≡ depth_of m.here → locals ≡ [] → temps ≡ [] → w1 ≡ with_module path (world_of m) → id ≡ module_place path (world_of m) → shown ≡ path

@@ -13,7 +13,7 @@ use crate::load::set_load;
 use machine_state::frame::{CallerFrame, End, FlowFrame, Frame, ModuleFrame};
 use machine_state::locals::Locals;
 use machine_state::machine::{Machine, NextAction};
-use machine_state::place::{Here, Place};
+use machine_state::place::{Location, Place};
 use machine_state::traces::copy_text;
 use py_core::CoreBlock;
 use py_text::{OutOfMemory, PyText};
@@ -66,7 +66,7 @@ pub fn begin_load(m: &mut Machine, path: PyText, body: Rc<CoreBlock>) -> Result<
 {
     let id = make_module(m, &path)?;
     let shown = copy_text(m.alloc, &path)?;
-    m.here = Here {
+    m.here = Location {
         place: Place::Module(shown, id.at),
         around: 0,
         line: 0,
@@ -78,7 +78,7 @@ pub fn begin_load(m: &mut Machine, path: PyText, body: Rc<CoreBlock>) -> Result<
 }
 
 /// Opens the body of a module over where the machine was.
-fn open(m: &mut Machine, here: Here) -> CallerFrame
+fn open(m: &mut Machine, here: Location) -> CallerFrame
     ensures caller { result ≡ record { from = Some m.old.here; locals = m.old.locals; temps = m.old.temps } }
     ensures bare { m.new.temps.items ≡ [] }
     ensures opened { m.new ≡ record m.old { here = here; locals = []; temps = m.new.temps } }
@@ -113,7 +113,7 @@ pub fn begin_by_code(
     let shown = copy_text(m.alloc, &path)?;
     let caller = open(
         m,
-        Here {
+        Location {
             place: Place::Module(shown, id.at),
             around,
             line: 0,

@@ -7,7 +7,7 @@ use Rattle.py_values.specs.declared.object.FunctionObj.{FunctionObj}
 use Rattle.py_values.specs.declared.value.ObjId.{ObjId}
 use Rattle.py_values.specs.declared.value.Value.{Value}
 use Rattle.py_values.specs.declared.value.Value.TheVariants as val
-use Rattle.lower_law.specs.py_world.World.{Stored}
+use Rattle.lower_law.specs.py_world.World.{FunctionCode}
 use Rattle.lower_law.specs.py_world.Outcome.{raised, call_end}
 use Rattle.lower_law.specs.py_world.Calls.{invoke, arguments_for}
 use Rattle.lower_law.specs.py_world.Runs.{function_and, function_begun, object_begun}
@@ -19,12 +19,12 @@ use Rattle.machine_state.specs.Places.{CoreState}
 use Rattle.machine_runner.specs.declared.misfit.Misfit.{Misfit}
 use Rattle.machine_runner.specs.Begun.{Fits, FitsCall, Begins}
 
-fits_begin : (st : Option (Stored CoreFn)) (x : FunctionObj) (all : List Value) (f : Value) (args : List Value) (s : CoreState) → Fits None (arguments_for x (positional_arguments all)) st (frame x.path x.line x.name ∷ [])
+fits_begin : (st : Option (FunctionCode CoreFn)) (x : FunctionObj) (all : List Value) (f : Value) (args : List Value) (s : CoreState) → Fits None (arguments_for x (positional_arguments all)) st (frame x.path x.line x.name ∷ [])
     → function_begun core st x all f args s ≡ invoke entry f (positional_arguments args) no_call s (λ o. Done (call_end s o))
 fits_begin None x all f args s h = refl
 fits_begin (Some code) x all f args s h = rw h.1 refl
 
-misfit_begins : (y : Misfit) (st : Option (Stored CoreFn)) (x : FunctionObj) (all : List Value) (f : Value) (args : List Value) (s : CoreState)
+misfit_begins : (y : Misfit) (st : Option (FunctionCode CoreFn)) (x : FunctionObj) (all : List Value) (f : Value) (args : List Value) (s : CoreState)
     → Fits (Some y) (arguments_for x (positional_arguments all)) st (frame x.path x.line x.name ∷ []) → function_begun core st x all f args s ≡ Done (raised y.raise y.trace s)
 misfit_begins y None x all f args s h = elim h [ ]
 misfit_begins y (Some code) x all f args s h = rw (h.0, h.1) refl

@@ -13,7 +13,7 @@ use Rattle.assert_explain.specs.py_world.Outcome.{Gave, Next, Returned, Broke, C
 use Rattle.assert_explain.specs.py_world.Site.{Site}
 use Rattle.assert_explain.specs.py_world.Targets.{store_all}
 use Rattle.machine_unwind.specs.core_meaning.Statements.{store, stores}
-use Rattle.machine_unwind.specs.machine_state.declared.place.Here.{Here}
+use Rattle.machine_unwind.specs.machine_state.declared.place.Location.{Location}
 use Rattle.machine_unwind.specs.machine_state.declared.frame.Frame.{Frame}
 use Rattle.machine_unwind.specs.machine_state.declared.frame.Frame.TheVariants.{Simple}
 use Rattle.machine_unwind.specs.machine_state.declared.frame.SimpleFrame.TheVariants.{Targets}
@@ -36,7 +36,7 @@ stores_some : (ts : List CoreTarget) (at : ℕ) (t : CoreTarget) (v : Value) (p 
 stores_some ts at t v p s k w h = sym (ap (λ (xs : List CoreTarget). store_all (stores xs) v p s k) (drop_some ts at t w h))
 
 -- a target begins, with those behind it
-pub next_turns : (h : Here) (fs fs' : List Frame) (ts again : Rc (Vec CoreTarget Global) Global) (at : ℕ) (t : CoreTarget) (v : Value) (s : CoreState)
+pub next_turns : (h : Location) (fs fs' : List Frame) (ts again : Rc (Vec CoreTarget Global) Global) (at : ℕ) (t : CoreTarget) (v : Value) (s : CoreState)
     → at < length ts.value.items → t ≡ get_or ts.value.items at t → fs' ≡ Simple (Targets again (at + 1) v) ∷ fs → again.value ≡ ts.value
     → store t v (site_of h (outer_of fs') (handled_exception fs')) s (after_stack fs' h) ≡ store_all (stores (drop at ts.value.items)) v (site_of h (outer_of fs) (handled_exception fs)) s (after_stack fs h)
 next_turns h fs fs' ts again at t v s w is pushed same =

@@ -142,7 +142,7 @@ pub fn is_simple(kind: &CoreStmtKind) -> bool
 /// Begins a simple statement whose step is taken.
 pub fn begin_simple(m: &mut Machine, kind: &CoreStmtKind) -> Result<NextAction, OutOfMemory>
     requires { kinds.is_simple kind.now ≡ true }
-    ensures next { IfOk result (λ d. ends m.new.left (todo d m.new) ≡ ends m.old.left (meaning.statement_at (layers_of m.old.stack) kind.now (site_now m.old) (state_of m.old) (machine_rest m.old))) }
+    ensures next { IfOk result (λ d. ends m.new.left (todo d m.new) ≡ ends m.old.left (meaning.core_statement_at (layers_of m.old.stack) kind.now (site_now m.old) (state_of m.old) (machine_rest m.old))) }
     ensures left { m.new.left ≤ m.old.left }
 {
     match kind {

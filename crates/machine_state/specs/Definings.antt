@@ -13,7 +13,7 @@ use Rattle.core_meaning.specs.py_world.Outcome.{Next, on_value}
 use Rattle.core_meaning.specs.py_world.Expressions.{arguments}
 use Rattle.py_items.specs.py_kinds.Classes.{is_exc_class}
 use Rattle.core_meaning.specs.py_world.Names.{bound}
-use Rattle.core_meaning.specs.py_world.Definitions.{with_defaults, define_as, define_behind, function_made, based_on, class_behind, class_made}
+use Rattle.core_meaning.specs.py_world.Definitions.{with_defaults, define_as, define_behind, function_made, based_on, class_behind_decorators, class_made}
 use Rattle.core_meaning.specs.py_world.Imports.{alias_name, prefixes_behind, modules_at, import_end, import_each, submodule_or}
 use Rattle.core_meaning.specs.py_world.Runs.{module_end}
 use Rattle.core_meaning.specs.Expressions.{CorePart}
@@ -36,7 +36,7 @@ fn_made (fn.CoreFn' source at name params locals yields p body) ds vs =
 
 -- behind the decorators of a class: its base
 abbrev pub core_class_behind : Option CorePart → class.CoreClass → List Value → CorePart
-core_class_behind base (class.CoreClass' at name p body) ds = class_behind base name at.line (core_block_body [] body) ds
+core_class_behind base (class.CoreClass' at name p body) ds = class_behind_decorators base name at.line (core_block_body [] body) ds
 
 -- behind its base too
 abbrev pub core_class_made : class.CoreClass → List Value → Option ObjId → CorePart

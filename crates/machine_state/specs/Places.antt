@@ -11,7 +11,7 @@ use Rattle.core_meaning.specs.py_world.declared.ended.Thrown.{Thrown}
 use Rattle.core_meaning.specs.py_world.World.{CallState}
 use Rattle.core_meaning.specs.py_world.Arguments.{Arguments}
 use Rattle.core_meaning.specs.py_world.Site.{Own, InModule, InFunction, InClass, Scene, Site, site, frame}
-use Rattle.core_meaning.specs.py_world.Outcome.{Outcome, Gave, Next, Returned, Broke, Continued, Raised, Spent, Rest, Continuation, Request, Paused}
+use Rattle.core_meaning.specs.py_world.Outcome.{Outcome, Gave, Next, Returned, Broke, Continued, Raised, Exhaustion, Rest, Continuation, Request, Suspension}
 use Rattle.core_meaning.specs.py_world.Calls.{body_of}
 use Rattle.core_meaning.specs.Requests.{core_kinds}
 use Rattle.core_meaning.specs.Expressions.{CorePart, eval}
@@ -19,7 +19,7 @@ use Rattle.core_meaning.specs.Statements.{entry}
 use Rattle.core_meaning.specs.Meaning.{CoreWorld, core}
 use Rattle.machine_state.specs.declared.place.Place.{Place}
 use Rattle.machine_state.specs.declared.place.Place.TheVariants.{Module, Function, Class}
-use Rattle.machine_state.specs.declared.place.Here.{Here}
+use Rattle.machine_state.specs.declared.place.Location.{Location}
 use Rattle.machine_state.specs.declared.arguments.CallArguments.{CallArguments}
 use Rattle.machine_state.specs.declared.frame.End.{End}
 use Rattle.machine_state.specs.declared.frame.End.TheVariants as end
@@ -37,7 +37,7 @@ abbrev pub CoreThen : Type 0
 CoreThen = Continuation core_kinds
 
 abbrev pub CoreEnding : Type 0
-CoreEnding = Ending Pos (Spent core_kinds) (Request core_kinds) CoreOutcome (Paused core_kinds)
+CoreEnding = Ending Pos (Exhaustion core_kinds) (Request core_kinds) CoreOutcome (Suspension core_kinds)
 
 -- what is done for a request
 abbrev pub step : Request core_kinds → CoreThen → CoreRest
@@ -82,7 +82,7 @@ depth_in (Module path home) around = around
 depth_in (Function code) around = suc around
 depth_in (Class path name home at) around = around
 
-abbrev pub depth_of : Here → ℕ
+abbrev pub depth_of : Location → ℕ
 depth_of h = depth_in h.place h.around
 
 -- where the machine is, given the open calls and the exception that is being handled
@@ -90,13 +90,13 @@ abbrev pub scene_in : Place → ℕ → List TraceFrame → Option Thrown → Sc
 scene_in place around outer handled =
     record { around = record { trace = outer; depth = depth_in place around; handling = handled }; path = path_in place; name = place_name place; home = home_in place; own = own_in place }
 
-abbrev pub frame_of : Here → TraceFrame
+abbrev pub frame_of : Location → TraceFrame
 frame_of h = frame (path_in h.place) h.line (place_name h.place)
 
-abbrev pub site_of : Here → List TraceFrame → Option Thrown → Site
+abbrev pub site_of : Location → List TraceFrame → Option Thrown → Site
 site_of h outer handled = site (scene_in h.place h.around outer handled) h.line
 
-abbrev pub at_line : ℕ → Here → Here
+abbrev pub at_line : ℕ → Location → Location
 at_line line h = record { place = h.place; around = h.around; line = line }
 
 abbrev pub no_world : CoreWorld

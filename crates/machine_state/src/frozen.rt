@@ -1,7 +1,7 @@
 // Frozen frames.
 
 use crate::locals::Locals;
-use crate::place::Here;
+use crate::place::Location;
 use crate::stack::ControlStack;
 
 /// A body that has stopped at a `yield`: what stands behind it, its names, and where it is.
@@ -9,5 +9,5 @@ use crate::stack::ControlStack;
 pub struct FrozenFrame {
     pub stack: ControlStack,
     pub locals: Locals,
-    pub here: Here,
+    pub here: Location,
 }

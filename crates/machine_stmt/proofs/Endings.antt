@@ -3,24 +3,24 @@ use Rattle.std.proofs.Common.{◌≡◌, ◌+◌, ◌<◌, ◌≤◌, ℕ, List,
 use Rattle.run_tree.specs.Todo as tree
 use Rattle.run_tree.specs.Todo.{Freeze}
 use Rattle.run_tree.proofs.Runs.{run-Freeze}
-use Rattle.machine_state.specs.py_world.Outcome.{Paused}
+use Rattle.machine_state.specs.py_world.Outcome.{Suspension}
 use Rattle.machine_state.specs.core_meaning.Requests.{core_kinds}
 use Rattle.machine_state.specs.declared.frame.Frame.{Frame}
 use Rattle.machine_state.specs.declared.machine.Machine.{Machine}
 use Rattle.machine_state.specs.declared.machine.TurnEnd.{TurnEnd}
 use Rattle.machine_state.specs.declared.machine.TurnEnd.TheVariants as turned
-use Rattle.machine_state.specs.declared.place.Here.{Here}
+use Rattle.machine_state.specs.declared.place.Location.{Location}
 use Rattle.machine_state.specs.Places.{CoreOutcome, ends, step}
 use Rattle.machine_state.specs.Frames.{after_stack}
 use Rattle.machine_state.specs.Work.{doing_work, stack_work, Falls}
 use Rattle.machine_state.proofs.Costs.{ends_done}
 
 -- nothing is left on the stack
-pub ends_over : (fs : List Frame) (h : Here) (n : ℕ) (o : CoreOutcome) → fs ≡ [] → ends n (after_stack fs h o) ≡ tree.Ended o n
+pub ends_over : (fs : List Frame) (h : Location) (n : ℕ) (o : CoreOutcome) → fs ≡ [] → ends n (after_stack fs h o) ≡ tree.Ended o n
 ends_over fs h n o e = rw e (ends_done n o)
 
 -- a body stops
-pub ends_frozen : (n : ℕ) (x : Paused core_kinds) → ends n (Freeze x) ≡ tree.Frozen x n
+pub ends_frozen : (n : ℕ) (x : Suspension core_kinds) → ends n (Freeze x) ≡ tree.Frozen x n
 ends_frozen n x = ap (λ r. r.1) (run-Freeze step n x)
 
 -- a turn leaves less to do than a greater bound, too

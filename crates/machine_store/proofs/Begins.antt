@@ -7,7 +7,7 @@ use Rattle.py_tree.specs.declared.op.BinOp.{BinOp}
 use Rattle.py_values.specs.declared.value.Value.{Value}
 use Rattle.machine_assign.specs.py_world.Targets.{store_name, augment_on, augment_attribute, augment_item, delete_attribute, delete_item}
 use Rattle.machine_assign.specs.core_meaning.Expressions.{CorePart, eval}
-use Rattle.machine_assign.specs.machine_state.declared.place.Here.{Here}
+use Rattle.machine_assign.specs.machine_state.declared.place.Location.{Location}
 use Rattle.machine_assign.specs.machine_state.declared.frame.Frame.{Frame}
 use Rattle.machine_assign.specs.machine_state.declared.frame.Frame.TheVariants.{Simple, Target}
 use Rattle.machine_assign.specs.machine_state.declared.frame.SimpleFrame.TheVariants.{Augment}
@@ -16,7 +16,7 @@ use Rattle.machine_assign.specs.machine_state.declared.frame.TargetFrame.TheVari
 use Rattle.machine_assign.specs.machine_state.Places.{CoreState, site_of}
 use Rattle.machine_assign.specs.machine_state.Frames.{after_stack, handled_exception, outer_of}
 
-module _ (h : Here) (fs : List Frame) (s : CoreState) (first : CorePart) where
+module _ (h : Location) (fs : List Frame) (s : CoreState) (first : CorePart) where
   pub augment_attribute_begins : (name name' : List ℕ) (op : BinOp) (e e' : Rc CoreExpr Global) → name' ≡ name → e'.value ≡ e.value
       → first (site_of h (outer_of fs) (handled_exception fs)) s (after_stack (Target (AugmentAttribute name' op e') ∷ fs) h) ≡ augment_attribute first name op (eval e.value) (site_of h (outer_of fs) (handled_exception fs)) s (after_stack fs h)
   augment_attribute_begins name name' op e e' is same = rw (is, same) refl

@@ -1,7 +1,7 @@
 // What is done in a world, and what is told of it.
 
 use crate::frames::{abandon_told, begin_told, send_told, throw_told};
-use crate::told::{Tried, copied, ended_told, repr_told, string};
+use crate::told::{MemoryResult, copied, ended_told, repr_told, string};
 use py_machine::{
     Frozen, ModuleId, World, call, fault, heap, line, names, run_module, take_printed,
 };
@@ -14,13 +14,13 @@ use py_values::value::Value;
 use py_world::Outcome;
 use std::alloc::Global;
 
-fn load_told(alloc: Global, world: &mut World, path: &str, budget: u64) -> Tried<String> {
+fn load_told(alloc: Global, world: &mut World, path: &str, budget: u64) -> MemoryResult<String> {
     let ended = run_module(world, path, budget)?;
     ended_told(alloc, world, &ended)
 }
 
 /// The module of a path, where it was loaded.
-fn module_at(world: &mut World, path: &str) -> Tried<Option<ModuleId>> {
+fn module_at(world: &mut World, path: &str) -> MemoryResult<Option<ModuleId>> {
     let ended = run_module(world, path, 0)?;
     match &ended.out {
         Outcome::Value(Value::Ref(id)) => Ok(Some(*id)),
@@ -29,7 +29,7 @@ fn module_at(world: &mut World, path: &str) -> Tried<Option<ModuleId>> {
 }
 
 /// A whole number, or the value of a module's name; `None` where there is none.
-fn value_of(alloc: Global, heap: &Heap, id: ModuleId, spelled: &str) -> Tried<Value> {
+fn value_of(alloc: Global, heap: &Heap, id: ModuleId, spelled: &str) -> MemoryResult<Value> {
     if let Ok(n) = spelled.parse::<i128>() {
         return Ok(Value::Int(n));
     }
@@ -41,7 +41,7 @@ fn value_of(alloc: Global, heap: &Heap, id: ModuleId, spelled: &str) -> Tried<Va
 }
 
 /// Values that are spelled with blanks between them.
-fn values_of(alloc: Global, heap: &Heap, id: ModuleId, spelled: &str) -> Tried<Vec<Value>> {
+fn values_of(alloc: Global, heap: &Heap, id: ModuleId, spelled: &str) -> MemoryResult<Vec<Value>> {
     let mut all = Vec::new(alloc);
     for part in spelled.split_whitespace() {
         all.push(value_of(alloc, heap, id, part)?)?;
@@ -50,7 +50,7 @@ fn values_of(alloc: Global, heap: &Heap, id: ModuleId, spelled: &str) -> Tried<V
 }
 
 /// The values that are spelled behind the path of a module; none where it wasn't loaded.
-pub fn values_at(alloc: Global, world: &mut World, spelled: &str) -> Tried<Vec<Value>> {
+pub fn values_at(alloc: Global, world: &mut World, spelled: &str) -> MemoryResult<Vec<Value>> {
     let (path, spelled) = spelled.split_once(' ').unwrap_or((spelled, ""));
     match module_at(world, path)? {
         Some(id) => values_of(alloc, heap(world), id, spelled),
@@ -59,7 +59,7 @@ pub fn values_at(alloc: Global, world: &mut World, spelled: &str) -> Tried<Vec<V
 }
 
 /// What is told of a call that is spelled as a path, a name and arguments.
-fn call_told(alloc: Global, world: &mut World, spelled: &str, budget: u64) -> Tried<String> {
+fn call_told(alloc: Global, world: &mut World, spelled: &str, budget: u64) -> MemoryResult<String> {
     let values = values_at(alloc, world, spelled)?;
     let Some((f, args)) = values.split_first() else {
         return copied(alloc, "no name");
@@ -69,7 +69,7 @@ fn call_told(alloc: Global, world: &mut World, spelled: &str, budget: u64) -> Tr
 }
 
 /// A module's names with their values, in order of first binding.
-fn bindings_told(alloc: Global, world: &World, id: ModuleId) -> Tried<String> {
+fn bindings_told(alloc: Global, world: &World, id: ModuleId) -> MemoryResult<String> {
     let mut all = String::new(alloc);
     let Some(Obj::Module(_)) = heap(world).get(id) else {
         return Ok(all);
@@ -87,14 +87,14 @@ fn bindings_told(alloc: Global, world: &World, id: ModuleId) -> Tried<String> {
     Ok(all)
 }
 
-fn names_told(alloc: Global, world: &mut World, path: &str) -> Tried<String> {
+fn names_told(alloc: Global, world: &mut World, path: &str) -> MemoryResult<String> {
     match module_at(world, path)? {
         Some(id) => bindings_told(alloc, world, id),
         None => copied(alloc, "no module"),
     }
 }
 
-fn fault_told(alloc: Global, world: &World, path: &str) -> Tried<String> {
+fn fault_told(alloc: Global, world: &World, path: &str) -> MemoryResult<String> {
     match fault(world, path) {
         Some(SourceFault::Syntax(Pos { line, column }, kind)) => {
             let text = kind.text();
@@ -105,7 +105,7 @@ fn fault_told(alloc: Global, world: &World, path: &str) -> Tried<String> {
     }
 }
 
-fn line_told(alloc: Global, world: &World, spelled: &str) -> Tried<String> {
+fn line_told(alloc: Global, world: &World, spelled: &str) -> MemoryResult<String> {
     let (path, number) = spelled.split_once(' ').unwrap_or((spelled, ""));
     match line(world, path, number.parse::<u32>().unwrap_or(0)) {
         Some(text) => Ok(format!(in alloc; "|{text}|")?),
@@ -119,7 +119,7 @@ fn act_told(
     frame: &mut Option<Frozen>,
     what: &str,
     budget: u64,
-) -> Tried<String> {
+) -> MemoryResult<String> {
     let (word, rest) = what.split_once(' ').unwrap_or((what, ""));
     match word {
         "load" => load_told(alloc, world, rest, budget),
@@ -142,7 +142,7 @@ pub fn done(
     frame: &mut Option<Frozen>,
     what: &str,
     budget: u64,
-) -> Tried<String> {
+) -> MemoryResult<String> {
     let told = act_told(alloc, world, frame, what, budget)?;
     let printed = take_printed(world);
     let shown = String::from_utf8_lossy(alloc, &printed)?;

@@ -5,7 +5,7 @@ ghost use Rattle.assert_rewrite.specs.lower_law.Lowered.{LoweredModule};
 ghost use Rattle.assert_rewrite.specs.lower_law.Sourced.{module_of};
 ghost use Rattle.py_machine.specs.Worlds.{IsLowered};
 
-use crate::told::Tried;
+use crate::told::MemoryResult;
 use assert_rewrite::lower;
 use file_source::source_of;
 use py_core::Core;
@@ -15,7 +15,7 @@ use read_law::every_tree_has_a_meaning;
 use std::alloc::Global;
 
 /// The code of a tree.
-fn lowered(alloc: Global, explains: bool, module: &Module) -> Tried<Core>
+fn lowered(alloc: Global, explains: bool, module: &Module) -> MemoryResult<Core>
     ensures { IfOk result (λ core. LoweredModule (module_of core) core) }
 {
     every_tree_has_a_meaning();
@@ -24,7 +24,7 @@ fn lowered(alloc: Global, explains: bool, module: &Module) -> Tried<Core>
 }
 
 /// The code of a text, whose asserts are explained or not, or its fault.
-pub fn code_of(alloc: Global, explains: bool, text: &str) -> Tried<Result<Core, SourceFault>>
+pub fn code_of(alloc: Global, explains: bool, text: &str) -> MemoryResult<Result<Core, SourceFault>>
     ensures { IfOk result (λ c. IsLowered c) }
 {
     match source_of(alloc, text.as_bytes())? {

@@ -3,7 +3,7 @@
 use crate::act::done;
 use crate::frames::give_up;
 use crate::row::{Act, Row};
-use crate::told::Tried;
+use crate::told::MemoryResult;
 use crate::world::world_of;
 use py_machine::{Frozen, World};
 use std::alloc::Global;
@@ -24,7 +24,7 @@ fn acts_done(
     row: &Row,
     at: usize,
     budget: u64,
-) -> Tried<String> {
+) -> MemoryResult<String> {
     let mut came = String::new(alloc);
     for (place, act) in row.acts.iter().enumerate() {
         let what = act.what.as_str();
@@ -38,7 +38,7 @@ fn acts_done(
 }
 
 /// What comes of the act at a place within a budget, behind those before it. A frame that is out then is given up.
-fn comes_of(alloc: Global, row: &Row, at: usize, budget: u64) -> Tried<String> {
+fn comes_of(alloc: Global, row: &Row, at: usize, budget: u64) -> MemoryResult<String> {
     let mut world = world_of(alloc, &row.sources)?;
     let mut frame = None;
     let came = acts_done(alloc, &mut world, &mut frame, row, at, budget);
@@ -47,7 +47,7 @@ fn comes_of(alloc: Global, row: &Row, at: usize, budget: u64) -> Tried<String> {
 }
 
 /// Where the act at a place does something else than it wants.
-fn act_fault(alloc: Global, row: &Row, at: usize, act: &Act) -> Tried<Option<String>> {
+fn act_fault(alloc: Global, row: &Row, at: usize, act: &Act) -> MemoryResult<Option<String>> {
     for run in &act.runs {
         let budget = run.budget;
         let came = comes_of(alloc, row, at, budget)?;
@@ -64,7 +64,7 @@ fn act_fault(alloc: Global, row: &Row, at: usize, act: &Act) -> Tried<Option<Str
 }
 
 /// Where a row does something else than it wants.
-pub fn fault_of(alloc: Global, row: &Row) -> Tried<Option<String>> {
+pub fn fault_of(alloc: Global, row: &Row) -> MemoryResult<Option<String>> {
     if row.acts.is_empty() {
         let name = row.name.as_str();
         return Ok(Some(format!(in alloc; "{name}: no acts")?));

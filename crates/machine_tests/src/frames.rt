@@ -1,7 +1,7 @@
 // Bodies that stop at a `yield`, and how they begin and go on.
 
 use crate::act::values_at;
-use crate::told::{Tried, copied, ended_told, repr_told};
+use crate::told::{MemoryResult, copied, ended_told, repr_told};
 use py_machine::{Begun, BegunOut, Frozen, Sent, World, abandon, begin, call, heap, resume};
 use py_values::value::Value;
 use py_world::{Ended, Outcome, Thrown};
@@ -27,7 +27,7 @@ fn begun_told(
     world: &mut World,
     frame: &mut Option<Frozen>,
     begun: Begun,
-) -> Tried<String> {
+) -> MemoryResult<String> {
     let Begun { out, steps } = begun;
     match out {
         BegunOut::Yielded(v, frozen) => {
@@ -46,7 +46,7 @@ pub fn begin_told(
     frame: &mut Option<Frozen>,
     spelled: &str,
     budget: u64,
-) -> Tried<String> {
+) -> MemoryResult<String> {
     let before = frame.take();
     give_up(world, before);
     let values = values_at(alloc, world, spelled)?;
@@ -64,7 +64,7 @@ fn resume_told(
     frame: &mut Option<Frozen>,
     sent: Sent,
     budget: u64,
-) -> Tried<String> {
+) -> MemoryResult<String> {
     match frame.take() {
         Some(frozen) => {
             let begun = resume(world, frozen, sent, budget)?;
@@ -84,14 +84,14 @@ pub fn send_told(
     frame: &mut Option<Frozen>,
     spelled: &str,
     budget: u64,
-) -> Tried<String> {
+) -> MemoryResult<String> {
     let values = values_at(alloc, world, spelled)?;
     let v = values.first().copied().unwrap_or(Value::None);
     resume_told(alloc, world, frame, Sent::Value(v), budget)
 }
 
 /// What a call raises that is spelled as a path, a name and arguments.
-fn raised_by(alloc: Global, world: &mut World, spelled: &str) -> Tried<Option<Thrown>> {
+fn raised_by(alloc: Global, world: &mut World, spelled: &str) -> MemoryResult<Option<Thrown>> {
     let values = values_at(alloc, world, spelled)?;
     let Some((f, args)) = values.split_first() else {
         return Ok(None);
@@ -110,7 +110,7 @@ pub fn throw_told(
     frame: &mut Option<Frozen>,
     spelled: &str,
     budget: u64,
-) -> Tried<String> {
+) -> MemoryResult<String> {
     match raised_by(alloc, world, spelled)? {
         Some(thrown) => resume_told(alloc, world, frame, Sent::Throw(thrown), budget),
         None => copied(alloc, "raises nothing"),
@@ -118,7 +118,11 @@ pub fn throw_told(
 }
 
 /// What is told where the body that is out is given up.
-pub fn abandon_told(alloc: Global, world: &mut World, frame: &mut Option<Frozen>) -> Tried<String> {
+pub fn abandon_told(
+    alloc: Global,
+    world: &mut World,
+    frame: &mut Option<Frozen>,
+) -> MemoryResult<String> {
     match frame.take() {
         Some(frozen) => {
             abandon(world, frozen);

@@ -9,13 +9,13 @@ use py_values::value::Value;
 use py_world::{Ended, Outcome, Thrown, Trace, TraceFrame};
 use std::alloc::Global;
 
-pub type Tried<T> = Result<T, OutOfMemory>;
+pub type MemoryResult<T> = Result<T, OutOfMemory>;
 
-pub fn copied(alloc: Global, text: &str) -> Tried<String> {
+pub fn copied(alloc: Global, text: &str) -> MemoryResult<String> {
     Ok(String::from_str(alloc, text)?)
 }
 
-pub fn string(alloc: Global, text: &PyText) -> Tried<String> {
+pub fn string(alloc: Global, text: &PyText) -> MemoryResult<String> {
     let mut all = String::new(alloc);
     for c in text.chars() {
         all.push(*c)?;
@@ -24,13 +24,13 @@ pub fn string(alloc: Global, text: &PyText) -> Tried<String> {
 }
 
 /// A value's repr, up to 200 characters.
-pub fn repr_told(alloc: Global, heap: &Heap, v: Value) -> Tried<String> {
+pub fn repr_told(alloc: Global, heap: &Heap, v: Value) -> MemoryResult<String> {
     let shown = repr(alloc, heap, v, 200)?;
     string(alloc, &shown.text)
 }
 
 /// The class of an exception and its message, up to 4,000 characters.
-fn exception_told(alloc: Global, heap: &Heap, exc: Value) -> Tried<String> {
+fn exception_told(alloc: Global, heap: &Heap, exc: Value) -> MemoryResult<String> {
     let shown = message(alloc, heap, exc, 4000)?;
     let class = kind_name(alloc, heap, exc)?;
     let mut all = string(alloc, &class)?;
@@ -41,7 +41,7 @@ fn exception_told(alloc: Global, heap: &Heap, exc: Value) -> Tried<String> {
     Ok(all)
 }
 
-fn call_told(alloc: Global, frame: &TraceFrame) -> Tried<String> {
+fn call_told(alloc: Global, frame: &TraceFrame) -> MemoryResult<String> {
     let path = string(alloc, &frame.path)?;
     let name = string(alloc, &frame.name)?;
     let line = frame.line;
@@ -49,7 +49,7 @@ fn call_told(alloc: Global, frame: &TraceFrame) -> Tried<String> {
 }
 
 /// A call that is open so many times.
-fn push_call(alloc: Global, all: &mut String, call: &str, times: u64) -> Tried<()> {
+fn push_call(alloc: Global, all: &mut String, call: &str, times: u64) -> MemoryResult<()> {
     let told = match times {
         0 => String::new(alloc),
         1 => format!(in alloc; " {call}")?,
@@ -59,7 +59,7 @@ fn push_call(alloc: Global, all: &mut String, call: &str, times: u64) -> Tried<(
 }
 
 /// The open calls, outermost first, each as its path, its line and its name; those that are alike, one behind the other, as one.
-fn push_calls(alloc: Global, all: &mut String, trace: &Trace) -> Tried<()> {
+fn push_calls(alloc: Global, all: &mut String, trace: &Trace) -> MemoryResult<()> {
     let mut last = String::new(alloc);
     let mut times = 0u64;
     for frame in trace.items() {
@@ -74,21 +74,21 @@ fn push_calls(alloc: Global, all: &mut String, trace: &Trace) -> Tried<()> {
     push_call(alloc, all, last.as_str(), times)
 }
 
-fn raised_told(alloc: Global, heap: &Heap, thrown: &Thrown, steps: u64) -> Tried<String> {
+fn raised_told(alloc: Global, heap: &Heap, thrown: &Thrown, steps: u64) -> MemoryResult<String> {
     let text = exception_told(alloc, heap, thrown.exc)?;
     let mut all = format!(in alloc; "raises {text}, {steps} steps,")?;
     push_calls(alloc, &mut all, &thrown.trace)?;
     Ok(all)
 }
 
-fn exhausted_told(alloc: Global, trace: &Trace, steps: u64) -> Tried<String> {
+fn exhausted_told(alloc: Global, trace: &Trace, steps: u64) -> MemoryResult<String> {
     let mut all = format!(in alloc; "exhausted, {steps} steps,")?;
     push_calls(alloc, &mut all, trace)?;
     Ok(all)
 }
 
 /// How a load or a call has ended.
-pub fn ended_told(alloc: Global, world: &World, ended: &Ended) -> Tried<String> {
+pub fn ended_told(alloc: Global, world: &World, ended: &Ended) -> MemoryResult<String> {
     let steps = ended.steps;
     match &ended.out {
         Outcome::Value(v) => {

@@ -7,7 +7,7 @@ ghost use Rattle.py_world.specs.Imports.{source_paths};
 
 use crate::code::code_of;
 use crate::row::Source;
-use crate::told::Tried;
+use crate::told::MemoryResult;
 use py_machine::{World, add_source};
 use py_text::PyText;
 use std::alloc::Global;
@@ -26,7 +26,12 @@ fn is_among(paths: &[PyText], path: &PyText) -> bool
 
 /// Adds a source, unless its path has one.
 #[tactic(auto, using(crate::proofs::Sources::absent_of, crate::proofs::Sources::paths_behind))]
-fn add(alloc: Global, world: &mut World, paths: &mut Vec<PyText>, source: &Source) -> Tried<()>
+fn add(
+    alloc: Global,
+    world: &mut World,
+    paths: &mut Vec<PyText>,
+    source: &Source,
+) -> MemoryResult<()>
     requires { source_paths world.old.sources ≡ paths.old.items }
     ensures { OnOk result (source_paths world.new.sources ≡ paths.new.items) }
 {
@@ -42,7 +47,7 @@ fn add(alloc: Global, world: &mut World, paths: &mut Vec<PyText>, source: &Sourc
 }
 
 /// A world of sources.
-pub fn world_of(alloc: Global, sources: &[Source]) -> Tried<World> {
+pub fn world_of(alloc: Global, sources: &[Source]) -> MemoryResult<World> {
     let mut world = World::new(alloc)?;
     let mut paths = Vec::new(alloc);
     for source in sources {

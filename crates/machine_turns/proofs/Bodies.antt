@@ -7,7 +7,7 @@ use Rattle.machine_state.specs.py_world.Outcome.{Gave, Next, Returned, Broke, Co
 use Rattle.machine_state.specs.core_meaning.Meaning.{CoreWorld}
 use Rattle.machine_state.specs.core_meaning.Statements.{core_block_body}
 use Rattle.machine_state.specs.declared.machine.Machine.{Machine}
-use Rattle.machine_state.specs.declared.place.Here.{Here}
+use Rattle.machine_state.specs.declared.place.Location.{Location}
 use Rattle.machine_state.specs.declared.place.Place.{Place}
 use Rattle.machine_state.specs.declared.frame.CallerFrame.{CallerFrame}
 use Rattle.machine_state.specs.declared.frame.Frame.{Frame}
@@ -28,7 +28,7 @@ pub rest_same : (s : CoreState) (w : CoreWorld) (k : CoreThen) → ◌≡◌ {A 
 rest_same s w k = λ i o. k (end_same s w o i)
 
 -- the body begins over what is around it
-pub body_begins : (m : Machine) (place : Place) (b : CoreBlock) (c : CallerFrame) (fs fs1 : List Frame) (h : Here) (s : CoreState)
+pub body_begins : (m : Machine) (place : Place) (b : CoreBlock) (c : CallerFrame) (fs fs1 : List Frame) (h : Location) (s : CoreState)
     → c ≡ record { from = Some m.here; locals = m.locals; temps = m.temps } → fs ≡ Caller c ∷ fs1 → fs1 ≡ m.stack
     → h ≡ record { place = place; around = depth_of m.here; line = 0 } → s ≡ state [] [] (world_of m)
     → core_block_body (layers_of fs) b (site_of h (outer_of fs) (handled_exception fs)).scene s (after_stack fs h)

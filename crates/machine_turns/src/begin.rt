@@ -14,7 +14,7 @@ ghost use Rattle.machine_state.specs.Work.{block_work, doing_work, frame_work, s
 use machine_state::frame::{CallerFrame, End, FlowFrame, Frame};
 use machine_state::locals::Locals;
 use machine_state::machine::{Machine, NextAction};
-use machine_state::place::{Here, Place};
+use machine_state::place::{Location, Place};
 use py_core::{CoreBlock, CoreExpr};
 use py_text::OutOfMemory;
 use std::mem;
@@ -49,7 +49,7 @@ fn open_body(m: &mut Machine, place: Place) -> Result<CallerFrame, OutOfMemory>
     ensures left { m.new.left ≡ m.old.left }
 {
     let around = m.here.depth()?;
-    let here = Here {
+    let here = Location {
         place,
         around,
         line: 0,

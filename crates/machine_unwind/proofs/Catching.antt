@@ -22,7 +22,7 @@ use Rattle.machine_state.specs.core_meaning.Requests.{Layer}
 use Rattle.machine_state.specs.core_meaning.Expressions.{eval}
 use Rattle.machine_state.specs.core_meaning.Statements.{CoreHandling, core_block_body, handlings, some_part}
 use Rattle.machine_state.specs.core_meaning.Statements.{handling_of as handling_at}
-use Rattle.machine_state.specs.declared.place.Here.{Here}
+use Rattle.machine_state.specs.declared.place.Location.{Location}
 use Rattle.machine_state.specs.declared.frame.Frame.{Frame}
 use Rattle.machine_state.specs.declared.frame.Frame.TheVariants.{Unwind}
 use Rattle.machine_state.specs.declared.frame.UnwindFrame.TheVariants.{Catch, Named}
@@ -32,7 +32,7 @@ use Rattle.machine_state.specs.Work.{block_work, catch_work, handler_work, some_
 use Rattle.machine_turns.proofs.Lists.{drop_some}
 
 -- the block of a handler begins behind its name
-pub named_begins : (h h1 h2 : Here) (fs fs1 fs2 fs' : List Frame) (s s1 s2 : CoreState) (name name' : List ℕ) (body : CoreBlock) (e : Value) (trace : List TraceFrame)
+pub named_begins : (h h1 h2 : Location) (fs fs1 fs2 fs' : List Frame) (s s1 s2 : CoreState) (name name' : List ℕ) (body : CoreBlock) (e : Value) (trace : List TraceFrame)
     → h1 ≡ h → fs1 ≡ fs → s1 ≡ with_trace e trace s
     → h2 ≡ h1 → fs2 ≡ fs1 → s2 ≡ bound name e (site_of h1 (outer_of fs1) (handled_exception fs1)).scene s1
     → fs' ≡ Unwind (Named name') ∷ fs2 → name' ≡ name
@@ -74,7 +74,7 @@ module _ (hs : List CoreHandler) (i : ℕ) (x : CoreHandler) (within : i < lengt
   takes_all ls e trace p s k any = rw (parts ls, any) refl
 
 -- its class is evaluated, over the frame that waits for it
-pub class_begins : (h : Here) (fs fs' : List Frame) (s : CoreState) (t : Thrown) (g g' : Rc CoreGuard Global) (i : ℕ) (x : CoreHandler) (class : Rc CoreExpr Global)
+pub class_begins : (h : Location) (fs fs' : List Frame) (s : CoreState) (t : Thrown) (g g' : Rc CoreGuard Global) (i : ℕ) (x : CoreHandler) (class : Rc CoreExpr Global)
     → i < length (handlers_in g.value) → x ≡ get_or (handlers_in g.value) i x → (out-CoreHandler x).class ≡ Some class → handled_exception fs ≡ Some t → fs' ≡ Unwind (Catch g' i) ∷ fs → g'.value ≡ g.value
     → eval class.value (site_of h (outer_of fs') (handled_exception fs')) s (after_stack fs' h)
     ≡ handlers_on (handlings (layers_of fs) (drop i (handlers_in g.value))) t.exc t.trace (site_of h (outer_of fs) (handled_exception fs)) s (after_stack fs h)

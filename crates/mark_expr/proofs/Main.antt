@@ -9,7 +9,7 @@ use Rattle.mark_expr.specs.declared.tree.MarkExpr.{MarkExpr}
 use Rattle.mark_expr.specs.declared.fault.ExprFault.{ExprFault}
 use Rattle.mark_expr.specs.declared.fault.ExprFault.TheVariants as faults
 use Rattle.mark_expr.specs.Answer.{IsExpression, IsCause, ParseResult, Reads, Wrong, TooDeep, IsParseResult, Gave}
-use Rattle.mark_expr.specs.Expression.{Tree, NestedWithin, view}
+use Rattle.mark_expr.specs.Expression.{ExpressionTree, NestedWithin, view}
 use Rattle.mark_expr.specs.Grammar.{kind, or_at, IsExact}
 use Rattle.mark_expr.specs.Text.{tokens_of, column_of}
 use Rattle.mark_expr.proofs.GrammarLaws.{expr_rules}
@@ -22,7 +22,7 @@ between n m h = renamed (NestedWithin n) (NestedWithin m) (of_expr n) (to_expr n
 pub whole_rule : (n : ℕ) → Rule (Unit {0}) (Unit {0}) kind (NestedWithin n) (Ever NestedWithin) (or_at n) false (5 ∷ 2 ∷ 3 ∷ []) (1 ∷ 0 ∷ 1 ∷ [])
 whole_rule n = ever NestedWithin (suc n) (λ i j. (n + i + j + 1, omega arith, wider i _ (omega arith), wider j _ (omega arith))) n (λ m h. between n m (omega arith))
   where
-    wider : (i m : ℕ) → i < m → (w : List Token) (a : Tree) → NestedWithin i w a → NestedWithin m w a
+    wider : (i m : ℕ) → i < m → (w : List Token) (a : ExpressionTree) → NestedWithin i w a → NestedWithin m w a
     wider i m h = ((between i m h).reader tt tt).widens
 
 -- the answers for a text with the characters cs, of whose tokens the reader gave what is exact
@@ -40,7 +40,7 @@ module _ (cs : List ℕ) where
   cause_law (Err faults.Nesting) x = record { rest = x.0; deep = subst (λ v. Settled (NestedWithin 100) (Ever NestedWithin) (tokens_of cs) v) x.1 given }
   cause_law (Err faults.OutOfMemory) x = tt
 
-  only : (r : Read Token Tree) → Settled (NestedWithin 100) (Ever NestedWithin) (tokens_of cs) r → finish (or_at 100 (tokens_of cs)) ≡ r
+  only : (r : Read Token ExpressionTree) → Settled (NestedWithin 100) (Ever NestedWithin) (tokens_of cs) r → finish (or_at 100 (tokens_of cs)) ≡ r
   only r s = settled_only (whole_rule 100) (tokens_of cs) r s
 
   pub only_law : (r : Result MarkExpr ExprFault) → IsExact (length cs) r (finish (or_at 100 (tokens_of cs))) → (answer : ParseResult) → IsParseResult cs answer → Gave r answer

@@ -9,8 +9,8 @@ use Rattle.mark_expr.specs.declared.matching.How.TheVariants.{Part, Whole}
 use Rattle.mark_expr.specs.declared.tree.MarkExpr.{MarkExpr}
 use Rattle.mark_expr.specs.declared.tree.MarkExpr.TheVariants as exprs
 use Rattle.mark_expr.proofs.Rows.{and_view, or_view}
-use Rattle.mark_expr.specs.Expression.{Tree, Name, Negation, Conjunction, Disjunction, view, joined_left}
-use Rattle.mark_expr.specs.Matching.{IsSubstring, lowered, Names, Holds, begins, has_part, names_it, truth, all_true, any_true}
+use Rattle.mark_expr.specs.Expression.{ExpressionTree, Name, Negation, Conjunction, Disjunction, view, joined_left}
+use Rattle.mark_expr.specs.Matching.{IsSubstring, lowered, Names, Holds, begins_with, has_part, names_it, truth, all_true, any_true}
 
 and_true : (a b : Bool) → (a && b) ≡ true → (a ≡ true) × (b ≡ true)
 and_true true b e = (refl, e)
@@ -38,29 +38,29 @@ same_letter x y e = grind (arith, common_steps)
 letter_same : (x y : ℕ) → to_ascii_lowercase x ≡ to_ascii_lowercase y → eq_ignore_ascii_case x y ≡ true
 letter_same x y e = grind (arith, common_steps)
 
-begins_is : (part whole : List ℕ) → begins part whole ≡ true → (back : List ℕ) × (lowered whole ≡ lowered part ++ back)
+begins_is : (part whole : List ℕ) → begins_with part whole ≡ true → (back : List ℕ) × (lowered whole ≡ lowered part ++ back)
 begins_is [] whole e = (lowered whole, refl)
 begins_is (x ∷ part) [] e = absurd (cc)
 begins_is (x ∷ part) (y ∷ whole) e =
-    let h = and_true (eq_ignore_ascii_case x y) (begins part whole) e in
+    let h = and_true (eq_ignore_ascii_case x y) (begins_with part whole) e in
     let r = begins_is part whole h.1 in
     let s : to_ascii_lowercase x ≡ to_ascii_lowercase y = same_letter x y h.0 in
     (r.0, ap (λ c. c ∷ lowered whole) (sym s) ∙ ap (λ v. to_ascii_lowercase x ∷ v) r.1)
 
-is_begins : (part whole back : List ℕ) → lowered whole ≡ lowered part ++ back → begins part whole ≡ true
+is_begins : (part whole back : List ℕ) → lowered whole ≡ lowered part ++ back → begins_with part whole ≡ true
 is_begins [] whole back e = refl
 is_begins (x ∷ part) [] back e = absurd (cc)
 is_begins (x ∷ part) (y ∷ whole) back e =
     let s : to_ascii_lowercase x ≡ to_ascii_lowercase y = cc in
     let t : lowered whole ≡ lowered part ++ back = cc in
-    true_and (eq_ignore_ascii_case x y) (begins part whole) (letter_same x y s) (is_begins part whole back t)
+    true_and (eq_ignore_ascii_case x y) (begins_with part whole) (letter_same x y s) (is_begins part whole back t)
 
-at_begin : (part whole : List ℕ) → begins part whole ≡ true → IsSubstring (lowered part) (lowered whole)
+at_begin : (part whole : List ℕ) → begins_with part whole ≡ true → IsSubstring (lowered part) (lowered whole)
 at_begin part whole e = let r = begins_is part whole e in record { front = []; back = r.0; whole_is = r.1 }
 
 part_is : (part whole : List ℕ) → has_part part whole ≡ true → IsSubstring (lowered part) (lowered whole)
 part_is part [] e = at_begin part [] e
-part_is part (y ∷ whole) e = elim (or_true (begins part (y ∷ whole)) (has_part part whole) e) [
+part_is part (y ∷ whole) e = elim (or_true (begins_with part (y ∷ whole)) (has_part part whole) e) [
   | inl b ↦ at_begin part (y ∷ whole) b
   | inr h ↦ let r = part_is part whole h in record { front = to_ascii_lowercase y ∷ r.front; back = r.back; whole_is = ap (λ v. to_ascii_lowercase y ∷ v) r.whole_is }
 ]
@@ -68,8 +68,8 @@ part_is part (y ∷ whole) e = elim (or_true (begins part (y ∷ whole)) (has_pa
 is_part : (part whole front back : List ℕ) → lowered whole ≡ front ++ (lowered part ++ back) → has_part part whole ≡ true
 is_part part [] [] back e = is_begins part [] back e
 is_part part [] (f ∷ front) back e = absurd (cc)
-is_part part (y ∷ whole) [] back e = true_or (begins part (y ∷ whole)) (has_part part whole) (is_begins part (y ∷ whole) back e)
-is_part part (y ∷ whole) (f ∷ front) back e = let t : lowered whole ≡ front ++ (lowered part ++ back) = cc in or_right (begins part (y ∷ whole)) (has_part part whole) (is_part part whole front back t)
+is_part part (y ∷ whole) [] back e = true_or (begins_with part (y ∷ whole)) (has_part part whole) (is_begins part (y ∷ whole) back e)
+is_part part (y ∷ whole) (f ∷ front) back e = let t : lowered whole ≡ front ++ (lowered part ++ back) = cc in or_right (begins_with part (y ∷ whole)) (has_part part whole) (is_part part whole front back t)
 
 names_is : (how : How) (ident name : List ℕ) → names_it how ident name ≡ true → Names how ident name
 names_is Part ident name e = part_is ident name e
@@ -90,7 +90,7 @@ true_not false d = refl
 abbrev pub Decided : Bool → Type 0 → Type 0
 Decided b P = (b ≡ true → P) × (P → b ≡ true)
 
-pub truth_is : (how : How) (names : List (List ℕ)) (e : Tree) → Decided (truth how names e) (Holds how names e)
+pub truth_is : (how : How) (names : List (List ℕ)) (e : ExpressionTree) → Decided (truth how names e) (Holds how names e)
 truth_is how names (Name ident) = (
   λ e. let a = Any-from_list_any (names_it how ident) names e in (a.0, a.1, a.2, a.3, names_is how ident a.1 a.4),
   λ a. list_any-from_Any (names_it how ident) names (a.0, a.1, a.2, a.3, is_names how ident a.1 a.4),
@@ -122,11 +122,11 @@ or_end : (a : Bool) → a ≡ (a || false)
 or_end true = refl
 or_end false = refl
 
-pub truth-all : (how : How) (names : List (List ℕ)) (a : Tree) (es : List MarkExpr) → truth how names (joined_left Conjunction a es) ≡ (truth how names a && all_true how names es)
+pub truth-all : (how : How) (names : List (List ℕ)) (a : ExpressionTree) (es : List MarkExpr) → truth how names (joined_left Conjunction a es) ≡ (truth how names a && all_true how names es)
 truth-all how names a [] = and_end (truth how names a)
 truth-all how names a (e ∷ es) = truth-all how names (Conjunction a (view e)) es ∙ and_assoc (truth how names a) (truth how names (view e)) (all_true how names es)
 
-pub truth-any : (how : How) (names : List (List ℕ)) (a : Tree) (es : List MarkExpr) → truth how names (joined_left Disjunction a es) ≡ (truth how names a || any_true how names es)
+pub truth-any : (how : How) (names : List (List ℕ)) (a : ExpressionTree) (es : List MarkExpr) → truth how names (joined_left Disjunction a es) ≡ (truth how names a || any_true how names es)
 truth-any how names a [] = or_end (truth how names a)
 truth-any how names a (e ∷ es) = truth-any how names (Disjunction a (view e)) es ∙ or_assoc (truth how names a) (truth how names (view e)) (any_true how names es)
 
@@ -154,14 +154,14 @@ module _ (how : How) (names : List (List ℕ)) (x : MarkExpr) (first : Box MarkE
   or_first e t = t ∙ sym (row_or e ∙ ap (λ v. v || any_true how names more.items) t)
 
 -- a part at the place i, or behind it
-pub part_over : (part s : List ℕ) (i : ℕ) (b all : Bool) → i < length s → b ≡ begins part (take (length s - i) (drop i s)) → b ≡ false → has_part part (drop i s) ≡ all → has_part part (drop (i + 1) s) ≡ all
+pub part_over : (part s : List ℕ) (i : ℕ) (b all : Bool) → i < length s → b ≡ begins_with part (take (length s - i) (drop i s)) → b ≡ false → has_part part (drop i s) ≡ all → has_part part (drop (i + 1) s) ≡ all
 part_over part s i b all h d f a =
     let rest : take (length s - i) (drop i s) ≡ drop i s = grind (arith, common_steps) in
     let cons : drop i s ≡ get_or s i 0 ∷ drop (i + 1) s = rw (add-one, drop-cons s i 0) refl in
-    let n : begins part (get_or s i 0 ∷ drop (i + 1) s) ≡ false = ap (begins part) (sym cons) ∙ ap (begins part) (sym rest) ∙ sym d ∙ f in
+    let n : begins_with part (get_or s i 0 ∷ drop (i + 1) s) ≡ false = ap (begins_with part) (sym cons) ∙ ap (begins_with part) (sym rest) ∙ sym d ∙ f in
     ap (λ v. v || has_part part (drop (i + 1) s)) (sym n) ∙ ap (has_part part) (sym cons) ∙ a
 
-begins_nothing : (part : List ℕ) → begins part [] ≡ (length part == 0)
+begins_nothing : (part : List ℕ) → begins_with part [] ≡ (length part == 0)
 begins_nothing [] = refl
 begins_nothing (x ∷ part) = grind (arith, common_steps)
 

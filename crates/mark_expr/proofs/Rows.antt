@@ -3,9 +3,9 @@ use Rattle.std.proofs.Common.{◌≡◌, refl, ap, ◌∙◌, Vec, Global, Box}
 use mathlib.Core.Former.{Count}
 use Rattle.mark_expr.specs.declared.tree.MarkExpr.{MarkExpr, And', Or', Row_of-MarkExpr, end_of-MarkExpr, more_of-MarkExpr, items-the_row-MarkExpr, items_hidden-the_row-MarkExpr-0}
 use Rattle.mark_expr.specs.declared.tree.MarkExpr.TheVariants as exprs
-use Rattle.mark_expr.specs.Expression.{Tree, Conjunction, Disjunction, view, joined_left, joined_row}
+use Rattle.mark_expr.specs.Expression.{ExpressionTree, Conjunction, Disjunction, view, joined_left, joined_row}
 
-row_joined : {m : _} (f : Tree → Tree → Tree) (a : Tree) (k : Row_of-MarkExpr m) → joined_row f a k ≡ joined_left f a (items-the_row-MarkExpr m k)
+row_joined : {m : _} (f : ExpressionTree → ExpressionTree → ExpressionTree) (a : ExpressionTree) (k : Row_of-MarkExpr m) → joined_row f a k ≡ joined_left f a (items-the_row-MarkExpr m k)
 row_joined f a end_of-MarkExpr = refl
 row_joined f a (more_of-MarkExpr e rest) = row_joined f (f a (view e)) rest
 

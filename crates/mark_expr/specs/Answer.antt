@@ -5,7 +5,7 @@ use Rattle.mark_expr.specs.declared.token.Token.{Token}
 use Rattle.mark_expr.specs.declared.tree.MarkExpr.{MarkExpr}
 use Rattle.mark_expr.specs.declared.fault.ExprFault.{ExprFault}
 use Rattle.mark_expr.specs.declared.fault.ExprFault.TheVariants as faults
-use Rattle.mark_expr.specs.Expression.{Tree, view, NestedWithin}
+use Rattle.mark_expr.specs.Expression.{ExpressionTree, view, NestedWithin}
 use Rattle.mark_expr.specs.Text.{tokens_of, column_of}
 
 -- so many parentheses and `not`s may be open at once
@@ -13,7 +13,7 @@ abbrev pub most_nested : ℕ
 most_nested = 100
 
 -- The text with the characters cs is this expression, with at most `most_nested` parentheses and `not`s open at once.
-abbrev pub IsExpression : List ℕ → Tree → Type 0
+abbrev pub IsExpression : List ℕ → ExpressionTree → Type 0
 IsExpression cs t = NestedWithin most_nested (tokens_of cs) t
 
 -- The first token at which no reading goes on, however deep, stands at this column; the end is a token.
@@ -28,7 +28,7 @@ pub record IsTooDeep (cs : List ℕ) : Type 0 where
   pub deep : FirstDeep (NestedWithin most_nested) (Ever NestedWithin) (tokens_of cs) rest
 
 pub data ParseResult : Type 0 where
-  Reads : Tree → ParseResult
+  Reads : ExpressionTree → ParseResult
   Wrong : ℕ → ParseResult
   TooDeep : ParseResult
 

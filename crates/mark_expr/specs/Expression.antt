@@ -7,26 +7,26 @@ use Rattle.mark_expr.specs.declared.tree.MarkExpr.{MarkExpr, Not', And', Or', Ro
 use Rattle.mark_expr.specs.declared.tree.MarkExpr.TheVariants as exprs
 
 -- an expression, whatever holds it
-pub data Tree : Type 0 where
-  Name : List ℕ → Tree
-  Negation : Tree → Tree
-  Conjunction : Tree → Tree → Tree
-  Disjunction : Tree → Tree → Tree
+pub data ExpressionTree : Type 0 where
+  Name : List ℕ → ExpressionTree
+  Negation : ExpressionTree → ExpressionTree
+  Conjunction : ExpressionTree → ExpressionTree → ExpressionTree
+  Disjunction : ExpressionTree → ExpressionTree → ExpressionTree
 
 -- the expression that a MarkExpr holds: a row of parts is joined from the left
 abbrev mutual
-  pub view : MarkExpr → Tree
+  pub view : MarkExpr → ExpressionTree
   view (exprs.Ident n) = Name n
   view (Not' p e) = Negation (view e)
   view (And' p first shape more) = joined_row Conjunction (view first) more
   view (Or' p first shape more) = joined_row Disjunction (view first) more
 
-  pub joined_row : (Tree → Tree → Tree) → Tree → {m : _} → Row_of-MarkExpr m → Tree
+  pub joined_row : (ExpressionTree → ExpressionTree → ExpressionTree) → ExpressionTree → {m : _} → Row_of-MarkExpr m → ExpressionTree
   joined_row f a end_of-MarkExpr = a
   joined_row f a (more_of-MarkExpr e rest) = joined_row f (f a (view e)) rest
 
 -- parts, joined from the left
-abbrev pub joined_left : (Tree → Tree → Tree) → Tree → List MarkExpr → Tree
+abbrev pub joined_left : (ExpressionTree → ExpressionTree → ExpressionTree) → ExpressionTree → List MarkExpr → ExpressionTree
 joined_left f a [] = a
 joined_left f a (e ∷ es) = joined_left f (f a (view e)) es
 
@@ -40,15 +40,15 @@ pub data Nonterminal : Type 0 where
 --     expr:     and_expr ("or" and_expr)*
 --     and_expr: not_expr ("and" not_expr)*
 --     not_expr: "not" not_expr | "(" expr ")" | ident
-pub data Reading : Nonterminal → ℕ → List Token → Tree → Type 0 where
+pub data Reading : Nonterminal → ℕ → List Token → ExpressionTree → Type 0 where
   ident : {n : ℕ} {w : List Token} {name : List ℕ} (t : Token) → t.kind ≡ kinds.Ident name → w ≡ t ∷ [] → Reading not_expr n w (Name name)
-  negation : {n : ℕ} {w v : List Token} {x : Tree} (t : Token) → t.kind ≡ kinds.Not → w ≡ t ∷ v → Reading not_expr n v x → Reading not_expr (suc n) w (Negation x)
-  parens : {n : ℕ} {w v : List Token} {x : Tree} (o c : Token) → o.kind ≡ kinds.Open → c.kind ≡ kinds.Close → w ≡ o ∷ (v ++ c ∷ []) → Reading or_expr n v x → Reading not_expr (suc n) w x
-  and_one : {n : ℕ} {w : List Token} {x : Tree} → Reading not_expr n w x → Reading and_expr n w x
-  and_more : {n : ℕ} {w u v : List Token} {l r : Tree} (t : Token) → t.kind ≡ kinds.And → w ≡ u ++ t ∷ v → Reading and_expr n u l → Reading not_expr n v r → Reading and_expr n w (Conjunction l r)
-  or_one : {n : ℕ} {w : List Token} {x : Tree} → Reading and_expr n w x → Reading or_expr n w x
-  or_more : {n : ℕ} {w u v : List Token} {l r : Tree} (t : Token) → t.kind ≡ kinds.Or → w ≡ u ++ t ∷ v → Reading or_expr n u l → Reading and_expr n v r → Reading or_expr n w (Disjunction l r)
+  negation : {n : ℕ} {w v : List Token} {x : ExpressionTree} (t : Token) → t.kind ≡ kinds.Not → w ≡ t ∷ v → Reading not_expr n v x → Reading not_expr (suc n) w (Negation x)
+  parens : {n : ℕ} {w v : List Token} {x : ExpressionTree} (o c : Token) → o.kind ≡ kinds.Open → c.kind ≡ kinds.Close → w ≡ o ∷ (v ++ c ∷ []) → Reading or_expr n v x → Reading not_expr (suc n) w x
+  and_one : {n : ℕ} {w : List Token} {x : ExpressionTree} → Reading not_expr n w x → Reading and_expr n w x
+  and_more : {n : ℕ} {w u v : List Token} {l r : ExpressionTree} (t : Token) → t.kind ≡ kinds.And → w ≡ u ++ t ∷ v → Reading and_expr n u l → Reading not_expr n v r → Reading and_expr n w (Conjunction l r)
+  or_one : {n : ℕ} {w : List Token} {x : ExpressionTree} → Reading and_expr n w x → Reading or_expr n w x
+  or_more : {n : ℕ} {w u v : List Token} {l r : ExpressionTree} (t : Token) → t.kind ≡ kinds.Or → w ≡ u ++ t ∷ v → Reading or_expr n u l → Reading and_expr n v r → Reading or_expr n w (Disjunction l r)
 
 -- the tokens are this expression, with at most n parentheses and `not`s open at once
-abbrev pub NestedWithin : ℕ → List Token → Tree → Type 0
+abbrev pub NestedWithin : ℕ → List Token → ExpressionTree → Type 0
 NestedWithin n = Reading or_expr n

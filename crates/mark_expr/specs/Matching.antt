@@ -6,7 +6,7 @@ use Rattle.std.specs.Str.{bytes_eq}
 use Rattle.mark_expr.specs.declared.tree.MarkExpr.{MarkExpr}
 use Rattle.mark_expr.specs.declared.matching.How.{How}
 use Rattle.mark_expr.specs.declared.matching.How.TheVariants.{Part, Whole}
-use Rattle.mark_expr.specs.Expression.{Tree, Name, Negation, Conjunction, Disjunction, view}
+use Rattle.mark_expr.specs.Expression.{ExpressionTree, Name, Negation, Conjunction, Disjunction, view}
 
 -- part stands somewhere in whole
 pub record IsSubstring (part whole : List ℕ) : Type 0 where
@@ -24,27 +24,27 @@ Names Part ident name = IsSubstring (lowered ident) (lowered name)
 Names Whole ident name = name ≡ ident
 
 -- THE MEANING, by cases
-abbrev pub Holds : How → List (List ℕ) → Tree → Type 0
+abbrev pub Holds : How → List (List ℕ) → ExpressionTree → Type 0
 Holds how names (Name ident) = Any (Names how ident) names
 Holds how names (Negation e) = Holds how names e → ⊥
 Holds how names (Conjunction a b) = Holds how names a × Holds how names b
 Holds how names (Disjunction a b) = Holds how names a ⊎ Holds how names b
 
 -- The same as tests. Whether whole begins with part
-abbrev pub begins : List ℕ → List ℕ → Bool
-begins [] whole = true
-begins (x ∷ part) [] = false
-begins (x ∷ part) (y ∷ whole) = eq_ignore_ascii_case x y && begins part whole
+abbrev pub begins_with : List ℕ → List ℕ → Bool
+begins_with [] whole = true
+begins_with (x ∷ part) [] = false
+begins_with (x ∷ part) (y ∷ whole) = eq_ignore_ascii_case x y && begins_with part whole
 
 abbrev pub has_part : List ℕ → List ℕ → Bool
-has_part part [] = begins part []
-has_part part (y ∷ whole) = begins part (y ∷ whole) || has_part part whole
+has_part part [] = begins_with part []
+has_part part (y ∷ whole) = begins_with part (y ∷ whole) || has_part part whole
 
 abbrev pub names_it : How → List ℕ → List ℕ → Bool
 names_it Part ident name = has_part ident name
 names_it Whole ident name = bytes_eq name ident
 
-abbrev pub truth : How → List (List ℕ) → Tree → Bool
+abbrev pub truth : How → List (List ℕ) → ExpressionTree → Bool
 truth how names (Name ident) = list_any (names_it how ident) names
 truth how names (Negation e) = not (truth how names e)
 truth how names (Conjunction a b) = truth how names a && truth how names b

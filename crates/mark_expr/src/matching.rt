@@ -1,7 +1,7 @@
 ghost use Rattle.std.specs.Prelude.{◌≡◌, ◌↔◌, IsTrue, List, ℕ};
 ghost use Rattle.std.specs.List.{list_any};
 ghost use Rattle.mark_expr.specs.Expression.{view};
-ghost use Rattle.mark_expr.specs.Matching.{Holds, begins, has_part, names_it, truth, all_true, any_true};
+ghost use Rattle.mark_expr.specs.Matching.{Holds, begins_with, has_part, names_it, truth, all_true, any_true};
 
 use crate::tree::{MarkExpr, PyName};
 
@@ -16,7 +16,7 @@ pub enum How {
 
 /// Whether the whole begins with the part, whatever the case of ASCII letters.
 fn begins_with(whole: &[char], part: &[char]) -> bool
-    ensures { result ≡ begins part.now whole.now }
+    ensures { result ≡ begins_with part.now whole.now }
 {
     for (at, c) in part.iter().enumerate() {
         match whole.get(at) {

@@ -3,3 +3,4 @@ pub mod Numbers
 pub mod Texts
 pub mod Sums
 pub mod Best
+pub mod Calls

@@ -1,8 +1,6 @@
 -- `sum` (Python library reference, built-in functions). It costs one for each element that it visits.
-use Rattle.std.specs.Prelude.{ℕ, suc, ℤ, pos, ◌+ℤ◌, List, [], ◌∷◌, ◌++◌, length, codes, Option, Some, None}
-use Rattle.text_methods.specs.call_products.Arguments.{sole}
-use Rattle.text_methods.specs.call_products.Elements.{elements_of}
-use Rattle.text_methods.specs.call_products.Products.{plain, failed, wrong}
+use Rattle.std.specs.Prelude.{ℕ, suc, ℤ, pos, ◌+ℤ◌, List, [], ◌∷◌, ◌++◌, codes, Option, Some, None}
+use Rattle.text_methods.specs.call_products.Products.{plain, failed}
 use Rattle.text_methods.specs.call_products.declared.elements.Elements.{Elements}
 use Rattle.text_methods.specs.call_products.declared.elements.ElementsResult.{ElementsResult}
 use Rattle.text_methods.specs.call_products.declared.elements.ElementsResult.TheVariants as gathered
@@ -62,11 +60,3 @@ sum_made heap e = sum_or_texts heap e.objects e.values
 abbrev pub sum_gathered : List Obj → ElementsResult → Product
 sum_gathered heap (gathered.Elements e) = sum_made heap e
 sum_gathered heap (gathered.Refused r) = plain (Fail r 0)
-
-abbrev pub sum_argument : List Obj → Option Value → Product
-sum_argument heap (Some v) = sum_gathered heap (elements_of heap (length heap) v)
-sum_argument heap None = wrong (codes "sum") 0
-
--- `sum(x)`
-abbrev pub sum_of : List Obj → List Value → List (List ℕ × Value) → Product
-sum_of heap args named = sum_argument heap (sole args named)

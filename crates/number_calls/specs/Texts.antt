@@ -1,6 +1,5 @@
 -- `int` (Python library reference, built-in functions): of a number, or of a text of optional blanks, a sign, and digits of ASCII.
 use Rattle.std.specs.Prelude.{ℕ, ◌+◌, ◌*◌, ◌-◌, ◌^◌, Bool, false, ◌||◌, ℤ, pos, neg_ℤ, List, [], ◌∷◌, codes, eqb, nat_lt, if◌then◌else◌, Option, Some, None}
-use Rattle.text_methods.specs.call_products.Arguments.{sole}
 use Rattle.text_methods.specs.call_products.Products.{plain, failed, wrong}
 use Rattle.text_methods.specs.call_products.declared.product.Product.{Product}
 use Rattle.text_methods.specs.py_operands.Texts.{text_of}
@@ -52,11 +51,3 @@ int_or_text t None = int_of_text t
 
 abbrev pub int_of_value : List Obj → Value → Product
 int_of_value heap v = int_or_text (text_of heap v) (int_value v)
-
-abbrev pub int_by : List Obj → Option Value → Product
-int_by heap (Some v) = int_of_value heap v
-int_by heap None = wrong (codes "int") 0
-
--- `int(v)`
-abbrev pub int_of : List Obj → List Value → List (List ℕ × Value) → Product
-int_of heap args named = int_by heap (sole args named)

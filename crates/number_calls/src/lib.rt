@@ -6,12 +6,14 @@
 //!
 //! # What is proved
 //!
-//! - `abs`, `divmod`, `bool_of`, `int`, `ord` and `chr` give exactly the product that the definitions of the same names say, at no cost:
-//!   numbers are exact or an `OverflowError`, and `int` of a text is the number that its digits spell, of any length.
+//! - [`calls::number_call`]: under a budget, exactly the product that `number_call_of` says, which has an equation for each function;
+//!   arguments that don't fit are `wrong arguments for NAME`, at no cost.
+//! - `abs`, `divmod`, `bool`, `int`, `ord` and `chr` cost nothing: numbers are exact or an `OverflowError`, and `int` of a text is the
+//!   number that its digits spell, of any length.
 //! - `sum` adds from left to right, and stops at the first element that is no number or takes the sum out of range, at the cost of those
 //!   visited.
-//! - `best` gives the first of the least elements for `min`, and the first of the greatest for `max`, under a budget, at the cost of the
-//!   elements visited, the comparisons and what each of these costs.
+//! - `min` gives the first of the least elements and `max` the first of the greatest, at the cost of the elements visited, the comparisons
+//!   and what each of these costs.
 //!
 //! # What tests alone show
 //!
@@ -22,7 +24,8 @@
 //! How long a call takes.
 #![tactic(auto)]
 
-pub mod best;
-pub mod numbers;
-pub mod sums;
-pub mod texts;
+mod best;
+pub mod calls;
+mod numbers;
+mod sums;
+mod texts;

@@ -18,27 +18,14 @@ use py_values::{OutOfMemory, PyText};
 use std::alloc::Global;
 
 /// A number without its sign, where it has its 128 bits.
-fn size(n: i128) -> Option<i128>
+pub(crate) fn size(n: i128) -> Option<i128>
     ensures { result ≡ numbers.size n }
 {
     if n < 0 { negative(n) } else { itself(n) }
 }
 
-/// A call of `abs` (Python library reference, built-in functions).
-pub fn abs(alloc: Global, args: &[Value], named: &[(PyText, Value)]) -> Result<Product, OutOfMemory>
-    ensures { IfOk result (λ p. p ≡ numbers.abs_of args.now named.now) }
-{
-    match sole_number(args, named) {
-        Some(n) => {
-            let made = number_made(alloc, size(n))?;
-            Ok(plain(alloc, made))
-        }
-        None => wrong(alloc, "abs", 0),
-    }
-}
-
 /// The number that is the one argument of a call.
-fn sole_number(args: &[Value], named: &[(PyText, Value)]) -> Option<i128>
+pub(crate) fn sole_number(args: &[Value], named: &[(PyText, Value)]) -> Option<i128>
     ensures { result ≡ numbers.sole_number args.now named.now }
 {
     match sole(args, named) {
@@ -48,7 +35,7 @@ fn sole_number(args: &[Value], named: &[(PyText, Value)]) -> Option<i128>
 }
 
 /// The two numbers that are the arguments of a call.
-fn number_pair(args: &[Value], named: &[(PyText, Value)]) -> Option<(i128, i128)>
+pub(crate) fn number_pair(args: &[Value], named: &[(PyText, Value)]) -> Option<(i128, i128)>
     ensures { result ≡ numbers.number_pair args.now named.now }
 {
     match pair(args, named) {
@@ -83,7 +70,7 @@ fn tuple_or_raise(
     }
 }
 
-fn divided(alloc: Global, x: i128, y: i128) -> Result<Product, OutOfMemory>
+pub(crate) fn divided(alloc: Global, x: i128, y: i128) -> Result<Product, OutOfMemory>
     ensures { IfOk result (λ p. p ≡ numbers.divided_pair x y) }
 {
     if y == 0 {
@@ -92,37 +79,8 @@ fn divided(alloc: Global, x: i128, y: i128) -> Result<Product, OutOfMemory>
     tuple_or_raise(alloc, floor_div(x, y), floor_mod(x, y))
 }
 
-/// A call of `divmod` (Python library reference, built-in functions).
-pub fn divmod(
-    alloc: Global,
-    args: &[Value],
-    named: &[(PyText, Value)],
-) -> Result<Product, OutOfMemory>
-    ensures { IfOk result (λ p. p ≡ numbers.divmod_of args.now named.now) }
-{
-    match number_pair(args, named) {
-        Some((x, y)) => divided(alloc, x, y),
-        None => wrong(alloc, "divmod", 0),
-    }
-}
-
-/// A call of `bool` (Python library reference, boolean type).
-pub fn bool_of(
-    alloc: Global,
-    heap: &Heap,
-    args: &[Value],
-    named: &[(PyText, Value)],
-) -> Result<Product, OutOfMemory>
-    ensures { IfOk result (λ p. p ≡ numbers.bool_of heap.now args.now named.now) }
-{
-    match sole(args, named) {
-        Some(v) => Ok(plain(alloc, Effect::Give(Value::Bool(truth(heap, v)), 0))),
-        None => wrong(alloc, "bool", 0),
-    }
-}
-
 /// The one character of a text.
-fn sole_char(text: Option<&PyText>) -> Option<char>
+pub(crate) fn sole_char(text: Option<&PyText>) -> Option<char>
     ensures { result ≡ numbers.sole_char (option_copied text.entry) }
 {
     match text {
@@ -134,39 +92,11 @@ fn sole_char(text: Option<&PyText>) -> Option<char>
     }
 }
 
-/// A call of `ord` (Python library reference, built-in functions).
-pub fn ord(
-    alloc: Global,
-    heap: &Heap,
-    args: &[Value],
-    named: &[(PyText, Value)],
-) -> Result<Product, OutOfMemory>
-    ensures { IfOk result (λ p. p ≡ numbers.ord_of heap.now args.now named.now) }
-{
-    match sole_char(sole_text(heap, args, named)) {
-        Some(c) => Ok(plain(alloc, Effect::Give(Value::Int(c as i128), 0))),
-        None => wrong(alloc, "ord", 0),
-    }
-}
-
 /// The character of a number, where it has one.
-fn char_of(n: Option<i128>) -> Option<char>
+pub(crate) fn char_of(n: Option<i128>) -> Option<char>
     ensures { result ≡ numbers.char_of n }
 {
     let n = n?;
     let code = u32::try_from(n).ok()?;
     char::from_u32(code)
-}
-
-/// A call of `chr` (Python library reference, built-in functions).
-pub fn chr(alloc: Global, args: &[Value], named: &[(PyText, Value)]) -> Result<Product, OutOfMemory>
-    ensures { IfOk result (λ p. p ≡ numbers.chr_of args.now named.now) }
-{
-    match char_of(sole_number(args, named)) {
-        Some(c) => {
-            let text = PyText::from_chars(alloc, &[c])?;
-            Ok(plain(alloc, Effect::New(Obj::Text(text), 0)))
-        }
-        None => wrong(alloc, "chr", 0),
-    }
 }

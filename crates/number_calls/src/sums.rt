@@ -109,19 +109,15 @@ fn sum_made(alloc: Global, heap: &Heap, elements: Elements) -> Result<Product, O
     Ok(plain(alloc, Effect::Fail(raise, 1)))
 }
 
-/// A call of `sum` (Python library reference, built-in functions).
-pub fn sum(
+/// The sum of what was gathered.
+pub(crate) fn sum_gathered(
     alloc: Global,
     heap: &Heap,
-    args: &[Value],
-    named: &[(PyText, Value)],
+    gathered: ElementsResult,
 ) -> Result<Product, OutOfMemory>
-    ensures { IfOk result (λ p. p ≡ sums.sum_of heap.now args.now named.now) }
+    ensures { IfOk result (λ p. p ≡ sums.sum_gathered heap.now gathered) }
 {
-    let Some(v) = sole(args, named) else {
-        return wrong(alloc, "sum", 0);
-    };
-    match elements_of(alloc, heap, heap.len(), v)? {
+    match gathered {
         ElementsResult::Elements(elements) => sum_made(alloc, heap, elements),
         ElementsResult::Refused(raise) => Ok(plain(alloc, Effect::Fail(raise, 0))),
     }

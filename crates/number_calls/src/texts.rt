@@ -107,26 +107,11 @@ fn int_of_text(alloc: Global, text: Option<&PyText>) -> Result<Product, OutOfMem
     }
 }
 
-fn int_of_value(alloc: Global, heap: &Heap, v: Value) -> Result<Product, OutOfMemory>
+pub(crate) fn int_of_value(alloc: Global, heap: &Heap, v: Value) -> Result<Product, OutOfMemory>
     ensures { IfOk result (λ p. p ≡ texts.int_of_value heap.now v) }
 {
     match number(v) {
         Some(n) => Ok(plain(alloc, Effect::Give(Value::Int(n), 0))),
         None => int_of_text(alloc, text_of(heap, v)),
-    }
-}
-
-/// A call of `int` (Python library reference, built-in functions).
-pub fn int(
-    alloc: Global,
-    heap: &Heap,
-    args: &[Value],
-    named: &[(PyText, Value)],
-) -> Result<Product, OutOfMemory>
-    ensures { IfOk result (λ p. p ≡ texts.int_of heap.now args.now named.now) }
-{
-    match sole(args, named) {
-        Some(v) => int_of_value(alloc, heap, v),
-        None => wrong(alloc, "int", 0),
     }
 }

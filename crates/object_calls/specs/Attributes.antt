@@ -1,8 +1,8 @@
--- Attributes by their names: `getattr` and `hasattr` (Python library reference, built-in functions). They cost nothing. What reads an
--- attribute is a part of the definitions: it fails where there is none of the name.
-use Rattle.std.specs.Prelude.{ℕ, Bool, true, false, List, [], ◌∷◌, codes, Option, Some, None}
+-- Attributes by their names: `getattr` and `hasattr` (Python library reference, built-in functions). They are told what was read: a
+-- failure where there is no attribute of the name.
+use Rattle.std.specs.Prelude.{ℕ, Bool, true, false, List, [], ◌∷◌, Option, Some, None}
 use Rattle.call_products.specs.Arguments.{pair}
-use Rattle.call_products.specs.Products.{plain, wrong}
+use Rattle.call_products.specs.Products.{plain}
 use Rattle.call_products.specs.declared.product.Product.{Product}
 use Rattle.object_calls.specs.Kinds.{answered}
 use Rattle.object_calls.specs.declared.attributes.AttributeQuery.{AttributeQuery}
@@ -45,19 +45,3 @@ is_there (Fail r n) = false
 
 abbrev pub hasattr_told : Effect → Product
 hasattr_told m = answered (is_there m)
-
-abbrev pub read_for_get : (Value → List ℕ → Effect) → Option AttributeQuery → Product
-read_for_get read (Some a) = getattr_told a.other (read a.target a.name)
-read_for_get read None = wrong (codes "getattr") 0
-
--- `getattr(v, name)` and `getattr(v, name, d)`
-abbrev pub getattr_called : (Value → List ℕ → Effect) → List Obj → List Value → List (List ℕ × Value) → Product
-getattr_called read heap args named = read_for_get read (getattr_asked heap args named)
-
-abbrev pub read_for_has : (Value → List ℕ → Effect) → Option AttributeQuery → Product
-read_for_has read (Some a) = hasattr_told (read a.target a.name)
-read_for_has read None = wrong (codes "hasattr") 0
-
--- `hasattr(v, name)`
-abbrev pub hasattr_called : (Value → List ℕ → Effect) → List Obj → List Value → List (List ℕ × Value) → Product
-hasattr_called read heap args named = read_for_has read (hasattr_asked heap args named)

@@ -53,29 +53,21 @@ fn names_classes(heap: &Heap, v: Value) -> bool
     }
 }
 
-/// A call of `isinstance` (Python library reference, built-in functions).
-#[tactic(auto, unfolding(crate::specs::Kinds::isinstance_called))]
-pub fn isinstance(
+/// Whether a value is of a class, or of one of a tuple of classes, which a call asks.
+pub(crate) fn isinstance_by(
     alloc: Global,
     heap: &Heap,
-    args: &[Value],
-    named: &[(PyText, Value)],
+    asked: Option<(Value, Value)>,
 ) -> Result<Product, OutOfMemory>
-    ensures { IfOk result (λ p. p ≡ kinds.isinstance_called heap.now args.now named.now) }
+    ensures { IfOk result (λ p. p ≡ kinds.isinstance_by heap.now asked) }
 {
-    match pair(args, named) {
-        Some((v, class)) => {
-            if names_classes(heap, class) {
-                Ok(answered(alloc, is_a(heap, v, class)))
-            } else {
-                wrong(alloc, "isinstance", 0)
-            }
-        }
-        None => wrong(alloc, "isinstance", 0),
+    match asked {
+        Some((v, class)) if names_classes(heap, class) => Ok(answered(alloc, is_a(heap, v, class))),
+        _ => wrong(alloc, "isinstance", 0),
     }
 }
 
-fn is_callable(heap: &Heap, v: Value) -> bool
+pub(crate) fn is_callable(heap: &Heap, v: Value) -> bool
     ensures { result ≡ kinds.is_callable heap.now v }
 {
     let Value::Ref(id) = v else {
@@ -85,20 +77,5 @@ fn is_callable(heap: &Heap, v: Value) -> bool
         Some(Obj::Function(_) | Obj::Method(_) | Obj::Builtin(_) | Obj::Class(_)) => true,
         Some(Obj::Mark(mark)) => !mark.called,
         _ => false,
-    }
-}
-
-/// A call of `callable` (Python library reference, built-in functions).
-pub fn callable(
-    alloc: Global,
-    heap: &Heap,
-    args: &[Value],
-    named: &[(PyText, Value)],
-) -> Result<Product, OutOfMemory>
-    ensures { IfOk result (λ p. p ≡ kinds.callable_called heap.now args.now named.now) }
-{
-    match sole(args, named) {
-        Some(v) => Ok(answered(alloc, is_callable(heap, v))),
-        None => wrong(alloc, "callable", 0),
     }
 }

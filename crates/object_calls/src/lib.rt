@@ -2,16 +2,16 @@
 //!
 //! # What it is for
 //!
-//! What a call makes is a function of the heap and its arguments that knows no budget. How an attribute is read is not known here:
-//! `getattr` and `hasattr` stand as what is asked for, and as what is told of what was read.
+//! What a call makes is a function of the heap and its arguments that knows no budget. `getattr` and `hasattr` read as an attribute
+//! reference does (`attribute_of` of `py_attributes`).
 //!
 //! # What is proved
 //!
+//! - [`calls::object_call`]: exactly the product that `object_call_of` says, which has an equation for each function; arguments that don't
+//!   fit are `wrong arguments for NAME`, at no cost.
 //! - `repr` gives a new text at the cost of its length; one that lies too deep is a `RecursionError`, else one past the greatest length a
-//!   `MemoryError` (`repr_called`). `isinstance` takes a class or a tuple of classes (`isinstance_called`), `callable` any value
-//!   (`callable_called`); arguments that don't fit are `wrong arguments for NAME`, at no cost.
-//! - `getattr_asked`, `getattr_told`, `hasattr_asked` and `hasattr_told` equal the definitions of the same names, of which `getattr_called` and
-//!   `hasattr_called` are made.
+//!   `MemoryError`. `isinstance` takes a class or a tuple of classes, `callable` any value. `getattr` and `hasattr` cost what the reading
+//!   costs.
 //!
 //! # What tests alone show
 //!
@@ -22,6 +22,7 @@
 //! How long a call takes.
 #![tactic(auto)]
 
-pub mod attributes;
-pub mod kinds;
-pub mod reprs;
+mod attributes;
+pub mod calls;
+mod kinds;
+mod reprs;

@@ -15,7 +15,7 @@ use py_values::value::Value;
 use py_values::{OutOfMemory, PyText};
 use std::alloc::Global;
 
-fn text_made(alloc: Global, shown: Shown) -> Result<Product, OutOfMemory>
+pub(crate) fn text_made(alloc: Global, shown: Shown) -> Result<Product, OutOfMemory>
     ensures { IfOk result (λ p. p ≡ reprs.text_made shown) }
 {
     let Shown { text, cut, deep } = shown;
@@ -27,23 +27,4 @@ fn text_made(alloc: Global, shown: Shown) -> Result<Product, OutOfMemory>
     }
     let len = text.chars().len() as u64;
     Ok(plain(alloc, Effect::New(Obj::Text(text), len)))
-}
-
-/// A call of `repr` (Python library reference, built-in functions).
-#[tactic(auto, unfolding(crate::specs::Reprs::repr_called))]
-pub fn repr(
-    alloc: Global,
-    heap: &Heap,
-    args: &[Value],
-    named: &[(PyText, Value)],
-) -> Result<Product, OutOfMemory>
-    ensures { IfOk result (λ p. p ≡ reprs.repr_called heap.now args.now named.now) }
-{
-    match sole(args, named) {
-        Some(v) => {
-            let shown = py_repr::repr::repr(alloc, heap, v, MOST_ELEMENTS)?;
-            text_made(alloc, shown)
-        }
-        None => wrong(alloc, "repr", 0),
-    }
 }

@@ -1,9 +1,8 @@
 -- Attributes that are read (Language Reference, attribute references; the standard type hierarchy; Python library reference, string methods,
 -- lists, tuples, mapping types; pytest's reference, `request`, `pytest.mark`, `ExceptionInfo`).
 use Rattle.std.specs.Prelude.{ℕ, zero, suc, Bool, true, false, List, [], ◌++◌, length, Option, Some, None, codes, slice_get, if◌then◌else◌}
-use Rattle.std.specs.List.{list_any}
-use Rattle.py_kinds.specs.Builtins.{class_place, classes, method_in, text_methods, list_methods, tuple_methods, dict_methods, request_methods}
-use Rattle.py_kinds.specs.Classes.{base_of, exc_base, exc_eq}
+use Rattle.py_kinds.specs.Builtins.{class_place, base_place, method_in, text_methods, list_methods, tuple_methods, dict_methods, request_methods}
+use Rattle.py_kinds.specs.Classes.{base_of, exc_base}
 use Rattle.py_kinds.specs.Kinds.{kind_name}
 use Rattle.py_values.specs.Names.{name_eq, find_name}
 use Rattle.py_values.specs.Raises.{text_raise}
@@ -98,14 +97,13 @@ abbrev pub class_value : List Obj → List ℕ → ObjId → Option Value
 class_value heap name c = value_within (length heap) heap name c
 
 -- the object that has the names of a class of exceptions: its own, or else that of its base
-abbrev pub place_or : Bool → ExcClass → Option ExcClass → Option ObjId
-place_or true c base = Some (class_place c)
-place_or false c None = None
-place_or false c (Some b) = Some (class_place b)
+abbrev pub place_or : Option ObjId → Option ExcClass → Option ObjId
+place_or (Some id) base = Some id
+place_or None base = base_place base
 
 abbrev pub names_place : ClassRef → Option ObjId
 names_place (ref.Defined id) = Some id
-names_place (ref.Builtin c) = place_or (list_any (λ d. exc_eq d c) classes) c (exc_base c)
+names_place (ref.Builtin c) = place_or (class_place c) (exc_base c)
 
 abbrev pub value_at_class : List Obj → List ℕ → Option ObjId → Option Value
 value_at_class heap name (Some id) = class_value heap name id

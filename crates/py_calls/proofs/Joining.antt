@@ -6,16 +6,16 @@ use Rattle.py_calls.specs.Texts.{append_text, told_text, text_of}
 use Rattle.py_values.specs.declared.end.Raise.{Raise}
 use Rattle.py_values.specs.declared.object.Obj.{Obj}
 use Rattle.py_values.specs.declared.value.Value.{Value}
-use Rattle.py_calls.specs.declared.made.TextMade.{TextMade}
-use Rattle.py_calls.specs.declared.made.TextMade.TheVariants.{Text, Refused}
+use Rattle.py_calls.specs.declared.made.TextResult.{TextResult}
+use Rattle.py_calls.specs.declared.made.TextResult.TheVariants.{Text, Refused}
 
-pub joined_assoc : (x y z : TextMade) → append_text x (append_text y z) ≡ append_text (append_text x y) z
+pub joined_assoc : (x y z : TextResult) → append_text x (append_text y z) ≡ append_text (append_text x y) z
 joined_assoc (Refused r) y z = refl
 joined_assoc (Text a) (Refused r) z = refl
 joined_assoc (Text a) (Text b) (Refused r) = refl
 joined_assoc (Text a) (Text b) (Text c) = simp append_assoc
 
-pub joined_empty : (x : TextMade) → append_text (Text []) x ≡ x
+pub joined_empty : (x : TextResult) → append_text (Text []) x ≡ x
 joined_empty (Text a) = refl
 joined_empty (Refused r) = refl
 

@@ -3,6 +3,6 @@ use Rattle.std.specs.Prelude.{ℕ, List}
 use Rattle.sequence_calls.specs.call_products.declared.product.Product.{Product}
 
 -- the bytes that it prints, and what it makes with its cost
-pub record Called : Type 0 where
+pub record CallEffect : Type 0 where
   pub printed : List ℕ
   pub product : Product

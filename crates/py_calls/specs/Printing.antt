@@ -2,8 +2,8 @@
 use Rattle.std.specs.Prelude.{ℕ, Bool, true, false, List, [], ◌∷◌, if◌then◌else◌, Option, Some, None, codes, slice_get, nat_eq}
 use Rattle.std.specs.Cmp.Lexicographic.{pointwise}
 use Rattle.py_calls.specs.Texts.{text_of, append_text, wrong}
-use Rattle.py_calls.specs.declared.made.TextMade.{TextMade}
-use Rattle.py_calls.specs.declared.made.TextMade.TheVariants.{Text, Refused}
+use Rattle.py_calls.specs.declared.made.TextResult.{TextResult}
+use Rattle.py_calls.specs.declared.made.TextResult.TheVariants.{Text, Refused}
 use Rattle.py_calls.specs.declared.style.Style.{Style}
 use Rattle.py_values.specs.declared.object.Obj.{Obj}
 use Rattle.py_values.specs.declared.object.Obj.TheVariants as obj
@@ -11,11 +11,11 @@ use Rattle.py_values.specs.declared.value.Value.{Value}
 use Rattle.py_values.specs.declared.value.Value.TheVariants as val
 
 -- the separator before a value that isn't the first
-abbrev pub gap : Bool → List ℕ → TextMade
+abbrev pub gap : Bool → List ℕ → TextResult
 gap first sep = Text (if first then [] else sep)
 
 -- the texts of values, a separator before each but the first, and an end
-abbrev pub line_of : List Obj → Bool → List ℕ → List ℕ → List Value → TextMade
+abbrev pub line_of : List Obj → Bool → List ℕ → List ℕ → List Value → TextResult
 line_of heap first sep end [] = Text end
 line_of heap first sep end (v ∷ vs) = append_text (gap first sep) (append_text (text_of heap v) (line_of heap false sep end vs))
 
@@ -57,10 +57,10 @@ styled heap None args = None
 styled heap (Some s) [] = Some s
 styled heap (Some s) (arg ∷ args) = styled heap (style_with heap s arg.0 arg.1) args
 
-abbrev pub line_by : List Obj → List Value → Option Style → TextMade
+abbrev pub line_by : List Obj → List Value → Option Style → TextResult
 line_by heap args (Some s) = line_of heap true s.sep s.end args
 line_by heap args None = Refused (wrong (codes "print"))
 
 -- what `print` writes
-abbrev pub print_text : List Obj → List Value → List (List ℕ × Value) → TextMade
+abbrev pub print_text : List Obj → List Value → List (List ℕ × Value) → TextResult
 print_text heap args named = line_by heap args (styled heap (Some plain_style) named)

@@ -5,32 +5,35 @@ ghost use Rattle.sequence_calls.specs.call_products.Products as products;
 ghost use Rattle.py_calls.specs.Calls as calls;
 ghost use Rattle.py_values.specs.Ends.{steps_of};
 
-use crate::functions::{len_made, number_call, object_call, sequence_call, str_made};
+use crate::functions::{len_made, str_made};
 use crate::line::{print_text, push_bytes};
-use crate::made::TextMade;
+use crate::made::TextResult;
 use crate::methods::{dict_call, list_call, text_call, tuple_call};
 use call_products::arguments::sole;
 use call_products::product::{Product, finish_product, plain, product_within};
+use number_calls::calls::number_call;
+use object_calls::calls::object_call;
 use py_values::builtin::Builtin;
 use py_values::end::{Effect, OpEnd};
 use py_values::heap::Heap;
 use py_values::value::Value;
 use py_values::{OutOfMemory, PyText};
 use pytest_calls::calls::{addfinalizer_called, pytest_called};
+use sequence_calls::calls::sequence_call;
 use std::alloc::Global;
 
 /// Prints a text, where the budget suffices for its length.
 fn print_by(
     alloc: Global,
     printed: &mut Vec<u8>,
-    text: TextMade,
+    text: TextResult,
     budget: u64,
 ) -> Result<Option<Product>, OutOfMemory>
     ensures made { IfOk result (λ p. p ≡ products.product_within budget (calls.print_by text).product) }
     ensures printed { OnOk result (printed.new.items ≡ printed.old.items ++ calls.printed_within budget (calls.print_by text)) }
 {
     match text {
-        TextMade::Text(text) => {
+        TextResult::Text(text) => {
             let cost = text.chars().len() as u64;
             if budget < cost {
                 return Ok(None);
@@ -38,7 +41,7 @@ fn print_by(
             push_bytes(alloc, printed, text.chars())?;
             Ok(Some(plain(alloc, Effect::Give(Value::None, cost))))
         }
-        TextMade::Refused(raise) => Ok(Some(plain(alloc, Effect::Fail(raise, 0)))),
+        TextResult::Refused(raise) => Ok(Some(plain(alloc, Effect::Fail(raise, 0)))),
     }
 }
 

@@ -3,9 +3,9 @@
 ghost use Rattle.std.specs.Prelude.{◌≡◌, ◌++◌, IfOk, OnOk, true, string_bytes, encode_utf8_all};
 ghost use Rattle.py_calls.specs.Printing as printing;
 ghost use Rattle.py_calls.specs.Texts as texts;
-ghost use Rattle.py_calls.specs.declared.made.TextMade.TheVariants as text;
+ghost use Rattle.py_calls.specs.declared.made.TextResult.TheVariants as text;
 
-use crate::made::TextMade;
+use crate::made::TextResult;
 use crate::style::styled;
 use crate::text::{text_of, wrong};
 use py_values::end::Raise;
@@ -34,11 +34,11 @@ fn push_value(
     ensures { IfOk result (λ r. texts.append_text (text.Text chars.old.items) (texts.text_of heap.now v) ≡ texts.told_text r chars.new.items) }
 {
     match text_of(alloc, heap, v)? {
-        TextMade::Text(text) => {
+        TextResult::Text(text) => {
             chars.extend_from_slice(text.chars())?;
             Ok(None)
         }
-        TextMade::Refused(raise) => Ok(Some(raise)),
+        TextResult::Refused(raise) => Ok(Some(raise)),
     }
 }
 
@@ -50,7 +50,7 @@ fn line(
     args: &[Value],
     sep: &[char],
     end: &[char],
-) -> Result<TextMade, OutOfMemory>
+) -> Result<TextResult, OutOfMemory>
     ensures { IfOk result (λ t. t ≡ printing.line_of heap.now true sep.now end.now args.now) }
 {
     let mut chars = Vec::new(alloc);
@@ -59,12 +59,12 @@ fn line(
         push_gap(&mut chars, first, sep)?;
         first = false;
         if let Some(raise) = push_value(alloc, heap, &mut chars, *v)? {
-            return Ok(TextMade::Refused(raise));
+            return Ok(TextResult::Refused(raise));
         }
     }
     chars.extend_from_slice(end)?;
     let text = PyText::from_chars(alloc, &chars)?;
-    Ok(TextMade::Text(text))
+    Ok(TextResult::Text(text))
 }
 
 /// What `print` writes, or why it writes nothing.
@@ -73,14 +73,14 @@ pub fn print_text(
     heap: &Heap,
     args: &[Value],
     named: &[(PyText, Value)],
-) -> Result<TextMade, OutOfMemory>
+) -> Result<TextResult, OutOfMemory>
     ensures { IfOk result (λ t. t ≡ printing.print_text heap.now args.now named.now) }
 {
     match styled(alloc, heap, named)? {
         Some(style) => line(alloc, heap, args, style.sep.chars(), style.end.chars()),
         None => {
             let raise = wrong(alloc, "print")?;
-            Ok(TextMade::Refused(raise))
+            Ok(TextResult::Refused(raise))
         }
     }
 }

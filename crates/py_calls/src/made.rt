@@ -5,7 +5,7 @@ use py_values::end::Raise;
 
 /// A text, or the exception that is raised in its place.
 #[derive(Drop)]
-pub enum TextMade {
+pub enum TextResult {
     Text(PyText),
     Refused(Raise),
 }

@@ -3,7 +3,7 @@
 ghost use Rattle.std.specs.Prelude.{◌≡◌, IfOk};
 ghost use Rattle.py_calls.specs.Texts as texts;
 
-use crate::made::TextMade;
+use crate::made::TextResult;
 use py_repr::repr::str;
 use py_repr::shown::Shown;
 use py_values::OutOfMemory;
@@ -24,24 +24,24 @@ pub fn wrong(alloc: Global, name: &str) -> Result<Raise, OutOfMemory>
     Raise::from_chars(alloc, ExcClass::TypeError, &text)
 }
 
-fn text_by(alloc: Global, shown: Shown) -> Result<TextMade, OutOfMemory>
+fn text_by(alloc: Global, shown: Shown) -> Result<TextResult, OutOfMemory>
     ensures { IfOk result (λ t. t ≡ texts.text_by shown) }
 {
     let Shown { text, cut, deep } = shown;
     if deep {
         let raise = Raise::from_ascii(alloc, ExcClass::RecursionError, "nesting too deep")?;
-        return Ok(TextMade::Refused(raise));
+        return Ok(TextResult::Refused(raise));
     }
     if cut {
         let raise = Raise::from_ascii(alloc, ExcClass::MemoryError, "sequence too long")?;
-        return Ok(TextMade::Refused(raise));
+        return Ok(TextResult::Refused(raise));
     }
-    Ok(TextMade::Text(text))
+    Ok(TextResult::Text(text))
 }
 
 /// The text of a value.
 #[tactic(auto, unfolding(crate::specs::Texts::text_of))]
-pub fn text_of(alloc: Global, heap: &Heap, v: Value) -> Result<TextMade, OutOfMemory>
+pub fn text_of(alloc: Global, heap: &Heap, v: Value) -> Result<TextResult, OutOfMemory>
     ensures { IfOk result (λ t. t ≡ texts.text_of heap.now v) }
 {
     let shown = str(alloc, heap, v, MOST_ELEMENTS)?;

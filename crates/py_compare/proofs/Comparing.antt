@@ -7,15 +7,15 @@ use Rattle.py_values.specs.declared.object.Obj.{Obj}
 use Rattle.py_values.specs.declared.value.ObjId.{ObjId}
 use Rattle.py_values.specs.declared.value.Value.{Value}
 use Rattle.py_values.specs.declared.value.Value.TheVariants.{Ref}
-use Rattle.py_compare.specs.Equal.{Found, finding, Holding, Holds, Fails, Deep, Unordered, after, also, told, shifted, holds_if, chars_equal, rows_equal, pair_equal, pairs_equal, equal_to, objs_equal}
+use Rattle.py_compare.specs.Equal.{ComparisonResult, finding, ComparisonVerdict, Holds, Fails, Deep, Unordered, after, also, told, shifted, holds_if, chars_equal, rows_equal, pair_equal, pairs_equal, equal_to, objs_equal}
 use Rattle.py_compare.specs.declared.tested.Tested.{Tested}
 use Rattle.py_compare.specs.declared.tested.Tested.TheVariants.{Yes, No, TooDeep, NotOrdered, Exhausted}
 
-pub told_over : (budget : ℕ) (f : Found) → budget < f.cost → Exhausted ≡ told budget f
+pub told_over : (budget : ℕ) (f : ComparisonResult) → budget < f.cost → Exhausted ≡ told budget f
 told_over budget f h = grind (arith, common_steps)
 
 -- a comparison that has used all of its budget, and goes on
-pub told_spent : (budget used : ℕ) (f g : Found) → f ≡ after used g → budget ≤ used → 0 < g.cost → Exhausted ≡ told budget f
+pub told_spent : (budget used : ℕ) (f g : ComparisonResult) → f ≡ after used g → budget ≤ used → 0 < g.cost → Exhausted ≡ told budget f
 told_spent budget used f g e h k = told_over budget f (rw e (omega arith))
 
 pub chars_cost : (xs ys : List ℕ) (i : ℕ) → i < length xs → length xs ≡ length ys → 0 < (chars_equal (drop i xs) (drop i ys)).cost
@@ -24,7 +24,7 @@ chars_cost (x ∷ xs) [] i h e = absurd (omega arith)
 chars_cost (x ∷ xs) (y ∷ ys) zero h e = omega arith
 chars_cost (x ∷ xs) (y ∷ ys) (suc i) h e = chars_cost xs ys i (omega arith) (omega arith)
 
-pub rows_cost : (f : Value → Value → Found) (xs ys : List Value) (i : ℕ) → i < length xs → length xs ≡ length ys
+pub rows_cost : (f : Value → Value → ComparisonResult) (xs ys : List Value) (i : ℕ) → i < length xs → length xs ≡ length ys
     → 0 < (rows_equal f (drop i xs) (drop i ys)).cost
 rows_cost f [] ys i h e = absurd (omega arith)
 rows_cost f (x ∷ xs) [] i h e = absurd (omega arith)
@@ -38,7 +38,7 @@ equal_ref (suc n) h i j lt =
     let e : suc n - 1 ≡ n = omega arith in
     ap (λ (m : ℕ). objs_equal (equal_to m h) (eqb i.at j.at) (slice_get h i.at) (slice_get h j.at)) (sym e)
 
-pub pairs_step : (f : Value → Value → Found) (a b : List (List Atom × Pair)) (i : ℕ) (k : List Atom) (p : Pair)
+pub pairs_step : (f : Value → Value → ComparisonResult) (a b : List (List Atom × Pair)) (i : ℕ) (k : List Atom) (p : Pair)
     → Some (k, p) ≡ slice_get a i
     → pairs_equal f (drop i a) b ≡ also (pair_equal f (k, p) b) (pairs_equal f (drop (i + 1) a) b)
 pairs_step f [] b i k p h = cc
@@ -53,7 +53,7 @@ is_yes (NotOrdered n) = false
 is_yes Exhausted = false
 
 -- a part that ends a comparison
-pub told_stop : (left used : ℕ) (w g : Found) (v : Holding) (m : ℕ) (t : Tested)
+pub told_stop : (left used : ℕ) (w g : ComparisonResult) (v : ComparisonVerdict) (m : ℕ) (t : Tested)
     → w ≡ after used (also (finding v m) g) → used ≤ left → t ≡ told (left - used) (finding v m) → is_yes t ≡ false
     → shifted used t ≡ told left w
 told_stop left used w g Holds m t e h k n = grind (arith, common_steps)
@@ -62,7 +62,7 @@ told_stop left used w g Deep m t e h k n = grind (arith, common_steps)
 told_stop left used w g Unordered m t e h k n = grind (arith, common_steps)
 
 -- a part behind which a comparison goes on
-pub told_go : (left used : ℕ) (w g : Found) (v : Holding) (m n : ℕ)
+pub told_go : (left used : ℕ) (w g : ComparisonResult) (v : ComparisonVerdict) (m n : ℕ)
     → w ≡ after used (also (finding v m) g) → used ≤ left → Yes n ≡ told (left - used) (finding v m)
     → (w ≡ after (used + n) g) × (used + n ≤ left)
 told_go left used w g Holds m n e h k = (grind (arith, common_steps), grind (arith, common_steps))

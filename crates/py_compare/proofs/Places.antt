@@ -5,17 +5,17 @@ use Rattle.py_values.specs.declared.object.Obj.{Obj}
 use Rattle.py_values.specs.declared.value.ObjId.{ObjId}
 use Rattle.py_values.specs.declared.value.Value.{Value}
 use Rattle.py_values.specs.Numbers.{int_value}
-use Rattle.py_compare.specs.Equal.{Found, finding, Holding, Holds, Fails, told, objs_equal, equal_to, plain_equal}
+use Rattle.py_compare.specs.Equal.{ComparisonResult, finding, ComparisonVerdict, Holds, Fails, told, objs_equal, equal_to, plain_equal}
 use Rattle.py_compare.specs.Equal as equal
-use Rattle.py_compare.specs.Order.{OrderVerdict, Less, Same, More, Deep, Unordered, Placed, placed, behind, next, place_within, place_shifted, chars_order, rows_order, unlike, unlike_told, less_by, less_told, order_to, objs_order, order_by, refs_of, numbers_order}
+use Rattle.py_compare.specs.Order.{OrderVerdict, Less, Same, More, Deep, Unordered, OrderResult, placed, behind, next, place_within, place_shifted, chars_order, rows_order, unlike, unlike_told, less_by, less_told, order_to, objs_order, order_by, refs_of, numbers_order}
 use Rattle.py_compare.specs.declared.tested.Comparison.{Comparison}
 use Rattle.py_compare.specs.declared.tested.Comparison.TheVariants as ordered
 
-pub place_over : (budget : ℕ) (f : Placed) → budget < f.cost → ordered.Exhausted ≡ place_within budget f
+pub place_over : (budget : ℕ) (f : OrderResult) → budget < f.cost → ordered.Exhausted ≡ place_within budget f
 place_over budget f h = grind (arith, common_steps)
 
 -- an order that has used all of its budget, and goes on
-pub place_spent : (budget used : ℕ) (f g : Placed) → f ≡ behind used g → budget ≤ used → 0 < g.cost → ordered.Exhausted ≡ place_within budget f
+pub place_spent : (budget used : ℕ) (f g : OrderResult) → f ≡ behind used g → budget ≤ used → 0 < g.cost → ordered.Exhausted ≡ place_within budget f
 place_spent budget used f g e h k = place_over budget f (rw e (omega arith))
 
 pub chars_cost : (xs ys : List ℕ) (i : ℕ) → i < length xs → i < length ys → 0 < (chars_order (drop i xs) (drop i ys)).cost
@@ -24,7 +24,7 @@ chars_cost (x ∷ xs) [] i h k = absurd (omega arith)
 chars_cost (x ∷ xs) (y ∷ ys) zero h k = omega arith
 chars_cost (x ∷ xs) (y ∷ ys) (suc i) h k = chars_cost xs ys i (omega arith) (omega arith)
 
-pub rows_cost : (f : Value → Value → Placed) (xs ys : List Value) (i : ℕ) → i < length xs → i < length ys
+pub rows_cost : (f : Value → Value → OrderResult) (xs ys : List Value) (i : ℕ) → i < length xs → i < length ys
     → 0 < (rows_order f (drop i xs) (drop i ys)).cost
 rows_cost f [] ys i h k = absurd (omega arith)
 rows_cost f (x ∷ xs) [] i h k = absurd (omega arith)
@@ -55,7 +55,7 @@ chars_same (x ∷ xs) [] i e h = absurd (omega arith)
 chars_same (x ∷ xs) (y ∷ ys) zero e h = absurd (omega arith)
 chars_same (x ∷ xs) (y ∷ ys) (suc i) e h = chars_same xs ys i (omega arith) (omega arith)
 
-pub rows_less : (f : Value → Value → Placed) (xs ys : List Value) (i : ℕ) → i ≡ length xs → length xs < length ys
+pub rows_less : (f : Value → Value → OrderResult) (xs ys : List Value) (i : ℕ) → i ≡ length xs → length xs < length ys
     → rows_order f (drop i xs) (drop i ys) ≡ placed Less 0
 rows_less f [] [] i e h = absurd (omega arith)
 rows_less f [] (y ∷ ys) zero e h = refl
@@ -64,7 +64,7 @@ rows_less f (x ∷ xs) [] i e h = absurd (omega arith)
 rows_less f (x ∷ xs) (y ∷ ys) zero e h = absurd (omega arith)
 rows_less f (x ∷ xs) (y ∷ ys) (suc i) e h = rows_less f xs ys i (omega arith) (omega arith)
 
-pub rows_more : (f : Value → Value → Placed) (xs ys : List Value) (i : ℕ) → i ≡ length ys → length ys < length xs
+pub rows_more : (f : Value → Value → OrderResult) (xs ys : List Value) (i : ℕ) → i ≡ length ys → length ys < length xs
     → rows_order f (drop i xs) (drop i ys) ≡ placed More 0
 rows_more f [] ys i e h = absurd (omega arith)
 rows_more f (x ∷ xs) [] zero e h = refl
@@ -72,7 +72,7 @@ rows_more f (x ∷ xs) [] (suc i) e h = absurd (omega arith)
 rows_more f (x ∷ xs) (y ∷ ys) zero e h = absurd (omega arith)
 rows_more f (x ∷ xs) (y ∷ ys) (suc i) e h = rows_more f xs ys i (omega arith) (omega arith)
 
-pub rows_same : (f : Value → Value → Placed) (xs ys : List Value) (i : ℕ) → i ≡ length xs → length ys ≡ length xs
+pub rows_same : (f : Value → Value → OrderResult) (xs ys : List Value) (i : ℕ) → i ≡ length xs → length ys ≡ length xs
     → rows_order f (drop i xs) (drop i ys) ≡ placed Same 0
 rows_same f [] [] zero e h = refl
 rows_same f [] [] (suc i) e h = absurd (omega arith)
@@ -82,22 +82,22 @@ rows_same f (x ∷ xs) (y ∷ ys) zero e h = absurd (omega arith)
 rows_same f (x ∷ xs) (y ∷ ys) (suc i) e h = rows_same f xs ys i (omega arith) (omega arith)
 
 -- the end of an order within its budget
-pub place_less : (budget used i : ℕ) (f g : Placed) → f ≡ behind i g → g ≡ placed Less 0 → i ≡ used → i ≤ budget → ordered.Less used ≡ place_within budget f
+pub place_less : (budget used i : ℕ) (f g : OrderResult) → f ≡ behind i g → g ≡ placed Less 0 → i ≡ used → i ≤ budget → ordered.Less used ≡ place_within budget f
 place_less budget used i f g e k j h = grind (arith, common_steps)
 
-pub place_more : (budget used i : ℕ) (f g : Placed) → f ≡ behind i g → g ≡ placed More 0 → i ≡ used → i ≤ budget → ordered.More used ≡ place_within budget f
+pub place_more : (budget used i : ℕ) (f g : OrderResult) → f ≡ behind i g → g ≡ placed More 0 → i ≡ used → i ≤ budget → ordered.More used ≡ place_within budget f
 place_more budget used i f g e k j h = grind (arith, common_steps)
 
-pub place_same : (budget used i : ℕ) (f g : Placed) → f ≡ behind i g → g ≡ placed Same 0 → i ≡ used → i ≤ budget → ordered.Same used ≡ place_within budget f
+pub place_same : (budget used i : ℕ) (f g : OrderResult) → f ≡ behind i g → g ≡ placed Same 0 → i ≡ used → i ≤ budget → ordered.Same used ≡ place_within budget f
 place_same budget used i f g e k j h = grind (arith, common_steps)
 
-unlike_case : (budget : ℕ) (v : Holding) (n : ℕ) → unlike_told (told budget (finding v n)) ≡ place_within budget (unlike (finding v n))
+unlike_case : (budget : ℕ) (v : ComparisonVerdict) (n : ℕ) → unlike_told (told budget (finding v n)) ≡ place_within budget (unlike (finding v n))
 unlike_case budget Holds n = grind (arith, common_steps)
 unlike_case budget Fails n = grind (arith, common_steps)
 unlike_case budget equal.Deep n = grind (arith, common_steps)
 unlike_case budget equal.Unordered n = grind (arith, common_steps)
 
-pub unlike_within : (budget : ℕ) (f : Found) → unlike_told (told budget f) ≡ place_within budget (unlike f)
+pub unlike_within : (budget : ℕ) (f : ComparisonResult) → unlike_told (told budget f) ≡ place_within budget (unlike f)
 unlike_within budget f = unlike_case budget f.verdict f.cost
 
 less_case : (budget : ℕ) (p : OrderVerdict) (n : ℕ) → less_told (place_within budget (placed p n)) ≡ told budget (less_by p n)
@@ -107,7 +107,7 @@ less_case budget More n = grind (arith, common_steps)
 less_case budget Deep n = grind (arith, common_steps)
 less_case budget Unordered n = grind (arith, common_steps)
 
-pub less_within : (budget : ℕ) (f : Placed) → less_told (place_within budget f) ≡ told budget (less_by f.place f.cost)
+pub less_within : (budget : ℕ) (f : OrderResult) → less_told (place_within budget f) ≡ told budget (less_by f.place f.cost)
 less_within budget f = less_case budget f.place f.cost
 
 pub order_step : (n : ℕ) (h : List Obj) (a b : Value) → 0 < n
@@ -129,7 +129,7 @@ is_same (ordered.NotOrdered n) = false
 is_same ordered.Exhausted = false
 
 -- a pair that ends an order
-pub place_stop : (left used : ℕ) (w g : Placed) (p : OrderVerdict) (m : ℕ) (t : Comparison)
+pub place_stop : (left used : ℕ) (w g : OrderResult) (p : OrderVerdict) (m : ℕ) (t : Comparison)
     → w ≡ behind used (behind 1 (next (placed p m) g)) → used < left → t ≡ place_within (left - used - 1) (placed p m) → is_same t ≡ false
     → place_shifted (used + 1) t ≡ place_within left w
 place_stop left used w g Less m t e h k n = grind (arith, common_steps)
@@ -138,7 +138,7 @@ place_stop left used w g More m t e h k n = grind (arith, common_steps)
 place_stop left used w g Deep m t e h k n = grind (arith, common_steps)
 place_stop left used w g Unordered m t e h k n = grind (arith, common_steps)
 
-pub rows_step : (f : Value → Value → Placed) (xs ys : List Value) (i : ℕ) (d e : Value) → i < length xs → i < length ys
+pub rows_step : (f : Value → Value → OrderResult) (xs ys : List Value) (i : ℕ) (d e : Value) → i < length xs → i < length ys
     → rows_order f (drop i xs) (drop i ys) ≡ behind 1 (next (f (get_or xs i d) (get_or ys i e)) (rows_order f (drop (i + 1) xs) (drop (i + 1) ys)))
 rows_step f [] ys i d e h k = absurd (omega arith)
 rows_step f (x ∷ xs) [] i d e h k = absurd (omega arith)

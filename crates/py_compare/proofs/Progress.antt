@@ -7,7 +7,7 @@ use Rattle.std.proofs.lemmas.Int.{ints}
 use Rattle.std.proofs.lemmas.Grind.{common_steps}
 use Rattle.py_values.specs.Ranges.{progression, range_items}
 use Rattle.py_values.specs.declared.range.RangeObj.{RangeObj}
-use Rattle.py_compare.specs.Equal.{Found, finding, after, Holds, Fails, numbers_equal, told, of_length}
+use Rattle.py_compare.specs.Equal.{ComparisonResult, finding, after, Holds, Fails, numbers_equal, told, of_length}
 
 int_same : (x : ℤ) → int_eq x x ≡ true
 int_same x = (Decides-int_eq x x).1 refl
@@ -62,5 +62,5 @@ pub all_alike : (a b : RangeObj) → a.length ≡ b.length → a.start ≡ b.sta
 all_alike a b k same step = all_by a.start b.start a.step b.step a.length b.length k same step
 
 -- where lengths are equal, what is told is that of the comparison
-pub length_told : (budget n m : ℕ) (f g : Found) → n ≡ m → g ≡ f → told budget f ≡ told budget (of_length n m g)
+pub length_told : (budget n m : ℕ) (f g : ComparisonResult) → n ≡ m → g ≡ f → told budget f ≡ told budget (of_length n m g)
 length_told budget n m f g k e = rw (e, k) (grind (arith, common_steps))

@@ -15,7 +15,7 @@ use Rattle.py_tree.specs.Names.{is_among}
 use Rattle.py_tree.proofs.Rows.{trees_hidden}
 use Rattle.py_nodes.specs.py_expressions.Values.{at_of}
 use Rattle.py_nodes.proofs.Forms.{place_is}
-use Rattle.py_grammar.specs.Context.{first_pos, all_places, by_turns, is_first, wrong_arguments, unless, in_tree, each, in_maybe, in_trees}
+use Rattle.py_grammar.specs.Context.{first_pos, all_places, by_turns, is_first, wrong_arguments, unless, in_tree, places_of_each, in_maybe, in_trees}
 use Rattle.py_context.specs.First.{sooner, some_given, wrong_name, with_name}
 use Rattle.py_context.specs.declared.expressions.Part.{Part}
 use Rattle.py_context.specs.Parts.{expr_part, expr_parts, first_of, first_by_turns, first_argument}
@@ -89,15 +89,15 @@ seen_append : (xs ys : List (Pos × List Pos)) → all_seen (xs ++ ys) ≡ all_s
 seen_append [] ys = refl
 seen_append (x ∷ xs) ys = ap (λ z. seen x ∷ z) (seen_append xs ys)
 
-seen_behind : (before : Trees) (es : List (Rc Expr Global)) → all_seen (each (trees_behind before es)) ≡ all_seen (each before) ++ expr_parts es
-seen_behind before [] = sym (append-nil (all_seen (each before)))
-seen_behind before (e ∷ es) = seen_behind (More before (tree e.value)) es ∙ ap (λ z. z ++ expr_parts es) (seen_append (each before) ((at_of (tree e.value), in_tree (tree e.value)) ∷ [])) ∙ append_assoc (all_seen (each before)) (expr_part e.value ∷ []) (expr_parts es)
+seen_behind : (before : Trees) (es : List (Rc Expr Global)) → all_seen (places_of_each (trees_behind before es)) ≡ all_seen (places_of_each before) ++ expr_parts es
+seen_behind before [] = sym (append-nil (all_seen (places_of_each before)))
+seen_behind before (e ∷ es) = seen_behind (More before (tree e.value)) es ∙ ap (λ z. z ++ expr_parts es) (seen_append (places_of_each before) ((at_of (tree e.value), in_tree (tree e.value)) ∷ [])) ∙ append_assoc (all_seen (places_of_each before)) (expr_part e.value ∷ []) (expr_parts es)
 
-pub seen_is : (es : List (Rc Expr Global)) → all_seen (each (trees es)) ≡ expr_parts es
+pub seen_is : (es : List (Rc Expr Global)) → all_seen (places_of_each (trees es)) ≡ expr_parts es
 seen_is es = seen_behind Empty es
 
 pub all_firsts : (es : List (Rc Expr Global)) → first_of (expr_parts es) ≡ first_pos (in_trees (trees es))
-all_firsts es = ap first_of (sym (seen_is es)) ∙ sym (places_are (each (trees es)))
+all_firsts es = ap first_of (sym (seen_is es)) ∙ sym (places_are (places_of_each (trees es)))
 
 -- LOOPS
 pub part_found : (ps rest : List Part) (p : Part) (at : Pos) (whole : Option Pos) → ps ≡ p ∷ rest → p.first ≡ Some at → first_of ps ≡ whole → Some at ≡ whole
@@ -147,11 +147,11 @@ argument_next before more names further n ps rest p wrong whole h q r s m w = ap
 pub row_places : (ps : List Part) (es : List (Rc Expr Global)) (r : Option Pos) → r ≡ first_of ps → ps ≡ expr_parts es → r ≡ first_pos (in_trees (trees es))
 row_places ps es r h e = h ∙ ap first_of e ∙ all_firsts es
 
-pub turn_places : (ps qs : List Part) (ks es : List (Rc Expr Global)) (r : Option Pos) → r ≡ first_by_turns ps qs → ps ≡ expr_parts ks → qs ≡ expr_parts es → r ≡ first_pos (by_turns (each (trees ks)) (each (trees es)))
-turn_places ps qs ks es r h e f = h ∙ ap (λ x. first_by_turns x qs) (e ∙ sym (seen_is ks)) ∙ ap (first_by_turns (all_seen (each (trees ks)))) (f ∙ sym (seen_is es)) ∙ sym (turns_are (each (trees ks)) (each (trees es)))
+pub turn_places : (ps qs : List Part) (ks es : List (Rc Expr Global)) (r : Option Pos) → r ≡ first_by_turns ps qs → ps ≡ expr_parts ks → qs ≡ expr_parts es → r ≡ first_pos (by_turns (places_of_each (trees ks)) (places_of_each (trees es)))
+turn_places ps qs ks es r h e f = h ∙ ap (λ x. first_by_turns x qs) (e ∙ sym (seen_is ks)) ∙ ap (first_by_turns (all_seen (places_of_each (trees ks)))) (f ∙ sym (seen_is es)) ∙ sym (turns_are (places_of_each (trees ks)) (places_of_each (trees es)))
 
-pub argument_places : (names : List (Option ArgName)) (ps : List Part) (es : List (Rc Expr Global)) (r : Option Pos) → r ≡ first_argument [] names ps → ps ≡ expr_parts es → r ≡ first_pos (wrong_arguments [] names (each (trees es)))
-argument_places names ps es r h e = h ∙ ap (first_argument [] names) (e ∙ sym (seen_is es)) ∙ sym (arguments_are [] names (each (trees es)))
+pub argument_places : (names : List (Option ArgName)) (ps : List Part) (es : List (Rc Expr Global)) (r : Option Pos) → r ≡ first_argument [] names ps → ps ≡ expr_parts es → r ≡ first_pos (wrong_arguments [] names (places_of_each (trees es)))
+argument_places names ps es r h e = h ∙ ap (first_argument [] names) (e ∙ sym (seen_is es)) ∙ sym (arguments_are [] names (places_of_each (trees es)))
 
 pub ruleset first_rules = (part_found, part_on, part_none)
 
@@ -200,11 +200,11 @@ module _ {E : Type 0} (at : Pos) (kind : ExprKind) (r : Result (Option Pos) E) w
   pub list_form : (es : Rc (Vec (Rc Expr Global) Global) Global) → kind ≡ v.List es → IfOk r (λ p. p ≡ first_pos (in_trees (trees es.value.items))) → IfOk r (λ p. p ≡ first_pos (in_tree (tree_at at kind)))
   list_form es is h = of_places (v.List es) (in_trees (trees es.value.items)) is (ap in_trees (sym (trees_hidden es.value))) h
 
-  pub dict_form : (ks es : Rc (Vec (Rc Expr Global) Global) Global) → kind ≡ v.Dict ks es → IfOk r (λ p. p ≡ first_pos (by_turns (each (trees ks.value.items)) (each (trees es.value.items)))) → IfOk r (λ p. p ≡ first_pos (in_tree (tree_at at kind)))
-  dict_form ks es is h = of_places (v.Dict ks es) (by_turns (each (trees ks.value.items)) (each (trees es.value.items))) is (ap (λ t. by_turns (each t) (each (trees es.value.items))) (sym (trees_hidden ks.value)) ∙ ap (λ t. by_turns (each (trees_on Empty (hide ks.value))) (each t)) (sym (trees_hidden es.value))) h
+  pub dict_form : (ks es : Rc (Vec (Rc Expr Global) Global) Global) → kind ≡ v.Dict ks es → IfOk r (λ p. p ≡ first_pos (by_turns (places_of_each (trees ks.value.items)) (places_of_each (trees es.value.items)))) → IfOk r (λ p. p ≡ first_pos (in_tree (tree_at at kind)))
+  dict_form ks es is h = of_places (v.Dict ks es) (by_turns (places_of_each (trees ks.value.items)) (places_of_each (trees es.value.items))) is (ap (λ t. by_turns (places_of_each t) (places_of_each (trees es.value.items))) (sym (trees_hidden ks.value)) ∙ ap (λ t. by_turns (places_of_each (trees_on Empty (hide ks.value))) (places_of_each t)) (sym (trees_hidden es.value))) h
 
-  pub call_form : (f : Rc Expr Global) (es : Rc (Vec (Rc Expr Global) Global) Global) (names : Rc (Vec (Option ArgName) Global) Global) → kind ≡ v.Call f es names → IfOk r (λ p. p ≡ first_pos (in_tree (tree f.value) ++ wrong_arguments [] names.value.items (each (trees es.value.items)))) → IfOk r (λ p. p ≡ first_pos (in_tree (tree_at at kind)))
-  call_form f es names is h = of_places (v.Call f es names) (in_tree (tree f.value) ++ wrong_arguments [] names.value.items (each (trees es.value.items))) is (ap (λ t. in_tree (tree f.value) ++ wrong_arguments [] names.value.items (each t)) (sym (trees_hidden es.value))) h
+  pub call_form : (f : Rc Expr Global) (es : Rc (Vec (Rc Expr Global) Global) Global) (names : Rc (Vec (Option ArgName) Global) Global) → kind ≡ v.Call f es names → IfOk r (λ p. p ≡ first_pos (in_tree (tree f.value) ++ wrong_arguments [] names.value.items (places_of_each (trees es.value.items)))) → IfOk r (λ p. p ≡ first_pos (in_tree (tree_at at kind)))
+  call_form f es names is h = of_places (v.Call f es names) (in_tree (tree f.value) ++ wrong_arguments [] names.value.items (places_of_each (trees es.value.items))) is (ap (λ t. in_tree (tree f.value) ++ wrong_arguments [] names.value.items (places_of_each t)) (sym (trees_hidden es.value))) h
 
   pub compare_form : (l : Rc Expr Global) (ops : Rc (Vec CmpOp Global) Global) (es : Rc (Vec (Rc Expr Global) Global) Global) → kind ≡ v.Compare l ops es → IfOk r (λ p. p ≡ first_pos (in_tree (tree l.value) ++ in_trees (trees es.value.items))) → IfOk r (λ p. p ≡ first_pos (in_tree (tree_at at kind)))
   compare_form l ops es is h = of_places (v.Compare l ops es) (in_tree (tree l.value) ++ in_trees (trees es.value.items)) is (ap (λ t. in_tree (tree l.value) ++ in_trees t) (sym (trees_hidden es.value))) h

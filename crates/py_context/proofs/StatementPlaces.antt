@@ -23,7 +23,7 @@ use Rattle.py_tree.proofs.Rows.{block_hidden, branches_hidden, handlers_hidden}
 use Rattle.py_tree.specs.Trees.{tree, trees, some_tree}
 use Rattle.py_tree.specs.Names.{is_among, globals_of}
 use Rattle.py_tree.specs.Statements.{Block, NoStatement, Next, Branches, NoBranch, Branch, Handlers, NoHandler, Handler, Def, Place, Taker, Parameter, Parameter_at, place, places, taker, takers, parameter, parameters, statement, statement_at, block_on, block_behind, block, branches_behind, branches, handlers_behind, handlers}
-use Rattle.py_grammar.specs.Context.{Where, first_pos, unless, is_function, is_module, is_bound, is_present, in_function, in_class, in_tree, in_trees, in_maybe, in_place, in_places, in_taker, in_takers, in_params, misplaced_in, misplaced, misplaced_branches, misplaced_handlers, without_yield, in_loop_of}
+use Rattle.py_grammar.specs.Context.{StatementContext, first_pos, unless, is_function, is_module, is_bound, is_present, in_function, in_class, in_tree, in_trees, in_maybe, in_place, in_places, in_taker, in_takers, in_params, misplaced_in, misplaced, misplaced_branches, misplaced_handlers, without_yield, in_loop_of}
 use Rattle.py_context.specs.First.{sooner}
 use Rattle.py_context.proofs.ExpressionPlaces.{first_append, slice_is}
 
@@ -51,13 +51,13 @@ of_single s = in_place (place s)
 abbrev pub of_target : Target → List Pos
 of_target t = in_taker (taker t)
 
-abbrev pub of_stmt : Where → Stmt → List Pos
+abbrev pub of_stmt : StatementContext → Stmt → List Pos
 of_stmt w s = misplaced_in w (statement s)
 
-abbrev pub of_branch : Where → branch.Branch → List Pos
+abbrev pub of_branch : StatementContext → branch.Branch → List Pos
 of_branch w (branch.Branch' at condition p n body) = in_tree (tree condition.value) ++ misplaced w (block_on NoStatement body)
 
-abbrev pub of_handler : Where → Bool → handler.Handler → List Pos
+abbrev pub of_handler : StatementContext → Bool → handler.Handler → List Pos
 of_handler w last (handler.Handler' at class name p n body) = unless (last || is_present (some_tree class)) at ++ (in_maybe (some_tree class) ++ misplaced (without_yield w) (block_on NoStatement body))
 
 -- PLACES
@@ -94,49 +94,49 @@ pub target_none : (xs : List Target) (i : ℕ) (whole : Option Pos) → length x
 target_none = over_none of_target
 
 -- STATEMENTS
-stmts_behind : (w : Where) (before : Block) (stmts : List Stmt) → misplaced w (block_behind before stmts) ≡ misplaced w before ++ over (of_stmt w) stmts
+stmts_behind : (w : StatementContext) (before : Block) (stmts : List Stmt) → misplaced w (block_behind before stmts) ≡ misplaced w before ++ over (of_stmt w) stmts
 stmts_behind w before [] = sym (append-nil (misplaced w before))
 stmts_behind w before (s ∷ rest) = stmts_behind w (Next before (statement s)) rest ∙ append_assoc (misplaced w before) (misplaced_in w (statement s)) (over (of_stmt w) rest)
 
-pub stmt_begun : (w : Where) (stmts : List Stmt) → first_pos (over (of_stmt w) stmts) ≡ first_pos (misplaced w (block stmts))
+pub stmt_begun : (w : StatementContext) (stmts : List Stmt) → first_pos (over (of_stmt w) stmts) ≡ first_pos (misplaced w (block stmts))
 stmt_begun w stmts = ap first_pos (sym (stmts_behind w NoStatement stmts))
 
-pub stmt_found : (w : Where) (xs : List Stmt) (i : ℕ) (x : Stmt) (at : Pos) (whole : Option Pos) → i < length xs → x ≡ get_or xs i x → Some at ≡ first_pos (misplaced_in w (statement x)) → first_pos (over (of_stmt w) (drop i xs)) ≡ whole → Some at ≡ whole
+pub stmt_found : (w : StatementContext) (xs : List Stmt) (i : ℕ) (x : Stmt) (at : Pos) (whole : Option Pos) → i < length xs → x ≡ get_or xs i x → Some at ≡ first_pos (misplaced_in w (statement x)) → first_pos (over (of_stmt w) (drop i xs)) ≡ whole → Some at ≡ whole
 stmt_found w = over_found (of_stmt w)
 
-pub stmt_on : (w : Where) (xs : List Stmt) (i : ℕ) (x : Stmt) (whole : Option Pos) → i < length xs → x ≡ get_or xs i x → None ≡ first_pos (misplaced_in w (statement x)) → first_pos (over (of_stmt w) (drop i xs)) ≡ whole → first_pos (over (of_stmt w) (drop (i + 1) xs)) ≡ whole
+pub stmt_on : (w : StatementContext) (xs : List Stmt) (i : ℕ) (x : Stmt) (whole : Option Pos) → i < length xs → x ≡ get_or xs i x → None ≡ first_pos (misplaced_in w (statement x)) → first_pos (over (of_stmt w) (drop i xs)) ≡ whole → first_pos (over (of_stmt w) (drop (i + 1) xs)) ≡ whole
 stmt_on w = over_on (of_stmt w)
 
-pub stmt_none : (w : Where) (xs : List Stmt) (i : ℕ) (whole : Option Pos) → length xs ≤ i → first_pos (over (of_stmt w) (drop i xs)) ≡ whole → None ≡ whole
+pub stmt_none : (w : StatementContext) (xs : List Stmt) (i : ℕ) (whole : Option Pos) → length xs ≤ i → first_pos (over (of_stmt w) (drop i xs)) ≡ whole → None ≡ whole
 stmt_none w = over_none (of_stmt w)
 
-branches_are : (w : Where) (before : Branches) (all : List branch.Branch) → misplaced_branches w (branches_behind before all) ≡ misplaced_branches w before ++ over (of_branch w) all
+branches_are : (w : StatementContext) (before : Branches) (all : List branch.Branch) → misplaced_branches w (branches_behind before all) ≡ misplaced_branches w before ++ over (of_branch w) all
 branches_are w before [] = sym (append-nil (misplaced_branches w before))
 branches_are w before (branch.Branch' at condition p n body ∷ rest) = branches_are w (Branch before at (tree condition.value) (block_on NoStatement body)) rest ∙ append_assoc (misplaced_branches w before) (of_branch w (branch.Branch' at condition p n body)) (over (of_branch w) rest)
 
-pub branch_begun : (w : Where) (all : List branch.Branch) → first_pos (over (of_branch w) all) ≡ first_pos (misplaced_branches w (branches all))
+pub branch_begun : (w : StatementContext) (all : List branch.Branch) → first_pos (over (of_branch w) all) ≡ first_pos (misplaced_branches w (branches all))
 branch_begun w all = ap first_pos (sym (branches_are w NoBranch all))
 
-pub branch_found : (w : Where) (xs : List branch.Branch) (i : ℕ) (x : branch.Branch) (at : Pos) (whole : Option Pos) → i < length xs → x ≡ get_or xs i x → Some at ≡ first_pos (of_branch w x) → first_pos (over (of_branch w) (drop i xs)) ≡ whole → Some at ≡ whole
+pub branch_found : (w : StatementContext) (xs : List branch.Branch) (i : ℕ) (x : branch.Branch) (at : Pos) (whole : Option Pos) → i < length xs → x ≡ get_or xs i x → Some at ≡ first_pos (of_branch w x) → first_pos (over (of_branch w) (drop i xs)) ≡ whole → Some at ≡ whole
 branch_found w = over_found (of_branch w)
 
-pub branch_on : (w : Where) (xs : List branch.Branch) (i : ℕ) (x : branch.Branch) (whole : Option Pos) → i < length xs → x ≡ get_or xs i x → None ≡ first_pos (of_branch w x) → first_pos (over (of_branch w) (drop i xs)) ≡ whole → first_pos (over (of_branch w) (drop (i + 1) xs)) ≡ whole
+pub branch_on : (w : StatementContext) (xs : List branch.Branch) (i : ℕ) (x : branch.Branch) (whole : Option Pos) → i < length xs → x ≡ get_or xs i x → None ≡ first_pos (of_branch w x) → first_pos (over (of_branch w) (drop i xs)) ≡ whole → first_pos (over (of_branch w) (drop (i + 1) xs)) ≡ whole
 branch_on w = over_on (of_branch w)
 
-pub branch_none : (w : Where) (xs : List branch.Branch) (i : ℕ) (whole : Option Pos) → length xs ≤ i → first_pos (over (of_branch w) (drop i xs)) ≡ whole → None ≡ whole
+pub branch_none : (w : StatementContext) (xs : List branch.Branch) (i : ℕ) (whole : Option Pos) → length xs ≤ i → first_pos (over (of_branch w) (drop i xs)) ≡ whole → None ≡ whole
 branch_none w = over_none (of_branch w)
 
-branch_rolled : (w : Where) (b : branch.Branch) → of_branch w (roll-Branch (out-Branch b)) ≡ in_tree (tree (out-Branch b).condition.value) ++ misplaced w (block (out-Branch b).body.value.items)
+branch_rolled : (w : StatementContext) (b : branch.Branch) → of_branch w (roll-Branch (out-Branch b)) ≡ in_tree (tree (out-Branch b).condition.value) ++ misplaced w (block (out-Branch b).body.value.items)
 unfolding roll-Branch denote.Hole.Carrier.roll hidden-the_row-Stmt-1
 branch_rolled w b = ap (λ x. in_tree (tree (out-Branch b).condition.value) ++ misplaced w x) (block_hidden (out-Branch b).body.value)
 
-pub branch_is : (w : Where) (b : branch.Branch) → of_branch w b ≡ in_tree (tree (out-Branch b).condition.value) ++ misplaced w (block (out-Branch b).body.value.items)
+pub branch_is : (w : StatementContext) (b : branch.Branch) → of_branch w b ≡ in_tree (tree (out-Branch b).condition.value) ++ misplaced w (block (out-Branch b).body.value.items)
 branch_is w b = subst (λ y. of_branch w y ≡ in_tree (tree (out-Branch b).condition.value) ++ misplaced w (block (out-Branch b).body.value.items)) (roll-out-Branch b) (branch_rolled w b)
 
-pub branch_found_in : (w : Where) (xs : List branch.Branch) (i : ℕ) (x : branch.Branch) (at : Pos) (whole : Option Pos) → i < length xs → x ≡ get_or xs i x → Some at ≡ first_pos (in_tree (tree (out-Branch x).condition.value) ++ misplaced w (block (out-Branch x).body.value.items)) → first_pos (over (of_branch w) (drop i xs)) ≡ whole → Some at ≡ whole
+pub branch_found_in : (w : StatementContext) (xs : List branch.Branch) (i : ℕ) (x : branch.Branch) (at : Pos) (whole : Option Pos) → i < length xs → x ≡ get_or xs i x → Some at ≡ first_pos (in_tree (tree (out-Branch x).condition.value) ++ misplaced w (block (out-Branch x).body.value.items)) → first_pos (over (of_branch w) (drop i xs)) ≡ whole → Some at ≡ whole
 branch_found_in w xs i x at whole h e p v = branch_found w xs i x at whole h e (p ∙ ap first_pos (sym (branch_is w x))) v
 
-pub branch_on_in : (w : Where) (xs : List branch.Branch) (i : ℕ) (x : branch.Branch) (whole : Option Pos) → i < length xs → x ≡ get_or xs i x → None ≡ first_pos (in_tree (tree (out-Branch x).condition.value) ++ misplaced w (block (out-Branch x).body.value.items)) → first_pos (over (of_branch w) (drop i xs)) ≡ whole → first_pos (over (of_branch w) (drop (i + 1) xs)) ≡ whole
+pub branch_on_in : (w : StatementContext) (xs : List branch.Branch) (i : ℕ) (x : branch.Branch) (whole : Option Pos) → i < length xs → x ≡ get_or xs i x → None ≡ first_pos (in_tree (tree (out-Branch x).condition.value) ++ misplaced w (block (out-Branch x).body.value.items)) → first_pos (over (of_branch w) (drop i xs)) ≡ whole → first_pos (over (of_branch w) (drop (i + 1) xs)) ≡ whole
 branch_on_in w xs i x whole h e p v = branch_on w xs i x whole h e (p ∙ ap first_pos (sym (branch_is w x))) v
 
 -- HANDLERS, of which only the last may take all exceptions
@@ -144,29 +144,29 @@ abbrev pub is_last : {A : Type 0} → List A → Bool
 is_last [] = true
 is_last (x ∷ rest) = false
 
-abbrev pub handler_list : Where → List handler.Handler → List Pos
+abbrev pub handler_list : StatementContext → List handler.Handler → List Pos
 handler_list w [] = []
 handler_list w (h ∷ rest) = of_handler w (is_last rest) h ++ handler_list w rest
 
-handlers_are : (w : Where) (before : Handlers) (h : handler.Handler) (rest : List handler.Handler) → misplaced_handlers w true (handlers_behind before (h ∷ rest)) ≡ misplaced_handlers w false before ++ handler_list w (h ∷ rest)
+handlers_are : (w : StatementContext) (before : Handlers) (h : handler.Handler) (rest : List handler.Handler) → misplaced_handlers w true (handlers_behind before (h ∷ rest)) ≡ misplaced_handlers w false before ++ handler_list w (h ∷ rest)
 handlers_are w before (handler.Handler' at class name p n body) [] = ap (λ x. misplaced_handlers w false before ++ x) (sym (append-nil (of_handler w true (handler.Handler' at class name p n body))))
 handlers_are w before (handler.Handler' at class name p n body) (k ∷ rest) = handlers_are w (Handler before at (some_tree class) name (block_on NoStatement body)) k rest ∙ append_assoc (misplaced_handlers w false before) (of_handler w false (handler.Handler' at class name p n body)) (handler_list w (k ∷ rest))
 
-pub handler_begun : (w : Where) (all : List handler.Handler) → first_pos (handler_list w all) ≡ first_pos (misplaced_handlers w true (handlers all))
+pub handler_begun : (w : StatementContext) (all : List handler.Handler) → first_pos (handler_list w all) ≡ first_pos (misplaced_handlers w true (handlers all))
 handler_begun w [] = refl
 handler_begun w (h ∷ rest) = ap first_pos (sym (handlers_are w NoHandler h rest))
 
-handler_rolled : (w : Where) (last : Bool) (h : handler.Handler) → of_handler w last (roll-Handler (out-Handler h)) ≡ unless (last || is_present (some_tree (out-Handler h).class)) (out-Handler h).at ++ (in_maybe (some_tree (out-Handler h).class) ++ misplaced (without_yield w) (block (out-Handler h).body.value.items))
+handler_rolled : (w : StatementContext) (last : Bool) (h : handler.Handler) → of_handler w last (roll-Handler (out-Handler h)) ≡ unless (last || is_present (some_tree (out-Handler h).class)) (out-Handler h).at ++ (in_maybe (some_tree (out-Handler h).class) ++ misplaced (without_yield w) (block (out-Handler h).body.value.items))
 unfolding roll-Handler denote.Hole.Carrier.roll out-Handler
 handler_rolled w last h = ap (λ x. unless (last || is_present (some_tree (out-Handler h).class)) (out-Handler h).at ++ (in_maybe (some_tree (out-Handler h).class) ++ misplaced (without_yield w) x)) (block_hidden (out-Handler h).body.value)
 
-handler_is : (w : Where) (last : Bool) (h : handler.Handler) → of_handler w last h ≡ unless (last || is_present (some_tree (out-Handler h).class)) (out-Handler h).at ++ (in_maybe (some_tree (out-Handler h).class) ++ misplaced (without_yield w) (block (out-Handler h).body.value.items))
+handler_is : (w : StatementContext) (last : Bool) (h : handler.Handler) → of_handler w last h ≡ unless (last || is_present (some_tree (out-Handler h).class)) (out-Handler h).at ++ (in_maybe (some_tree (out-Handler h).class) ++ misplaced (without_yield w) (block (out-Handler h).body.value.items))
 handler_is w last h = subst (λ y. of_handler w last y ≡ unless (last || is_present (some_tree (out-Handler h).class)) (out-Handler h).at ++ (in_maybe (some_tree (out-Handler h).class) ++ misplaced (without_yield w) (block (out-Handler h).body.value.items))) (roll-out-Handler h) (handler_rolled w last h)
 
-abbrev pub handler_places : Where → Bool → handler.Handler → Option Pos
+abbrev pub handler_places : StatementContext → Bool → handler.Handler → Option Pos
 handler_places w last h = first_pos (unless (last || is_present (some_tree (out-Handler h).class)) (out-Handler h).at ++ (in_maybe (some_tree (out-Handler h).class) ++ misplaced (without_yield w) (block (out-Handler h).body.value.items)))
 
-handler_step : (w : Where) (h : handler.Handler) (rest : List handler.Handler) → first_pos (handler_list w (h ∷ rest)) ≡ sooner (handler_places w (is_last rest) h) (first_pos (handler_list w rest))
+handler_step : (w : StatementContext) (h : handler.Handler) (rest : List handler.Handler) → first_pos (handler_list w (h ∷ rest)) ≡ sooner (handler_places w (is_last rest) h) (first_pos (handler_list w rest))
 handler_step w h rest = first_append (of_handler w (is_last rest) h) (handler_list w rest) ∙ ap (λ x. sooner (first_pos x) (first_pos (handler_list w rest))) (handler_is w (is_last rest) h)
 
 further_on : (n : ℕ) → eqb (suc n) 0 ≡ false
@@ -176,16 +176,16 @@ last_is : {A : Type 0} (all : List A) (i n : ℕ) (x : A) → n + i ≡ length a
 last_is all i zero x h = sym (at_drop_all is_last all i (omega arith))
 last_is all i (suc n) x h = further_on n ∙ sym (at_drop_more is_last all i x (omega arith))
 
-handler_at : (w : Where) (all : List handler.Handler) (i n : ℕ) (h : handler.Handler) → i < length all → n + (i + 1) ≡ length all → h ≡ get_or all i h → first_pos (handler_list w (drop i all)) ≡ sooner (handler_places w (eqb n 0) h) (first_pos (handler_list w (drop (i + 1) all)))
+handler_at : (w : StatementContext) (all : List handler.Handler) (i n : ℕ) (h : handler.Handler) → i < length all → n + (i + 1) ≡ length all → h ≡ get_or all i h → first_pos (handler_list w (drop i all)) ≡ sooner (handler_places w (eqb n 0) h) (first_pos (handler_list w (drop (i + 1) all)))
 handler_at w all i n h t l is = at_drop_more (λ xs. first_pos (handler_list w xs)) all i h t ∙ ap (λ x. first_pos (handler_list w (x ∷ drop (i + 1) all))) (sym is) ∙ handler_step w h (drop (i + 1) all) ∙ ap (λ b. sooner (handler_places w b h) (first_pos (handler_list w (drop (i + 1) all)))) (sym (last_is all (i + 1) n h l))
 
-pub handler_over : (w : Where) (all : List handler.Handler) (i : ℕ) (whole : Option Pos) → length all ≤ i → first_pos (handler_list w (drop i all)) ≡ whole → None ≡ whole
+pub handler_over : (w : StatementContext) (all : List handler.Handler) (i : ℕ) (whole : Option Pos) → length all ≤ i → first_pos (handler_list w (drop i all)) ≡ whole → None ≡ whole
 handler_over w all i whole h q = sym (at_drop_all (λ xs. first_pos (handler_list w xs)) all i h) ∙ q
 
-pub handler_found : (w : Where) (all : List handler.Handler) (i n : ℕ) (h : handler.Handler) (at : Pos) (whole : Option Pos) → i < length all → n + (i + 1) ≡ length all → h ≡ get_or all i h → Some at ≡ handler_places w (eqb n 0) h → first_pos (handler_list w (drop i all)) ≡ whole → Some at ≡ whole
+pub handler_found : (w : StatementContext) (all : List handler.Handler) (i n : ℕ) (h : handler.Handler) (at : Pos) (whole : Option Pos) → i < length all → n + (i + 1) ≡ length all → h ≡ get_or all i h → Some at ≡ handler_places w (eqb n 0) h → first_pos (handler_list w (drop i all)) ≡ whole → Some at ≡ whole
 handler_found w all i n h at whole t l is q r = ap (λ x. sooner x (first_pos (handler_list w (drop (i + 1) all)))) q ∙ sym (handler_at w all i n h t l is) ∙ r
 
-pub handler_on : (w : Where) (all : List handler.Handler) (i n : ℕ) (h : handler.Handler) (whole : Option Pos) → i < length all → n + (i + 1) ≡ length all → h ≡ get_or all i h → None ≡ handler_places w (eqb n 0) h → first_pos (handler_list w (drop i all)) ≡ whole → first_pos (handler_list w (drop (i + 1) all)) ≡ whole
+pub handler_on : (w : StatementContext) (all : List handler.Handler) (i n : ℕ) (h : handler.Handler) (whole : Option Pos) → i < length all → n + (i + 1) ≡ length all → h ≡ get_or all i h → None ≡ handler_places w (eqb n 0) h → first_pos (handler_list w (drop i all)) ≡ whole → first_pos (handler_list w (drop (i + 1) all)) ≡ whole
 handler_on w all i n h whole t l is q r = ap (λ x. sooner x (first_pos (handler_list w (drop (i + 1) all)))) q ∙ sym (handler_at w all i n h t l is) ∙ r
 
 -- PARAMETERS
@@ -226,7 +226,7 @@ def_rolled at f = ap (λ b. Def at (trees (out-Function f.value).decorators.valu
 def_tree : (at : Pos) (f : Rc Function Global) → statement_at at (v.Def f) ≡ Def at (trees (out-Function f.value).decorators.value.items) (out-Function f.value).at (out-Function f.value).name (parameters (out-Function f.value).params.value.items) (some_tree (out-Function f.value).returns) (block (out-Function f.value).body.value.items)
 def_tree at f = subst (λ y. statement_at at (v.Def (record { ptr = f.ptr; value = y })) ≡ Def at (trees (out-Function f.value).decorators.value.items) (out-Function f.value).at (out-Function f.value).name (parameters (out-Function f.value).params.value.items) (some_tree (out-Function f.value).returns) (block (out-Function f.value).body.value.items)) (roll-out-Function f.value) (def_rolled at f)
 
-pub def_is : (w : Where) (at : Pos) (f : Rc Function Global) → first_pos (misplaced_in w (statement_at at (v.Def f))) ≡ first_pos (unless (not (is_function w.scope)) at ++ (in_trees (trees (out-Function f.value).decorators.value.items) ++ (in_params (globals_of (block (out-Function f.value).body.value.items)) [] false (parameters (out-Function f.value).params.value.items) ++ (in_maybe (some_tree (out-Function f.value).returns) ++ misplaced in_function (block (out-Function f.value).body.value.items)))))
+pub def_is : (w : StatementContext) (at : Pos) (f : Rc Function Global) → first_pos (misplaced_in w (statement_at at (v.Def f))) ≡ first_pos (unless (not (is_function w.scope)) at ++ (in_trees (trees (out-Function f.value).decorators.value.items) ++ (in_params (globals_of (block (out-Function f.value).body.value.items)) [] false (parameters (out-Function f.value).params.value.items) ++ (in_maybe (some_tree (out-Function f.value).returns) ++ misplaced in_function (block (out-Function f.value).body.value.items)))))
 def_is w at f = ap (λ s. first_pos (misplaced_in w s)) (def_tree at f)
 
 class_rolled : (at : Pos) (r : Rc Class Global) → statement_at at (v.Class (record { ptr = r.ptr; value = roll-Class (out-Class r.value) })) ≡ t.Class at (trees (out-Class r.value).decorators.value.items) (out-Class r.value).at (out-Class r.value).name (some_tree (out-Class r.value).base) (block (out-Class r.value).body.value.items)
@@ -236,35 +236,35 @@ class_rolled at r = ap (λ b. t.Class at (trees (out-Class r.value).decorators.v
 class_tree : (at : Pos) (r : Rc Class Global) → statement_at at (v.Class r) ≡ t.Class at (trees (out-Class r.value).decorators.value.items) (out-Class r.value).at (out-Class r.value).name (some_tree (out-Class r.value).base) (block (out-Class r.value).body.value.items)
 class_tree at r = subst (λ y. statement_at at (v.Class (record { ptr = r.ptr; value = y })) ≡ t.Class at (trees (out-Class r.value).decorators.value.items) (out-Class r.value).at (out-Class r.value).name (some_tree (out-Class r.value).base) (block (out-Class r.value).body.value.items)) (roll-out-Class r.value) (class_rolled at r)
 
-pub class_is : (w : Where) (at : Pos) (r : Rc Class Global) → first_pos (misplaced_in w (statement_at at (v.Class r))) ≡ first_pos (unless (is_module w.scope) at ++ (in_trees (trees (out-Class r.value).decorators.value.items) ++ (in_maybe (some_tree (out-Class r.value).base) ++ misplaced in_class (block (out-Class r.value).body.value.items))))
+pub class_is : (w : StatementContext) (at : Pos) (r : Rc Class Global) → first_pos (misplaced_in w (statement_at at (v.Class r))) ≡ first_pos (unless (is_module w.scope) at ++ (in_trees (trees (out-Class r.value).decorators.value.items) ++ (in_maybe (some_tree (out-Class r.value).base) ++ misplaced in_class (block (out-Class r.value).body.value.items))))
 class_is w at r = ap (λ s. first_pos (misplaced_in w s)) (class_tree at r)
 
 -- FORM BY FORM: what the calls gave, and what they say of the parts
-abbrev pub def_places : Where → Pos → Function → Option Pos
+abbrev pub def_places : StatementContext → Pos → Function → Option Pos
 def_places w at f = first_pos (unless (not (is_function w.scope)) at ++ (in_trees (trees (out-Function f).decorators.value.items) ++ (in_params (globals_of (block (out-Function f).body.value.items)) [] false (parameters (out-Function f).params.value.items) ++ (in_maybe (some_tree (out-Function f).returns) ++ misplaced in_function (block (out-Function f).body.value.items)))))
 
-abbrev pub class_places : Where → Pos → Class → Option Pos
+abbrev pub class_places : StatementContext → Pos → Class → Option Pos
 class_places w at r = first_pos (unless (is_module w.scope) at ++ (in_trees (trees (out-Class r).decorators.value.items) ++ (in_maybe (some_tree (out-Class r).base) ++ misplaced in_class (block (out-Class r).body.value.items))))
 
 pub moved : {E : Type 0} (r : Result (Option Pos) E) (ps qs : List Pos) → ps ≡ qs → IfOk r (λ p. p ≡ first_pos ps) → IfOk r (λ p. p ≡ first_pos qs)
 moved r ps qs e h = subst (λ (z : List Pos). IfOk r (λ p. p ≡ first_pos z)) e h
 
-abbrev pub class_row : Bool → Where → Pos → Class → List Pos
+abbrev pub class_row : Bool → StatementContext → Pos → Class → List Pos
 class_row b u at r = unless b at ++ (in_trees (trees (out-Class r).decorators.value.items) ++ (in_maybe (some_tree (out-Class r).base) ++ misplaced u (block (out-Class r).body.value.items)))
 
-pub class_joined : {E : Type 0} (w : Where) (at : Pos) (k : Class) (b : Bool) (u : Where) (r : Result (Option Pos) E) → b ≡ is_module w.scope → u ≡ in_class → IfOk r (λ p. p ≡ first_pos (class_row b u at k)) → IfOk r (λ p. p ≡ class_places w at k)
+pub class_joined : {E : Type 0} (w : StatementContext) (at : Pos) (k : Class) (b : Bool) (u : StatementContext) (r : Result (Option Pos) E) → b ≡ is_module w.scope → u ≡ in_class → IfOk r (λ p. p ≡ first_pos (class_row b u at k)) → IfOk r (λ p. p ≡ class_places w at k)
 class_joined w at k b u r e q h = moved r (class_row b u at k) (class_row (is_module w.scope) in_class at k) (ap (λ b. class_row b u at k) e ∙ ap (λ u. class_row (is_module w.scope) u at k) q) h
 
-abbrev pub def_row : Bool → Where → Pos → Function → List Pos
+abbrev pub def_row : Bool → StatementContext → Pos → Function → List Pos
 def_row b u at f = unless (not b) at ++ (in_trees (trees (out-Function f).decorators.value.items) ++ (in_params (globals_of (block (out-Function f).body.value.items)) [] false (parameters (out-Function f).params.value.items) ++ (in_maybe (some_tree (out-Function f).returns) ++ misplaced u (block (out-Function f).body.value.items))))
 
-pub def_joined : {E : Type 0} (w : Where) (at : Pos) (f : Function) (b : Bool) (u : Where) (r : Result (Option Pos) E) → b ≡ is_function w.scope → u ≡ in_function → IfOk r (λ p. p ≡ first_pos (def_row b u at f)) → IfOk r (λ p. p ≡ def_places w at f)
+pub def_joined : {E : Type 0} (w : StatementContext) (at : Pos) (f : Function) (b : Bool) (u : StatementContext) (r : Result (Option Pos) E) → b ≡ is_function w.scope → u ≡ in_function → IfOk r (λ p. p ≡ first_pos (def_row b u at f)) → IfOk r (λ p. p ≡ def_places w at f)
 def_joined w at f b u r e q h = moved r (def_row b u at f) (def_row (is_function w.scope) in_function at f) (ap (λ b. def_row b u at f) e ∙ ap (λ u. def_row (is_function w.scope) u at f) q) h
 
-abbrev pub handler_row : Bool → Where → handler.Handler → List Pos
+abbrev pub handler_row : Bool → StatementContext → handler.Handler → List Pos
 handler_row b u h = unless b (out-Handler h).at ++ (in_maybe (some_tree (out-Handler h).class) ++ misplaced u (block (out-Handler h).body.value.items))
 
-pub handler_joined : {E : Type 0} (w : Where) (last : Bool) (x : handler.Handler) (b : Bool) (u : Where) (r : Result (Option Pos) E) → b ≡ (last || is_present (some_tree (out-Handler x).class)) → u ≡ without_yield w → IfOk r (λ p. p ≡ first_pos (handler_row b u x)) → IfOk r (λ p. p ≡ handler_places w last x)
+pub handler_joined : {E : Type 0} (w : StatementContext) (last : Bool) (x : handler.Handler) (b : Bool) (u : StatementContext) (r : Result (Option Pos) E) → b ≡ (last || is_present (some_tree (out-Handler x).class)) → u ≡ without_yield w → IfOk r (λ p. p ≡ first_pos (handler_row b u x)) → IfOk r (λ p. p ≡ handler_places w last x)
 handler_joined w last x b u r e q h = moved r (handler_row b u x) (handler_row (last || is_present (some_tree (out-Handler x).class)) (without_yield w) x) (ap (λ b. handler_row b u x) e ∙ ap (λ u. handler_row (last || is_present (some_tree (out-Handler x).class)) u x) q) h
 
 abbrev pub param_row : Bool → Param → List Pos
@@ -279,7 +279,7 @@ two_parts a b x y p q = rw (p, q) refl
 four_parts : (a b c d x y z u : List Pos) → a ≡ x → b ≡ y → c ≡ z → d ≡ u → a ++ (b ++ (c ++ d)) ≡ x ++ (y ++ (z ++ u))
 four_parts a b c d x y z u p q r s = rw (p, q, r, s) refl
 
-module _ (w : Where) (at : Pos) (kind : StmtKind) where
+module _ (w : StatementContext) (at : Pos) (kind : StmtKind) where
   of_places : {E : Type 0} (k : StmtKind) (ps : List Pos) (r : Result (Option Pos) E) → kind ≡ k → ps ≡ misplaced_in w (statement_at at k) → IfOk r (λ p. p ≡ first_pos ps) → IfOk r (λ p. p ≡ first_pos (misplaced_in w (statement_at at kind)))
   of_places k ps r is e h = rw is (subst (λ (z : List Pos). IfOk r (λ p. p ≡ first_pos z)) e h)
 
@@ -299,16 +299,16 @@ module _ (w : Where) (at : Pos) (kind : StmtKind) where
   pub if_form : {E : Type 0} (all : Rc (Vec branch.Branch Global) Global) (other : Rc (Vec Stmt Global) Global) (xs : List branch.Branch) (r : Result (Option Pos) E) → kind ≡ v.If all other → xs ≡ all.value.items → IfOk r (λ p. p ≡ first_pos (misplaced_branches w (branches xs) ++ misplaced w (block other.value.items))) → IfOk r (λ p. p ≡ first_pos (misplaced_in w (statement_at at kind)))
   if_form all other xs r is e h = of_places (v.If all other) (misplaced_branches w (branches xs) ++ misplaced w (block other.value.items)) r is (two_parts _ _ _ _ (ap (λ s. misplaced_branches w (branches s)) e ∙ ap (misplaced_branches w) (sym (branches_hidden all.value))) (ap (misplaced w) (sym (block_hidden other.value)))) h
 
-  pub while_form : {E : Type 0} (e : Rc Expr Global) (body : Rc (Vec Stmt Global) Global) (u : Where) (r : Result (Option Pos) E) → kind ≡ v.While e body → u ≡ in_loop_of w → IfOk r (λ p. p ≡ first_pos (in_tree (tree e.value) ++ misplaced u (block body.value.items))) → IfOk r (λ p. p ≡ first_pos (misplaced_in w (statement_at at kind)))
+  pub while_form : {E : Type 0} (e : Rc Expr Global) (body : Rc (Vec Stmt Global) Global) (u : StatementContext) (r : Result (Option Pos) E) → kind ≡ v.While e body → u ≡ in_loop_of w → IfOk r (λ p. p ≡ first_pos (in_tree (tree e.value) ++ misplaced u (block body.value.items))) → IfOk r (λ p. p ≡ first_pos (misplaced_in w (statement_at at kind)))
   while_form e body u r is q h = of_places (v.While e body) (in_tree (tree e.value) ++ misplaced u (block body.value.items)) r is (ap (λ u. in_tree (tree e.value) ++ misplaced u (block body.value.items)) q ∙ ap (λ x. in_tree (tree e.value) ++ misplaced (in_loop_of w) x) (sym (block_hidden body.value))) h
 
-  pub with_form : {E : Type 0} (e : Rc Expr Global) (name : Option (List ℕ)) (body : Rc (Vec Stmt Global) Global) (u : Where) (r : Result (Option Pos) E) → kind ≡ v.With e name body → u ≡ without_yield w → IfOk r (λ p. p ≡ first_pos (in_tree (tree e.value) ++ misplaced u (block body.value.items))) → IfOk r (λ p. p ≡ first_pos (misplaced_in w (statement_at at kind)))
+  pub with_form : {E : Type 0} (e : Rc Expr Global) (name : Option (List ℕ)) (body : Rc (Vec Stmt Global) Global) (u : StatementContext) (r : Result (Option Pos) E) → kind ≡ v.With e name body → u ≡ without_yield w → IfOk r (λ p. p ≡ first_pos (in_tree (tree e.value) ++ misplaced u (block body.value.items))) → IfOk r (λ p. p ≡ first_pos (misplaced_in w (statement_at at kind)))
   with_form e name body u r is q h = of_places (v.With e name body) (in_tree (tree e.value) ++ misplaced u (block body.value.items)) r is (ap (λ u. in_tree (tree e.value) ++ misplaced u (block body.value.items)) q ∙ ap (λ x. in_tree (tree e.value) ++ misplaced (without_yield w) x) (sym (block_hidden body.value))) h
 
-  pub for_form : {E : Type 0} (t : Target) (e : Rc Expr Global) (body : Rc (Vec Stmt Global) Global) (u : Where) (r : Result (Option Pos) E) → kind ≡ v.For t e body → u ≡ in_loop_of w → IfOk r (λ p. p ≡ first_pos (in_taker (taker t) ++ (in_tree (tree e.value) ++ misplaced u (block body.value.items)))) → IfOk r (λ p. p ≡ first_pos (misplaced_in w (statement_at at kind)))
+  pub for_form : {E : Type 0} (t : Target) (e : Rc Expr Global) (body : Rc (Vec Stmt Global) Global) (u : StatementContext) (r : Result (Option Pos) E) → kind ≡ v.For t e body → u ≡ in_loop_of w → IfOk r (λ p. p ≡ first_pos (in_taker (taker t) ++ (in_tree (tree e.value) ++ misplaced u (block body.value.items)))) → IfOk r (λ p. p ≡ first_pos (misplaced_in w (statement_at at kind)))
   for_form t e body u r is q h = of_places (v.For t e body) (in_taker (taker t) ++ (in_tree (tree e.value) ++ misplaced u (block body.value.items))) r is (ap (λ u. in_taker (taker t) ++ (in_tree (tree e.value) ++ misplaced u (block body.value.items))) q ∙ ap (λ x. in_taker (taker t) ++ (in_tree (tree e.value) ++ misplaced (in_loop_of w) x)) (sym (block_hidden body.value))) h
 
-  pub try_form : {E : Type 0} (body : Rc (Vec Stmt Global) Global) (all : Rc (Vec handler.Handler Global) Global) (other final : Rc (Vec Stmt Global) Global) (hs : List handler.Handler) (u z : Where) (r : Result (Option Pos) E) → kind ≡ v.Try body all other final → hs ≡ all.value.items → u ≡ without_yield w → z ≡ without_yield w → IfOk r (λ p. p ≡ first_pos (misplaced w (block body.value.items) ++ (misplaced_handlers w true (handlers hs) ++ (misplaced u (block other.value.items) ++ misplaced z (block final.value.items))))) → IfOk r (λ p. p ≡ first_pos (misplaced_in w (statement_at at kind)))
+  pub try_form : {E : Type 0} (body : Rc (Vec Stmt Global) Global) (all : Rc (Vec handler.Handler Global) Global) (other final : Rc (Vec Stmt Global) Global) (hs : List handler.Handler) (u z : StatementContext) (r : Result (Option Pos) E) → kind ≡ v.Try body all other final → hs ≡ all.value.items → u ≡ without_yield w → z ≡ without_yield w → IfOk r (λ p. p ≡ first_pos (misplaced w (block body.value.items) ++ (misplaced_handlers w true (handlers hs) ++ (misplaced u (block other.value.items) ++ misplaced z (block final.value.items))))) → IfOk r (λ p. p ≡ first_pos (misplaced_in w (statement_at at kind)))
   try_form body all other final hs u z r is e p q h = of_places (v.Try body all other final) (misplaced w (block body.value.items) ++ (misplaced_handlers w true (handlers hs) ++ (misplaced u (block other.value.items) ++ misplaced z (block final.value.items)))) r is
       (four_parts _ _ _ _ _ _ _ _ (ap (misplaced w) (sym (block_hidden body.value))) (ap (λ s. misplaced_handlers w true (handlers s)) e ∙ ap (misplaced_handlers w true) (sym (handlers_hidden all.value))) (ap (λ u. misplaced u (block other.value.items)) p ∙ ap (misplaced (without_yield w)) (sym (block_hidden other.value))) (ap (λ u. misplaced u (block final.value.items)) q ∙ ap (misplaced (without_yield w)) (sym (block_hidden final.value)))) h
 

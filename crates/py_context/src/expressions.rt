@@ -1,7 +1,7 @@
 ghost use Rattle.std.specs.Prelude.{◌≡◌, ◌++◌, ◌∷◌, [], List, IfOk, MatchOption};
 ghost use Rattle.py_tree.specs.Trees.{tree, trees, some_tree};
 ghost use Rattle.py_tree.specs.Names.{is_among};
-ghost use Rattle.py_grammar.specs.Context.{first_pos, by_turns, wrong_arguments, each, in_tree, in_trees, in_maybe};
+ghost use Rattle.py_grammar.specs.Context.{first_pos, by_turns, wrong_arguments, places_of_each, in_tree, in_trees, in_maybe};
 ghost use Rattle.py_context.specs.First.{sooner, wrong_name, with_name};
 ghost use Rattle.py_context.specs.Parts.{expr_parts, first_of, first_by_turns, first_argument};
 
@@ -171,7 +171,7 @@ fn in_turns(
     keys: Result<Vec<Part>, OutOfMemory>,
     values: Result<Vec<Part>, OutOfMemory>,
 ) -> Result<Option<Pos>, OutOfMemory>
-    ensures { (ks es : List (Rc Expr Global)) → IfOk keys (λ all. all.items ≡ expr_parts ks) → IfOk values (λ all. all.items ≡ expr_parts es) → IfOk result (λ at. at ≡ first_pos (by_turns (each (trees ks)) (each (trees es)))) }
+    ensures { (ks es : List (Rc Expr Global)) → IfOk keys (λ all. all.items ≡ expr_parts ks) → IfOk values (λ all. all.items ≡ expr_parts es) → IfOk result (λ at. at ≡ first_pos (by_turns (places_of_each (trees ks)) (places_of_each (trees es)))) }
 {
     match (keys, values) {
         (Ok(keys), Ok(values)) => Ok(first_by_turns(&keys, &values)),
@@ -186,7 +186,7 @@ fn in_arguments(
     names: &Rc<Vec<Option<ArgName>>>,
     arguments: Result<Vec<Part>, OutOfMemory>,
 ) -> Result<Option<Pos>, OutOfMemory>
-    ensures { (es : List (Rc Expr Global)) → IfOk arguments (λ all. all.items ≡ expr_parts es) → IfOk result (λ at. at ≡ first_pos (wrong_arguments [] names.now.value.items (each (trees es)))) }
+    ensures { (es : List (Rc Expr Global)) → IfOk arguments (λ all. all.items ≡ expr_parts es) → IfOk result (λ at. at ≡ first_pos (wrong_arguments [] names.now.value.items (places_of_each (trees es)))) }
 {
     match arguments {
         Ok(arguments) => first_argument(alloc, names, &arguments),

@@ -29,7 +29,7 @@ pub enum Scope {
 
 /// Where a statement stands: in a module, a class or a function, in a loop of it or not, and where a `yield` may stand or not.
 #[derive(Clone, Copy)]
-pub struct Where {
+pub struct StatementContext {
     pub scope: Scope,
     pub in_loop: bool,
     pub may_yield: bool,
@@ -83,7 +83,7 @@ fn in_targets(alloc: Global, all: &[Target]) -> Result<Option<Pos>, OutOfMemory>
     Ok(None)
 }
 
-fn is_function(w: Where) -> bool
+fn is_function(w: StatementContext) -> bool
     ensures { result ≡ is_function (where_of w).scope }
 {
     match w.scope {
@@ -92,7 +92,7 @@ fn is_function(w: Where) -> bool
     }
 }
 
-fn is_module(w: Where) -> bool
+fn is_module(w: StatementContext) -> bool
     ensures { result ≡ is_module (where_of w).scope }
 {
     match w.scope {
@@ -102,10 +102,10 @@ fn is_module(w: Where) -> bool
 }
 
 /// In a loop there.
-fn in_loop_of(w: Where) -> Where
+fn in_loop_of(w: StatementContext) -> StatementContext
     ensures { where_of result ≡ in_loop_of (where_of w) }
 {
-    Where {
+    StatementContext {
         scope: w.scope,
         in_loop: true,
         may_yield: false,
@@ -113,10 +113,10 @@ fn in_loop_of(w: Where) -> Where
 }
 
 /// There, where no `yield` may stand.
-fn without_yield(w: Where) -> Where
+fn without_yield(w: StatementContext) -> StatementContext
     ensures { where_of result ≡ without_yield (where_of w) }
 {
-    Where {
+    StatementContext {
         scope: w.scope,
         in_loop: w.in_loop,
         may_yield: false,
@@ -124,10 +124,10 @@ fn without_yield(w: Where) -> Where
 }
 
 /// In a function.
-fn inside_function() -> Where
+fn inside_function() -> StatementContext
     ensures { where_of result ≡ in_function }
 {
-    Where {
+    StatementContext {
         scope: Scope::Function,
         in_loop: false,
         may_yield: true,
@@ -135,10 +135,10 @@ fn inside_function() -> Where
 }
 
 /// In a class.
-fn inside_class() -> Where
+fn inside_class() -> StatementContext
     ensures { where_of result ≡ in_class }
 {
-    Where {
+    StatementContext {
         scope: Scope::Class,
         in_loop: false,
         may_yield: false,
@@ -171,7 +171,7 @@ fn in_assign(
 
 /// The first in a `yield`.
 #[tactic(auto, using(crate::proofs::ExpressionPlaces::join_rules))]
-fn in_yield(alloc: Global, w: Where, given: &Yield) -> Result<Option<Pos>, OutOfMemory>
+fn in_yield(alloc: Global, w: StatementContext, given: &Yield) -> Result<Option<Pos>, OutOfMemory>
     ensures { IfOk result (λ at. at ≡ first_pos (unless w.may_yield given.now.at ++ in_maybe (some_tree given.now.value))) }
 {
     join(
@@ -183,7 +183,7 @@ fn in_yield(alloc: Global, w: Where, given: &Yield) -> Result<Option<Pos>, OutOf
 #[tactic(auto, using(crate::proofs::ExpressionPlaces::join_rules))]
 fn in_assign_yield(
     alloc: Global,
-    w: Where,
+    w: StatementContext,
     targets: &Rc<Vec<Target>>,
     given: &Yield,
 ) -> Result<Option<Pos>, OutOfMemory>
@@ -206,7 +206,7 @@ fn in_aug_assign(
 #[tactic(auto, using(crate::proofs::ExpressionPlaces::join_rules))]
 fn in_return(
     alloc: Global,
-    w: Where,
+    w: StatementContext,
     at: Pos,
     value: &Option<Rc<Expr>>,
 ) -> Result<Option<Pos>, OutOfMemory>
@@ -218,7 +218,7 @@ fn in_return(
 #[tactic(auto, using(crate::proofs::ExpressionPlaces::join_rules))]
 fn in_return_yield(
     alloc: Global,
-    w: Where,
+    w: StatementContext,
     at: Pos,
     given: &Yield,
 ) -> Result<Option<Pos>, OutOfMemory>
@@ -298,7 +298,7 @@ fn in_own_params(alloc: Global, function: &Function) -> Result<Option<Pos>, OutO
 
 /// The first in statements.
 #[cycle(context)]
-fn in_stmts(alloc: Global, w: Where, stmts: &[Stmt]) -> Result<Option<Pos>, OutOfMemory>
+fn in_stmts(alloc: Global, w: StatementContext, stmts: &[Stmt]) -> Result<Option<Pos>, OutOfMemory>
     ensures { IfOk result (λ at. at ≡ first_pos (misplaced (where_of w) (block stmts.now))) }
 {
     for stmt in stmts {
@@ -310,14 +310,22 @@ fn in_stmts(alloc: Global, w: Where, stmts: &[Stmt]) -> Result<Option<Pos>, OutO
 }
 
 #[cycle(context)]
-fn in_block(alloc: Global, w: Where, body: &Rc<Vec<Stmt>>) -> Result<Option<Pos>, OutOfMemory>
+fn in_block(
+    alloc: Global,
+    w: StatementContext,
+    body: &Rc<Vec<Stmt>>,
+) -> Result<Option<Pos>, OutOfMemory>
     ensures { IfOk result (λ at. at ≡ first_pos (misplaced (where_of w) (block body.now.value.items))) }
 {
     in_stmts(alloc, w, body)
 }
 
 #[cycle(context)]
-fn in_branches(alloc: Global, w: Where, all: &[Branch]) -> Result<Option<Pos>, OutOfMemory>
+fn in_branches(
+    alloc: Global,
+    w: StatementContext,
+    all: &[Branch],
+) -> Result<Option<Pos>, OutOfMemory>
     ensures { IfOk result (λ at. at ≡ first_pos (misplaced_branches (where_of w) (branches all.now))) }
 {
     for branch in all {
@@ -340,7 +348,7 @@ fn may_catch(is_last: bool, handler: &Handler) -> bool
 #[cycle(context)]
 fn in_handler(
     alloc: Global,
-    w: Where,
+    w: StatementContext,
     is_last: bool,
     handler: &Handler,
 ) -> Result<Option<Pos>, OutOfMemory>
@@ -356,7 +364,11 @@ fn in_handler(
 }
 
 #[cycle(context)]
-fn in_handlers(alloc: Global, w: Where, all: &[Handler]) -> Result<Option<Pos>, OutOfMemory>
+fn in_handlers(
+    alloc: Global,
+    w: StatementContext,
+    all: &[Handler],
+) -> Result<Option<Pos>, OutOfMemory>
     ensures { IfOk result (λ at. at ≡ first_pos (misplaced_handlers (where_of w) true (handlers all.now))) }
 {
     let mut further = all.len();
@@ -371,7 +383,12 @@ fn in_handlers(alloc: Global, w: Where, all: &[Handler]) -> Result<Option<Pos>, 
 
 /// The first in a function.
 #[cycle(context)]
-fn in_def(alloc: Global, w: Where, at: Pos, function: &Function) -> Result<Option<Pos>, OutOfMemory>
+fn in_def(
+    alloc: Global,
+    w: StatementContext,
+    at: Pos,
+    function: &Function,
+) -> Result<Option<Pos>, OutOfMemory>
     ensures { IfOk result (λ first. first ≡ first_pos (unless (not (is_function (where_of w).scope)) at ++ (in_trees (trees (out-Function function.now).decorators.value.items) ++ (in_params (globals_of (block (out-Function function.now).body.value.items)) [] false (parameters (out-Function function.now).params.value.items) ++ (in_maybe (some_tree (out-Function function.now).returns) ++ misplaced in_function (block (out-Function function.now).body.value.items)))))) }
 {
     join(
@@ -391,7 +408,12 @@ fn in_def(alloc: Global, w: Where, at: Pos, function: &Function) -> Result<Optio
 
 /// The first in a class.
 #[cycle(context)]
-fn in_class(alloc: Global, w: Where, at: Pos, class: &Class) -> Result<Option<Pos>, OutOfMemory>
+fn in_class(
+    alloc: Global,
+    w: StatementContext,
+    at: Pos,
+    class: &Class,
+) -> Result<Option<Pos>, OutOfMemory>
     ensures { IfOk result (λ first. first ≡ first_pos (unless (is_module (where_of w).scope) at ++ (in_trees (trees (out-Class class.now).decorators.value.items) ++ (in_maybe (some_tree (out-Class class.now).base) ++ misplaced in_class (block (out-Class class.now).body.value.items))))) }
 {
     join(
@@ -407,7 +429,7 @@ fn in_class(alloc: Global, w: Where, at: Pos, class: &Class) -> Result<Option<Po
 }
 
 #[cycle(context)]
-fn in_stmt(alloc: Global, w: Where, stmt: &Stmt) -> Result<Option<Pos>, OutOfMemory>
+fn in_stmt(alloc: Global, w: StatementContext, stmt: &Stmt) -> Result<Option<Pos>, OutOfMemory>
     ensures { IfOk result (λ at. at ≡ first_pos (misplaced_in (where_of w) (statement_at stmt.now.at stmt.now.kind))) }
 {
     match &stmt.kind {
@@ -460,7 +482,7 @@ pub fn first_misplaced(alloc: Global, stmts: &[Stmt]) -> Result<Option<Pos>, Out
 {
     in_stmts(
         alloc,
-        Where {
+        StatementContext {
             scope: Scope::Module,
             in_loop: false,
             may_yield: false,

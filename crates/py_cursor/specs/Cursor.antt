@@ -4,6 +4,7 @@ use Rattle.py_tokens.specs.declared.op.Op.{Op}
 use Rattle.py_tokens.specs.declared.token.Token.{Token}
 use Rattle.parsing.specs.Reading.{Read, Bad, Deep}
 use Rattle.py_expressions.specs.token_kinds.Kinds.{op_number}
+use Rattle.py_expressions.specs.token_kinds.Numbers as k
 use Rattle.py_cursor.specs.declared.cursor.Sign.{Sign}
 use Rattle.py_cursor.specs.declared.cursor.Sign.TheVariants as sign
 use Rattle.py_cursor.specs.declared.stop.Stop.{Stop}
@@ -11,13 +12,13 @@ use Rattle.py_cursor.specs.declared.stop.Stop.TheVariants as stops
 
 -- the number of a kind
 abbrev pub number_on : Sign → ℕ
-number_on sign.Name = 0
-number_on sign.Number = 1
-number_on sign.Text = 2
-number_on sign.Newline = 3
-number_on sign.Indent = 4
-number_on sign.Dedent = 5
-number_on sign.End = 6
+number_on sign.Name = k.name
+number_on sign.Number = k.number
+number_on sign.Text = k.text
+number_on sign.Newline = k.newline
+number_on sign.Indent = k.indent
+number_on sign.Dedent = k.dedent
+number_on sign.End = k.end
 number_on (sign.Op o) = op_number o
 
 abbrev pub kinds_of : List Sign → List ℕ

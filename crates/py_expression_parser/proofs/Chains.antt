@@ -16,7 +16,7 @@ use Rattle.py_tree.specs.declared.op.CmpOp.{CmpOp}
 use Rattle.py_tree.specs.declared.op.CmpOp.TheVariants as comparison
 use Rattle.py_tree.specs.Trees.{Tree}
 use Rattle.py_cursor.specs.py_expressions.Sorts.{tree, chain, compare, negation, conjunct, disjunct, bitor}
-use Rattle.py_cursor.specs.py_expressions.Lines.{P, expressions, no_reader, compared, worded, part, comparisons}
+use Rattle.py_cursor.specs.py_expressions.Lines.{P, expressions, no_reader, comparison_link, worded, part, comparisons}
 use Rattle.py_nodes.specs.Parts.{with_op}
 use Rattle.py_cursor.proofs.Loops.{begun_over, begun_fails, begun_next, fails_on}
 use Rattle.py_expression_parser.specs.declared.links.Link.{Link}
@@ -36,7 +36,7 @@ comparison_then ts k1 = pick_bind (first_meant kind (operator_list comparisons) 
     (bind_assoc (wanted kind (k.is ∷ []) ts) _ k1 ∙ bind_eq (wanted kind (k.is ∷ []) ts) _ _ (λ o rest. pick_bind (first_of kind (k.not ∷ []) rest) _ _ k1)))
 
 abbrev link_part : Link → P chain chain
-link_part link.Compare = compared (λ c. c)
+link_part link.Compare = comparison_link (λ c. c)
 link_part link.And = worded k.and (λ c. c) (part negation v.operand)
 link_part link.Or = worded k.or (λ c. c) (part conjunct v.operand)
 
@@ -75,8 +75,8 @@ abbrev chained : ℕ → Link → Tree × ℕ → List Token → Read Token (Tre
 chained m l y ts = cond (starts_with kind (links_of l) ts) (cond (fits (m - 1) y.1) (links_more m l (v.operand_chain y.0, y.1) ts >>= λ c. Found (chain_tree l c.0.0, 1 + c.0.1) c.1) (Deep ts)) (Found y ts)
 
 pub chained_shape : (m : ℕ) (l : Link) (ts : List Token) → 0 < m → linkage m l ts ≡ (operand_of m l ts >>= λ y. chained m l y.0 y.1)
-chained_shape m link.Compare ts h = line m compare ts h ∙ bind_eq (reads m bitor ts) _ _ (λ y rest. sym (walked expressions (m - 1) no_reader (readers expressions no_reader m) (readers expressions no_reader (m - 1)) {S = tree} {A = tree} (room ((compared v.operand_chain) ⨾ many (link_part link.Compare) ⨾ node (chain_tree link.Compare)) ∣ give (λ e. e)) (y.0, up y.1) rest)
-    ∙ chain_read expressions (m - 1) no_reader (readers expressions no_reader m) (readers expressions no_reader (m - 1)) (all_eat m) (all_eat (m - 1)) (λ q. absurd q) {S = tree} {A = chain} (compared v.operand_chain) (link_part link.Compare) (chain_tree link.Compare) v.operand_chain refl y rest refl (walked expressions (m - 1) no_reader (readers expressions no_reader m) (readers expressions no_reader (m - 1)) {S = tree} {A = chain} (compared v.operand_chain) (y.0, up y.1) rest ∙ sym (walked expressions (m - 1) no_reader (readers expressions no_reader m) (readers expressions no_reader (m - 1)) {S = chain} {A = chain} (link_part link.Compare) (v.operand_chain y.0, up y.1) rest)))
+chained_shape m link.Compare ts h = line m compare ts h ∙ bind_eq (reads m bitor ts) _ _ (λ y rest. sym (walked expressions (m - 1) no_reader (readers expressions no_reader m) (readers expressions no_reader (m - 1)) {S = tree} {A = tree} (room ((comparison_link v.operand_chain) ⨾ many (link_part link.Compare) ⨾ node (chain_tree link.Compare)) ∣ give (λ e. e)) (y.0, up y.1) rest)
+    ∙ chain_read expressions (m - 1) no_reader (readers expressions no_reader m) (readers expressions no_reader (m - 1)) (all_eat m) (all_eat (m - 1)) (λ q. absurd q) {S = tree} {A = chain} (comparison_link v.operand_chain) (link_part link.Compare) (chain_tree link.Compare) v.operand_chain refl y rest refl (walked expressions (m - 1) no_reader (readers expressions no_reader m) (readers expressions no_reader (m - 1)) {S = tree} {A = chain} (comparison_link v.operand_chain) (y.0, up y.1) rest ∙ sym (walked expressions (m - 1) no_reader (readers expressions no_reader m) (readers expressions no_reader (m - 1)) {S = chain} {A = chain} (link_part link.Compare) (v.operand_chain y.0, up y.1) rest)))
 chained_shape m link.And ts h = line m conjunct ts h ∙ bind_eq (reads m negation ts) _ _ (λ y rest. sym (walked expressions (m - 1) no_reader (readers expressions no_reader m) (readers expressions no_reader (m - 1)) {S = tree} {A = tree} (room ((worded k.and v.operand_chain (part negation v.operand)) ⨾ many (link_part link.And) ⨾ node (chain_tree link.And)) ∣ give (λ e. e)) (y.0, up y.1) rest)
     ∙ chain_read expressions (m - 1) no_reader (readers expressions no_reader m) (readers expressions no_reader (m - 1)) (all_eat m) (all_eat (m - 1)) (λ q. absurd q) {S = tree} {A = chain} (worded k.and v.operand_chain (part negation v.operand)) (link_part link.And) (chain_tree link.And) v.operand_chain refl y rest refl refl)
 chained_shape m link.Or ts h = line m disjunct ts h ∙ bind_eq (reads m conjunct ts) _ _ (λ y rest. sym (walked expressions (m - 1) no_reader (readers expressions no_reader m) (readers expressions no_reader (m - 1)) {S = tree} {A = tree} (room ((worded k.or v.operand_chain (part conjunct v.operand)) ⨾ many (link_part link.Or) ⨾ node (chain_tree link.Or)) ∣ give (λ e. e)) (y.0, up y.1) rest)

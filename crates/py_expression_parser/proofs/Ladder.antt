@@ -6,7 +6,7 @@ use Rattle.py_tree.specs.Trees.{Tree, Binary}
 use Rattle.parsing.specs.Reading.{Read, Found, Deep, ◌>>=◌}
 use Rattle.grammar.specs.Table.{room, inner, ◌⨾◌}
 use Rattle.grammar.specs.Levels.{readers, fits}
-use Rattle.grammar_code.specs.Walk.{up, tall, above, pick, first_meant, whole, onto}
+use Rattle.grammar_code.specs.Walk.{up, tall, above, pick, first_meant, whole, behind_height}
 use Rattle.grammar_code.proofs.Walk.{round_walk, walk_one_of, bind_found_same}
 use Rattle.py_cursor.specs.token_kinds.Kinds.{kind}
 use Rattle.py_cursor.specs.py_expressions.Values.{at_of}
@@ -26,12 +26,12 @@ step ops right = room (operator ops ⨾ right ⨾ binary_node)
 -- what stands behind an operand: operators of a rank with operands of the rank below
 unfoldable pub more : ℕ → Rank → Tree × ℕ → List Token → Read Token (Tree × ℕ)
 more m rank.Unary s ts = Found s ts
-more m rank.Product s ts = reads_all m (step products (inner unary two_sides)) s ts >>= onto whole
-more m rank.Sum s ts = reads_all m (step sums (inner prod two_sides)) s ts >>= onto whole
-more m rank.Shift s ts = reads_all m (step shifts (inner sum two_sides)) s ts >>= onto whole
-more m rank.And s ts = reads_all m (step ands (inner shift two_sides)) s ts >>= onto whole
-more m rank.Xor s ts = reads_all m (step xors (inner band two_sides)) s ts >>= onto whole
-more m rank.Or s ts = reads_all m (step ors (inner xor two_sides)) s ts >>= onto whole
+more m rank.Product s ts = reads_all m (step products (inner unary two_sides)) s ts >>= behind_height whole
+more m rank.Sum s ts = reads_all m (step sums (inner prod two_sides)) s ts >>= behind_height whole
+more m rank.Shift s ts = reads_all m (step shifts (inner sum two_sides)) s ts >>= behind_height whole
+more m rank.And s ts = reads_all m (step ands (inner shift two_sides)) s ts >>= behind_height whole
+more m rank.Xor s ts = reads_all m (step xors (inner band two_sides)) s ts >>= behind_height whole
+more m rank.Or s ts = reads_all m (step ors (inner xor two_sides)) s ts >>= behind_height whole
 
 pub rank_shape : (m : ℕ) (k : Rank) (ts : List Token) → 0 < m → ranked m k ts ≡ (ranked m (lower_of k) ts >>= λ y. more m k y.0 y.1)
 unfolding more
@@ -53,18 +53,18 @@ pub more_line : (m : ℕ) (k : Rank) (s : Tree × ℕ) (ts : List Token) → mor
 unfolding more
 more_line m rank.Unary s [] = refl
 more_line m rank.Unary s (t ∷ ts) = refl
-more_line m rank.Product s ts = round_walk expressions (m - 1) no_reader (readers expressions no_reader m) (readers expressions no_reader (m - 1)) (all_eat m) (all_eat (m - 1)) (λ q. absurd q) {S = tree} {B = tree} (step products (inner unary two_sides)) refl s ts (onto whole)
-    ∙ walk_one_of expressions (m - 1) no_reader (readers expressions no_reader m) (readers expressions no_reader (m - 1)) (fits (m - 1) s.1) {S = tree} {A = left} {B = tree} (λ l _ o. (l, o)) products.0 products.1 (s.0, up s.1) ts (λ y. reads (m - 1) unary y.1 >>= λ r. reads_all m (step products (inner unary two_sides)) (Binary (at_of y.0.0.0) y.0.0.0 y.0.0.1 r.0.0, 1 + tall (above y.0.1 r.0.1)) r.1 >>= onto whole) (Found s ts)
-more_line m rank.Sum s ts = round_walk expressions (m - 1) no_reader (readers expressions no_reader m) (readers expressions no_reader (m - 1)) (all_eat m) (all_eat (m - 1)) (λ q. absurd q) {S = tree} {B = tree} (step sums (inner prod two_sides)) refl s ts (onto whole)
-    ∙ walk_one_of expressions (m - 1) no_reader (readers expressions no_reader m) (readers expressions no_reader (m - 1)) (fits (m - 1) s.1) {S = tree} {A = left} {B = tree} (λ l _ o. (l, o)) sums.0 sums.1 (s.0, up s.1) ts (λ y. reads (m - 1) prod y.1 >>= λ r. reads_all m (step sums (inner prod two_sides)) (Binary (at_of y.0.0.0) y.0.0.0 y.0.0.1 r.0.0, 1 + tall (above y.0.1 r.0.1)) r.1 >>= onto whole) (Found s ts)
-more_line m rank.Shift s ts = round_walk expressions (m - 1) no_reader (readers expressions no_reader m) (readers expressions no_reader (m - 1)) (all_eat m) (all_eat (m - 1)) (λ q. absurd q) {S = tree} {B = tree} (step shifts (inner sum two_sides)) refl s ts (onto whole)
-    ∙ walk_one_of expressions (m - 1) no_reader (readers expressions no_reader m) (readers expressions no_reader (m - 1)) (fits (m - 1) s.1) {S = tree} {A = left} {B = tree} (λ l _ o. (l, o)) shifts.0 shifts.1 (s.0, up s.1) ts (λ y. reads (m - 1) sum y.1 >>= λ r. reads_all m (step shifts (inner sum two_sides)) (Binary (at_of y.0.0.0) y.0.0.0 y.0.0.1 r.0.0, 1 + tall (above y.0.1 r.0.1)) r.1 >>= onto whole) (Found s ts)
-more_line m rank.And s ts = round_walk expressions (m - 1) no_reader (readers expressions no_reader m) (readers expressions no_reader (m - 1)) (all_eat m) (all_eat (m - 1)) (λ q. absurd q) {S = tree} {B = tree} (step ands (inner shift two_sides)) refl s ts (onto whole)
-    ∙ walk_one_of expressions (m - 1) no_reader (readers expressions no_reader m) (readers expressions no_reader (m - 1)) (fits (m - 1) s.1) {S = tree} {A = left} {B = tree} (λ l _ o. (l, o)) ands.0 ands.1 (s.0, up s.1) ts (λ y. reads (m - 1) shift y.1 >>= λ r. reads_all m (step ands (inner shift two_sides)) (Binary (at_of y.0.0.0) y.0.0.0 y.0.0.1 r.0.0, 1 + tall (above y.0.1 r.0.1)) r.1 >>= onto whole) (Found s ts)
-more_line m rank.Xor s ts = round_walk expressions (m - 1) no_reader (readers expressions no_reader m) (readers expressions no_reader (m - 1)) (all_eat m) (all_eat (m - 1)) (λ q. absurd q) {S = tree} {B = tree} (step xors (inner band two_sides)) refl s ts (onto whole)
-    ∙ walk_one_of expressions (m - 1) no_reader (readers expressions no_reader m) (readers expressions no_reader (m - 1)) (fits (m - 1) s.1) {S = tree} {A = left} {B = tree} (λ l _ o. (l, o)) xors.0 xors.1 (s.0, up s.1) ts (λ y. reads (m - 1) band y.1 >>= λ r. reads_all m (step xors (inner band two_sides)) (Binary (at_of y.0.0.0) y.0.0.0 y.0.0.1 r.0.0, 1 + tall (above y.0.1 r.0.1)) r.1 >>= onto whole) (Found s ts)
-more_line m rank.Or s ts = round_walk expressions (m - 1) no_reader (readers expressions no_reader m) (readers expressions no_reader (m - 1)) (all_eat m) (all_eat (m - 1)) (λ q. absurd q) {S = tree} {B = tree} (step ors (inner xor two_sides)) refl s ts (onto whole)
-    ∙ walk_one_of expressions (m - 1) no_reader (readers expressions no_reader m) (readers expressions no_reader (m - 1)) (fits (m - 1) s.1) {S = tree} {A = left} {B = tree} (λ l _ o. (l, o)) ors.0 ors.1 (s.0, up s.1) ts (λ y. reads (m - 1) xor y.1 >>= λ r. reads_all m (step ors (inner xor two_sides)) (Binary (at_of y.0.0.0) y.0.0.0 y.0.0.1 r.0.0, 1 + tall (above y.0.1 r.0.1)) r.1 >>= onto whole) (Found s ts)
+more_line m rank.Product s ts = round_walk expressions (m - 1) no_reader (readers expressions no_reader m) (readers expressions no_reader (m - 1)) (all_eat m) (all_eat (m - 1)) (λ q. absurd q) {S = tree} {B = tree} (step products (inner unary two_sides)) refl s ts (behind_height whole)
+    ∙ walk_one_of expressions (m - 1) no_reader (readers expressions no_reader m) (readers expressions no_reader (m - 1)) (fits (m - 1) s.1) {S = tree} {A = left} {B = tree} (λ l _ o. (l, o)) products.0 products.1 (s.0, up s.1) ts (λ y. reads (m - 1) unary y.1 >>= λ r. reads_all m (step products (inner unary two_sides)) (Binary (at_of y.0.0.0) y.0.0.0 y.0.0.1 r.0.0, 1 + tall (above y.0.1 r.0.1)) r.1 >>= behind_height whole) (Found s ts)
+more_line m rank.Sum s ts = round_walk expressions (m - 1) no_reader (readers expressions no_reader m) (readers expressions no_reader (m - 1)) (all_eat m) (all_eat (m - 1)) (λ q. absurd q) {S = tree} {B = tree} (step sums (inner prod two_sides)) refl s ts (behind_height whole)
+    ∙ walk_one_of expressions (m - 1) no_reader (readers expressions no_reader m) (readers expressions no_reader (m - 1)) (fits (m - 1) s.1) {S = tree} {A = left} {B = tree} (λ l _ o. (l, o)) sums.0 sums.1 (s.0, up s.1) ts (λ y. reads (m - 1) prod y.1 >>= λ r. reads_all m (step sums (inner prod two_sides)) (Binary (at_of y.0.0.0) y.0.0.0 y.0.0.1 r.0.0, 1 + tall (above y.0.1 r.0.1)) r.1 >>= behind_height whole) (Found s ts)
+more_line m rank.Shift s ts = round_walk expressions (m - 1) no_reader (readers expressions no_reader m) (readers expressions no_reader (m - 1)) (all_eat m) (all_eat (m - 1)) (λ q. absurd q) {S = tree} {B = tree} (step shifts (inner sum two_sides)) refl s ts (behind_height whole)
+    ∙ walk_one_of expressions (m - 1) no_reader (readers expressions no_reader m) (readers expressions no_reader (m - 1)) (fits (m - 1) s.1) {S = tree} {A = left} {B = tree} (λ l _ o. (l, o)) shifts.0 shifts.1 (s.0, up s.1) ts (λ y. reads (m - 1) sum y.1 >>= λ r. reads_all m (step shifts (inner sum two_sides)) (Binary (at_of y.0.0.0) y.0.0.0 y.0.0.1 r.0.0, 1 + tall (above y.0.1 r.0.1)) r.1 >>= behind_height whole) (Found s ts)
+more_line m rank.And s ts = round_walk expressions (m - 1) no_reader (readers expressions no_reader m) (readers expressions no_reader (m - 1)) (all_eat m) (all_eat (m - 1)) (λ q. absurd q) {S = tree} {B = tree} (step ands (inner shift two_sides)) refl s ts (behind_height whole)
+    ∙ walk_one_of expressions (m - 1) no_reader (readers expressions no_reader m) (readers expressions no_reader (m - 1)) (fits (m - 1) s.1) {S = tree} {A = left} {B = tree} (λ l _ o. (l, o)) ands.0 ands.1 (s.0, up s.1) ts (λ y. reads (m - 1) shift y.1 >>= λ r. reads_all m (step ands (inner shift two_sides)) (Binary (at_of y.0.0.0) y.0.0.0 y.0.0.1 r.0.0, 1 + tall (above y.0.1 r.0.1)) r.1 >>= behind_height whole) (Found s ts)
+more_line m rank.Xor s ts = round_walk expressions (m - 1) no_reader (readers expressions no_reader m) (readers expressions no_reader (m - 1)) (all_eat m) (all_eat (m - 1)) (λ q. absurd q) {S = tree} {B = tree} (step xors (inner band two_sides)) refl s ts (behind_height whole)
+    ∙ walk_one_of expressions (m - 1) no_reader (readers expressions no_reader m) (readers expressions no_reader (m - 1)) (fits (m - 1) s.1) {S = tree} {A = left} {B = tree} (λ l _ o. (l, o)) xors.0 xors.1 (s.0, up s.1) ts (λ y. reads (m - 1) band y.1 >>= λ r. reads_all m (step xors (inner band two_sides)) (Binary (at_of y.0.0.0) y.0.0.0 y.0.0.1 r.0.0, 1 + tall (above y.0.1 r.0.1)) r.1 >>= behind_height whole) (Found s ts)
+more_line m rank.Or s ts = round_walk expressions (m - 1) no_reader (readers expressions no_reader m) (readers expressions no_reader (m - 1)) (all_eat m) (all_eat (m - 1)) (λ q. absurd q) {S = tree} {B = tree} (step ors (inner xor two_sides)) refl s ts (behind_height whole)
+    ∙ walk_one_of expressions (m - 1) no_reader (readers expressions no_reader m) (readers expressions no_reader (m - 1)) (fits (m - 1) s.1) {S = tree} {A = left} {B = tree} (λ l _ o. (l, o)) ors.0 ors.1 (s.0, up s.1) ts (λ y. reads (m - 1) xor y.1 >>= λ r. reads_all m (step ors (inner xor two_sides)) (Binary (at_of y.0.0.0) y.0.0.0 y.0.0.1 r.0.0, 1 + tall (above y.0.1 r.0.1)) r.1 >>= behind_height whole) (Found s ts)
 
 pub more_over : (m : ℕ) (k : Rank) (s : Tree × ℕ) (ts : List Token) → first_meant kind (operators_of k) ts ≡ None → more m k s ts ≡ Found s ts
 more_over m k s ts e = steps_over (more m k) (first_meant kind (operators_of k)) (λ s. fits (m - 1) s.1) (ranked (m - 1) (lower_of k)) (λ s o y. joined s o y) (λ s ts. Found s ts) (more_line m k) s ts e

@@ -14,7 +14,7 @@ use Rattle.py_cursor.specs.token_kinds.Numbers as k
 use Rattle.py_cursor.specs.py_expressions.Values as v
 use Rattle.py_cursor.specs.py_expressions.Values.{at_of, number_in}
 use Rattle.py_cursor.specs.py_expressions.Sorts.{row, chain, pairs, args, quoted, upto, tree, exprs, expr, slice, arguments, bitor, compare, negation, conjunct, disjunct}
-use Rattle.py_cursor.specs.py_expressions.Lines.{key, mark, part, pair, no_more, arg, second, slice_of, attribute, subscript, comparisons, compared, worded}
+use Rattle.py_cursor.specs.py_expressions.Lines.{key, mark, part, pair, no_more, arg, second, slice_of, attribute, subscript, comparisons, comparison_link, worded}
 use Rattle.py_nodes.specs.Parts.{no_pairs, more_pairs, with_op}
 use Rattle.py_cursor.specs.declared.parser.Parser.{Parser}
 use Rattle.py_cursor.specs.declared.stop.Stop.{Stop}
@@ -160,6 +160,6 @@ chain_tree link.Or c = Or (at_of c.head) c.head c.more
 
 -- links and operands behind a chain
 abbrev pub links_more : ℕ → Link → v.OperandChain × ℕ → List Token → Read Token (v.OperandChain × ℕ)
-links_more m link.Compare s ts = reads_all m {S = chain} (compared (λ c. c)) s ts
+links_more m link.Compare s ts = reads_all m {S = chain} (comparison_link (λ c. c)) s ts
 links_more m link.And s ts = reads_all m {S = chain} (worded k.and (λ c. c) (part negation v.operand)) s ts
 links_more m link.Or s ts = reads_all m {S = chain} (worded k.or (λ c. c) (part conjunct v.operand)) s ts

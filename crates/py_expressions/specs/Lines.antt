@@ -51,8 +51,8 @@ abbrev pub binary_node : P operands tree
 binary_node = node (λ x. t.Binary (v.at_of x.0.0) x.0.0 x.0.1 x.1)
 
 -- lower { operator lower }, grouped to the left
-abbrev pub grouped : OpRow → (lower : P nothing tree) → (right : P left operands) → P nothing tree
-grouped ops lower right = lower ⨾ many (room (operator ops ⨾ right ⨾ binary_node))
+abbrev pub left_associative : OpRow → (lower : P nothing tree) → (right : P left operands) → P nothing tree
+left_associative ops lower right = lower ⨾ many (room (operator ops ⨾ right ⨾ binary_node))
 
 -- one comma and what may stand behind it
 abbrev pub commas : P row row → P row row
@@ -131,8 +131,8 @@ abbrev pub comparisons : (ℕ × CmpOp) × List (ℕ × CmpOp)
 comparisons = ((k.equal_equal, comparison.Equal), (k.not_equal, comparison.NotEqual) ∷ (k.less_than, comparison.Less) ∷ (k.less_equal, comparison.LessEqual) ∷ (k.greater, comparison.Greater) ∷ (k.greater_equal, comparison.GreaterEqual) ∷ (k.in_word, comparison.In) ∷ [])
 
 -- a step goes on from a chain, or begins one
-abbrev pub compared : {S : Sort} → (El S → v.OperandChain) → P S chain
-compared to = (one_of {A = chain} (λ c _ o. v.op_more (to c) o) comparisons.0 comparisons.1
+abbrev pub comparison_link : {S : Sort} → (El S → v.OperandChain) → P S chain
+comparison_link to = (one_of {A = chain} (λ c _ o. v.op_more (to c) o) comparisons.0 comparisons.1
     ∣ key k.not ⨾ token {A = chain} (k.in_word ∷ []) (λ c _. v.op_more (to c) comparison.NotIn)
     ∣ token {A = chain} (k.is ∷ []) (λ c _. to c) ⨾ (mark (k.not ∷ []) (λ c _. v.op_more c comparison.IsNot) ∣ give (λ c. v.op_more c comparison.Is)))
     ⨾ part bitor v.operand
@@ -193,19 +193,19 @@ body power = only primary ⨾ (room (operator powers ⨾ inner unary two_sides �
 -- unary = ( "-" | "+" | "~" ) unary | power
 body unary = room (one_of {A = prefix} (λ _ u o. (u.at, o)) prefixes.0 prefixes.1 ⨾ inner {A = signed} unary (λ o e. (o, e)) ⨾ node (λ x. t.Unary x.0.0 x.0.1 x.1)) ∣ only power
 -- prod = unary { ( "*" | "//" | "%" ) unary }
-body prod = grouped products (only unary) (inner unary two_sides)
+body prod = left_associative products (only unary) (inner unary two_sides)
 -- sum = prod { ( "+" | "-" ) prod }
-body sum = grouped sums (only prod) (inner prod two_sides)
+body sum = left_associative sums (only prod) (inner prod two_sides)
 -- shift = sum { ( "<<" | ">>" ) sum }
-body shift = grouped shifts (only sum) (inner sum two_sides)
+body shift = left_associative shifts (only sum) (inner sum two_sides)
 -- band = shift { "&" shift }
-body band = grouped ands (only shift) (inner shift two_sides)
+body band = left_associative ands (only shift) (inner shift two_sides)
 -- xor = band { "^" band }
-body xor = grouped xors (only band) (inner band two_sides)
+body xor = left_associative xors (only band) (inner band two_sides)
 -- bitor = xor { "|" xor }
-body bitor = grouped ors (only xor) (inner xor two_sides)
+body bitor = left_associative ors (only xor) (inner xor two_sides)
 -- compare = bitor { ( "==" | "!=" | "<" | "<=" | ">" | ">=" | "in" | "not" "in" | "is" | "is" "not" ) bitor }
-body compare = linked (only bitor) (compared v.operand_chain) (compared (λ c. c)) (λ c. t.Compare (v.at_of c.head) c.head c.ops c.more)
+body compare = linked (only bitor) (comparison_link v.operand_chain) (comparison_link (λ c. c)) (λ c. t.Compare (v.at_of c.head) c.head c.ops c.more)
 -- not = "not" not | compare
 body negation = room (token {A = position} (k.not ∷ []) (λ _ u. u.at) ⨾ inner {A = held} negation (λ at e. (at, e)) ⨾ node (λ x. t.Not x.0 x.1)) ∣ only compare
 -- and = not { "and" not }

@@ -47,31 +47,31 @@ abbrev mutual
   in_tree (t.False at) = []
   in_tree (t.NoneTree at) = []
   in_tree (t.Paren at e) = in_tree e
-  in_tree (t.Tuple at es) = all_places (each es)
-  in_tree (t.Listed at es) = all_places (each es)
-  in_tree (t.Dict at ks es) = by_turns (each ks) (each es)
+  in_tree (t.Tuple at es) = all_places (places_of_each es)
+  in_tree (t.Listed at es) = all_places (places_of_each es)
+  in_tree (t.Dict at ks es) = by_turns (places_of_each ks) (places_of_each es)
   in_tree (t.Attribute at e n) = in_tree e
-  in_tree (t.Call at f es names) = in_tree f ++ wrong_arguments [] names (each es)
+  in_tree (t.Call at f es names) = in_tree f ++ wrong_arguments [] names (places_of_each es)
   in_tree (t.Subscript at e i) = in_tree e ++ in_tree i
   in_tree (t.Slice at e x y z) = in_tree e ++ (in_maybe x ++ (in_maybe y ++ in_maybe z))
   in_tree (t.Unary at op e) = in_tree e
   in_tree (t.Binary at l op r) = in_tree l ++ in_tree r
-  in_tree (t.Compare at l ops es) = in_tree l ++ all_places (each es)
+  in_tree (t.Compare at l ops es) = in_tree l ++ all_places (places_of_each es)
   in_tree (t.Not at e) = in_tree e
-  in_tree (t.And at e es) = in_tree e ++ all_places (each es)
-  in_tree (t.Or at e es) = in_tree e ++ all_places (each es)
+  in_tree (t.And at e es) = in_tree e ++ all_places (places_of_each es)
+  in_tree (t.Or at e es) = in_tree e ++ all_places (places_of_each es)
   in_tree (t.IfElse at a c b) = in_tree a ++ (in_tree c ++ in_tree b)
 
-  pub each : Trees → List (Pos × List Pos)
-  each Empty = []
-  each (More es e) = each es ++ (at_of e, in_tree e) ∷ []
+  pub places_of_each : Trees → List (Pos × List Pos)
+  places_of_each Empty = []
+  places_of_each (More es e) = places_of_each es ++ (at_of e, in_tree e) ∷ []
 
   pub in_maybe : Maybe → List Pos
   in_maybe Absent = []
   in_maybe (Present e) = in_tree e
 
 abbrev pub in_trees : Trees → List Pos
-in_trees es = all_places (each es)
+in_trees es = all_places (places_of_each es)
 
 -- TARGETS
 abbrev pub in_place : Place → List Pos
@@ -104,25 +104,25 @@ pub data Scope : Type 0 where
   OfClass : Scope
   OfFunction : Scope
 
-pub record Where : Type 0 where
+pub record StatementContext : Type 0 where
   pub scope : Scope
   pub in_loop : Bool
   pub may_yield : Bool
 
-abbrev pub in_module : Where
+abbrev pub in_module : StatementContext
 in_module = record { scope = OfModule; in_loop = false; may_yield = false }
 
-abbrev pub in_class : Where
+abbrev pub in_class : StatementContext
 in_class = record { scope = OfClass; in_loop = false; may_yield = false }
 
 -- a yield may stand in a function's body, and in the branches of `if` and the bodies of `try` there
-abbrev pub in_function : Where
+abbrev pub in_function : StatementContext
 in_function = record { scope = OfFunction; in_loop = false; may_yield = true }
 
-abbrev pub in_loop_of : Where → Where
+abbrev pub in_loop_of : StatementContext → StatementContext
 in_loop_of w = record { scope = w.scope; in_loop = true; may_yield = false }
 
-abbrev pub without_yield : Where → Where
+abbrev pub without_yield : StatementContext → StatementContext
 without_yield w = record { scope = w.scope; in_loop = w.in_loop; may_yield = false }
 
 abbrev pub is_function : Scope → Bool
@@ -143,7 +143,7 @@ is_bound (name ∷ []) None = true
 is_bound (name ∷ next ∷ rest) None = false
 
 abbrev mutual
-  pub misplaced_in : Where → Statement → List Pos
+  pub misplaced_in : StatementContext → Statement → List Pos
   misplaced_in w (Do at e) = in_tree e
   misplaced_in w (Assign at us e) = in_takers us ++ in_tree e
   misplaced_in w (AssignYield at us word e) = in_takers us ++ (unless w.may_yield word ++ in_maybe e)
@@ -169,16 +169,16 @@ abbrev mutual
       unless (not (is_function w.scope)) at ++ (in_trees decorators ++ (in_params (globals_of body) [] false params ++ (in_maybe returns ++ misplaced in_function body)))
   misplaced_in w (Class at decorators word name base body) = unless (is_module w.scope) at ++ (in_trees decorators ++ (in_maybe base ++ misplaced in_class body))
 
-  pub misplaced : Where → Block → List Pos
+  pub misplaced : StatementContext → Block → List Pos
   misplaced w NoStatement = []
   misplaced w (Next before s) = misplaced w before ++ misplaced_in w s
 
-  pub misplaced_branches : Where → Branches → List Pos
+  pub misplaced_branches : StatementContext → Branches → List Pos
   misplaced_branches w NoBranch = []
   misplaced_branches w (Branch before at e body) = misplaced_branches w before ++ (in_tree e ++ misplaced w body)
 
   -- only the last may take all exceptions
-  pub misplaced_handlers : Where → (last : Bool) → Handlers → List Pos
+  pub misplaced_handlers : StatementContext → (last : Bool) → Handlers → List Pos
   misplaced_handlers w last NoHandler = []
   misplaced_handlers w last (Handler before at class name body) = misplaced_handlers w false before ++ (unless (last || is_present class) at ++ (in_maybe class ++ misplaced (without_yield w) body))
 

@@ -10,7 +10,7 @@ use Rattle.py_expressions.specs.token_kinds.Numbers as k
 use Rattle.py_expressions.specs.Sorts as e
 use Rattle.py_expressions.specs.Lines as l
 use Rattle.py_expressions.specs.Values.{at_of}
-use Rattle.py_grammar.specs.Sorts.{Begun, branches_of, caught, changed_in, end_params, with_alias, one_more, targets_in, with_param, BlockSort, nothing, position, twice, read, plain, targeted, changing, change, yielding, tested, names, listing, aliasing, statement, run, block, opening, testing, choice, repeated, aiming, looped, looping, context, holding, attempt, catching, classing, catch, begun, decor, head, param, function, titled, maybe, classed, both, BlockValue, BlockName, simple, simples, stmt, stmts, body, source, block_sort, block_rank}
+use Rattle.py_grammar.specs.Sorts.{DefinitionStart, branches_of, caught, changed_in, end_params, with_alias, one_more, targets_in, with_param, BlockSort, nothing, position, twice, read, plain, targeted, changing, change, yielding, tested, names, listing, aliasing, statement, run, block, opening, testing, choice, repeated, aiming, looped, looping, context, holding, attempt, catching, classing, catch, begun, decor, head, param, function, titled, maybe, classed, both, BlockValue, BlockName, simple, simples, stmt, stmts, body, source, block_sort, block_rank}
 
 abbrev pub BlockPart : BlockSort → BlockSort → Type 0
 BlockPart S A = Part Token BlockSort BlockName e.Name BlockValue block_sort (λ q. read (e.sort q)) S A
@@ -38,11 +38,11 @@ abbrev pub assigned : BlockPart targeted plain
 assigned = require k.equal ⨾ (far {A = plain} e.exprs (λ t x. Assign t.0 t.1 x.0)
     ∣ token {A = yielding} (k.yield ∷ []) (λ t u. (t, u.at)) ⨾ (far {A = plain} e.exprs (λ y x. AssignYield y.0.0 y.0.1 y.1 (Present x.0)) ∣ give (λ y. AssignYield y.0.0 y.0.1 y.1 Absent)))
 
-abbrev pub augmented : BlockPart changing plain
-augmented = one_of {A = change} (λ p _ o. (p, o)) changes.0 changes.1 ⨾ far {A = plain} e.expr (λ c x. AugAssign c.0.0 c.0.1 c.1 x.0)
+abbrev pub augmented_assignment : BlockPart changing plain
+augmented_assignment = one_of {A = change} (λ p _ o. (p, o)) changes.0 changes.1 ⨾ far {A = plain} e.expr (λ c x. AugAssign c.0.0 c.0.1 c.1 x.0)
 
 abbrev pub valued : BlockPart nothing plain
-valued = far {A = plain} e.exprs (λ _ x. Do (at_of x.0) x.0) ⨾ (seen changed_in augmented ∣ many (seen targets_in assigned))
+valued = far {A = plain} e.exprs (λ _ x. Do (at_of x.0) x.0) ⨾ (seen changed_in augmented_assignment ∣ many (seen targets_in assigned))
 
 -- "return" [ exprs | "(" yield ")" ]
 abbrev pub returning : BlockPart nothing plain
@@ -94,13 +94,13 @@ abbrev pub alone : Statement → Block
 alone s = Next NoStatement s
 
 -- expr ":" block
-abbrev pub arm : BlockPart opening choice
-arm = far {A = testing} e.expr (λ o x. (o, x.0)) ⨾ require k.colon ⨾ inner {A = choice} body (λ x b. record { at = x.0.at; before = x.0.before; here = x.0.here; test = x.1; body = b })
+abbrev pub condition_clause : BlockPart opening choice
+condition_clause = far {A = testing} e.expr (λ o x. (o, x.0)) ⨾ require k.colon ⨾ inner {A = choice} body (λ x b. record { at = x.0.at; before = x.0.before; here = x.0.here; test = x.1; body = b })
 
 -- "if" expr ":" block { "elif" expr ":" block } [ "else" ":" block ]
 abbrev pub choosing : BlockPart nothing block
-choosing = token {A = opening} (k.if ∷ []) (λ _ u. record { at = u.at; before = NoBranch; here = u.at }) ⨾ arm
-    ⨾ many (token {A = opening} (k.elif ∷ []) (λ c u. record { at = c.at; before = branches_of c; here = u.at }) ⨾ arm)
+choosing = token {A = opening} (k.if ∷ []) (λ _ u. record { at = u.at; before = NoBranch; here = u.at }) ⨾ condition_clause
+    ⨾ many (token {A = opening} (k.elif ∷ []) (λ c u. record { at = c.at; before = branches_of c; here = u.at }) ⨾ condition_clause)
     ⨾ (require k.else ⨾ require k.colon ⨾ inner {A = both choice block} body (λ c b. (c, b)) ∣ give (λ c. (c, NoStatement))) ⨾ node (λ x. alone (If x.0.at (branches_of x.0) x.1))
 
 -- "while" expr ":" block
@@ -152,11 +152,11 @@ naming = token {A = titled} (k.name ∷ []) (λ d u. (d, text_of u))
     ⨾ require k.colon ⨾ inner {A = classed} body (λ s b. (s, b)) ⨾ node (λ x. alone (Class x.0.0.0.at x.0.0.0.decorators x.0.0.0.word x.0.0.1 x.0.1 x.1))
 
 -- { "@" expr NEWLINE } ( def | class )
-abbrev pub definition : {S : BlockSort} → (BlockValue S → Token → Begun) → BlockPart S block
+abbrev pub definition : {S : BlockSort} → (BlockValue S → Token → DefinitionStart) → BlockPart S block
 definition begin = token {A = begun} (k.def ∷ []) begin ⨾ defining ∣ token {A = begun} (k.class ∷ []) begin ⨾ naming
 
-abbrev pub decorated : BlockPart nothing block
-decorated = token {A = decor} (k.at ∷ []) (λ _ u. (u.at, Empty)) ⨾ far {A = decor} e.expr (λ d x. (d.0, More d.1 x.0)) ⨾ require k.newline ⨾ many (require k.at ⨾ far {A = decor} e.expr (λ d x. (d.0, More d.1 x.0)) ⨾ require k.newline)
+abbrev pub decorated_definition : BlockPart nothing block
+decorated_definition = token {A = decor} (k.at ∷ []) (λ _ u. (u.at, Empty)) ⨾ far {A = decor} e.expr (λ d x. (d.0, More d.1 x.0)) ⨾ require k.newline ⨾ many (require k.at ⨾ far {A = decor} e.expr (λ d x. (d.0, More d.1 x.0)) ⨾ require k.newline)
     ⨾ definition (λ d u. record { at = d.0; decorators = d.1; word = u.at })
 
 -- statements behind others
@@ -172,7 +172,7 @@ lines simple = (word k.pass ⨾ give {A = plain} Pass ∣ word k.break ⨾ give 
 lines simples = line {A = run} simple (λ _ s. record { all = alone s; ended = false })
     ⨾ many (when (λ r. not r.ended) (require k.semicolon ⨾ (line simple one_more ∣ give (λ r. record { all = r.all; ended = true })))) ⨾ token (k.newline ∷ []) (λ r _. r.all)
 -- stmt = simples | if | while | for | try | raises | def | class
-lines stmt = room (choosing ∣ repeating ∣ running ∣ attempting ∣ raises ∣ definition (λ _ u. record { at = u.at; decorators = Empty; word = u.at }) ∣ decorated) ∣ line simples (λ _ b. b)
+lines stmt = room (choosing ∣ repeating ∣ running ∣ attempting ∣ raises ∣ definition (λ _ u. record { at = u.at; decorators = Empty; word = u.at }) ∣ decorated_definition) ∣ line simples (λ _ b. b)
 -- stmts = stmt { stmt }
 lines stmts = line {A = block} stmt (λ _ b. b) ⨾ many (line stmt behind)
 -- block = simples | NEWLINE INDENT stmts DEDENT
@@ -209,7 +209,26 @@ block_goes source = []
 -- where two tokens decide
 abbrev pub forked : e.Name → (c d : ℕ) → Bool
 forked e.exprs c d = (c == k.left_paren) && (d == k.yield)
-forked _ c d = false
+forked e.other c d = false
+forked e.atom c d = false
+forked e.arguments c d = false
+forked e.slice c d = false
+forked e.primary c d = false
+forked e.single c d = false
+forked e.power c d = false
+forked e.unary c d = false
+forked e.prod c d = false
+forked e.sum c d = false
+forked e.shift c d = false
+forked e.band c d = false
+forked e.xor c d = false
+forked e.bitor c d = false
+forked e.compare c d = false
+forked e.negation c d = false
+forked e.conjunct c d = false
+forked e.disjunct c d = false
+forked e.expr c d = false
+forked e.targets c d = false
 
 abbrev pub statements : Grammar
 statements = record { Tok = Token; kind = kind; sample = sample; Sort = BlockSort; El = BlockValue; start = nothing; empty = tt; Name = BlockName; sort = block_sort; rank = block_rank; ranks = 6; Far = e.Name; far_sort = λ q. read (e.sort q); far_begins = l.begins; far_goes = l.expr_goes; forked = forked; begins = block_begins; goes = block_goes; body = lines }

@@ -86,14 +86,14 @@ abbrev pub caught : Catch → Block → Attempt
 caught c b = record { at = c.of.at; tried = c.of.tried; handlers = Handler c.of.handlers c.here c.class c.name b }
 
 -- a definition: where it begins, its decorators, where its word stands
-pub record Begun : Type 0 where
+pub record DefinitionStart : Type 0 where
   pub at : Pos
   pub decorators : Trees
   pub word : Pos
 
 -- the head of a function: its name and parameters, and whether a comma stands at their end
 pub record Head : Type 0 where
-  pub begun : Begun
+  pub begun : DefinitionStart
   pub name : List ℕ
   pub params : List Parameter
   pub ended : Bool
@@ -181,14 +181,14 @@ BlockValue attempt = Attempt
 BlockValue catching = Attempt × Pos
 BlockValue classing = (Attempt × Pos) × Tree
 BlockValue catch = Catch
-BlockValue begun = Begun
+BlockValue begun = DefinitionStart
 BlockValue decor = Pos × Trees
 BlockValue head = Head
 BlockValue param = Param
 BlockValue function = (Head × Maybe) × Block
-BlockValue titled = Begun × List ℕ
+BlockValue titled = DefinitionStart × List ℕ
 BlockValue maybe = Maybe
-BlockValue classed = ((Begun × List ℕ) × Maybe) × Block
+BlockValue classed = ((DefinitionStart × List ℕ) × Maybe) × Block
 BlockValue (both S T) = BlockValue S × BlockValue T
 
 -- How high a value is, in levels of blocks: a statement without blocks is 1 high, and statements in a row are as high as the highest.

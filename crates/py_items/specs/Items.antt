@@ -173,15 +173,15 @@ parts_of a b c = parts_by (part_of a) (part_of b) (part_of c)
 abbrev pub slice_with : {A : Type 0} → (List A → Obj) → List A → Bounds → Effect
 slice_with f xs b = if int_eq b.step (pos 0) then zero_step else new_slice f (sliced xs b.start b.stop b.step)
 
-abbrev pub slice_by : {A : Type 0} → (List A → Obj) → List A → Parts → Effect
-slice_by f xs (parts.Numbers b) = slice_with f xs b
-slice_by f xs parts.ZeroStep = zero_step
-slice_by f xs parts.NoNumber = Fail no_index 0
+abbrev pub slice_by_parts : {A : Type 0} → (List A → Obj) → List A → Parts → Effect
+slice_by_parts f xs (parts.Numbers b) = slice_with f xs b
+slice_by_parts f xs parts.ZeroStep = zero_step
+slice_by_parts f xs parts.NoNumber = Fail no_index 0
 
 abbrev pub object_slice : Raise → Option Obj → Parts → Effect
-object_slice none (Some (obj.Text t)) p = slice_by obj.Text t p
-object_slice none (Some (obj.List vs)) p = slice_by obj.List vs p
-object_slice none (Some (obj.Tuple vs)) p = slice_by obj.Tuple vs p
+object_slice none (Some (obj.Text t)) p = slice_by_parts obj.Text t p
+object_slice none (Some (obj.List vs)) p = slice_by_parts obj.List vs p
+object_slice none (Some (obj.Tuple vs)) p = slice_by_parts obj.Tuple vs p
 object_slice none (Some (obj.Dict x)) p = Fail none 0
 object_slice none (Some (obj.Range x)) p = Fail none 0
 object_slice none (Some (obj.Function x)) p = Fail none 0
@@ -256,7 +256,9 @@ store_in heap none id None i v = Fail none 0
 -- THE STORE OF AN ITEM
 unfoldable pub store_of : List Obj → Value → Value → Value → Effect
 store_of heap (val.Ref id) i v = store_in heap (not_subscriptable (kind_name heap (val.Ref id))) id (slice_get heap id.at) i v
-store_of heap a i v = Fail (not_subscriptable (kind_name heap a)) 0
+store_of heap val.None i v = Fail (not_subscriptable (kind_name heap val.None)) 0
+store_of heap (val.Bool b) i v = Fail (not_subscriptable (kind_name heap (val.Bool b))) 0
+store_of heap (val.Int n) i v = Fail (not_subscriptable (kind_name heap (val.Int n))) 0
 
 abbrev pub pair_taken : ObjId → Value → List Atom → Option Pair → Effect
 pair_taken id key k (Some p) = Put id (change.WithoutPair k) val.None (length k - 1)
@@ -296,4 +298,6 @@ delete_in heap none id None i = Fail none 0
 -- THE DELETION OF AN ITEM
 unfoldable pub delete_of : List Obj → Value → Value → Effect
 delete_of heap (val.Ref id) i = delete_in heap (not_subscriptable (kind_name heap (val.Ref id))) id (slice_get heap id.at) i
-delete_of heap a i = Fail (not_subscriptable (kind_name heap a)) 0
+delete_of heap val.None i = Fail (not_subscriptable (kind_name heap val.None)) 0
+delete_of heap (val.Bool b) i = Fail (not_subscriptable (kind_name heap (val.Bool b))) 0
+delete_of heap (val.Int n) i = Fail (not_subscriptable (kind_name heap (val.Int n))) 0

@@ -205,7 +205,7 @@ fn zero_step(alloc: Global) -> Result<Effect, OutOfMemory>
 
 /// A slice of a text.
 pub fn text_slice(alloc: Global, xs: &[char], parts: Parts) -> Result<Effect, OutOfMemory>
-    ensures { IfOk result (λ m. m ≡ items.slice_by obj.Text xs.now parts) }
+    ensures { IfOk result (λ m. m ≡ items.slice_by_parts obj.Text xs.now parts) }
 {
     match parts {
         Parts::Numbers(bounds) => {
@@ -223,7 +223,7 @@ pub fn text_slice(alloc: Global, xs: &[char], parts: Parts) -> Result<Effect, Ou
 
 /// A slice of a list.
 pub fn list_slice(alloc: Global, xs: &[Value], parts: Parts) -> Result<Effect, OutOfMemory>
-    ensures { IfOk result (λ m. m ≡ items.slice_by obj.List xs.now parts) }
+    ensures { IfOk result (λ m. m ≡ items.slice_by_parts obj.List xs.now parts) }
 {
     match parts {
         Parts::Numbers(bounds) => {
@@ -241,7 +241,7 @@ pub fn list_slice(alloc: Global, xs: &[Value], parts: Parts) -> Result<Effect, O
 
 /// A slice of a tuple.
 pub fn tuple_slice(alloc: Global, xs: &[Value], parts: Parts) -> Result<Effect, OutOfMemory>
-    ensures { IfOk result (λ m. m ≡ items.slice_by obj.Tuple xs.now parts) }
+    ensures { IfOk result (λ m. m ≡ items.slice_by_parts obj.Tuple xs.now parts) }
 {
     match parts {
         Parts::Numbers(bounds) => {

@@ -155,20 +155,32 @@ abbrev pub names_from : ℕ → List BuiltinEntry → List (List ℕ × Value)
 names_from n [] = []
 names_from n (r ∷ rs) = (r.0, Ref (id_at n)) ∷ names_from (suc n) rs
 
-abbrev pub index_of : ExcClass → List ExcClass → ℕ
-index_of c [] = 0
-index_of c (d ∷ ds) = if exc_eq d c then 0 else suc (index_of c ds)
+-- the index of a class in a table that has it, counted on from a number
+abbrev pub index_from : ℕ → ExcClass → List ExcClass → Option ℕ
+index_from n c [] = None
+index_from n c (d ∷ ds) = if exc_eq d c then Some n else index_from (suc n) c ds
 
--- where the object of a class of exceptions stands: behind those of the other table
-abbrev pub class_place : ExcClass → ObjId
-class_place c = id_at (length rows + index_of c classes)
+-- where the object of a class of exceptions stands, where it is bound to a name: behind those of the other table
+abbrev pub indexed_place : Option ℕ → Option ObjId
+indexed_place (Some i) = Some (id_at (i + length rows))
+indexed_place None = None
 
-abbrev pub class_entry : ExcClass → List ℕ × Value
-class_entry c = (class_name c, Ref (class_place c))
+abbrev pub class_place : ExcClass → Option ObjId
+class_place c = indexed_place (index_from 0 c classes)
+
+-- the names of classes of exceptions, the first of which stands at a place
+abbrev pub classes_from : ℕ → List ExcClass → List (List ℕ × Value)
+classes_from n [] = []
+classes_from n (c ∷ cs) = (class_name c, Ref (id_at n)) ∷ classes_from (suc n) cs
+
+-- the index of the class of a table that has a name, counted on from a number
+abbrev pub class_named : List ℕ → ℕ → List ExcClass → Option ℕ
+class_named name n [] = None
+class_named name n (c ∷ cs) = if name_eq name (class_name c) then Some n else class_named name (suc n) cs
 
 -- THE BUILT-IN NAMES with their values, which stand in every heap from the start
 abbrev pub builtin_names : List (List ℕ × Value)
-builtin_names = names_from 0 rows ++ map class_entry classes
+builtin_names = names_from 0 rows ++ classes_from (length rows) classes
 
 -- a class that no source defines
 abbrev pub class_object : List ℕ → ClassForm → Option ObjId → Obj
@@ -184,9 +196,14 @@ object_by name b class = if class then class_object name (Kind b) None else func
 abbrev pub row_object : BuiltinEntry → Obj
 row_object r = object_by r.0 r.1 r.2
 
+-- where the object of a base stands
+abbrev pub base_place : Option ExcClass → Option ObjId
+base_place (Some c) = class_place c
+base_place None = None
+
 -- a class of exceptions, with the object of its base
 abbrev pub exception_class : ExcClass → Obj
-exception_class c = class_object (class_name c) (Exception c) (option_map class_place (exc_base c))
+exception_class c = class_object (class_name c) (Exception c) (base_place (exc_base c))
 
 -- where the objects of pytest's functions stand, and behind them `mark`, the text of the module's name and the module
 abbrev pub pytest_place : ℕ

@@ -165,11 +165,32 @@ kind_form heap None v = false
 abbrev pub obj_is_of : List Obj → Option Obj → Value → ObjId → Bool
 obj_is_of heap (Some (obj.Instance x)) v id = stands_on (length heap) heap x.class id
 obj_is_of heap (Some (obj.Exception x)) v id = class_below heap x.class id
-obj_is_of heap _ v id = kind_form heap (form_of (slice_get heap id.at)) v
+obj_is_of heap (Some (obj.Text x)) v id = kind_form heap (form_of (slice_get heap id.at)) v
+obj_is_of heap (Some (obj.List x)) v id = kind_form heap (form_of (slice_get heap id.at)) v
+obj_is_of heap (Some (obj.Tuple x)) v id = kind_form heap (form_of (slice_get heap id.at)) v
+obj_is_of heap (Some (obj.Dict x)) v id = kind_form heap (form_of (slice_get heap id.at)) v
+obj_is_of heap (Some (obj.Range x)) v id = kind_form heap (form_of (slice_get heap id.at)) v
+obj_is_of heap (Some (obj.Function x)) v id = kind_form heap (form_of (slice_get heap id.at)) v
+obj_is_of heap (Some (obj.Method x)) v id = kind_form heap (form_of (slice_get heap id.at)) v
+obj_is_of heap (Some (obj.Builtin x)) v id = kind_form heap (form_of (slice_get heap id.at)) v
+obj_is_of heap (Some (obj.Class x)) v id = kind_form heap (form_of (slice_get heap id.at)) v
+obj_is_of heap (Some (obj.Module x)) v id = kind_form heap (form_of (slice_get heap id.at)) v
+obj_is_of heap (Some (obj.Fixture x)) v id = kind_form heap (form_of (slice_get heap id.at)) v
+obj_is_of heap (Some obj.MarkMaker) v id = kind_form heap (form_of (slice_get heap id.at)) v
+obj_is_of heap (Some (obj.Mark x)) v id = kind_form heap (form_of (slice_get heap id.at)) v
+obj_is_of heap (Some (obj.Hook x)) v id = kind_form heap (form_of (slice_get heap id.at)) v
+obj_is_of heap (Some (obj.Param x)) v id = kind_form heap (form_of (slice_get heap id.at)) v
+obj_is_of heap (Some (obj.Request x)) v id = kind_form heap (form_of (slice_get heap id.at)) v
+obj_is_of heap (Some (obj.Raises x)) v id = kind_form heap (form_of (slice_get heap id.at)) v
+obj_is_of heap (Some (obj.Info x)) v id = kind_form heap (form_of (slice_get heap id.at)) v
+obj_is_of heap (Some (obj.Item x)) v id = kind_form heap (form_of (slice_get heap id.at)) v
+obj_is_of heap None v id = kind_form heap (form_of (slice_get heap id.at)) v
 
 abbrev pub is_of : List Obj → Value → ObjId → Bool
 is_of heap (val.Ref i) id = obj_is_of heap (slice_get heap i.at) (val.Ref i) id
-is_of heap v id = kind_form heap (form_of (slice_get heap id.at)) v
+is_of heap val.None id = kind_form heap (form_of (slice_get heap id.at)) val.None
+is_of heap (val.Bool b) id = kind_form heap (form_of (slice_get heap id.at)) (val.Bool b)
+is_of heap (val.Int n) id = kind_form heap (form_of (slice_get heap id.at)) (val.Int n)
 
 unfoldable pub is_of_value : List Obj → Value → Value → Bool
 is_of_value heap v (val.Ref id) = is_of heap v id
@@ -179,12 +200,34 @@ is_of_value heap v (val.Int z) = false
 
 abbrev pub is_of_any : List Obj → Value → Value → Option Obj → Bool
 is_of_any heap v class (Some (obj.Tuple cs)) = list_any (is_of_value heap v) cs
-is_of_any heap v class _ = is_of_value heap v class
+is_of_any heap v class (Some (obj.Text x)) = is_of_value heap v class
+is_of_any heap v class (Some (obj.List x)) = is_of_value heap v class
+is_of_any heap v class (Some (obj.Dict x)) = is_of_value heap v class
+is_of_any heap v class (Some (obj.Range x)) = is_of_value heap v class
+is_of_any heap v class (Some (obj.Function x)) = is_of_value heap v class
+is_of_any heap v class (Some (obj.Method x)) = is_of_value heap v class
+is_of_any heap v class (Some (obj.Builtin x)) = is_of_value heap v class
+is_of_any heap v class (Some (obj.Class x)) = is_of_value heap v class
+is_of_any heap v class (Some (obj.Instance x)) = is_of_value heap v class
+is_of_any heap v class (Some (obj.Exception x)) = is_of_value heap v class
+is_of_any heap v class (Some (obj.Module x)) = is_of_value heap v class
+is_of_any heap v class (Some (obj.Fixture x)) = is_of_value heap v class
+is_of_any heap v class (Some obj.MarkMaker) = is_of_value heap v class
+is_of_any heap v class (Some (obj.Mark x)) = is_of_value heap v class
+is_of_any heap v class (Some (obj.Hook x)) = is_of_value heap v class
+is_of_any heap v class (Some (obj.Param x)) = is_of_value heap v class
+is_of_any heap v class (Some (obj.Request x)) = is_of_value heap v class
+is_of_any heap v class (Some (obj.Raises x)) = is_of_value heap v class
+is_of_any heap v class (Some (obj.Info x)) = is_of_value heap v class
+is_of_any heap v class (Some (obj.Item x)) = is_of_value heap v class
+is_of_any heap v class None = is_of_value heap v class
 
 -- WHETHER A VALUE IS AN INSTANCE of a class, or of one of the classes of a tuple
 unfoldable pub is_a : List Obj → Value → Value → Bool
 is_a heap v (val.Ref id) = is_of_any heap v (val.Ref id) (slice_get heap id.at)
-is_a heap v class = is_of_value heap v class
+is_a heap v val.None = is_of_value heap v val.None
+is_a heap v (val.Bool b) = is_of_value heap v (val.Bool b)
+is_a heap v (val.Int n) = is_of_value heap v (val.Int n)
 
 -- WHETHER A VALUE IS A CLASS OF EXCEPTIONS
 unfoldable pub is_exc_class : List Obj → Value → Bool

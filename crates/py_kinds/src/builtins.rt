@@ -1,6 +1,6 @@
 // What follows from the tables of built-in names.
 
-ghost use Rattle.std.specs.Prelude.{◌≡◌, ◌++◌, ◌≤◌, length, map, option_map, IfOk, OnOk};
+ghost use Rattle.std.specs.Prelude.{◌≡◌, ◌++◌, ◌≤◌, length, map, option_map, IfOk, OnOk, IfSome};
 ghost use Rattle.py_kinds.specs.Builtins as builtins;
 ghost use Rattle.py_kinds.specs.Classes.{exc_base as exc_base_of};
 ghost use Rattle.py_values.specs.Ends.{id_at};
@@ -9,7 +9,6 @@ ghost use Rattle.py_values.specs.declared.value.Value.TheVariants.{Ref};
 
 use crate::classes::exc_base;
 use crate::kinds::class_name;
-use py_text::{OutOfMemory, PyText};
 use py_values::builtin::{
     BUILTINS, Builtin, BuiltinRow, DICT_METHODS, DictMethod, EXCEPTIONS, LIST_METHODS, ListMethod,
     PYTEST_NAMES, PytestCall, REQUEST_METHODS, TEXT_METHODS, TUPLE_METHODS, TextMethod,
@@ -22,6 +21,7 @@ use py_values::names::{Name, Names};
 use py_values::object::{BuiltinObj, ClassObj, ModuleObj, Obj};
 use py_values::rows::Values;
 use py_values::value::{ObjId, Value};
+use py_values::{OutOfMemory, PyText};
 use std::alloc::Global;
 
 /// The name of a method of texts.
@@ -240,48 +240,66 @@ pub fn request_method_named(name: &[char]) -> Option<Builtin>
     method_in(name, &REQUEST_METHODS)
 }
 
-/// The index of a class in a table of classes, or the table's length.
-fn index_of(class: ExcClass, table: &[ExcClass]) -> usize
-    ensures index { result ≡ builtins.index_of class table.now }
-    ensures small { result ≤ length table.now }
+/// The index of a class in a table of classes.
+fn index_in(class: ExcClass, table: &[ExcClass]) -> Option<usize>
+    ensures index { result ≡ builtins.index_from 0 class table.now }
+    ensures small { IfSome result (λ i. i ≤ length table.now) }
 {
     for i in 0..table.len() {
         if table[i] == class {
-            return i;
-        }
-    }
-    table.len()
-}
-
-/// The place of the object of a class of exceptions.
-#[tactic(auto, unfolding(crate::specs::Builtins::rows, crate::specs::Builtins::classes))]
-fn class_place(class: ExcClass) -> ObjId
-    ensures { result ≡ builtins.class_place class }
-{
-    let at = BUILTINS.len() + index_of(class, &EXCEPTIONS);
-    ObjId { at }
-}
-
-/// The value of a name of a class of exceptions of a table.
-fn class_value(name: &[char], table: &[ExcClass]) -> Option<Value>
-    ensures { result ≡ find_name name.now (map builtins.class_entry table.now) }
-{
-    for class in table {
-        if is_text(name, class_name(*class)) {
-            return Some(Value::Ref(class_place(*class)));
+            return Some(i);
         }
     }
     None
 }
 
+/// The place of the object of a class of exceptions, where it is bound to a name.
+#[tactic(auto, unfolding(crate::specs::Builtins::rows, crate::specs::Builtins::classes))]
+pub fn class_place(class: ExcClass) -> Option<ObjId>
+    ensures { result ≡ builtins.class_place class }
+{
+    match index_in(class, &EXCEPTIONS) {
+        Some(i) => Some(ObjId {
+            at: i + BUILTINS.len(),
+        }),
+        None => None,
+    }
+}
+
+/// The index of the class of a table that has a name.
+fn class_named(name: &[char], table: &[ExcClass]) -> Option<usize>
+    ensures index { result ≡ builtins.class_named name.now 0 table.now }
+    ensures small { IfSome result (λ i. i ≤ length table.now) }
+{
+    for i in 0..table.len() {
+        if is_text(name, class_name(table[i])) {
+            return Some(i);
+        }
+    }
+    None
+}
+
+/// The value of a name of a class of exceptions.
+#[tactic(auto, using(crate::proofs::Finding::find_class), unfolding(crate::specs::Builtins::rows, crate::specs::Builtins::classes))]
+fn class_value(name: &[char]) -> Option<Value>
+    ensures { result ≡ find_name name.now (builtins.classes_from (length builtins.rows) builtins.classes) }
+{
+    match class_named(name, &EXCEPTIONS) {
+        Some(i) => Some(Value::Ref(ObjId {
+            at: i + BUILTINS.len(),
+        })),
+        None => None,
+    }
+}
+
 /// The value of a built-in name.
-#[tactic(auto, using(crate::proofs::Finding::find_behind), unfolding(crate::specs::Builtins::classes))]
+#[tactic(auto, using(crate::proofs::Finding::find_behind))]
 pub fn builtin_value(name: &[char]) -> Option<Value>
     ensures { result ≡ find_name name.now builtins.builtin_names }
 {
     match row_value(name) {
         Some(v) => Some(v),
-        None => class_value(name, &EXCEPTIONS),
+        None => class_value(name),
     }
 }
 
@@ -335,11 +353,12 @@ fn add_rows(alloc: Global, heap: &mut Heap, table: &[BuiltinRow]) -> Result<(), 
     Ok(())
 }
 
-fn base_place(class: ExcClass) -> Option<ObjId>
-    ensures { result ≡ option_map builtins.class_place (exc_base_of class) }
+/// The place of the object of the class on which a class of exceptions stands.
+pub fn base_place(class: ExcClass) -> Option<ObjId>
+    ensures { result ≡ builtins.base_place (exc_base_of class) }
 {
     match exc_base(class) {
-        Some(base) => Some(class_place(base)),
+        Some(base) => class_place(base),
         None => None,
     }
 }
@@ -424,7 +443,7 @@ fn bind_functions(
 #[tactic(auto, unfolding(crate::specs::Builtins::rows, crate::specs::Builtins::classes))]
 fn pytest_place() -> usize
     ensures place { result ≡ builtins.pytest_place }
-    ensures small { result ≤ 48 }
+    ensures small { result ≤ 1000 }
 {
     BUILTINS.len() + EXCEPTIONS.len()
 }
@@ -432,7 +451,7 @@ fn pytest_place() -> usize
 #[tactic(auto, unfolding(crate::specs::Builtins::pytest_names))]
 fn mark_place() -> usize
     ensures place { result ≡ builtins.mark_place }
-    ensures small { result ≤ 54 }
+    ensures small { result ≤ 2000 }
 {
     pytest_place() + PYTEST_NAMES.len()
 }

@@ -3,7 +3,7 @@
 ghost use Rattle.std.specs.Prelude.{◌≡◌, ◌∷◌, [], IfOk, slice_get};
 ghost use Rattle.py_kinds.specs.Keys.{Atoms, joined_parts, row_parts, obj_parts, parts_to, told_parts, key_of, key_steps};
 
-use py_text::OutOfMemory;
+use py_values::OutOfMemory;
 use py_values::heap::Heap;
 use py_values::key::{Atom, Key};
 use py_values::limits::MOST_LEVELS;

@@ -3,12 +3,12 @@
 ghost use Rattle.std.specs.Prelude.{◌≡◌, ◌++◌, OnOk, IfOk, slice_get};
 ghost use Rattle.py_kinds.specs.Kinds as names;
 
-use py_text::{OutOfMemory, PyText};
 use py_values::class::{ClassRef, ExcClass};
 use py_values::end::push_ascii;
 use py_values::heap::Heap;
 use py_values::object::Obj;
 use py_values::value::{ObjId, Value};
+use py_values::{OutOfMemory, PyText};
 use std::alloc::Global;
 
 /// The name of a class of exceptions.

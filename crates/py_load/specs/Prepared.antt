@@ -6,7 +6,7 @@ use Rattle.edge_io.specs.Files.{File}
 use Rattle.file_source.specs.Sources.{IsSource}
 use Rattle.py_source.specs.declared.fault.SourceFault.{SourceFault}
 use Rattle.py_tree.specs.Statements.{Block}
-use Rattle.py_world.specs.World.{CodedSource, Coded, Code, Fault}
+use Rattle.py_world.specs.World.{CodedSource, CodeOrFault, Code, Fault}
 use Rattle.assert_rewrite.specs.source_meaning.Requests.{Script}
 use Rattle.assert_rewrite.specs.source_meaning.Statements.{script}
 use Rattle.assert_rewrite.specs.source_meaning.Meaning.{SourceWorld}
@@ -18,7 +18,7 @@ abbrev pub is_explained : List (List ℕ) → List ℕ → Bool
 is_explained named path = is_test_file path || (is_conftest path || list_any (bytes_eq path) named)
 
 -- the code of a tree, whose asserts are explained or show nothing beside their messages, or the fault
-abbrev pub code_said : Bool → Result Block SourceFault → Coded Script
+abbrev pub code_said : Bool → Result Block SourceFault → CodeOrFault Script
 code_said explains (Ok block) = Code (script explains block)
 code_said explains (Err fault) = Fault fault
 

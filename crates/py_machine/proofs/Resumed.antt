@@ -10,12 +10,12 @@ use Rattle.lower_law.specs.py_world.Outcome.{call_end, raised}
 use Rattle.lower_law.specs.py_world.Resuming.{BegunBody, Sent, begun_by, begun_over, opened_by_runner, resumed, sent_end}
 use Rattle.lower_law.specs.py_world.Runs.{begun_by_runner, ended_by, ended_value, start}
 use Rattle.lower_law.specs.py_world.Site.{no_call}
-use Rattle.lower_law.specs.py_world.World.{Locals, Stored, state}
+use Rattle.lower_law.specs.py_world.World.{Locals, FunctionCode, state}
 use Rattle.lower_law.specs.core_meaning.Meaning.{CoreWorld, core, core_begin, core_resume}
 use Rattle.lower_law.specs.core_meaning.Statements.{entry, remains}
 use Rattle.machine_state.specs.declared.frame.Frame.{Frame}
 use Rattle.machine_state.specs.declared.frozen.FrozenFrame.{FrozenFrame}
-use Rattle.machine_state.specs.declared.place.Here.{Here}
+use Rattle.machine_state.specs.declared.place.Location.{Location}
 use Rattle.machine_state.specs.Places.{CoreEnding, CoreOutcome, CoreRest, CoreState, ends, outcome, site_of}
 use Rattle.machine_state.specs.declared.frame.End.{End}
 use Rattle.machine_state.specs.declared.machine.Machine.{Machine}
@@ -38,13 +38,13 @@ ended_told : (budget : ℕ) (o : CoreOutcome) → begun_by budget (ends budget (
 ended_told budget o = ap (begun_by budget) (ends_done budget o) ∙ ap (λ (n : ℕ). begun_over (ended_by o n)) (same_left budget)
 
 -- on an empty stack
-pub body_enters : (fs : List Frame) (h : Here) (n : ℕ) (s : CoreState) (code : Stored CoreFn) (names : Locals) → fs ≡ []
+pub body_enters : (fs : List Frame) (h : Location) (n : ℕ) (s : CoreState) (code : FunctionCode CoreFn) (names : Locals) → fs ≡ []
     → ends n (entered entry code (Ok names) no_call s (λ (o : CoreOutcome). Done (call_end s o))) ≡ ends n (entered entry code (Ok names) (record { trace = outer_of fs; depth = 0; handling = None }) s (λ (o : CoreOutcome). after_stack fs h (call_end s o)))
 body_enters fs h n s code names e = rw e refl
 
 module _ (f : Value) (args : List Value) (budget : ℕ) (w w' : CoreWorld) (s : CoreState) (b : BegunBody) (is : s ≡ start w) where
   -- the body of a yield function
-  pub body_begins : (code : Stored CoreFn) (names : Locals) → opened_by_runner core f args (start w) ≡ opening_rest (Body code names) f args (start w)
+  pub body_begins : (code : FunctionCode CoreFn) (names : Locals) → opened_by_runner core f args (start w) ≡ opening_rest (Body code names) f args (start w)
       → begun_by budget (ends budget (entered entry code (Ok names) no_call s (λ o. Done (call_end s o)))) ≡ (b, w') → core_begin f args budget w ≡ (b, w')
   body_begins code names opened told = ap (λ t. begun_by budget (ends budget t)) opened ∙ (rw is at told)
 

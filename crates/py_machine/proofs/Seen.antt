@@ -9,7 +9,7 @@ use Rattle.py_values.specs.declared.value.Value.{Value}
 use Rattle.py_values.specs.Names.{name_eq}
 use Rattle.lower_law.specs.py_world.declared.ended.Ended.{Ended}
 use Rattle.lower_law.specs.py_world.declared.load.Load.{Load}
-use Rattle.lower_law.specs.py_world.World.{Kinds, World, CodedSource, Coded, Code, Fault, Stored, Frozen, Traces, world_with_heap, world_with_printed}
+use Rattle.lower_law.specs.py_world.World.{Kinds, World, CodedSource, CodeOrFault, Code, Fault, FunctionCode, Frozen, Traces, world_with_heap, world_with_printed}
 use Rattle.lower_law.specs.py_world.Runs.{source_at}
 use Rattle.lower_law.specs.py_world.Resuming.{BegunBody, Sent, abandon_of}
 use Rattle.lower_law.specs.core_meaning.Requests.{Layer}
@@ -53,7 +53,7 @@ merely : {P : Type 0} → P → ∥ P ∥₁
 merely p = ∣ p ∣₁
 
 -- no code at all
-pub bare_sound : (sources : List (CodedSource Core)) (modules : List (List ℕ × Load)) (heap : List Obj) (codes : List (Stored CoreFn)) (printed : List ℕ) (frozen : List (Option (Frozen (List Layer)))) (traces : Traces)
+pub bare_sound : (sources : List (CodedSource Core)) (modules : List (List ℕ × Load)) (heap : List Obj) (codes : List (FunctionCode CoreFn)) (printed : List ℕ) (frozen : List (Option (Frozen (List Layer)))) (traces : Traces)
     → sources ≡ [] → codes ≡ [] → frozen ≡ [] → Sound (world_from sources modules heap codes printed frozen traces)
 bare_sound sources modules heap codes printed frozen traces e h f = rw (e, h, f) (merely (worlds alike.none alike.none alike.none modules heap printed traces))
 
@@ -82,33 +82,33 @@ map_more : (xs : List (CodedSource Core)) (x : CodedSource Core) → map file_vi
 map_more [] x = refl
 map_more (y ∷ xs) x = ap (λ ys. file_view y ∷ ys) (map_more xs x)
 
-sources_more : {bs : List (CodedSource Script)} {cs : List (CodedSource Core)} → SourcesAlike Lowering bs cs → (path bytes : List ℕ) {b : Coded Script} {c : Coded Core} → CodedAlike Lowering b c → SourcesAlike Lowering (bs ++ source_from path bytes b ∷ []) (cs ++ source_from path bytes c ∷ [])
+sources_more : {bs : List (CodedSource Script)} {cs : List (CodedSource Core)} → SourcesAlike Lowering bs cs → (path bytes : List ℕ) {b : CodeOrFault Script} {c : CodeOrFault Core} → CodedAlike Lowering b c → SourcesAlike Lowering (bs ++ source_from path bytes b ∷ []) (cs ++ source_from path bytes c ∷ [])
 sources_more alike.none path bytes h = alike.more path bytes h alike.none
 sources_more (alike.more p b x xs) path bytes h = alike.more p b x (sources_more xs path bytes h)
 
 abbrev more : {K : Kinds} → CodedSource K.script → World K → World K
 more x w = world_from (w.sources ++ x ∷ []) w.modules w.heap w.codes w.printed w.frozen w.traces
 
-more_alike : (path bytes : List ℕ) {b : Coded Script} {c : Coded Core} → CodedAlike Lowering b c → {w : SourceWorld} {z : CoreWorld} → LoweredWorld w z → LoweredWorld (more (source_from path bytes b) w) (more (source_from path bytes c) z)
+more_alike : (path bytes : List ℕ) {b : CodeOrFault Script} {c : CodeOrFault Core} → CodedAlike Lowering b c → {w : SourceWorld} {z : CoreWorld} → LoweredWorld w z → LoweredWorld (more (source_from path bytes b) w) (more (source_from path bytes c) z)
 more_alike path bytes h (worlds xs ys zs modules heap printed traces) = worlds (sources_more xs path bytes h) ys zs modules heap printed traces
 
-pub more_viewed : (path bytes : List ℕ) (c : Coded Core) (z : CoreWorld) → source_view (more (source_from path bytes c) z) ≡ more (source_from path bytes (coded_view c)) (source_view z)
+pub more_viewed : (path bytes : List ℕ) (c : CodeOrFault Core) (z : CoreWorld) → source_view (more (source_from path bytes c) z) ≡ more (source_from path bytes (coded_view c)) (source_view z)
 more_viewed path bytes c z = ap (λ (xs : List (CodedSource Script)). world_from xs z.modules z.heap (map stored_view z.codes) z.printed (map frozen_view z.frozen) z.traces) (map_more z.sources (source_from path bytes c))
 
-alike_of : (c : Coded Core) → Stands c → CodedAlike Lowering (coded_view c) c
+alike_of : (c : CodeOrFault Core) → Stands c → CodedAlike Lowering (coded_view c) c
 alike_of (Code core) h = alike.code h
 alike_of (Fault f) h = alike.fault f
 
-pub more_sound : (path bytes : List ℕ) (c : Coded Core) (z : CoreWorld) → Stands c → Sound z → Sound (more (source_from path bytes c) z)
+pub more_sound : (path bytes : List ℕ) (c : CodeOrFault Core) (z : CoreWorld) → Stands c → Sound z → Sound (more (source_from path bytes c) z)
 more_sound path bytes c z h sound = ∥∥₁_map sound (λ g. subst (λ w. LoweredWorld w (more (source_from path bytes c) z)) (sym (more_viewed path bytes c z)) (more_alike path bytes (alike_of c h) g))
 
 -- a source more, as its list tells it
-pub pushed_sound : (items old : List (CodedSource Core)) (x : CodedSource Core) (path bytes : List ℕ) (c : Coded Core) (modules : List (List ℕ × Load)) (heap : List Obj) (codes : List (Stored CoreFn)) (printed : List ℕ) (frozen : List (Option (Frozen (List Layer)))) (traces : Traces)
+pub pushed_sound : (items old : List (CodedSource Core)) (x : CodedSource Core) (path bytes : List ℕ) (c : CodeOrFault Core) (modules : List (List ℕ × Load)) (heap : List Obj) (codes : List (FunctionCode CoreFn)) (printed : List ℕ) (frozen : List (Option (Frozen (List Layer)))) (traces : Traces)
     → items ≡ old ++ x ∷ [] → x ≡ source_from path bytes c → Stands c → Sound (world_from old modules heap codes printed frozen traces) → Sound (world_from items modules heap codes printed frozen traces)
 pushed_sound items old x path bytes c modules heap codes printed frozen traces e h stands sound = rw (e, h) (more_sound path bytes c (world_from old modules heap codes printed frozen traces) stands sound)
 
 -- sources by their paths
-code_viewed : (c : Coded Core) → fault_in (coded_view c) ≡ fault_in c
+code_viewed : (c : CodeOrFault Core) → fault_in (coded_view c) ≡ fault_in c
 code_viewed (Code m) = refl
 code_viewed (Fault f) = refl
 

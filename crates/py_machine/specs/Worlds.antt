@@ -7,7 +7,7 @@ use Rattle.py_core.specs.declared.stmt.Core.{Core}
 use Rattle.py_values.specs.declared.object.Obj.{Obj}
 use Rattle.py_values.specs.declared.object.Obj.TheVariants as obj
 use Rattle.py_values.specs.declared.value.Value.{Value}
-use Rattle.lower_law.specs.py_world.World.{CodedSource, Coded, Code, Fault}
+use Rattle.lower_law.specs.py_world.World.{CodedSource, CodeOrFault, Code, Fault}
 use Rattle.py_kinds.specs.Builtins.{first_heap}
 use Rattle.lower_law.specs.source_meaning.Meaning.{SourceWorld}
 use Rattle.lower_law.specs.Sourced.{module_of}
@@ -17,7 +17,7 @@ abbrev pub empty : SourceWorld
 empty = record { sources = []; modules = []; heap = first_heap; codes = []; printed = []; frozen = []; traces = [] }
 
 -- the source that a core code carries, or why there is none
-abbrev pub carried_source : Result Core SourceFault → Coded Script
+abbrev pub carried_source : Result Core SourceFault → CodeOrFault Script
 carried_source (Ok core) = Code (module_of core)
 carried_source (Err fault) = Fault fault
 
@@ -27,7 +27,7 @@ IsLowered (Ok core) = LoweredModule (module_of core) core
 IsLowered (Err fault) = Unit {0}
 
 -- a code that stands for the source that it carries
-abbrev pub Stands : Coded Core → Type 0
+abbrev pub Stands : CodeOrFault Core → Type 0
 Stands (Code core) = LoweredModule (module_of core) core
 Stands (Fault fault) = Unit {0}
 
@@ -36,7 +36,7 @@ with_source x w = record { sources = w.sources ++ x ∷ []; modules = w.modules;
 
 module _ {M : Type 0} where
   -- the fault of a source, where it has one
-  abbrev pub fault_in : Coded M → Option SourceFault
+  abbrev pub fault_in : CodeOrFault M → Option SourceFault
   fault_in (Code code) = None
   fault_in (Fault fault) = Some fault
 
@@ -47,7 +47,27 @@ module _ {M : Type 0} where
 -- a module's object
 abbrev pub IsModule : Option Obj → Type 0
 IsModule (Some (obj.Module m)) = Unit {0}
-IsModule _ = ⊥
+IsModule (Some (obj.Text x)) = ⊥
+IsModule (Some (obj.List x)) = ⊥
+IsModule (Some (obj.Tuple x)) = ⊥
+IsModule (Some (obj.Dict x)) = ⊥
+IsModule (Some (obj.Range x)) = ⊥
+IsModule (Some (obj.Function x)) = ⊥
+IsModule (Some (obj.Method x)) = ⊥
+IsModule (Some (obj.Builtin x)) = ⊥
+IsModule (Some (obj.Class x)) = ⊥
+IsModule (Some (obj.Instance x)) = ⊥
+IsModule (Some (obj.Exception x)) = ⊥
+IsModule (Some (obj.Fixture x)) = ⊥
+IsModule (Some obj.MarkMaker) = ⊥
+IsModule (Some (obj.Mark x)) = ⊥
+IsModule (Some (obj.Hook x)) = ⊥
+IsModule (Some (obj.Param x)) = ⊥
+IsModule (Some (obj.Request x)) = ⊥
+IsModule (Some (obj.Raises x)) = ⊥
+IsModule (Some (obj.Info x)) = ⊥
+IsModule (Some (obj.Item x)) = ⊥
+IsModule None = ⊥
 
 abbrev pub told_name : Bor (List ℕ) × Value → List ℕ × Value
 told_name (name, v) = (name.now, v)

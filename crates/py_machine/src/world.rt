@@ -15,7 +15,7 @@ use machine_runner::sources::text_of;
 use machine_runner::{lines, sources};
 use machine_state::locals::Locals;
 use machine_state::machine::Machine;
-use machine_state::place::{Here, Place};
+use machine_state::place::{Location, Place};
 use machine_state::source::{SourceCode, SourceFile};
 use machine_state::stack::ControlStack;
 use machine_state::traces::Traces;
@@ -67,7 +67,7 @@ impl World {
     pub fn new(alloc: Global) -> Result<Self, OutOfMemory>
         ensures { IfOk result (λ w. w ≡ empty) }
     {
-        let here = Here {
+        let here = Location {
             place: Place::Module(PyText::from_chars(alloc, &[])?, 0),
             around: 0,
             line: 0,

@@ -15,14 +15,14 @@ abbrev pub too_deep : Raise
 too_deep = text_raise RecursionError (codes "nesting too deep")
 
 -- a kind that isn't used so
-abbrev pub no_use : List ℕ → List ℕ → Raise
-no_use kind use_text = text_raise TypeError (codes "'" ++ (kind ++ use_text))
+abbrev pub unsupported_use : List ℕ → List ℕ → Raise
+unsupported_use kind use_text = text_raise TypeError (codes "'" ++ (kind ++ use_text))
 
 abbrev pub not_iterable : List ℕ → Raise
-not_iterable kind = no_use kind (codes "' object is not iterable")
+not_iterable kind = unsupported_use kind (codes "' object is not iterable")
 
 abbrev pub not_subscriptable : List ℕ → Raise
-not_subscriptable kind = no_use kind (codes "' object is not subscriptable")
+not_subscriptable kind = unsupported_use kind (codes "' object is not subscriptable")
 
 abbrev pub unhashable : List ℕ → Raise
 unhashable kind = text_raise TypeError (codes "unhashable type: '" ++ (kind ++ codes "'"))

@@ -3,14 +3,14 @@ use Rattle.std.proofs.Common.{ℕ, ◌≡◌, Bool, true, false, nat_lt, if◌th
 use Rattle.py_ops.specs.Compare.{judged, judged_found, judged_told, placed_by, ordered_by, placed_told}
 use Rattle.py_ops.specs.declared.compare.Places.{Places}
 use Rattle.py_values.specs.Ends.{payable, cost_of}
-use Rattle.py_compare.specs.Equal.{Found, Holding, Holds, Fails, Deep, Unordered, told, verdict_told}
-use Rattle.py_compare.specs.Order.{OrderVerdict, Placed, place_within, place_told}
+use Rattle.py_compare.specs.Equal.{ComparisonResult, ComparisonVerdict, Holds, Fails, Deep, Unordered, told, verdict_told}
+use Rattle.py_compare.specs.Order.{OrderVerdict, OrderResult, place_within, place_told}
 use Rattle.py_compare.specs.Order as place
 use Rattle.py_compare.specs.declared.tested.Comparison.TheVariants as ordered
 use Rattle.py_compare.specs.declared.tested.Tested.TheVariants as tested
 use Rattle.py_values.specs.declared.end.Raise.{Raise}
 
-by_verdict : (w b : Bool) (v : Holding) (n : ℕ)
+by_verdict : (w b : Bool) (v : ComparisonVerdict) (n : ℕ)
     → judged_told w (if b then tested.Exhausted else verdict_told v n) ≡ (if b then None else Some (judged w v n))
 by_verdict w true v n = refl
 by_verdict w false Holds n = refl
@@ -18,13 +18,13 @@ by_verdict w false Fails n = refl
 by_verdict w false Deep n = refl
 by_verdict w false Unordered n = refl
 
-judged_cost : (w : Bool) (v : Holding) (n : ℕ) → cost_of (judged w v n) ≡ n
+judged_cost : (w : Bool) (v : ComparisonVerdict) (n : ℕ) → cost_of (judged w v n) ≡ n
 judged_cost w Holds n = refl
 judged_cost w Fails n = refl
 judged_cost w Deep n = refl
 judged_cost w Unordered n = refl
 
-pub judged_within : (w : Bool) (budget : ℕ) (f : Found) → judged_told w (told budget f) ≡ payable budget (judged_found w f)
+pub judged_within : (w : Bool) (budget : ℕ) (f : ComparisonResult) → judged_told w (told budget f) ≡ payable budget (judged_found w f)
 judged_within w budget f = rw (judged_cost w f.verdict f.cost) (by_verdict w (nat_lt budget f.cost) f.verdict f.cost)
 
 by_place : (r : Raise) (h : Places) (b : Bool) (p : OrderVerdict) (n : ℕ)
@@ -43,5 +43,5 @@ placed_cost r h place.More n = refl
 placed_cost r h place.Deep n = refl
 placed_cost r h place.Unordered n = refl
 
-pub placed_within : (r : Raise) (h : Places) (budget : ℕ) (f : Placed) → placed_told r h (place_within budget f) ≡ payable budget (ordered_by r h f)
+pub placed_within : (r : Raise) (h : Places) (budget : ℕ) (f : OrderResult) → placed_told r h (place_within budget f) ≡ payable budget (ordered_by r h f)
 placed_within r h budget f = rw (placed_cost r h f.place f.cost) (by_place r h (nat_lt budget f.cost) f.place f.cost)

@@ -122,10 +122,42 @@ abbrev pub put_some : ObjId → Option Effect → Option Effect
 put_some id (Some m) = Some (put_whole id m)
 put_some id None = None
 
+abbrev pub is_list : Option Obj → Bool
+is_list (Some (obj.List vs)) = true
+is_list (Some (obj.Text x)) = false
+is_list (Some (obj.Tuple x)) = false
+is_list (Some (obj.Dict x)) = false
+is_list (Some (obj.Range x)) = false
+is_list (Some (obj.Function x)) = false
+is_list (Some (obj.Method x)) = false
+is_list (Some (obj.Builtin x)) = false
+is_list (Some (obj.Class x)) = false
+is_list (Some (obj.Instance x)) = false
+is_list (Some (obj.Exception x)) = false
+is_list (Some (obj.Module x)) = false
+is_list (Some (obj.Fixture x)) = false
+is_list (Some obj.MarkMaker) = false
+is_list (Some (obj.Mark x)) = false
+is_list (Some (obj.Hook x)) = false
+is_list (Some (obj.Param x)) = false
+is_list (Some (obj.Request x)) = false
+is_list (Some (obj.Raises x)) = false
+is_list (Some (obj.Info x)) = false
+is_list (Some (obj.Item x)) = false
+is_list None = false
+
 abbrev pub changes_list : BinOp → Option Obj → Bool
-changes_list op.Add (Some (obj.List vs)) = true
-changes_list op.Mul (Some (obj.List vs)) = true
-changes_list _ _ = false
+changes_list op.Add x = is_list x
+changes_list op.Sub x = false
+changes_list op.Mul x = is_list x
+changes_list op.FloorDiv x = false
+changes_list op.Mod x = false
+changes_list op.Pow x = false
+changes_list op.LShift x = false
+changes_list op.RShift x = false
+changes_list op.BitAnd x = false
+changes_list op.BitOr x = false
+changes_list op.BitXor x = false
 
 abbrev pub in_place_by : Bool → ObjId → Effect → Effect
 in_place_by true id m = put_whole id m
@@ -134,4 +166,6 @@ in_place_by false id m = m
 -- AN OPERATOR OF AN AUGMENTED ASSIGNMENT (Language Reference, augmented assignment statements): a list is changed in place
 abbrev pub augmented_of : BinOp → List Obj → Value → Value → Effect
 augmented_of o heap (val.Ref id) b = in_place_by (changes_list o (slice_get heap id.at)) id (binary_of o heap (val.Ref id) b)
-augmented_of o heap a b = binary_of o heap a b
+augmented_of o heap val.None b = binary_of o heap val.None b
+augmented_of o heap (val.Bool x) b = binary_of o heap (val.Bool x) b
+augmented_of o heap (val.Int x) b = binary_of o heap (val.Int x) b

@@ -4,8 +4,8 @@ use Rattle.std.specs.List.{list_any, starts_with}
 use Rattle.std.specs.Ordering.{int_eq}
 use Rattle.py_tree.specs.declared.op.CmpOp.{CmpOp}
 use Rattle.py_tree.specs.declared.op.CmpOp.TheVariants as op
-use Rattle.py_compare.specs.Equal.{Found, finding, after, Holding, Holds, Fails, Deep, Unordered, equal_of, holds_if}
-use Rattle.py_compare.specs.Order.{Placed, OrderVerdict, order_of}
+use Rattle.py_compare.specs.Equal.{ComparisonResult, finding, after, ComparisonVerdict, Holds, Fails, Deep, Unordered, equal_of, holds_if}
+use Rattle.py_compare.specs.Order.{OrderResult, OrderVerdict, order_of}
 use Rattle.py_compare.specs.Order as place
 use Rattle.py_compare.specs.Same.{is_same}
 use Rattle.py_compare.specs.declared.tested.Comparison.{Comparison}
@@ -46,13 +46,13 @@ compare_text op.Is = codes "is"
 compare_text op.IsNot = codes "is not"
 
 -- what a verdict gives: `wanted` where it holds; equality orders everything
-abbrev pub judged : Bool → Holding → ℕ → Effect
+abbrev pub judged : Bool → ComparisonVerdict → ℕ → Effect
 judged wanted Holds n = Give (val.Bool wanted) n
 judged wanted Fails n = Give (val.Bool (not wanted)) n
 judged wanted Deep n = Fail too_deep n
 judged wanted Unordered n = Fail too_deep n
 
-abbrev pub judged_found : Bool → Found → Effect
+abbrev pub judged_found : Bool → ComparisonResult → Effect
 judged_found wanted f = judged wanted f.verdict f.cost
 
 -- the same of what is told under a budget
@@ -71,7 +71,7 @@ placed_by r holds place.More n = Give (val.Bool holds.more) n
 placed_by r holds place.Deep n = Fail too_deep n
 placed_by r holds place.Unordered n = Fail r n
 
-abbrev pub ordered_by : Raise → Places → Placed → Effect
+abbrev pub ordered_by : Raise → Places → OrderResult → Effect
 ordered_by r holds f = placed_by r holds f.place f.cost
 
 abbrev pub placed_told : Raise → Places → Comparison → Option Effect
@@ -86,14 +86,14 @@ abbrev pub order_places : Bool → Bool → Bool → Places
 order_places less same more = record { less = less; same = same; more = more }
 
 -- behind an element that was compared, the search goes on where it was unequal
-abbrev pub or_next : Holding → ℕ → Found → Found
+abbrev pub or_next : ComparisonVerdict → ℕ → ComparisonResult → ComparisonResult
 or_next Holds n g = finding Holds n
 or_next Fails n g = after n g
 or_next Deep n g = finding Deep n
 or_next Unordered n g = finding Unordered n
 
 -- the first equal element, at a step for each that is tested, and what equality costs on it
-abbrev pub search_in : (Value → Found) → List Value → Found
+abbrev pub search_in : (Value → ComparisonResult) → List Value → ComparisonResult
 search_in f [] = holds_if false
 search_in f (x ∷ xs) = after 1 (or_next (f x).verdict (f x).cost (search_in f xs))
 
@@ -135,12 +135,30 @@ in_object none r wanted heap a (Some (obj.Tuple vs)) = judged_found wanted (sear
 in_object none r wanted heap a (Some (obj.Dict es)) = in_pairs heap es wanted (key_of heap a)
 in_object none r wanted heap a (Some (obj.Range x)) = Give (val.Bool (found_is wanted (in_range (range_items x) (int_value a)))) 0
 in_object none r wanted heap a (Some (obj.Text t)) = in_text none wanted t (text_of heap a)
-in_object none r wanted heap a _ = Fail r 0
+in_object none r wanted heap a (Some (obj.Function x)) = Fail r 0
+in_object none r wanted heap a (Some (obj.Method x)) = Fail r 0
+in_object none r wanted heap a (Some (obj.Builtin x)) = Fail r 0
+in_object none r wanted heap a (Some (obj.Class x)) = Fail r 0
+in_object none r wanted heap a (Some (obj.Instance x)) = Fail r 0
+in_object none r wanted heap a (Some (obj.Exception x)) = Fail r 0
+in_object none r wanted heap a (Some (obj.Module x)) = Fail r 0
+in_object none r wanted heap a (Some (obj.Fixture x)) = Fail r 0
+in_object none r wanted heap a (Some obj.MarkMaker) = Fail r 0
+in_object none r wanted heap a (Some (obj.Mark x)) = Fail r 0
+in_object none r wanted heap a (Some (obj.Hook x)) = Fail r 0
+in_object none r wanted heap a (Some (obj.Param x)) = Fail r 0
+in_object none r wanted heap a (Some (obj.Request x)) = Fail r 0
+in_object none r wanted heap a (Some (obj.Raises x)) = Fail r 0
+in_object none r wanted heap a (Some (obj.Info x)) = Fail r 0
+in_object none r wanted heap a (Some (obj.Item x)) = Fail r 0
+in_object none r wanted heap a None = Fail r 0
 
 abbrev pub contains_of : List ℕ → Bool → List Obj → Value → Value → Effect
 contains_of o wanted heap a (val.Ref id) =
     in_object (unsupported o (kind_name heap a) (codes "str")) (not_iterable (kind_name heap (val.Ref id))) wanted heap a (slice_get heap id.at)
-contains_of o wanted heap a b = Fail (not_iterable (kind_name heap b)) 0
+contains_of o wanted heap a val.None = Fail (not_iterable (kind_name heap val.None)) 0
+contains_of o wanted heap a (val.Bool b) = Fail (not_iterable (kind_name heap (val.Bool b))) 0
+contains_of o wanted heap a (val.Int n) = Fail (not_iterable (kind_name heap (val.Int n))) 0
 
 -- A COMPARISON
 unfoldable pub compare_of : CmpOp → List Obj → Value → Value → Effect

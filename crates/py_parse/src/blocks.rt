@@ -3,7 +3,7 @@ ghost use Rattle.py_tree.specs.Trees.{tree, trees, some_tree, Empty};
 ghost use Rattle.py_tree.specs.Statements.{statement, block, branches, handlers};
 ghost use Rattle.py_cursor.specs.Parser.{Gives};
 ghost use Rattle.py_cursor.specs.token_kinds.Kinds.{op_number};
-ghost use Rattle.statement_readers.specs.Words.{suite, suite_behind, arm, elifs_on, if_behind, while_behind, with_behind, for_behind, handler, handlers_on, handled, try_behind, def_behind, class_behind, decorated_behind, compound, stmt, stmts_on, stmts, block_at, source};
+ghost use Rattle.statement_readers.specs.Words.{suite, suite_behind, arm, elifs_on, if_behind, while_behind, with_behind, for_behind, handler, excepts_on, handled, try_behind, def_behind, class_behind, decorated_behind, compound, stmt, stmts_on, stmts, block_at, source};
 
 use crate::heads::{base, caught, decorators, params};
 use crate::parts::{LEVELS, alias_behind, expression_behind, name};
@@ -228,7 +228,7 @@ fn handler(p: &mut Parser<'_>, levels: u32, before: Vec<Handler>, word: Pos) -> 
 #[cycle(block)]
 fn further_handlers(p: &mut Parser<'_>, levels: u32, first: Vec<Handler>) -> Option<Vec<Handler>>
     requires some { 0 < levels }
-    ensures { Gives (λ x. handlers x.items) result p.new (handlers_on (block_at levels) (handlers first.items, p.old.rest.now)) }
+    ensures { Gives (λ x. handlers x.items) result p.new (excepts_on (block_at levels) (handlers first.items, p.old.rest.now)) }
 {
     let mut all = first;
     while let Some(except) = p.take_op(Op::Except) {

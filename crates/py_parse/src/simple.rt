@@ -2,7 +2,7 @@ ghost use Rattle.std.specs.Prelude.{◌≡◌, ◌∷◌, [], IfOk};
 ghost use Rattle.py_tree.specs.Trees.{tree};
 ghost use Rattle.py_tree.specs.Statements.{statement, block, takers};
 ghost use Rattle.py_cursor.specs.Parser.{Gives};
-ghost use Rattle.statement_readers.specs.Words.{return_behind, assert_behind, raise_behind, yield_behind, global_behind, del_behind, import_behind, from_behind, alias, aliases_on, listed_on, imported, assignment, yield_to, assigns, value_statement, word_statement, simple, simples_on, simples};
+ghost use Rattle.statement_readers.specs.Words.{return_behind, assert_behind, raise_behind, yield_behind, global_behind, del_behind, import_behind, from_behind, alias, aliases_on, listed_on, imported_names, assignment, yield_to, assigns, value_statement, word_statement, simple, simples_on, simples};
 
 use crate::parts::{
     LEVELS, alias_behind, expression_behind, names, optional_expression, optional_expressions,
@@ -223,9 +223,9 @@ fn further_listed(p: &mut Parser<'_>, first: Alias) -> Option<Vec<Alias>>
 }
 
 /// What is imported from a module.
-#[tactic(auto, unfolding(statement_readers::specs::Words::imported))]
+#[tactic(auto, unfolding(statement_readers::specs::Words::imported_names))]
 fn imported(p: &mut Parser<'_>) -> Option<Vec<Alias>>
-    ensures { Gives (λ x. x.items) result p.new (imported p.old.rest.now) }
+    ensures { Gives (λ x. x.items) result p.new (imported_names p.old.rest.now) }
 {
     if p.at(Sign::Name) {
         let Some(first) = alias(p) else {

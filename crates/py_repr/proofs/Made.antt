@@ -2,12 +2,12 @@
 use Rattle.std.proofs.Common.{ℕ, zero, suc, ◌+◌, ◌<◌, ◌≡◌, ◌∙◌, ap, Bool, true, false, ◌||◌, List, [], ◌∷◌, ◌++◌, length, map, take, nat_lt, refl, arith, append_assoc, append-nil, length-append}
 use Rattle.std.specs.List.{fold, list_any}
 use Rattle.std.proofs.lemmas.Grind.{common_steps}
-use Rattle.py_repr.specs.Adding.{add, start, shown_of}
-use Rattle.py_repr.specs.Showing.{Showing}
+use Rattle.py_repr.specs.Adding.{add, start_showing, shown_of}
+use Rattle.py_repr.specs.Showing.{TextBuffer}
 use Rattle.py_repr.specs.Symbols.{Symbol, Char, Deep, char_of, is_deep, shown}
 use Rattle.py_repr.proofs.Making.{cut_stays}
 
-abbrev pub showing : List ℕ → ℕ → Bool → Bool → Showing
+abbrev pub showing : List ℕ → ℕ → Bool → Bool → TextBuffer
 showing out most cut deep = record { out = out; most = most; cut = cut; deep = deep }
 
 -- a symbol where there is room, and where there is none
@@ -46,11 +46,11 @@ pub filled : (xs : List Symbol) (n most : ℕ) (out : List ℕ) (deep : Bool) �
 filled [] zero most out deep h = simp (append-nil, or_false)
 filled [] (suc n) most out deep h = simp (append-nil, or_false, none_lt)
 filled (x ∷ xs) zero most out deep h =
-    ap (λ (s : Showing). shown_of (fold add s xs)) (add_full out most deep x (omega arith))
-    ∙ (ap (λ (s : Showing). shown_of s) (cut_stays (showing out most true deep) xs refl) ∙ simp (append-nil, or_false, zero_lt))
+    ap (λ (s : TextBuffer). shown_of (fold add s xs)) (add_full out most deep x (omega arith))
+    ∙ (ap (λ (s : TextBuffer). shown_of s) (cut_stays (showing out most true deep) xs refl) ∙ simp (append-nil, or_false, zero_lt))
 filled (x ∷ xs) (suc n) most out deep h =
-    ap (λ (s : Showing). shown_of (fold add s xs)) (add_room out most deep x (omega arith))
+    ap (λ (s : TextBuffer). shown_of (fold add s xs)) (add_room out most deep x (omega arith))
     ∙ (filled xs n most (out ++ char_of x ∷ []) (deep || is_deep x) (simp length-append (omega arith)) ∙ simp (append_assoc, or_assoc, suc_lt))
 
-pub made : (most : ℕ) (xs : List Symbol) → shown_of (fold add (start most) xs) ≡ shown most xs
+pub made : (most : ℕ) (xs : List Symbol) → shown_of (fold add (start_showing most) xs) ≡ shown most xs
 made most xs = filled xs most most [] false (omega arith)

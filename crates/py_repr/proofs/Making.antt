@@ -3,7 +3,7 @@ use Rattle.std.proofs.Common.{◌≡◌, refl, sym, ap, arith, Bool, true, false
 use Rattle.std.specs.List.{fold}
 use Rattle.std.proofs.lemmas.List.Sums.{fold-append}
 use Rattle.std.proofs.lemmas.Grind.{common_steps}
-use Rattle.py_repr.specs.Showing.{Showing}
+use Rattle.py_repr.specs.Showing.{TextBuffer}
 use Rattle.py_repr.specs.Symbols.{Symbol, Char, Deep, glyphs}
 use Rattle.py_repr.specs.Adding.{add}
 use Rattle.py_repr.specs.Repr.{obj_repr, repr_to, obj_str, str_to, is_around, pairs_row, pair_repr}
@@ -15,11 +15,11 @@ use Rattle.py_values.specs.declared.value.Value.{Value}
 use Rattle.py_values.specs.declared.value.Value.TheVariants.{Ref}
 
 -- a text that is cut stays as it is
-pub cut_add : (s : Showing) (x : Symbol) → s.cut ≡ true → add s x ≡ s
+pub cut_add : (s : TextBuffer) (x : Symbol) → s.cut ≡ true → add s x ≡ s
 cut_add s (Char c) h = grind (arith, common_steps)
 cut_add s Deep h = grind (arith, common_steps)
 
-pub cut_stays : (s : Showing) (xs : List Symbol) → s.cut ≡ true → fold add s xs ≡ s
+pub cut_stays : (s : TextBuffer) (xs : List Symbol) → s.cut ≡ true → fold add s xs ≡ s
 cut_stays s [] h = refl
 cut_stays s (x ∷ xs) h = rw (cut_add s x h) (cut_stays s xs h)
 
@@ -37,7 +37,7 @@ pairs_step f first (e ∷ es) zero p h = cc
 pairs_step f first (e ∷ es) (suc i) p h = rw (add-one (suc i)) (rw (add-one i) at (pairs_step f first es i p h))
 
 -- a turn of the loop over pairs
-pub pairs_turn : (f : Value → List Symbol) (first : Bool) (d : List (List Atom × Pair)) (i : ℕ) (p : Pair) (s t u : Showing)
+pub pairs_turn : (f : Value → List Symbol) (first : Bool) (d : List (List Atom × Pair)) (i : ℕ) (p : Pair) (s t u : TextBuffer)
     → Some p ≡ option_map (λ e. e.1) (slice_get d i)
     → t ≡ fold add s (if first then [] else glyphs (codes ", ")) → u ≡ fold add t (pair_repr f p)
     → fold add s (pairs_row first f (drop i d)) ≡ fold add u (pairs_row false f (drop (i + 1) d))

@@ -138,7 +138,9 @@ abbrev pub str_to : ℕ → List Obj → Value → List Symbol
 str_to zero heap v = dots
 str_to (suc n) heap (val.Ref id) =
     obj_str heap (repr_to n heap []) (str_to n heap) (repr_to (suc n) heap [] (val.Ref id)) (slice_get heap id.at)
-str_to (suc n) heap v = repr_to (suc n) heap [] v
+str_to (suc n) heap val.None = repr_to (suc n) heap [] val.None
+str_to (suc n) heap (val.Bool b) = repr_to (suc n) heap [] (val.Bool b)
+str_to (suc n) heap (val.Int z) = repr_to (suc n) heap [] (val.Int z)
 
 -- the repr of a value, and its text; the message of an exception is its text
 unfoldable pub repr_of : List Obj → Value → List Symbol

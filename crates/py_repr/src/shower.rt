@@ -2,7 +2,7 @@
 
 ghost use Rattle.std.specs.Prelude.{◌≡◌, IfOk, OnOk, fold};
 ghost use Rattle.std.specs.Fmt.{signed_decimal};
-ghost use Rattle.py_repr.specs.Adding.{add, start, shown_of};
+ghost use Rattle.py_repr.specs.Adding.{add, start_showing, shown_of};
 ghost use Rattle.py_repr.specs.Symbols.{Char, glyphs, dots};
 
 use crate::shown::Shown;
@@ -20,16 +20,16 @@ pub struct Shower {
 }
 
 impl Model for Shower {
-    ghost use Rattle.py_repr.specs.Showing.{Showing};
+    ghost use Rattle.py_repr.specs.Showing.{TextBuffer};
 
-    ghost Value = { Showing };
+    ghost Value = { TextBuffer };
 
     ghost view = { λ s. record { out = s.out.items; most = s.most; cut = s.cut; deep = s.deep } };
 }
 
 impl Shower {
     pub fn new(alloc: Global, most: usize) -> Self
-        ensures { result ≡ start most }
+        ensures { result ≡ start_showing most }
     {
         Shower {
             out: Vec::new(alloc),

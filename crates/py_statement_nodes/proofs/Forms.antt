@@ -17,7 +17,7 @@ use Rattle.py_tree.specs.declared.stmt.Class.{roll-Class}
 use Rattle.py_tree.specs.declared.stmt.Target.{Target}
 use Rattle.py_tree.specs.declared.stmt.Param.{Param}
 use Rattle.py_tree.specs.Trees.{tree, trees, some_tree}
-use Rattle.py_tree.specs.Statements.{NoStatement, Branches, NoBranch, Branch, Handlers, Handler, NoHandler, If, While, For, Try, With, Def, Class, statement_at, block_on, block, branches_behind, branches, handlers_on, handlers_behind, handlers, taker, parameters}
+use Rattle.py_tree.specs.Statements.{NoStatement, Branches, NoBranch, Branch, Handlers, Handler, NoHandler, If, While, For, Try, With, Def, Class, statement_at, block_on, block, branches_behind, branches, handlers_in_row, handlers_behind, handlers, taker, parameters}
 use Rattle.py_tree.proofs.Rows.{block_hidden, branches_hidden, handlers_hidden}
 use Rattle.py_statement_nodes.proofs.Rows.{branches_more, handlers_more}
 
@@ -34,7 +34,7 @@ pub with_is : (at : Pos) (e : Rc Expr Global) (name : Option (List ℕ)) (body :
 with_is at e name body = ap (λ b. With at (tree e.value) name b) (block_hidden body.value)
 
 pub try_is : (at : Pos) (body : Rc (Vec Stmt Global) Global) (all : Rc (Vec handler.Handler Global) Global) (other last : Rc (Vec Stmt Global) Global) → statement_at at (v.Try body all other last) ≡ Try at (block body.value.items) (handlers all.value.items) (block other.value.items) (block last.value.items)
-try_is at body all other last = ap (λ b. Try at b (handlers_on NoHandler (hidden-the_row-Handler-2 all.value)) (block_on NoStatement (hidden-the_row-Stmt-1 other.value)) (block_on NoStatement (hidden-the_row-Stmt-1 last.value))) (block_hidden body.value)
+try_is at body all other last = ap (λ b. Try at b (handlers_in_row NoHandler (hidden-the_row-Handler-2 all.value)) (block_on NoStatement (hidden-the_row-Stmt-1 other.value)) (block_on NoStatement (hidden-the_row-Stmt-1 last.value))) (block_hidden body.value)
     ∙ ap (λ b. Try at (block body.value.items) b (block_on NoStatement (hidden-the_row-Stmt-1 other.value)) (block_on NoStatement (hidden-the_row-Stmt-1 last.value))) (handlers_hidden all.value)
     ∙ ap (λ b. Try at (block body.value.items) (handlers all.value.items) b (block_on NoStatement (hidden-the_row-Stmt-1 last.value))) (block_hidden other.value)
     ∙ ap (λ b. Try at (block body.value.items) (handlers all.value.items) (block other.value.items) b) (block_hidden last.value)

@@ -11,7 +11,7 @@
 #![tactic(auto)]
 
 use seq::CharText;
-pub use seq::OutOfMemory;
+pub use seq::{OutOfMemory, Seq};
 
 /// A text of the interpreted language, seen as its characters.
 pub type PyText = CharText;

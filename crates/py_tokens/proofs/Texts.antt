@@ -14,7 +14,7 @@ use Rattle.py_tokens.specs.declared.token.LexFault.TheVariants.{Bad, OutOfMemory
 use Rattle.py_tokens.specs.Lexemes.{lexeme_at}
 use Rattle.py_tokens.specs.Places.{next_place, place_behind, gap_len}
 use Rattle.py_tokens.specs.Layout.{Mark, LineEnd, TextEnd, Spelled, Wrong, gap_mark, spelled_marks, marks_of, lines_of, lines_at, put_first, ends_line, depth_behind, column_of, tab_of, behind_gaps, first_place, statement, then_read, layout_of, line_tokens, line_with, columns_behind, columns_if, columns_with, indent_at, indent_tokens, closing_tokens, layout, start_of, without_mark}
-use Rattle.py_tokens.specs.Reading.{first_line, other_lines, PassesGaps, State, state, whole_from, ReadsLine, IsLine, ReadsTokens, IsLineRead}
+use Rattle.py_tokens.specs.Reading.{first_line, other_lines, PassesGaps, State, lexer_state, whole_from, ReadsLine, IsLine, ReadsTokens, IsLineRead}
 use Rattle.py_tokens.proofs.Marks.{place_behind-split, line_end_first, no_end_no_gap}
 use Rattle.py_tokens.proofs.Steps.{put_before-put_before}
 use Rattle.py_tokens.proofs.Lines.{first_mark}
@@ -102,7 +102,7 @@ blank_lines : (place : Place) (n : ℕ) (xs : List ℕ) → 0 < n → n ≡ line
 blank_lines place n xs some is = ap (lines_of 0) (line_end_first place n xs some is)
 
 -- the last line is blank
-pub reads_last : (tokens : List Token) (columns : List ℕ) (place gap : Place) (xs ys : List ℕ) → PassesGaps place xs gap ys → length ys ≡ 0 → 0 < length xs → ReadsLine (state tokens columns place xs) (state tokens columns gap ys)
+pub reads_last : (tokens : List Token) (columns : List ℕ) (place gap : Place) (xs ys : List ℕ) → PassesGaps place xs gap ys → length ys ≡ 0 → 0 < length xs → ReadsLine (lexer_state tokens columns place xs) (lexer_state tokens columns gap ys)
 reads_last tokens columns place gap xs ys passed none some = record {
   same = λ end. ap (put_before tokens) (last_layout columns end gap ys none ∙ sym (
       layout_by columns end place (column_of (first_line (lines_at place xs))) (tab_of (first_line (lines_at place xs))) (TextEnd gap ∷ []) [] xs refl refl
@@ -113,7 +113,7 @@ reads_last tokens columns place gap xs ys passed none some = record {
 }
 
 -- a blank line that has an end
-pub reads_blank : (tokens : List Token) (columns : List ℕ) (place gap : Place) (n : ℕ) (xs ys : List ℕ) → PassesGaps place xs gap ys → 0 < n → n ≡ line_end ys → 0 < length ys → ReadsLine (state tokens columns place xs) (state tokens columns (place_behind gap (take n ys)) (drop n ys))
+pub reads_blank : (tokens : List Token) (columns : List ℕ) (place gap : Place) (n : ℕ) (xs ys : List ℕ) → PassesGaps place xs gap ys → 0 < n → n ≡ line_end ys → 0 < length ys → ReadsLine (lexer_state tokens columns place xs) (lexer_state tokens columns (place_behind gap (take n ys)) (drop n ys))
 reads_blank tokens columns place gap n xs ys passed some is text =
     let behind : Place = place_behind gap (take n ys) in
     record {
@@ -152,7 +152,7 @@ layout_with columns end place gap column tab xs ys passed c t some no_end no_gap
     layout_by columns end place column tab (first_line (lines_at gap ys)) (other_lines (lines_at gap ys)) xs c t (sym passed.line ∙ start.no_gaps) (sym passed.others)
     ∙ ap (λ (o : Option Place). then_read (line_with columns column tab (first_line (lines_at gap ys)) o) (layout_of (columns_if columns column o) end (other_lines (lines_at gap ys)))) start.place_is
 
-pub reads_tokens : (tokens : List Token) (columns : List ℕ) (place gap : Place) (column : ℕ) (xs ys : List ℕ) (new : State) → PassesGaps place xs gap ys → column_of (first_line (lines_at place xs)) ≡ column → tab_of (first_line (lines_at place xs)) ≡ None → 0 < length ys → line_end ys ≡ 0 → gap_len ys ≡ 0 → ReadsTokens column (state tokens columns gap ys) new → ReadsLine (state tokens columns place xs) new
+pub reads_tokens : (tokens : List Token) (columns : List ℕ) (place gap : Place) (column : ℕ) (xs ys : List ℕ) (new : State) → PassesGaps place xs gap ys → column_of (first_line (lines_at place xs)) ≡ column → tab_of (first_line (lines_at place xs)) ≡ None → 0 < length ys → line_end ys ≡ 0 → gap_len ys ≡ 0 → ReadsTokens column (lexer_state tokens columns gap ys) new → ReadsLine (lexer_state tokens columns place xs) new
 reads_tokens tokens columns place gap column xs ys new passed c t some no_end no_gap read = record {
   same = λ end. sym (
       ap (put_before tokens) (layout_with columns end place gap column None xs ys passed c t some no_end no_gap)
@@ -164,18 +164,18 @@ reads_tokens tokens columns place gap column xs ys new passed c t some no_end no
   shorter = let less : length new.rest < length ys = read.shorter some in omega (arith, less, passed.no_longer);
 }
 
-pub tab_fault : (tokens : List Token) (columns : List ℕ) (place gap : Place) (column : ℕ) (tab : Pos) (xs ys : List ℕ) → PassesGaps place xs gap ys → tab_of (first_line (lines_at place xs)) ≡ Some tab → 0 < length ys → line_end ys ≡ 0 → gap_len ys ≡ 0 → (end : Place) → whole_from (state tokens columns place xs) end ≡ Err (Bad tab fault.Tab)
+pub tab_fault : (tokens : List Token) (columns : List ℕ) (place gap : Place) (column : ℕ) (tab : Pos) (xs ys : List ℕ) → PassesGaps place xs gap ys → tab_of (first_line (lines_at place xs)) ≡ Some tab → 0 < length ys → line_end ys ≡ 0 → gap_len ys ≡ 0 → (end : Place) → whole_from (lexer_state tokens columns place xs) end ≡ Err (Bad tab fault.Tab)
 tab_fault tokens columns place gap column tab xs ys passed t some no_end no_gap end =
     ap (put_before tokens) (layout_with columns end place gap (column_of (first_line (lines_at place xs))) (Some tab) xs ys passed refl t some no_end no_gap)
 
-pub tokens_fault : (tokens : List Token) (columns : List ℕ) (place gap : Place) (column : ℕ) (xs ys : List ℕ) (new last : State) (fault : LexFault) → PassesGaps place xs gap ys → column_of (first_line (lines_at place xs)) ≡ column → tab_of (first_line (lines_at place xs)) ≡ None → 0 < length ys → line_end ys ≡ 0 → gap_len ys ≡ 0 → IsLineRead column (state tokens columns gap ys) new (Err fault) → IsLine (state tokens columns place xs) last (Err fault)
+pub tokens_fault : (tokens : List Token) (columns : List ℕ) (place gap : Place) (column : ℕ) (xs ys : List ℕ) (new last : State) (fault : LexFault) → PassesGaps place xs gap ys → column_of (first_line (lines_at place xs)) ≡ column → tab_of (first_line (lines_at place xs)) ≡ None → 0 < length ys → line_end ys ≡ 0 → gap_len ys ≡ 0 → IsLineRead column (lexer_state tokens columns gap ys) new (Err fault) → IsLine (lexer_state tokens columns place xs) last (Err fault)
 tokens_fault tokens columns place gap column xs ys new last (Bad pos kind) passed c t some no_end no_gap read = λ end.
     ap (put_before tokens) (layout_with columns end place gap column None xs ys passed c t some no_end no_gap)
     ∙ put_before-then_read tokens (then_read (indent_at columns column gap) (statement [] (first_line (lines_at gap ys)))) (layout_of (columns_with columns column) end (other_lines (lines_at gap ys)))
     ∙ ap (λ (r : Result (List Token) LexFault). then_read r (layout_of (columns_with columns column) end (other_lines (lines_at gap ys)))) read
 tokens_fault tokens columns place gap column xs ys new last OutOfMemory passed c t some no_end no_gap read = tt
 
-pub line_answer : (tokens : List Token) (columns : List ℕ) (place gap : Place) (column : ℕ) (xs ys : List ℕ) (new : State) (result : Result (Unit {0}) LexFault) → PassesGaps place xs gap ys → column_of (first_line (lines_at place xs)) ≡ column → tab_of (first_line (lines_at place xs)) ≡ None → 0 < length ys → line_end ys ≡ 0 → gap_len ys ≡ 0 → IsLineRead column (state tokens columns gap ys) new result → IsLine (state tokens columns place xs) new result
+pub line_answer : (tokens : List Token) (columns : List ℕ) (place gap : Place) (column : ℕ) (xs ys : List ℕ) (new : State) (result : Result (Unit {0}) LexFault) → PassesGaps place xs gap ys → column_of (first_line (lines_at place xs)) ≡ column → tab_of (first_line (lines_at place xs)) ≡ None → 0 < length ys → line_end ys ≡ 0 → gap_len ys ≡ 0 → IsLineRead column (lexer_state tokens columns gap ys) new result → IsLine (lexer_state tokens columns place xs) new result
 line_answer tokens columns place gap column xs ys new (Ok done) passed c t some no_end no_gap read = reads_tokens tokens columns place gap column xs ys new passed c t some no_end no_gap read
 line_answer tokens columns place gap column xs ys new (Err fault) passed c t some no_end no_gap read = tokens_fault tokens columns place gap column xs ys new new fault passed c t some no_end no_gap read
 
@@ -183,20 +183,20 @@ pub no_more : (n m : ℕ) → n ≡ m → n ≤ 0 → m ≡ 0
 no_more n m is none = omega arith
 
 -- THE WHOLE TEXT
-pub all_read : (columns : List ℕ) (tokens last : List Token) (end place : Place) (xs : List ℕ) (meant : Result (List Token) LexFault) → length xs ≡ 0 → end ≡ place_behind place xs → whole_from (state tokens columns place xs) end ≡ meant → last ≡ tokens ++ closing_tokens columns place → meant ≡ Ok last
+pub all_read : (columns : List ℕ) (tokens last : List Token) (end place : Place) (xs : List ℕ) (meant : Result (List Token) LexFault) → length xs ≡ 0 → end ≡ place_behind place xs → whole_from (lexer_state tokens columns place xs) end ≡ meant → last ≡ tokens ++ closing_tokens columns place → meant ≡ Ok last
 all_read columns tokens last end place xs meant none is same closed =
     sym same
     ∙ ap (put_before tokens) (last_layout columns end place xs none)
     ∙ ap (λ (p : Place). Ok (tokens ++ closing_tokens columns p)) (is ∙ ap (place_behind place) (no_text xs none))
     ∙ ap (λ (ts : List Token). Ok ts) (sym closed)
 
-start_meant : (text : List ℕ) → whole_from (state [] (0 ∷ []) (start_of text) (without_mark text)) (place_behind (start_of text) (without_mark text)) ≡ layout text
+start_meant : (text : List ℕ) → whole_from (lexer_state [] (0 ∷ []) (start_of text) (without_mark text)) (place_behind (start_of text) (without_mark text)) ≡ layout text
 unfolding layout
 start_meant text = put_before-nothing (layout_of (0 ∷ []) (place_behind (start_of text) (without_mark text)) (lines_at (start_of text) (without_mark text)))
 
-pub start_read : (text seen rest : List ℕ) (place : Place) → seen ≡ text → rest ≡ without_mark seen → place ≡ start_of seen → whole_from (state [] (0 ∷ []) place rest) (place_behind place rest) ≡ layout text
+pub start_read : (text seen rest : List ℕ) (place : Place) → seen ≡ text → rest ≡ without_mark seen → place ≡ start_of seen → whole_from (lexer_state [] (0 ∷ []) place rest) (place_behind place rest) ≡ layout text
 start_read text seen rest place same rest_is place_is =
-    ap (λ (p : Place). whole_from (state [] (0 ∷ []) p rest) (place_behind p rest)) place_is
-    ∙ ap (λ (r : List ℕ). whole_from (state [] (0 ∷ []) (start_of seen) r) (place_behind (start_of seen) r)) rest_is
-    ∙ ap (λ (t : List ℕ). whole_from (state [] (0 ∷ []) (start_of t) (without_mark t)) (place_behind (start_of t) (without_mark t))) same
+    ap (λ (p : Place). whole_from (lexer_state [] (0 ∷ []) p rest) (place_behind p rest)) place_is
+    ∙ ap (λ (r : List ℕ). whole_from (lexer_state [] (0 ∷ []) (start_of seen) r) (place_behind (start_of seen) r)) rest_is
+    ∙ ap (λ (t : List ℕ). whole_from (lexer_state [] (0 ∷ []) (start_of t) (without_mark t)) (place_behind (start_of t) (without_mark t))) same
     ∙ start_meant text

@@ -125,8 +125,8 @@ pub record State : Type 0 where
   pub place : Place
   pub rest : List ℕ
 
-abbrev pub state : List Token → List ℕ → Place → List ℕ → State
-state tokens columns place rest = record { tokens = tokens; columns = columns; place = place; rest = rest }
+abbrev pub lexer_state : List Token → List ℕ → Place → List ℕ → State
+lexer_state tokens columns place rest = record { tokens = tokens; columns = columns; place = place; rest = rest }
 
 -- the tokens so far and those of all that is left, for a place of the text's end
 abbrev pub whole_from : State → Place → Result (List Token) LexFault

@@ -2,7 +2,7 @@ ghost use Rattle.std.specs.Prelude.{◌≡◌, ◌<◌, ◌≤◌, ◌++◌, [],
 ghost use Rattle.py_literals.specs.Literals.{put_before};
 ghost use Rattle.py_tokens.specs.Layout.{top, deeper, token_at, indent_at, columns_with, closing_tokens, tab_of, lines_at};
 ghost use Rattle.py_tokens.specs.Places.{gap_len};
-ghost use Rattle.py_tokens.specs.Reading.{IsAdded, PassesGaps, IsLineRead, IsLine, state, first_line, is_blank};
+ghost use Rattle.py_tokens.specs.Reading.{IsAdded, PassesGaps, IsLineRead, IsLine, lexer_state, first_line, is_blank};
 ghost use Rattle.py_literals.specs.Chars.{line_end};
 ghost use Rattle.std.specs.List.{prefix_len};
 
@@ -121,7 +121,7 @@ fn read_tokens(
     requires some { 0 < length cursor.old.rest.now }
     requires no_end { line_end cursor.old.rest.now ≡ 0 }
     requires no_gap { gap_len cursor.old.rest.now ≡ 0 }
-    ensures { IsLineRead column (state tokens.old.items columns.old.items cursor.old.place cursor.old.rest.now) (state tokens.new.items columns.new.items cursor.new.place cursor.new.rest.now) result }
+    ensures { IsLineRead column (lexer_state tokens.old.items columns.old.items cursor.old.place cursor.old.rest.now) (lexer_state tokens.new.items columns.new.items cursor.new.place cursor.new.rest.now) result }
 {
     indent(column, cursor.place, columns, tokens)?;
     read_statement(alloc, cursor, tokens)
@@ -135,7 +135,7 @@ pub fn read_line(
     tokens: &mut Vec<Token>,
 ) -> Result<(), LexFault>
     requires { 0 < length cursor.old.rest.now }
-    ensures { IsLine (state tokens.old.items columns.old.items cursor.old.place cursor.old.rest.now) (state tokens.new.items columns.new.items cursor.new.place cursor.new.rest.now) result }
+    ensures { IsLine (lexer_state tokens.old.items columns.old.items cursor.old.place cursor.old.rest.now) (lexer_state tokens.new.items columns.new.items cursor.new.place cursor.new.rest.now) result }
 {
     let column = column_of(cursor.rest);
     let tab = first_tab(cursor.place, cursor.rest);

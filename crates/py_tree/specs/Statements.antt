@@ -118,10 +118,10 @@ abbrev mutual
   statement_at at (v.Yield y) = YieldOf at y.at (some_tree y.value)
   statement_at at (v.Import names alias) = Import at names.value.items alias
   statement_at at (v.ImportFrom names all) = ImportFrom at names.value.items all.value.items
-  statement_at at (f.If' p n branches q m other) = If at (branches_on NoBranch branches) (block_on NoStatement other)
+  statement_at at (f.If' p n branches q m other) = If at (branches_in_row NoBranch branches) (block_on NoStatement other)
   statement_at at (f.While' e p n body) = While at (tree e.value) (block_on NoStatement body)
   statement_at at (f.For' t e p n body) = For at (taker t) (tree e.value) (block_on NoStatement body)
-  statement_at at (f.Try' p n body q m handlers r k other s l final) = Try at (block_on NoStatement body) (handlers_on NoHandler handlers) (block_on NoStatement other) (block_on NoStatement final)
+  statement_at at (f.Try' p n body q m handlers r k other s l final) = Try at (block_on NoStatement body) (handlers_in_row NoHandler handlers) (block_on NoStatement other) (block_on NoStatement final)
   statement_at at (f.With' e name p n body) = With at (tree e.value) name (block_on NoStatement body)
   statement_at at (f.Def' p (function.Function' decorators word name params returns q n body)) = Def at (trees decorators.value.items) word name (parameters params.value.items) (some_tree returns) (block_on NoStatement body)
   statement_at at (f.Class' p (class.Class' decorators word name base q n body)) = Class at (trees decorators.value.items) word name (some_tree base) (block_on NoStatement body)
@@ -130,13 +130,13 @@ abbrev mutual
   block_on before end_of-Stmt = before
   block_on before (more_of-Stmt at kind row) = block_on (Next before (statement_at at kind)) row
 
-  pub branches_on : {m : _} → Branches → Row_of-Branch m → Branches
-  branches_on before end_of-Branch = before
-  branches_on before (more_of-Branch (branch.Branch' at condition p n body) row) = branches_on (Branch before at (tree condition.value) (block_on NoStatement body)) row
+  pub branches_in_row : {m : _} → Branches → Row_of-Branch m → Branches
+  branches_in_row before end_of-Branch = before
+  branches_in_row before (more_of-Branch (branch.Branch' at condition p n body) row) = branches_in_row (Branch before at (tree condition.value) (block_on NoStatement body)) row
 
-  pub handlers_on : {m : _} → Handlers → Row_of-Handler m → Handlers
-  handlers_on before end_of-Handler = before
-  handlers_on before (more_of-Handler (handler.Handler' at class name p n body) row) = handlers_on (Handler before at (some_tree class) name (block_on NoStatement body)) row
+  pub handlers_in_row : {m : _} → Handlers → Row_of-Handler m → Handlers
+  handlers_in_row before end_of-Handler = before
+  handlers_in_row before (more_of-Handler (handler.Handler' at class name p n body) row) = handlers_in_row (Handler before at (some_tree class) name (block_on NoStatement body)) row
 
 -- the tree of a statement
 abbrev pub statement : Stmt → Statement

@@ -13,12 +13,50 @@ use Rattle.py_values.specs.Pairs.{put_pair, without_pair}
 -- a list with other values
 abbrev pub with_items : (List Value → List Value) → Obj → Obj
 with_items f (obj.List vs) = obj.List (f vs)
-with_items f o = o
+with_items f (obj.Text x) = obj.Text x
+with_items f (obj.Tuple x) = obj.Tuple x
+with_items f (obj.Dict x) = obj.Dict x
+with_items f (obj.Range x) = obj.Range x
+with_items f (obj.Function x) = obj.Function x
+with_items f (obj.Method x) = obj.Method x
+with_items f (obj.Builtin x) = obj.Builtin x
+with_items f (obj.Class x) = obj.Class x
+with_items f (obj.Instance x) = obj.Instance x
+with_items f (obj.Exception x) = obj.Exception x
+with_items f (obj.Module x) = obj.Module x
+with_items f (obj.Fixture x) = obj.Fixture x
+with_items f obj.MarkMaker = obj.MarkMaker
+with_items f (obj.Mark x) = obj.Mark x
+with_items f (obj.Hook x) = obj.Hook x
+with_items f (obj.Param x) = obj.Param x
+with_items f (obj.Request x) = obj.Request x
+with_items f (obj.Raises x) = obj.Raises x
+with_items f (obj.Info x) = obj.Info x
+with_items f (obj.Item x) = obj.Item x
 
 -- a dict with other pairs
 abbrev pub with_pairs : (List (List Atom × Pair) → List (List Atom × Pair)) → Obj → Obj
 with_pairs f (obj.Dict es) = obj.Dict (f es)
-with_pairs f o = o
+with_pairs f (obj.Text x) = obj.Text x
+with_pairs f (obj.List x) = obj.List x
+with_pairs f (obj.Tuple x) = obj.Tuple x
+with_pairs f (obj.Range x) = obj.Range x
+with_pairs f (obj.Function x) = obj.Function x
+with_pairs f (obj.Method x) = obj.Method x
+with_pairs f (obj.Builtin x) = obj.Builtin x
+with_pairs f (obj.Class x) = obj.Class x
+with_pairs f (obj.Instance x) = obj.Instance x
+with_pairs f (obj.Exception x) = obj.Exception x
+with_pairs f (obj.Module x) = obj.Module x
+with_pairs f (obj.Fixture x) = obj.Fixture x
+with_pairs f obj.MarkMaker = obj.MarkMaker
+with_pairs f (obj.Mark x) = obj.Mark x
+with_pairs f (obj.Hook x) = obj.Hook x
+with_pairs f (obj.Param x) = obj.Param x
+with_pairs f (obj.Request x) = obj.Request x
+with_pairs f (obj.Raises x) = obj.Raises x
+with_pairs f (obj.Info x) = obj.Info x
+with_pairs f (obj.Item x) = obj.Item x
 
 -- an object behind a change
 abbrev pub object_after : Change → Obj → Obj

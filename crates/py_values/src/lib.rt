@@ -5,7 +5,7 @@
 //! A value is `None`, a boolean, a whole number of 128 bits, or an object of the heap; an object has one of the kinds of the
 //! language (texts, lists, tuples, dicts, ranges, functions, methods, built-in functions, classes, instances, exceptions,
 //! modules, and the objects that pytest's names make). Keys of dicts are plain data, so dicts are maps in order of insertion.
-//! How an operator or a call ends (`OpEnd`), what it makes before the heap has it (`Made`), and how an object is changed
+//! How an operator or a call ends (`OpEnd`), what it makes before the heap has it (`Effect`), and how an object is changed
 //! (`Change`) stand here too, since all crates above speak of them; so do the tables of built-in names and the limits of values.
 //! What values do (truth, length, keys, the names of their kinds, their classes) stands in py_kinds.
 //!

@@ -3,7 +3,7 @@
 ghost use Rattle.std.specs.Prelude.{◌≡◌, ◌++◌, ◌∷◌, [], OnOk, slice_set, remove};
 
 use crate::value::Value;
-use py_text::{OutOfMemory, PyText};
+use py_text::{OutOfMemory, PyText, Seq};
 use std::alloc::Global;
 use std::marker::Model;
 
@@ -75,37 +75,7 @@ impl Values {
 }
 
 /// Texts in a row.
-pub struct Texts {
-    items: Vec<PyText>,
-}
-
-impl Drop for Texts {
-    fn drop(self) {
-        let Texts { items: _ } = self;
-    }
-}
-
-impl Model for Texts {
-    ghost use Rattle.std.specs.Prelude.{List, ℕ};
-
-    ghost Value = { List (List ℕ) };
-
-    ghost view = { λ t. t.items.items };
-}
-
-impl Texts {
-    pub fn from_vec(items: Vec<PyText>) -> Self
-        ensures { result ≡ items.items }
-    {
-        Texts { items }
-    }
-
-    pub fn items(&self) -> &[PyText]
-        ensures { result.now ≡ self.now }
-    {
-        &self.items
-    }
-}
+pub type Texts = Seq<PyText>;
 
 /// A parameter of a function, and its default where it has one.
 pub struct Param {
@@ -123,35 +93,4 @@ impl Drop for Param {
 }
 
 /// The parameters of a function, in order.
-pub struct Params {
-    items: Vec<Param>,
-}
-
-impl Drop for Params {
-    fn drop(self) {
-        let Params { items: _ } = self;
-    }
-}
-
-impl Model for Params {
-    ghost use Rattle.std.specs.Prelude.{List};
-    ghost use Rattle.py_values.specs.declared.rows.Param.{Param};
-
-    ghost Value = { List Param };
-
-    ghost view = { λ p. p.items.items };
-}
-
-impl Params {
-    pub fn from_vec(items: Vec<Param>) -> Self
-        ensures { result ≡ items.items }
-    {
-        Params { items }
-    }
-
-    pub fn items(&self) -> &[Param]
-        ensures { result.now ≡ self.now }
-    {
-        &self.items
-    }
-}
+pub type Params = Seq<Param>;

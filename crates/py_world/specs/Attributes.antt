@@ -59,14 +59,46 @@ with_attribute name v (obj.Module m) = obj.Module (record { path = m.path; names
 with_attribute name v (obj.Class c) = obj.Class (record { path = c.path; name = c.name; line = c.line; form = c.form; base = c.base; marks = c.marks; names = bind_name name v c.names })
 with_attribute name v (obj.Instance x) = obj.Instance (record { class = x.class; names = bind_name name v x.names })
 with_attribute name v (obj.Exception x) = obj.Exception (exception_with name v x)
-with_attribute name v o = o
+with_attribute name v (obj.Text x) = obj.Text x
+with_attribute name v (obj.List x) = obj.List x
+with_attribute name v (obj.Tuple x) = obj.Tuple x
+with_attribute name v (obj.Dict x) = obj.Dict x
+with_attribute name v (obj.Range x) = obj.Range x
+with_attribute name v (obj.Function x) = obj.Function x
+with_attribute name v (obj.Method x) = obj.Method x
+with_attribute name v (obj.Builtin x) = obj.Builtin x
+with_attribute name v (obj.Fixture x) = obj.Fixture x
+with_attribute name v obj.MarkMaker = obj.MarkMaker
+with_attribute name v (obj.Mark x) = obj.Mark x
+with_attribute name v (obj.Hook x) = obj.Hook x
+with_attribute name v (obj.Param x) = obj.Param x
+with_attribute name v (obj.Request x) = obj.Request x
+with_attribute name v (obj.Raises x) = obj.Raises x
+with_attribute name v (obj.Info x) = obj.Info x
+with_attribute name v (obj.Item x) = obj.Item x
 
 abbrev pub without_attribute : List ℕ → Obj → Obj
 without_attribute name (obj.Module m) = obj.Module (record { path = m.path; names = unbind_name name m.names })
 without_attribute name (obj.Class c) = obj.Class (record { path = c.path; name = c.name; line = c.line; form = c.form; base = c.base; marks = c.marks; names = unbind_name name c.names })
 without_attribute name (obj.Instance x) = obj.Instance (record { class = x.class; names = unbind_name name x.names })
 without_attribute name (obj.Exception x) = obj.Exception (exception_without name x)
-without_attribute name o = o
+without_attribute name (obj.Text x) = obj.Text x
+without_attribute name (obj.List x) = obj.List x
+without_attribute name (obj.Tuple x) = obj.Tuple x
+without_attribute name (obj.Dict x) = obj.Dict x
+without_attribute name (obj.Range x) = obj.Range x
+without_attribute name (obj.Function x) = obj.Function x
+without_attribute name (obj.Method x) = obj.Method x
+without_attribute name (obj.Builtin x) = obj.Builtin x
+without_attribute name (obj.Fixture x) = obj.Fixture x
+without_attribute name obj.MarkMaker = obj.MarkMaker
+without_attribute name (obj.Mark x) = obj.Mark x
+without_attribute name (obj.Hook x) = obj.Hook x
+without_attribute name (obj.Param x) = obj.Param x
+without_attribute name (obj.Request x) = obj.Request x
+without_attribute name (obj.Raises x) = obj.Raises x
+without_attribute name (obj.Info x) = obj.Info x
+without_attribute name (obj.Item x) = obj.Item x
 
 module _ {K : Kinds} where
   -- an object is changed, where it may be

@@ -23,7 +23,7 @@ use Rattle.py_values.specs.declared.builtin.PytestCall.TheVariants as pytest
 use Rattle.py_values.specs.declared.object.FixtureScope.TheVariants as scope
 use Rattle.py_calls.specs.py_kinds.Classes.{is_exc_class}
 use Rattle.py_calls.specs.py_items.Items.{object_at}
-use Rattle.py_world.specs.World.{Kinds, CallState, Stored, heap_of, state, with_heap, with_object, with_world, world_with_code}
+use Rattle.py_world.specs.World.{Kinds, CallState, FunctionCode, heap_of, state, with_heap, with_object, with_world, world_with_code}
 use Rattle.py_world.specs.Site.{Own, InModule, InFunction, InClass, Scene, Site, around_of}
 use Rattle.py_world.specs.Arguments.{required}
 use Rattle.py_world.specs.Names.{bound}
@@ -56,7 +56,7 @@ abbrev pub function_object : List ℕ → ℕ → List Param → Bool → ℕ �
 function_object name line params yields code scene =
     obj.Function (record { path = scene.path; name = name; line = line; params = params; yields = yields; marks = []; class = class_in scene.own; code = code })
 
-abbrev pub stored_code : {C : Type 0} → C → Scene → Stored C
+abbrev pub stored_code : {C : Type 0} → C → Scene → FunctionCode C
 stored_code code scene = record { path = scene.path; home = scene.home; code = code }
 
 -- a class of the sources, without names
@@ -198,7 +198,25 @@ decoration heap d v = decoration_by (object_at heap d) v (decorable (object_at h
 abbrev pub with_added_mark : Value → Obj → Obj
 with_added_mark d (obj.Function f) = obj.Function (record { path = f.path; name = f.name; line = f.line; params = f.params; yields = f.yields; marks = f.marks ++ d ∷ []; class = f.class; code = f.code })
 with_added_mark d (obj.Class c) = obj.Class (record { path = c.path; name = c.name; line = c.line; form = c.form; base = c.base; marks = c.marks ++ d ∷ []; names = c.names })
-with_added_mark d o = o
+with_added_mark d (obj.Text x) = obj.Text x
+with_added_mark d (obj.List x) = obj.List x
+with_added_mark d (obj.Tuple x) = obj.Tuple x
+with_added_mark d (obj.Dict x) = obj.Dict x
+with_added_mark d (obj.Range x) = obj.Range x
+with_added_mark d (obj.Method x) = obj.Method x
+with_added_mark d (obj.Builtin x) = obj.Builtin x
+with_added_mark d (obj.Instance x) = obj.Instance x
+with_added_mark d (obj.Exception x) = obj.Exception x
+with_added_mark d (obj.Module x) = obj.Module x
+with_added_mark d (obj.Fixture x) = obj.Fixture x
+with_added_mark d obj.MarkMaker = obj.MarkMaker
+with_added_mark d (obj.Mark x) = obj.Mark x
+with_added_mark d (obj.Hook x) = obj.Hook x
+with_added_mark d (obj.Param x) = obj.Param x
+with_added_mark d (obj.Request x) = obj.Request x
+with_added_mark d (obj.Raises x) = obj.Raises x
+with_added_mark d (obj.Info x) = obj.Info x
+with_added_mark d (obj.Item x) = obj.Item x
 
 abbrev pub marked_at : Value → Value → List Obj → List Obj
 marked_at d (val.Ref id) heap = changed (with_added_mark d) id.at heap (slice_get heap id.at)
@@ -260,9 +278,9 @@ module _ {K : Kinds} where
       (λ o. on_value (call_end s o) k (λ w r. define_as ds name (val.Ref (id_at (length (heap_of s)))) p r k))
 
   -- behind the decorators: the base
-  abbrev pub class_behind : Option (Denotation K) → List ℕ → ℕ → Body K → List Value → Denotation K
-  class_behind base name line body ds p s k = class_base base p s k (λ b s. class_made name line body ds b p s k)
+  abbrev pub class_behind_decorators : Option (Denotation K) → List ℕ → ℕ → Body K → List Value → Denotation K
+  class_behind_decorators base name line body ds p s k = class_base base p s k (λ b s. class_made name line body ds b p s k)
 
   -- A CLASS DEFINITION: the decorators from top to bottom come first
   abbrev pub class_statement : List (Denotation K) → Option (Denotation K) → List ℕ → ℕ → Body K → Denotation K
-  class_statement ds base name line body p s k = arguments ds [] p s k (λ ds s. class_behind base name line body ds p s k)
+  class_statement ds base name line body p s k = arguments ds [] p s k (λ ds s. class_behind_decorators base name line body ds p s k)

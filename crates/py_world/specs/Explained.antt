@@ -65,11 +65,11 @@ pub record Fact : Type 0 where
   pub text : List ℕ
 
 -- what is shown of a part: its text, and facts, each before those below it
-pub record Shows : Type 0 where
+pub record Explanation : Type 0 where
   pub text : List ℕ
   pub facts : List Fact
 
-abbrev pub shows : List ℕ → List Fact → Shows
+abbrev pub shows : List ℕ → List Fact → Explanation
 shows text facts = record { text = text; facts = facts }
 
 -- one level deeper
@@ -78,7 +78,7 @@ facts_below [] = []
 facts_below (f ∷ fs) = record { depth = suc f.depth; text = f.text } ∷ facts_below fs
 
 -- a value, and the one fact of how it came
-abbrev pub came_from : List ℕ → List ℕ → List Fact → Shows
+abbrev pub came_from : List ℕ → List ℕ → List Fact → Explanation
 came_from text how facts = shows text (record { depth = 1; text = text ++ (codes " = " ++ how) } ∷ facts_below facts)
 
 -- the name of a function, class, module or built-in function is shown as it is
@@ -114,21 +114,21 @@ value_is_shown_by_name heap (Some (val.Int n)) = false
 value_is_shown_by_name heap None = false
 
 -- the texts of those that were evaluated, with a word between them, and their facts
-abbrev pub joined_shows : List ℕ → List Shows → Shows
+abbrev pub joined_shows : List ℕ → List Explanation → Explanation
 joined_shows word [] = shows [] []
 joined_shows word (s ∷ []) = s
-joined_shows word (s ∷ (r ∷ rest)) = let j : Shows = joined_shows word (r ∷ rest) in shows (s.text ++ (word ++ j.text)) (s.facts ++ j.facts)
+joined_shows word (s ∷ (r ∷ rest)) = let j : Explanation = joined_shows word (r ∷ rest) in shows (s.text ++ (word ++ j.text)) (s.facts ++ j.facts)
 
-abbrev pub named_show : Option ArgName → Shows → Shows
+abbrev pub named_show : Option ArgName → Explanation → Explanation
 named_show (Some n) s = shows (n.name ++ (codes "=" ++ s.text)) s.facts
 named_show None s = s
 
-abbrev pub named_shows : List (Option ArgName) → List Shows → List Shows
+abbrev pub named_shows : List (Option ArgName) → List Explanation → List Explanation
 named_shows names [] = []
 named_shows [] (s ∷ rest) = s ∷ named_shows [] rest
 named_shows (n ∷ names) (s ∷ rest) = named_show n s ∷ named_shows names rest
 
-abbrev pub pair_shows : List ℕ → Shows → Shows → Shows
+abbrev pub pair_shows : List ℕ → Explanation → Explanation → Explanation
 pair_shows word l r = shows (l.text ++ (codes " " ++ (word ++ (codes " " ++ r.text)))) (l.facts ++ r.facts)
 
 abbrev pub compare_word : Option CmpOp → List ℕ
@@ -148,7 +148,7 @@ module _ (heap : List Obj) (kept : Temps) where
   kept_text (Some v) = value_text heap v
   kept_text None = []
 
-  abbrev pub leaf_show : ℕ → Shows
+  abbrev pub leaf_show : ℕ → Explanation
   leaf_show n = shows (kept_text (kept_value n)) []
 
   -- whether a part was evaluated: its first part was
@@ -177,21 +177,21 @@ module _ (heap : List Obj) (kept : Temps) where
 
   abbrev mutual
     -- WHAT IS SHOWN of a part whose parts are numbered from n on
-    pub show_part : ℕ → Tree → Shows
+    pub show_part : ℕ → Tree → Explanation
     show_part n (t.Paren at e) = show_part n e
     show_part n (t.Name at name) = if value_is_shown_by_name heap (kept_value n) then shows name [] else leaf_show n
     show_part n (t.Call at f args names) =
-        let callee : Shows = show_part (suc n) f in
-        let given : Shows = joined_shows (codes ", ") (named_shows names (show_all (suc n + kept_count f) args)) in
+        let callee : Explanation = show_part (suc n) f in
+        let given : Explanation = joined_shows (codes ", ") (named_shows names (show_all (suc n + kept_count f) args)) in
         came_from (kept_text (kept_value n)) (callee.text ++ (codes "(" ++ (given.text ++ codes ")"))) (callee.facts ++ given.facts)
-    show_part n (t.Unary at op e) = let s : Shows = show_part n e in shows (unary_text op ++ s.text) s.facts
+    show_part n (t.Unary at op e) = let s : Explanation = show_part n e in shows (unary_text op ++ s.text) s.facts
     show_part n (t.Binary at l op r) =
-        let s : Shows = pair_shows (binary_text op) (show_part n l) (show_part (n + kept_count l) r) in shows (codes "(" ++ (s.text ++ codes ")")) s.facts
+        let s : Explanation = pair_shows (binary_text op) (show_part n l) (show_part (n + kept_count l) r) in shows (codes "(" ++ (s.text ++ codes ")")) s.facts
     show_part n (t.Compare at e ops es) = last_pair (n + kept_count e) (show_part n e) ops es
-    show_part n (t.Not at e) = let s : Shows = show_part n e in shows (codes "not " ++ s.text) s.facts
-    show_part n (t.And at e es) = let s : Shows = joined_shows (codes " and ") (show_part n e ∷ show_evaluated (n + kept_count e) es) in shows (codes "(" ++ (s.text ++ codes ")")) s.facts
-    show_part n (t.Or at e es) = let s : Shows = joined_shows (codes " or ") (show_part n e ∷ show_evaluated (n + kept_count e) es) in shows (codes "(" ++ (s.text ++ codes ")")) s.facts
-    show_part n (t.Attribute at e name) = let s : Shows = show_part (suc n) e in came_from (kept_text (kept_value n)) (s.text ++ (codes "." ++ name)) s.facts
+    show_part n (t.Not at e) = let s : Explanation = show_part n e in shows (codes "not " ++ s.text) s.facts
+    show_part n (t.And at e es) = let s : Explanation = joined_shows (codes " and ") (show_part n e ∷ show_evaluated (n + kept_count e) es) in shows (codes "(" ++ (s.text ++ codes ")")) s.facts
+    show_part n (t.Or at e es) = let s : Explanation = joined_shows (codes " or ") (show_part n e ∷ show_evaluated (n + kept_count e) es) in shows (codes "(" ++ (s.text ++ codes ")")) s.facts
+    show_part n (t.Attribute at e name) = let s : Explanation = show_part (suc n) e in came_from (kept_text (kept_value n)) (s.text ++ (codes "." ++ name)) s.facts
     show_part n (t.Number at x) = leaf_show n
     show_part n (t.Text at text) = leaf_show n
     show_part n (t.True at) = leaf_show n
@@ -204,38 +204,38 @@ module _ (heap : List Obj) (kept : Temps) where
     show_part n (t.Slice at e from to by) = leaf_show n
     show_part n (t.IfElse at e c o) = leaf_show n
 
-    pub show_all : ℕ → Trees → List Shows
+    pub show_all : ℕ → Trees → List Explanation
     show_all n Empty = []
     show_all n (More before e) = show_all n before ++ show_part (n + kept_count_all before) e ∷ []
 
-    pub show_evaluated : ℕ → Trees → List Shows
+    pub show_evaluated : ℕ → Trees → List Explanation
     show_evaluated n Empty = []
     show_evaluated n (More before e) = if evaluated (n + kept_count_all before) e then show_evaluated n before ++ show_part (n + kept_count_all before) e ∷ [] else show_evaluated n before
 
     -- the last operand of some behind a first one
-    pub last_operand : ℕ → Shows → Trees → Shows
+    pub last_operand : ℕ → Explanation → Trees → Explanation
     last_operand n first Empty = first
     last_operand n first (More before e) = show_part (n + kept_count_all before) e
 
     -- a comparison, chained or not: the last pair that was compared
-    pub last_pair : ℕ → Shows → List CmpOp → Trees → Shows
+    pub last_pair : ℕ → Explanation → List CmpOp → Trees → Explanation
     last_pair n first ops Empty = first
     last_pair n first ops (More before e) =
         if evaluated (n + kept_count_all before) e
         then pair_shows (compare_word (slice_get ops (tree_count before))) (last_operand n first before) (show_part (n + kept_count_all before) e)
         else last_pair n first ops before
 
-  abbrev pub indent : ℕ → List ℕ
-  indent zero = []
-  indent (suc n) = codes "  " ++ indent n
+  abbrev pub fact_indent : ℕ → List ℕ
+  fact_indent zero = []
+  fact_indent (suc n) = codes "  " ++ fact_indent n
 
   -- a line a fact; the first of those below the same one has another word, and stands right behind it
   abbrev pub fact_lines : ℕ → List Fact → List ℕ
   fact_lines above [] = []
-  fact_lines above (f ∷ fs) = codes "\n +" ++ (indent f.depth ++ ((if nat_lt above f.depth then codes "where " else codes "and   ") ++ (f.text ++ fact_lines f.depth fs)))
+  fact_lines above (f ∷ fs) = codes "\n +" ++ (fact_indent f.depth ++ ((if nat_lt above f.depth then codes "where " else codes "and   ") ++ (f.text ++ fact_lines f.depth fs)))
 
   abbrev pub condition_text : Tree → List ℕ
-  condition_text e = let s : Shows = show_part 0 e in codes "assert " ++ (s.text ++ fact_lines 0 s.facts)
+  condition_text e = let s : Explanation = show_part 0 e in codes "assert " ++ (s.text ++ fact_lines 0 s.facts)
 
 -- the message in front: its own text where it is one
 abbrev pub text_or : List Obj → Value → Option Obj → List ℕ
@@ -264,7 +264,9 @@ text_or heap v None = value_text heap v
 
 abbrev pub message_shown : List Obj → Value → List ℕ
 message_shown heap (val.Ref id) = text_or heap (val.Ref id) (slice_get heap id.at)
-message_shown heap v = value_text heap v
+message_shown heap val.None = value_text heap val.None
+message_shown heap (val.Bool b) = value_text heap (val.Bool b)
+message_shown heap (val.Int z) = value_text heap (val.Int z)
 
 abbrev pub message_before : List Obj → Option Value → List ℕ
 message_before heap (Some m) = message_shown heap m ++ codes "\n"

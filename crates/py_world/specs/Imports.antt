@@ -17,7 +17,7 @@ use Rattle.py_calls.specs.py_attributes.Attributes.{own_value}
 use Rattle.py_calls.specs.py_items.Items.{object_at}
 use Rattle.py_bind.specs.Modules.{module_place}
 use Rattle.py_world.specs.declared.load.Load.TheVariants.{Failed}
-use Rattle.py_world.specs.World.{Kinds, CallState, CodedSource, Coded, Code, Fault, heap_of, with_heap}
+use Rattle.py_world.specs.World.{Kinds, CallState, CodedSource, CodeOrFault, Code, Fault, heap_of, with_heap}
 use Rattle.py_world.specs.Site.{Site, trace_of}
 use Rattle.py_world.specs.Names.{bound}
 use Rattle.py_world.specs.Outcome.{Outcome, Next, Raised, Rest, Continuation, Denotation, Body, on_value, raised_at}
@@ -62,7 +62,7 @@ not_imported name = text_raise ImportError (codes "cannot import name '" ++ (nam
 abbrev pub source_error : List ℕ → SourceFault → Raise
 source_error path f = text_raise SyntaxError (source_text f ++ (codes " (" ++ (path ++ (codes ", line " ++ (decimal (source_line f) ++ codes ")")))))
 
-abbrev pub code_fault : {M : Type 0} → Coded M → Option SourceFault
+abbrev pub code_fault : {M : Type 0} → CodeOrFault M → Option SourceFault
 code_fault (Code m) = None
 code_fault (Fault f) = Some f
 

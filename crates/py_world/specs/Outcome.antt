@@ -27,7 +27,7 @@ pub data Outcome (K : Kinds) : Type 0 where
   Raised : Value → List TraceFrame → CallState K → Outcome K
 
 -- where the steps are used up
-pub record Spent (K : Kinds) : Type 0 where
+pub record Exhaustion (K : Kinds) : Type 0 where
   pub trace : List TraceFrame
   pub state : CallState K
 
@@ -37,18 +37,18 @@ pub data Request (K : Kinds) : Type 0 where
   DoOf : (what : K.turn) (p : Site) (s : CallState K) → Request K
 
 -- a body that stopped at a `yield`: what it gave, what remains of it, where, and its names and the world
-pub record Paused (K : Kinds) : Type 0 where
+pub record Suspension (K : Kinds) : Type 0 where
   pub value : Value
   pub rest : K.rest
   pub site : Site
   pub state : CallState K
 
-abbrev pub paused : {K : Kinds} → Value → K.rest → Site → CallState K → Paused K
+abbrev pub paused : {K : Kinds} → Value → K.rest → Site → CallState K → Suspension K
 paused v rest p s = record { value = v; rest = rest; site = p; state = s }
 
 -- what is left to do; the positions of the expressions that begin are noted
 abbrev pub Rest : (K : Kinds) → Type 0
-Rest K = Todo Pos (Spent K) (Request K) (Outcome K) (Paused K)
+Rest K = Todo Pos (Exhaustion K) (Request K) (Outcome K) (Suspension K)
 
 -- what follows a part
 abbrev pub Continuation : (K : Kinds) → Type 0
@@ -67,10 +67,10 @@ abbrev pub Body : (K : Kinds) → Type 0
 Body K = Scene → CallState K → Continuation K → Rest K
 
 module _ {K : Kinds} where
-  abbrev pub spent : List TraceFrame → CallState K → Spent K
+  abbrev pub spent : List TraceFrame → CallState K → Exhaustion K
   spent trace s = record { trace = trace; state = s }
 
-  abbrev pub spent_at : Site → CallState K → Spent K
+  abbrev pub spent_at : Site → CallState K → Exhaustion K
   spent_at p s = spent (trace_of p) s
 
   -- a new exception is raised

@@ -11,10 +11,10 @@ use Rattle.py_values.specs.declared.value.Value.TheVariants as val
 use Rattle.py_world.specs.declared.ended.Outcome as ended
 use Rattle.py_world.specs.declared.ended.Thrown.{Thrown}
 use Rattle.py_world.specs.declared.trace.TraceFrame.{TraceFrame}
-use Rattle.py_world.specs.World.{Kinds, World, CallState, Locals, Stored, Frozen, state, world_with_frozen}
+use Rattle.py_world.specs.World.{Kinds, World, CallState, Locals, FunctionCode, Frozen, state, world_with_frozen}
 use Rattle.py_world.specs.Site.{Scene, Site, no_call, site, frame}
 use Rattle.py_world.specs.Arguments.{fitted}
-use Rattle.py_world.specs.Outcome.{Outcome, Gave, Raised, Spent, Paused, Rest, Request, raised, call_end}
+use Rattle.py_world.specs.Outcome.{Outcome, Gave, Raised, Exhaustion, Suspension, Rest, Request, raised, call_end}
 use Rattle.py_world.specs.Calls.{Meaning, fitted_or, entered, body_of}
 use Rattle.py_world.specs.Runs.{Told, ended_value, ended_spent, ended_by, start, function_and, begun_by_runner}
 
@@ -66,8 +66,8 @@ module _ {K : Kinds} where
   abandon_of n w = world_with_frozen (slice_set w.frozen n None) w
 
   -- a body that has stopped, as it is out
-  abbrev pub frozen_of : Paused K → Frozen K.rest
-  frozen_of f = record { rest = f.rest; site = bare f.site; locals = f.state.locals }
+  abbrev pub frozen_body : Suspension K → Frozen K.rest
+  frozen_body f = record { rest = f.rest; site = bare f.site; locals = f.state.locals }
 
   abbrev pub with_frame : Frozen K.rest → World K → World K
   with_frame f w = world_with_frozen (w.frozen ++ Some f ∷ []) w
@@ -76,10 +76,10 @@ module _ {K : Kinds} where
   abbrev pub begun_over : Told K → ToldBegun K
   begun_over t = (begun_with (Over t.0.out) t.0.steps, t.1)
 
-  abbrev pub begun_yielded : Paused K → ℕ → ToldBegun K
-  begun_yielded f steps = (begun_with (Yielded f.value (length f.state.world.frozen)) steps, with_frame (frozen_of f) f.state.world)
+  abbrev pub begun_yielded : Suspension K → ℕ → ToldBegun K
+  begun_yielded f steps = (begun_with (Yielded f.value (length f.state.world.frozen)) steps, with_frame (frozen_body f) f.state.world)
 
-  abbrev pub begun_by : ℕ → tree.Ending Pos (Spent K) (Request K) (Outcome K) (Paused K) → ToldBegun K
+  abbrev pub begun_by : ℕ → tree.Ending Pos (Exhaustion K) (Request K) (Outcome K) (Suspension K) → ToldBegun K
   begun_by budget (tree.Ended o left) = begun_over (ended_by o (budget - left))
   begun_by budget (tree.Spent x) = begun_over (ended_spent budget x)
   begun_by budget (tree.Frozen f left) = begun_yielded f (budget - left)
@@ -98,12 +98,12 @@ module _ {K : Kinds} (meaning : Meaning K) where
   begun_of budget tree = begun_by budget (run (body_of meaning) budget tree).1
 
   -- the body of a yield function; an error that the runner makes has the one frame of the function, at its `def`, and takes no step
-  abbrev pub body_begun : Stored K.code → Result Locals Raise → List TraceFrame → CallState K → Rest K
+  abbrev pub body_begun : FunctionCode K.code → Result Locals Raise → List TraceFrame → CallState K → Rest K
   body_begun st (Ok names) at s = entered meaning.entry st (Ok names) no_call s (λ o. Done (call_end s o))
   body_begun st (Err r) at s = Done (raised r at s)
 
   -- what is no yield function is called
-  abbrev pub function_opened : Option (Stored K.code) → FunctionObj → List Value → Value → List Value → CallState K → Rest K
+  abbrev pub function_opened : Option (FunctionCode K.code) → FunctionObj → List Value → Value → List Value → CallState K → Rest K
   function_opened None x all f args s = begun_by_runner meaning f args s
   function_opened (Some st) x all f args s =
       if x.yields then body_begun st (begin_arguments x all) (frame x.path x.line x.name ∷ []) s else begun_by_runner meaning f args s

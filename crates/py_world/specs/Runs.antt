@@ -21,11 +21,11 @@ use Rattle.py_world.specs.declared.ended.Outcome.TheVariants as out
 use Rattle.py_world.specs.declared.load.Load.{Load}
 use Rattle.py_world.specs.declared.load.Load.TheVariants.{Running, Loaded, Failed}
 use Rattle.py_world.specs.declared.trace.TraceFrame.{TraceFrame}
-use Rattle.py_world.specs.World.{Kinds, World, CallState, Locals, CodedSource, Coded, Code, Fault, Stored, state, with_world, world_with_heap, world_with_modules}
+use Rattle.py_world.specs.World.{Kinds, World, CallState, Locals, CodedSource, CodeOrFault, Code, Fault, FunctionCode, state, with_world, world_with_heap, world_with_modules}
 use Rattle.py_world.specs.Site.{Around, no_call, around_of, Scene, InModule, frame}
 use Rattle.py_world.specs.Arguments.{positional_arguments}
 use Rattle.py_world.specs.ModuleNames.{module_name, module_object}
-use Rattle.py_world.specs.Outcome.{Outcome, Gave, Next, Returned, Broke, Continued, Raised, Spent, Paused, Rest, Continuation, Denotation, Body, Request, raised, call_end}
+use Rattle.py_world.specs.Outcome.{Outcome, Gave, Next, Returned, Broke, Continued, Raised, Exhaustion, Suspension, Rest, Continuation, Denotation, Body, Request, raised, call_end}
 use Rattle.py_world.specs.Calls.{Meaning, arguments_for, function_of_object, invoke, body_of}
 
 -- what is told of an end, and the world behind it
@@ -42,11 +42,13 @@ with_load path load (m ∷ ms) = if name_eq path m.0 then (m.0, load) ∷ ms els
 
 abbrev pub is_running : List ℕ × Load → Bool
 is_running (path, Running id) = true
-is_running (path, _) = false
+is_running (path, Loaded id) = false
+is_running (path, Failed exc trace) = false
 
 abbrev pub failed : Value → List TraceFrame → List ℕ × Load → List ℕ × Load
 failed exc trace (path, Running id) = (path, Failed exc trace)
-failed exc trace (path, load) = (path, load)
+failed exc trace (path, Loaded id) = (path, Loaded id)
+failed exc trace (path, Failed other before) = (path, Failed other before)
 
 abbrev pub step_limit : ℕ → List ℕ
 step_limit budget = codes "step limit of " ++ (decimal budget ++ codes " reached")
@@ -61,7 +63,7 @@ naming_heap path heap = heap ++ obj.Text (module_name path) ∷ []
 
 module _ {M : Type 0} where
   -- the code of a path
-  abbrev pub code_of : Coded M → Option M
+  abbrev pub code_of : CodeOrFault M → Option M
   code_of (Code m) = Some m
   code_of (Fault f) = None
 
@@ -90,7 +92,7 @@ module _ {K : Kinds} where
       then fail_running (thrown (text_raise StepLimit (step_limit budget)) w.heap) trace w
       else w
 
-  abbrev pub ended_spent : ℕ → Spent K → Told K
+  abbrev pub ended_spent : ℕ → Exhaustion K → Told K
   ended_spent budget x = (record { out = out.Exhausted x.trace; steps = budget }, out_of_steps budget x.trace x.state.world)
 
   -- a call has no other ends than a value and an exception
@@ -102,7 +104,7 @@ module _ {K : Kinds} where
   ended_by (Broke s) steps = ended_value val.None steps s.world
   ended_by (Continued s) steps = ended_value val.None steps s.world
 
-  abbrev pub told_by : ℕ → tree.Ending Pos (Spent K) (Request K) (Outcome K) (Paused K) → Told K
+  abbrev pub told_by : ℕ → tree.Ending Pos (Exhaustion K) (Request K) (Outcome K) (Suspension K) → Told K
   told_by budget (tree.Ended o left) = ended_by o (budget - left)
   told_by budget (tree.Spent x) = ended_spent budget x
   told_by budget (tree.Frozen f left) = ended_value f.value (budget - left) f.state.world
@@ -172,7 +174,7 @@ module _ {K : Kinds} (meaning : Meaning K) where
   fitting_begun (Ok names) at f args s = invoke meaning.entry f (positional_arguments args) no_call s (λ o. Done (call_end s o))
   fitting_begun (Err r) at f args s = Done (raised r at s)
 
-  abbrev pub function_begun : Option (Stored K.code) → FunctionObj → List Value → Value → List Value → CallState K → Rest K
+  abbrev pub function_begun : Option (FunctionCode K.code) → FunctionObj → List Value → Value → List Value → CallState K → Rest K
   function_begun None x all f args s = invoke meaning.entry f (positional_arguments args) no_call s (λ o. Done (call_end s o))
   function_begun (Some st) x all f args s = fitting_begun (arguments_for x (positional_arguments all)) (frame x.path x.line x.name ∷ []) f args s
 
@@ -206,5 +208,5 @@ module _ {K : Kinds} (meaning : Meaning K) where
   loaded_by None path budget w = loaded_first (coded (source_at path w.sources)) path budget w
 
   -- THE LOAD OF A MODULE, which is executed once
-  abbrev pub module_of : List ℕ → ℕ → World K → Told K
-  module_of path budget w = loaded_by (load_at path w.modules) path budget w
+  abbrev pub module_load : List ℕ → ℕ → World K → Told K
+  module_load path budget w = loaded_by (load_at path w.modules) path budget w

@@ -57,8 +57,8 @@ module _ {K : Kinds} where
   abbrev pub return_sent : Store K
   return_sent v p s k = k (Returned v s)
 
-  abbrev pub pass : Denotation K
-  pass p s k = k (Next s)
+  abbrev pub pass_statement : Denotation K
+  pass_statement p s k = k (Next s)
 
   abbrev pub leave_loop : Denotation K
   leave_loop p s k = k (Broke s)
@@ -91,5 +91,5 @@ module _ {K : Kinds} where
   loop turn condition p s k = condition p s (λ o. on_value o k (λ v s. if_true (truth (heap_of s) v) (asked turn p s k) (k (Next s))))
 
   -- a turn: the block, and then the loop from its condition on
-  abbrev pub turn_of : K.turn → Denotation K → Body K → Denotation K
-  turn_of turn condition block p s k = block p.scene s (λ o. on_turn o k (λ s. loop turn condition p s k))
+  abbrev pub while_turn : K.turn → Denotation K → Body K → Denotation K
+  while_turn turn condition block p s k = block p.scene s (λ o. on_turn o k (λ s. loop turn condition p s k))

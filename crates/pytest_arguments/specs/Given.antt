@@ -54,7 +54,10 @@ are_texts heap v = all_texts heap (row_at heap v)
 -- what is given, where its kind is the one that is wanted
 abbrev pub boolean_given : Option Value → Bool
 boolean_given (Some (val.Bool b)) = b
-boolean_given _ = false
+boolean_given (Some val.None) = false
+boolean_given (Some (val.Int z)) = false
+boolean_given (Some (val.Ref id)) = false
+boolean_given None = false
 
 abbrev pub text_given : List Obj → Option Value → Option (List ℕ)
 text_given heap (Some v) = text_of heap v

@@ -23,7 +23,27 @@ finalizer_added id r v =
 
 abbrev pub finalizer_of_object : ObjId → Value → Option Obj → Product
 finalizer_of_object id v (Some (obj.Request r)) = finalizer_added id r v
-finalizer_of_object id v _ = wrong (codes "addfinalizer") 0
+finalizer_of_object id v (Some (obj.Text x)) = wrong (codes "addfinalizer") 0
+finalizer_of_object id v (Some (obj.List x)) = wrong (codes "addfinalizer") 0
+finalizer_of_object id v (Some (obj.Tuple x)) = wrong (codes "addfinalizer") 0
+finalizer_of_object id v (Some (obj.Dict x)) = wrong (codes "addfinalizer") 0
+finalizer_of_object id v (Some (obj.Range x)) = wrong (codes "addfinalizer") 0
+finalizer_of_object id v (Some (obj.Function x)) = wrong (codes "addfinalizer") 0
+finalizer_of_object id v (Some (obj.Method x)) = wrong (codes "addfinalizer") 0
+finalizer_of_object id v (Some (obj.Builtin x)) = wrong (codes "addfinalizer") 0
+finalizer_of_object id v (Some (obj.Class x)) = wrong (codes "addfinalizer") 0
+finalizer_of_object id v (Some (obj.Instance x)) = wrong (codes "addfinalizer") 0
+finalizer_of_object id v (Some (obj.Exception x)) = wrong (codes "addfinalizer") 0
+finalizer_of_object id v (Some (obj.Module x)) = wrong (codes "addfinalizer") 0
+finalizer_of_object id v (Some (obj.Fixture x)) = wrong (codes "addfinalizer") 0
+finalizer_of_object id v (Some obj.MarkMaker) = wrong (codes "addfinalizer") 0
+finalizer_of_object id v (Some (obj.Mark x)) = wrong (codes "addfinalizer") 0
+finalizer_of_object id v (Some (obj.Hook x)) = wrong (codes "addfinalizer") 0
+finalizer_of_object id v (Some (obj.Param x)) = wrong (codes "addfinalizer") 0
+finalizer_of_object id v (Some (obj.Raises x)) = wrong (codes "addfinalizer") 0
+finalizer_of_object id v (Some (obj.Info x)) = wrong (codes "addfinalizer") 0
+finalizer_of_object id v (Some (obj.Item x)) = wrong (codes "addfinalizer") 0
+finalizer_of_object id v None = wrong (codes "addfinalizer") 0
 
 abbrev pub finalizer_of : List Obj → Value → Value → Product
 finalizer_of heap (val.Ref id) v = finalizer_of_object id v (slice_get heap id.at)

@@ -42,7 +42,27 @@ is_one_name None = false
 
 abbrev pub obj_is_param : Option Obj → Bool
 obj_is_param (Some (obj.Param p)) = true
-obj_is_param _ = false
+obj_is_param (Some (obj.Text x)) = false
+obj_is_param (Some (obj.List x)) = false
+obj_is_param (Some (obj.Tuple x)) = false
+obj_is_param (Some (obj.Dict x)) = false
+obj_is_param (Some (obj.Range x)) = false
+obj_is_param (Some (obj.Function x)) = false
+obj_is_param (Some (obj.Method x)) = false
+obj_is_param (Some (obj.Builtin x)) = false
+obj_is_param (Some (obj.Class x)) = false
+obj_is_param (Some (obj.Instance x)) = false
+obj_is_param (Some (obj.Exception x)) = false
+obj_is_param (Some (obj.Module x)) = false
+obj_is_param (Some (obj.Fixture x)) = false
+obj_is_param (Some obj.MarkMaker) = false
+obj_is_param (Some (obj.Mark x)) = false
+obj_is_param (Some (obj.Hook x)) = false
+obj_is_param (Some (obj.Request x)) = false
+obj_is_param (Some (obj.Raises x)) = false
+obj_is_param (Some (obj.Info x)) = false
+obj_is_param (Some (obj.Item x)) = false
+obj_is_param None = false
 
 abbrev pub is_param : List Obj → Value → Bool
 is_param heap (val.Ref id) = obj_is_param (slice_get heap id.at)

@@ -28,7 +28,7 @@ use Rattle.session_rules.specs.Fits.{Distinct}
 use Rattle.session_rules.specs.Session.{has_stopped}
 use Rattle.session_rules.specs.World.{Item as SessionItem}
 use Rattle.share_files.specs.Deal.{Every}
-use Rattle.py_machine.specs.source_meaning.Meaning.{SourceWorld}
+use Rattle.run_items.specs.source_meaning.Meaning.{SourceWorld}
 use Rattle.run_items.specs.test_suite.declared.item.Item.{Item}
 use Rattle.pytest_core.specs.Profile.{profile}
 use Rattle.pytest_core.specs.Run.{AreApart, IsRunAnswer, IsOneGroup, IsRunOf, RunsFirst, chosen_first, collected_of, items_known, plan_by}

@@ -18,7 +18,7 @@ use Rattle.runtest_loop.specs.Run.{is_stopped}
 use Rattle.runtest_loop.specs.declared.run_end.RunEnd.{RunEnd}
 use Rattle.runtest_loop.specs.declared.run_end.RunEnd.TheVariants.{Done, Stopped}
 use Rattle.session_rules.specs.Fits.{Distinct}
-use Rattle.py_machine.specs.source_meaning.Meaning.{SourceWorld}
+use Rattle.run_items.specs.source_meaning.Meaning.{SourceWorld}
 use Rattle.pytest_core.specs.OneGroup.{given_by, is_over}
 use Rattle.pytest_core.specs.Run.{IsOneGroup, IsRunOf, RunsFirst, chosen_first}
 use Rattle.pytest_core.specs.declared.one_group.OneGroup.{OneGroup}

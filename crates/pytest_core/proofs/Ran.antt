@@ -28,7 +28,7 @@ use Rattle.selection.specs.Unbuilt.{asks_for_unbuilt}
 use Rattle.session_rules.specs.Fits.{Distinct}
 use Rattle.session_rules.specs.World.{Item as SessionItem}
 use Rattle.share_files.specs.Deal.{Every}
-use Rattle.py_machine.specs.source_meaning.Meaning.{SourceWorld}
+use Rattle.run_items.specs.source_meaning.Meaning.{SourceWorld}
 use Rattle.run_items.specs.test_suite.Suites.{item_or}
 use Rattle.run_items.specs.test_suite.declared.item.Item.{Item}
 use Rattle.run_items.specs.test_suite.declared.suite.Suite.{Suite}

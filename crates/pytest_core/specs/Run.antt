@@ -20,7 +20,7 @@ use Rattle.run_items.specs.runtest_rules.Rules.{rules as tests}
 use Rattle.session_rules.specs.Fits.{Distinct}
 use Rattle.session_rules.specs.Session.{has_stopped}
 use Rattle.session_rules.specs.World.{Item}
-use Rattle.py_machine.specs.source_meaning.Meaning.{SourceWorld}
+use Rattle.run_items.specs.source_meaning.Meaning.{SourceWorld}
 use Rattle.run_items.specs.test_suite.declared.suite.Suite.{Suite}
 use Rattle.pytest_core.specs.Profile.{profile}
 use Rattle.pytest_core.specs.declared.session.RunAnswer.{RunAnswer}

@@ -17,8 +17,8 @@ use crate::request::{Request, request_of};
 use cli_words::Options;
 use collect_tree::{collect, what_is_collected_fits};
 use edge_io::{Files, Tree, load_files};
-use py_machine::World;
 use report_text::OutOfMemory;
+use run_items::World;
 use selection::Exprs;
 use std::alloc::Global;
 

@@ -1,7 +1,7 @@
 // The report of what was collected, and what is said where collection ended before.
 
 ghost use Rattle.std.specs.Prelude.{◌≡◌, ◌<◌, ◌≤◌, ℕ, [], All, List, true, false, IfOk, IsSomeAnd, IsTrue, Err as Fails, Some, length, option_map};
-ghost use Rattle.py_machine.specs.source_meaning.Meaning.{SourceWorld};
+ghost use Rattle.run_items.specs.source_meaning.Meaning.{SourceWorld};
 ghost use Rattle.report_parts.specs.Limits.{most_items};
 ghost use Rattle.report_parts.specs.Outcomes.{not_empty};
 ghost use Rattle.report_parts.specs.declared.report.CollectReport.{CollectReport as ReportOfFile};
@@ -22,10 +22,9 @@ use crate::report::{report_bytes, status_of};
 use crate::session::{RunAnswer, run_selected};
 use cli_words::Options;
 use collect_tree::{CollectFault, Collected, FoundSuite};
-use py_machine::World;
 use report_parts::CollectReport;
 use report_text::OutOfMemory;
-use run_items::not_run;
+use run_items::{World, not_run};
 use seq::Seq;
 use std::alloc::Global;
 

@@ -24,9 +24,9 @@ is_phase Teardown Teardown = true
 
 module _ {World Value Thrown Rest : Type 0} where
   -- how a phase ended: one that isn't there did not run
-  abbrev pub end_in : Phase → List (PhaseEnd (report_language World Value Thrown Rest)) → ShownEnd
-  end_in phase [] = NotRun
-  end_in phase (e ∷ ends) = if is_phase phase e.phase then e.told.end else end_in phase ends
+  abbrev pub phase_end_in : Phase → List (PhaseEnd (report_language World Value Thrown Rest)) → ShownEnd
+  phase_end_in phase [] = NotRun
+  phase_end_in phase (e ∷ ends) = if is_phase phase e.phase then e.told.end else phase_end_in phase ends
 
   -- what was printed in a phase
   abbrev pub captured_in : Phase → List (PhaseEnd (report_language World Value Thrown Rest)) → List ℕ
@@ -40,9 +40,9 @@ module _ {World Value Thrown Rest : Type 0} where
         node_id = r.task.chosen.texts.node_id;
         title = r.task.chosen.texts.title;
         file = r.task.chosen.texts.file;
-        setup = end_in SetUp r.ends;
-        call = end_in Call r.ends;
-        teardown = end_in Teardown r.ends;
+        setup = phase_end_in SetUp r.ends;
+        call = phase_end_in Call r.ends;
+        teardown = phase_end_in Teardown r.ends;
         shown_lines = if options.setup_show then shown_lines scope fixture r else [];
         captured = (captured_in SetUp r.ends, captured_in Call r.ends, captured_in Teardown r.ends);
       }

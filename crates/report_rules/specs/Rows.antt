@@ -8,7 +8,7 @@ use Rattle.session_rules.specs.Teardown.{PhaseEnd, SessionState}
 use Rattle.session_rules.specs.World.{Language, Rules, Item, Phase, SetUp, Call, Teardown}
 use Rattle.session_types.specs.declared.journal.Event.{Event}
 use Rattle.session_types.specs.declared.journal.Event.TheVariants.{Up, UpFailed, DownBegins, Down, CallBegins, CallEnds}
-use Rattle.session_types.specs.declared.journal.Birth.{Birth}
+use Rattle.session_types.specs.declared.journal.Made.{Made}
 
 -- an item, and where it runs: in a group of a worker, or on one thread
 pub record Task : Type 0 where
@@ -23,7 +23,7 @@ task_item t = t.chosen.item
 
 -- a set-up of a session that was completed, and the item that asked for it
 pub record Arrival : Type 0 where
-  pub made : Birth
+  pub made : Made
   pub item : SelectedItem
 
 -- a task; how the phases of its item ended, none where it did not run; and the completed set-ups of its session up to its end

@@ -2,7 +2,7 @@
 use Rattle.std.proofs.Common.{◌≡◌, ℕ, List, [], ◌∷◌, ◌++◌, refl, ap, sym, ◌∙◌, append_assoc, inl, inr, drop, Option}
 use Rattle.std.proofs.lemmas.List.{append-nil}
 use Rattle.std.specs.Prelude.{flat_map, slice_get}
-use Rattle.report_text.specs.Progress.{PlacedReport, after_letters, last_place, letters_in, letters_of, worker_end, plain_lines, placed_reports, same_line, file_start, stretch_line, stretches}
+use Rattle.report_text.specs.Progress.{PlacedReport, after_letters, last_place, letters_in, letters_of, worker_end, plain_lines, placed_reports, same_line, file_start, stretch_line, line_stretches}
 use Rattle.report_parts.specs.declared.report.ItemReport.{ItemReport}
 use Rattle.report_parts.specs.declared.report.Place.{Place}
 use Rattle.report_parts.proofs.Chars.{two_cases}
@@ -11,7 +11,7 @@ use Rattle.report_parts.proofs.Chars.{two_cases}
 record First (row : PlacedReport) (rest : List PlacedReport) : Type 0 where
   more : List PlacedReport
   others : List (List PlacedReport)
-  is : stretches (row ∷ rest) ≡ (row ∷ more) ∷ others
+  is : line_stretches (row ∷ rest) ≡ (row ∷ more) ∷ others
 
 first_of : (row : PlacedReport) (rest : List PlacedReport) → First row rest
 first_of row [] = record { more = []; others = []; is = refl }
@@ -36,7 +36,7 @@ together row next more others = simp append_assoc
 alone : (row next : PlacedReport) (more : List PlacedReport) (others : List (List PlacedReport)) → body ((row ∷ []) ∷ (next ∷ more) ∷ others) ≡ letters_of row.0 ++ ((worker_end row.1 ++ file_start next.0) ++ body ((next ∷ more) ∷ others))
 alone row next more others = simp (append_assoc, append-nil)
 
-by_rows : (row : PlacedReport) (rest : List PlacedReport) → body (stretches (row ∷ rest)) ≡ letters_of row.0 ++ after_letters row rest
+by_rows : (row : PlacedReport) (rest : List PlacedReport) → body (line_stretches (row ∷ rest)) ≡ letters_of row.0 ++ after_letters row rest
 by_rows row [] = simp append-nil
 by_rows row (next ∷ rest) =
     let h = first_of next rest in

@@ -49,9 +49,9 @@ onto_stretch row ([] ∷ others) = (row ∷ []) ∷ others
 onto_stretch row ((next ∷ stretch) ∷ others) =
     if same_line row next then (row ∷ next ∷ stretch) ∷ others else (row ∷ []) ∷ (next ∷ stretch) ∷ others
 
-abbrev pub stretches : List PlacedReport → List (List PlacedReport)
-stretches [] = []
-stretches (row ∷ rest) = onto_stretch row (stretches rest)
+abbrev pub line_stretches : List PlacedReport → List (List PlacedReport)
+line_stretches [] = []
+line_stretches (row ∷ rest) = onto_stretch row (line_stretches rest)
 
 abbrev pub last_place : List PlacedReport → Option Place
 last_place [] = None
@@ -70,7 +70,7 @@ stretch_line [] = []
 stretch_line (row ∷ rest) = file_start row.0 ++ (letters_in (row ∷ rest) ++ worker_end (last_place (row ∷ rest)))
 
 unfoldable pub plain_lines : List PlacedReport → List ℕ
-plain_lines placed_reports = flat_map stretch_line (stretches placed_reports)
+plain_lines placed_reports = flat_map stretch_line (line_stretches placed_reports)
 
 -- what stands between the letters of two neighbours
 abbrev pub between : PlacedReport → PlacedReport → List ℕ

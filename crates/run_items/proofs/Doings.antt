@@ -18,7 +18,7 @@ use Rattle.runtest_reports.specs.Kept.{session_phase}
 use Rattle.runtest_reports.specs.Stages.{IsKnownItem, session_item}
 use Rattle.fixture_world.specs.runtest_rules.Failures.{fixture_fault, skipped, wrong_arguments}
 use Rattle.fixture_world.specs.runtest_rules.Language.{python}
-use Rattle.fixture_world.specs.runtest_rules.Objects.{instance_made, item_object}
+use Rattle.fixture_world.specs.runtest_rules.Objects.{instance_of_item, item_object}
 use Rattle.fixture_world.specs.runtest_rules.Phases.{phase_ended, phase_of}
 use Rattle.fixture_world.specs.runtest_rules.Rules.{hook_answer, world_answer}
 use Rattle.session_rules.specs.Session.{chain_of, with_new_instance, set_up_by, set_up_item, telling, pyfunc_call, test_with}
@@ -27,7 +27,7 @@ use Rattle.session_rules.specs.Teardown.{SessionState, Step, emit, in_world, ses
 use Rattle.session_rules.specs.World.{Language, Rules, Teardown}
 use Rattle.session_rules.specs.World as world
 use Rattle.session_types.specs.declared.journal.Event.{Event}
-use Rattle.item_stack.specs.setup_stack.declared.stack.FixtureStack.{FixtureStack}
+use Rattle.item_stack.specs.setup_stack.declared.stack.SetupStack.{SetupStack}
 use Rattle.fixture_calls.specs.source_meaning.Meaning.{SourceWorld}
 use Rattle.test_suite.specs.Suites.{item_with_node}
 use Rattle.test_suite.specs.declared.item.Item.{Item}
@@ -35,9 +35,9 @@ use Rattle.test_suite.specs.declared.item.Item.{Item}
 module _ (plan : Plan) (item : Item) (p : IsPlannedItem plan item) where
   -- THE OBJECTS
 
-  pub opened_same : (s : SessionState python) (own : Option Value) (w : SourceWorld) → (own, w) ≡ instance_made item s.world → record s { world = w; instance = own } ≡ with_new_instance (plan_rules plan) (item_in_session plan.table item) s
+  pub opened_same : (s : SessionState python) (own : Option Value) (w : SourceWorld) → (own, w) ≡ instance_of_item item s.world → record s { world = w; instance = own } ≡ with_new_instance (plan_rules plan) (item_in_session plan.table item) s
   opened_same s own w e =
-      ap (λ (x : Option Value × SourceWorld). record s { world = x.1; instance = x.0 }) (e ∙ ap (λ (i : Item). instance_made i s.world) (sym p.found))
+      ap (λ (x : Option Value × SourceWorld). record s { world = x.1; instance = x.0 }) (e ∙ ap (λ (i : Item). instance_of_item i s.world) (sym p.found))
 
   pub object_same : (s : SessionState python) (v : Value) (w : SourceWorld) → (v, w) ≡ item_object item s.world → in_world w s ≡ object_stands (plan_rules plan) (item_in_session plan.table item).node s
   object_same s v w e =
@@ -98,10 +98,10 @@ module _ (plan : Plan) (item : Item) (p : IsPlannedItem plan item) where
   fails_same raised s error e = e ∙ ap (λ (i : Item). ends_badly Teardown (phase_ended Teardown i raised s.world).0) (sym p.found)
 
 -- an event is noted
-pub noted_same : (s : Stand) (k : FixtureStack Value Failure ℕ) (e f : Event) → k ≡ record s.stack.stack { events = k.events } → k.events ≡ s.stack.stack.events ++ e ∷ [] → e ≡ f
+pub noted_same : (s : Stand) (k : SetupStack Value Failure ℕ) (e f : Event) → k ≡ record s.stack.stack { events = k.events } → k.events ≡ s.stack.stack.events ++ e ∷ [] → e ≡ f
     → stand_state (record s { stack = record s.stack { stack = k } }) ≡ emit f (stand_state s)
 noted_same s k e f same more q =
-    ap (λ (t : FixtureStack Value Failure ℕ). stand_state (record s { stack = record s.stack { stack = t } })) same
+    ap (λ (t : SetupStack Value Failure ℕ). stand_state (record s { stack = record s.stack { stack = t } })) same
     ∙ (ap (λ (es : List Event). record (stand_state s) { events = es }) more
     ∙ ap (λ (x : Event). emit x (stand_state s)) q)
 

@@ -26,14 +26,14 @@ use Rattle.session_rules.specs.World.{Call, Language, Phase, SetUp, Teardown}
 use Rattle.session_types.proofs.Lists.{In-append}
 use Rattle.session_types.specs.Members.{IsMember}
 use Rattle.session_types.specs.declared.instance.Instance.{Instance}
-use Rattle.item_stack.specs.setup_stack.declared.stack.FixtureStack.{FixtureStack}
+use Rattle.item_stack.specs.setup_stack.declared.stack.SetupStack.{SetupStack}
 use Rattle.fixture_calls.specs.source_meaning.Meaning.{SourceWorld}
 use Rattle.test_suite.specs.declared.item.Item.{Item}
 
 -- where nothing is set up, a session begins
 pub starts : (s : Stand) → IsNew s.stack → stand_state s ≡ initial_state s.world
 starts s n =
-    ap₂ (λ (k : FixtureStack Value Failure ℕ) (r : Option Value). stand_state (record s { stack = record { stack = k; request = r } })) n.stack n.request
+    ap₂ (λ (k : SetupStack Value Failure ℕ) (r : Option Value). stand_state (record s { stack = record { stack = k; request = r } })) n.stack n.request
 
 -- where none lives, none is frozen
 none_spent : (L : Language) (is : List (Instance (CachedResult L.Value L.Thrown L.Rest))) → map (instance_kept L) is ≡ [] → AreSpent is

@@ -7,7 +7,7 @@ use Rattle.py_values.specs.declared.value.Value.{Value}
 use Rattle.run_items.specs.Stands.{IsPlan, IsPlannedItem, plan_rules}
 use Rattle.run_items.specs.declared.plan.Plan.{Plan}
 use Rattle.session_rules.proofs.Closure.{closure_settled}
-use Rattle.session_rules.specs.Fits.{FitsClosure, IsClosure}
+use Rattle.session_rules.specs.Fits.{FitsClosure, IsValidClosure}
 use Rattle.item_stack.specs.setup_stack.Asking.{AreReady}
 use Rattle.item_stack.specs.setup_stack.Passing.{AreAsked}
 use Rattle.test_suite.specs.declared.item.Item.{Item}
@@ -18,8 +18,8 @@ plan_ready plan item p k ds e =
     λ d m.
     let rules = plan_rules plan in
     let plain = demanded.item_for_session plan.table (plain_item {V = Value} item.node None) in
-    let c : IsClosure rules (item_in_session plan.table item) ds = subst (λ (o : Option (List ℕ)). FitsClosure rules (item_in_session plan.table item) o) e k.fits in
-    let same : IsClosure rules plain ds = record { known = c.known; whole = c.whole; scopes = c.scopes; acyclic = c.acyclic } in (
+    let c : IsValidClosure rules (item_in_session plan.table item) ds = subst (λ (o : Option (List ℕ)). FitsClosure rules (item_in_session plan.table item) o) e k.fits in
+    let same : IsValidClosure rules plain ds = record { known = c.known; whole = c.whole; scopes = c.scopes; acyclic = c.acyclic } in (
       subst (λ (n : ℕ). d < n) (sym p.many) (c.known d m),
       closure_settled rules plain ds same d m,
     )

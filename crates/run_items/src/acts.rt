@@ -24,7 +24,7 @@ pub(crate) fn memory(world: &RunWorld) -> Global {
 
 /// A new instance of an item's class, where it has one.
 pub(crate) fn make_instance(world: &mut RunWorld, item: &Item) -> Result<Option<Value>, OutOfMemory>
-    ensures { IfOk result (λ own. (own, world.new) ≡ objects.instance_made item.now world.old) }
+    ensures { IfOk result (λ own. (own, world.new) ≡ objects.instance_of_item item.now world.old) }
 {
     let own = fixture_world::make_instance(&mut world.world, item)?;
     Ok(own)

@@ -35,6 +35,7 @@ mod setting_up;
 mod staging;
 mod stand;
 
+pub use fixture_calls::World;
 pub use plan::Plan;
 pub use running::{not_run, run};
 pub use stand::Stand;

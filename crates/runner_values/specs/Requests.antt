@@ -11,7 +11,26 @@ use Rattle.py_values.specs.declared.value.Value.TheVariants as val
 -- an object with another request in its place, where it is one
 abbrev pub with_request : (RequestObj → RequestObj) → Obj → Obj
 with_request f (obj.Request r) = obj.Request (f r)
-with_request f o = o
+with_request f (obj.Text x) = obj.Text x
+with_request f (obj.List x) = obj.List x
+with_request f (obj.Tuple x) = obj.Tuple x
+with_request f (obj.Dict x) = obj.Dict x
+with_request f (obj.Range x) = obj.Range x
+with_request f (obj.Function x) = obj.Function x
+with_request f (obj.Method x) = obj.Method x
+with_request f (obj.Builtin x) = obj.Builtin x
+with_request f (obj.Class x) = obj.Class x
+with_request f (obj.Instance x) = obj.Instance x
+with_request f (obj.Exception x) = obj.Exception x
+with_request f (obj.Module x) = obj.Module x
+with_request f (obj.Fixture x) = obj.Fixture x
+with_request f obj.MarkMaker = obj.MarkMaker
+with_request f (obj.Mark x) = obj.Mark x
+with_request f (obj.Hook x) = obj.Hook x
+with_request f (obj.Param x) = obj.Param x
+with_request f (obj.Raises x) = obj.Raises x
+with_request f (obj.Info x) = obj.Info x
+with_request f (obj.Item x) = obj.Item x
 
 -- the heap with a value's request changed, where it is one
 abbrev pub request_changed : (RequestObj → RequestObj) → Value → List Obj → List Obj
@@ -30,7 +49,27 @@ request_closed request heap = request_changed closing request heap
 -- the finalizers of a request, in the order in which they were added
 abbrev pub finalizers_in : Option Obj → List Value
 finalizers_in (Some (obj.Request r)) = r.finalizers
-finalizers_in _ = []
+finalizers_in (Some (obj.Text x)) = []
+finalizers_in (Some (obj.List x)) = []
+finalizers_in (Some (obj.Tuple x)) = []
+finalizers_in (Some (obj.Dict x)) = []
+finalizers_in (Some (obj.Range x)) = []
+finalizers_in (Some (obj.Function x)) = []
+finalizers_in (Some (obj.Method x)) = []
+finalizers_in (Some (obj.Builtin x)) = []
+finalizers_in (Some (obj.Class x)) = []
+finalizers_in (Some (obj.Instance x)) = []
+finalizers_in (Some (obj.Exception x)) = []
+finalizers_in (Some (obj.Module x)) = []
+finalizers_in (Some (obj.Fixture x)) = []
+finalizers_in (Some obj.MarkMaker) = []
+finalizers_in (Some (obj.Mark x)) = []
+finalizers_in (Some (obj.Hook x)) = []
+finalizers_in (Some (obj.Param x)) = []
+finalizers_in (Some (obj.Raises x)) = []
+finalizers_in (Some (obj.Info x)) = []
+finalizers_in (Some (obj.Item x)) = []
+finalizers_in None = []
 
 abbrev pub finalizers_of : Value → List Obj → List Value
 finalizers_of (val.Ref id) heap = finalizers_in (slice_get heap id.at)

@@ -31,13 +31,13 @@ fn copied_if(alloc: Global, text: &Option<PyText>) -> Result<Option<PyText>, Out
 }
 
 fn put(heap: &mut Heap, obj: Obj) -> Result<Value, OutOfMemory>
-    ensures { IfOk result (λ v. (v, heap.new) ≡ with_object obj heap.old) }
+    ensures { IfOk result (λ v. (v, heap.new) ≡ added_object obj heap.old) }
 {
     let id = heap.add(obj)?;
     Ok(Value::Ref(id))
 }
 
-ghost use Rattle.runner_values.specs.Given.{with_object};
+ghost use Rattle.runner_values.specs.Given.{added_object};
 
 fn put_exception(
     alloc: Global,

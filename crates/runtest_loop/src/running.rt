@@ -26,7 +26,7 @@ use std::alloc::Global;
 
 /// An item that ran: its report, and the failures and errors so far.
 #[derive(Drop)]
-struct Told {
+struct CountedReport {
     report: ItemReport,
     bad: u32,
 }
@@ -42,7 +42,7 @@ fn tell_item<S: Stage>(
     next: Option<&S::Item>,
     has_object: bool,
     bad: u32,
-) -> Result<Told, OutOfMemory>
+) -> Result<CountedReport, OutOfMemory>
     requires here { S.stands setting.now stage.old }
     requires known { S.known setting.now item.now }
     requires next { IsKnownItem (S.known setting.now) (option_copied next) }
@@ -68,7 +68,7 @@ fn tell_item<S: Stage>(
     )?;
     let bad = kept.bad;
     let report = report_of::<S>(alloc, setting, options.setup_show, arrived, item, kept)?;
-    Ok(Told { report, bad })
+    Ok(CountedReport { report, bad })
 }
 
 /// The item with a number, where there is one.

@@ -9,14 +9,14 @@ use Rattle.py_values.specs.declared.object.Obj.{Obj}
 use Rattle.py_values.specs.declared.value.ObjId.{ObjId}
 use Rattle.py_values.specs.declared.value.Value.{Value}
 use Rattle.py_values.specs.declared.value.Value.TheVariants as val
-use Rattle.tracebacks.specs.runner_values.Given.{instance, test_item, with_object}
+use Rattle.tracebacks.specs.runner_values.Given.{instance, test_item, added_object}
 use Rattle.tracebacks.specs.source_meaning.Meaning.{SourceWorld}
 use Rattle.fixture_calls.specs.Failing.{in_heap}
 use Rattle.test_suite.specs.declared.item.Item.{Item}
 
 -- THE OBJECT that hooks get for an item
 unfoldable pub item_object : Item → SourceWorld → Value × SourceWorld
-item_object i w = in_heap (with_object (test_item i.name (chars i.node_id)) w.heap) w
+item_object i w = in_heap (added_object (test_item i.name (chars i.node_id)) w.heap) w
 
 -- whether a class of the heap is a class of the sources and no class of exceptions
 abbrev pub is_source_class : Option ClassObj → Bool
@@ -30,7 +30,7 @@ abbrev pub as_instance : Value × SourceWorld → Option Value × SourceWorld
 as_instance made = (Some made.0, made.1)
 
 abbrev pub instance_if : Bool → ObjId → SourceWorld → Option Value × SourceWorld
-instance_if true id w = as_instance (in_heap (with_object (instance id) w.heap) w)
+instance_if true id w = as_instance (in_heap (added_object (instance id) w.heap) w)
 instance_if false id w = (None, w)
 
 abbrev pub instance_of_value : Value → SourceWorld → Option Value × SourceWorld
@@ -44,5 +44,5 @@ instance_of_class (Some c) w = instance_of_value c.object w
 instance_of_class None w = (None, w)
 
 -- A NEW INSTANCE of an item's class, where it has one (pytest's "Group multiple tests in a class": each test has an instance of its own)
-unfoldable pub instance_made : Item → SourceWorld → Option Value × SourceWorld
-instance_made i w = instance_of_class i.test.class w
+unfoldable pub instance_of_item : Item → SourceWorld → Option Value × SourceWorld
+instance_of_item i w = instance_of_class i.test.class w

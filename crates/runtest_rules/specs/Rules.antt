@@ -22,7 +22,7 @@ use Rattle.test_suite.specs.declared.item.Item.{Item}
 use Rattle.test_suite.specs.declared.suite.Suite.{Suite}
 use Rattle.runtest_rules.specs.Failures.{fixture_fault, skipped, wrong_arguments}
 use Rattle.runtest_rules.specs.Language.{python}
-use Rattle.runtest_rules.specs.Objects.{instance_made, item_object}
+use Rattle.runtest_rules.specs.Objects.{instance_of_item, item_object}
 use Rattle.runtest_rules.specs.Phases.{phase_ended}
 
 abbrev pub world_answer : {A : Type 0} → A × SourceWorld → WorldAnswer python A
@@ -106,7 +106,7 @@ rules_within limit suite =
       depth = length suite.fixtures;
       scope = λ d. (fixture_at suite d).scope;
       yields = λ d. (fixture_at suite d).yields;
-      make_instance = λ n w. world_answer (instance_made (item_with_node suite n) w);
+      make_instance = λ n w. world_answer (instance_of_item (item_with_node suite n) w);
       make_item = λ n w. world_answer (item_object (item_with_node suite n) w);
       ask = λ n d param w. request_answer (fixture_request (fixture_at suite d) w);
       begin = λ n d param own values request w. body_outcome (fixture_begun limit (fixture_at suite d) own values request w);

@@ -13,7 +13,7 @@
 //! Each function is the rule of its name, by an equation on what it gives and on the world behind it:
 //!
 //! - [`make_instance`]: a new instance of the item's class, where that is a class of the sources and no class of exceptions
-//!   (`instance_made`); [`make_item`]: the object that hooks get (`item_object`).
+//!   (`instance_of_item`); [`make_item`]: the object that hooks get (`item_object`).
 //! - [`skip`]: `Skipped` with the reason of the marks, where they skip the item (`skipped`); [`fixture_fault`]: `Failed` with the text of
 //!   the fault of its fixtures (`fixture_fault`); [`wrong_arguments`]: `TypeError` (`wrong_arguments`). All have the place of the test's
 //!   `def`.

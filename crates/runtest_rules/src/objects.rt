@@ -39,7 +39,7 @@ fn has_instances(heap: &Heap, id: ObjId) -> bool
 
 fn new_instance(world: &mut World, id: ObjId) -> Result<Value, OutOfMemory>
     requires { objects.has_instances world.old.heap id ≡ true }
-    ensures { IfOk result (λ v. (v, world.new) ≡ failing.in_heap (given.with_object (given.instance id) world.old.heap) world.old) }
+    ensures { IfOk result (λ v. (v, world.new) ≡ failing.in_heap (given.added_object (given.instance id) world.old.heap) world.old) }
 {
     make(world, &New::Instance(Value::Ref(id)))
 }
@@ -78,15 +78,15 @@ fn instance_of_class(
 
 /// A new instance of the item's class, where that is a class of the sources and no class of exceptions. Behind want of memory the world
 /// is spent.
-#[tactic(auto, unfolding(crate::specs::Objects::instance_made))]
+#[tactic(auto, unfolding(crate::specs::Objects::instance_of_item))]
 pub fn make_instance(world: &mut World, item: &Item) -> Result<Option<Value>, OutOfMemory>
-    ensures { IfOk result (λ own. (own, world.new) ≡ objects.instance_made item.now world.old) }
+    ensures { IfOk result (λ own. (own, world.new) ≡ objects.instance_of_item item.now world.old) }
 {
     instance_of_class(world, &item.test.class)
 }
 
 fn new_object(world: &mut World, name: PyText, node_id: PyText) -> Result<Value, OutOfMemory>
-    ensures { IfOk result (λ v. (v, world.new) ≡ failing.in_heap (given.with_object (given.test_item name node_id) world.old.heap) world.old) }
+    ensures { IfOk result (λ v. (v, world.new) ≡ failing.in_heap (given.added_object (given.test_item name node_id) world.old.heap) world.old) }
 {
     make(
         world,

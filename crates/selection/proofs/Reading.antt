@@ -4,14 +4,14 @@ use Rattle.parsing.specs.Answer.{Ever, Settled, finish}
 use Rattle.parsing.specs.Reading.{Read, Found, Bad, Deep}
 use Rattle.parsing.proofs.Answers.{settled, settled_only}
 use Rattle.mark_expr.specs.Answer.{ParseResult, IsParseResult, Reads, Wrong, TooDeep, most_nested}
-use Rattle.mark_expr.specs.Expression.{Tree, NestedWithin}
+use Rattle.mark_expr.specs.Expression.{ExpressionTree, NestedWithin}
 use Rattle.mark_expr.specs.Grammar.{or_at}
 use Rattle.mark_expr.specs.Text.{tokens_of}
 use Rattle.mark_expr.specs.declared.token.Token.{Token}
 use Rattle.mark_expr.proofs.Main.{whole_rule}
 use Rattle.selection.specs.Reading.{expression_answer, read_answer}
 
-settled_is : (cs : List ℕ) (r : Read Token Tree) → Settled (NestedWithin most_nested) (Ever NestedWithin) (tokens_of cs) r → IsParseResult cs (read_answer cs r)
+settled_is : (cs : List ℕ) (r : Read Token ExpressionTree) → Settled (NestedWithin most_nested) (Ever NestedWithin) (tokens_of cs) r → IsParseResult cs (read_answer cs r)
 settled_is cs (Found tree rest) s = s.1
 settled_is cs (Bad rest) s = record { rest = rest; fault = s; column_is = refl }
 settled_is cs (Deep rest) s = record { rest = rest; deep = s }
@@ -22,7 +22,7 @@ answer_is cs = settled_is cs (finish (or_at most_nested (tokens_of cs))) (settle
 
 -- what the reader gives, where that is answered
 record As (cs : List ℕ) (other : ParseResult) : Type 0 where
-  read : Read Token Tree
+  read : Read Token ExpressionTree
   settles : Settled (NestedWithin most_nested) (Ever NestedWithin) (tokens_of cs) read
   is : other ≡ read_answer cs read
 

@@ -2,7 +2,7 @@
 use Rattle.std.proofs.Common.{◌≡◌, ◌↔◌, ℕ, Bool, true, false, ◌&&◌, List, Option, Some, None, Ok, Err, IsTrue, refl, sym, ap, ap₂, subst, ◌∙◌, chars, option_map}
 use Rattle.cli_words.specs.declared.options.Options.{Options}
 use Rattle.mark_expr.specs.Answer.{ParseResult, Gave, Reads, Wrong, TooDeep}
-use Rattle.mark_expr.specs.Expression.{Tree}
+use Rattle.mark_expr.specs.Expression.{ExpressionTree}
 use Rattle.mark_expr.specs.Matching.{Holds, truth}
 use Rattle.mark_expr.specs.declared.fault.ExprFault.{ExprFault}
 use Rattle.mark_expr.specs.declared.fault.ExprFault.TheVariants as expr
@@ -95,7 +95,7 @@ same_truth true b f g = sym (f refl)
 same_truth false true f g = g refl
 same_truth false false f g = refl
 
-pub accepted : (how : How) (names : List (List ℕ)) (tree : Tree) (b : Bool) → (IsTrue b ↔ Holds how names tree) → b ≡ truth how names tree
+pub accepted : (how : How) (names : List (List ℕ)) (tree : ExpressionTree) (b : Bool) → (IsTrue b ↔ Holds how names tree) → b ≡ truth how names tree
 accepted how names tree b h = let t = truth_is how names tree in same_truth b (truth how names tree) (λ e. t.1 (h.0 e)) (λ e. h.1 (t.0 e))
 
 both_accept : (o : Options) (exprs : Exprs) (keywords marks : List (List ℕ)) → AreExprs o exprs → (accepts Part keywords (tree_seen exprs.keyword) && accepts Whole marks (tree_seen exprs.marks)) ≡ is_selected o keywords marks

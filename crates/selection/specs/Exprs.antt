@@ -5,7 +5,7 @@ use Rattle.std.specs.Option.{option_map}
 use Rattle.std.specs.Str.{chars}
 use Rattle.cli_words.specs.declared.options.Options.{Options}
 use Rattle.mark_expr.specs.Answer.{ParseResult, Reads, Wrong, TooDeep}
-use Rattle.mark_expr.specs.Expression.{Tree, view}
+use Rattle.mark_expr.specs.Expression.{ExpressionTree, view}
 use Rattle.mark_expr.specs.Matching.{truth}
 use Rattle.mark_expr.specs.Text.{is_inline_space}
 use Rattle.mark_expr.specs.declared.fault.ExprFault.{ExprFault}
@@ -34,13 +34,13 @@ abbrev pub answer_for : List ℕ → Option ParseResult
 answer_for text = if is_blank_value text then None else Some (expression_answer (chars text))
 
 -- the expression that is read, if there is one
-abbrev pub tree_in : Option ParseResult → Option Tree
+abbrev pub tree_in : Option ParseResult → Option ExpressionTree
 tree_in None = None
 tree_in (Some (Reads tree)) = Some tree
 tree_in (Some (Wrong column)) = None
 tree_in (Some TooDeep) = None
 
-unfoldable pub tree_given : Options → Flag → Option Tree
+unfoldable pub tree_given : Options → Flag → Option ExpressionTree
 tree_given o flag = tree_in (answer_for (flag_value o flag))
 
 -- the flag_text of the option
@@ -77,7 +77,7 @@ unfoldable pub refused_expression : Options → Option (List ℕ)
 refused_expression o = option_map selection_text (expression_fault o)
 
 -- whether an expression accepts one of these names; where there is none, all are accepted
-abbrev pub accepts : How → List (List ℕ) → Option Tree → Bool
+abbrev pub accepts : How → List (List ℕ) → Option ExpressionTree → Bool
 accepts how names None = true
 accepts how names (Some tree) = truth how names tree
 
@@ -86,7 +86,7 @@ unfoldable pub is_selected : Options → List (List ℕ) → List (List ℕ) →
 is_selected o keyword_names mark_names = accepts Part keyword_names (tree_given o Keyword) && accepts Whole mark_names (tree_given o Marks)
 
 -- what options' expressions were read as
-abbrev pub tree_seen : Option MarkExpr → Option Tree
+abbrev pub tree_seen : Option MarkExpr → Option ExpressionTree
 tree_seen expr = option_map view expr
 
 pub record AreExprs (o : Options) (exprs : Exprs) : Type 0 where

@@ -1,7 +1,7 @@
 -- `range` (Python library reference, ranges).
 use Rattle.std.specs.Prelude.{ℕ, suc, ◌-◌, ◌/◌, ℤ, pos, ◌-ℤ◌, int_lt, List, [], ◌∷◌, codes, nat_lt, if◌then◌else◌, Option, Some, None, unsigned_abs}
 use Rattle.std.specs.Ordering.{int_eq}
-use Rattle.call_products.specs.Products.{plain, failed, wrong}
+use Rattle.call_products.specs.Products.{plain, failed}
 use Rattle.call_products.specs.declared.product.Product.{Product}
 use Rattle.py_values.specs.Limits.{most_elements}
 use Rattle.py_values.specs.Numbers.{int_value}
@@ -37,11 +37,7 @@ span_of (a ∷ b ∷ []) = span_by (int_value a) (int_value b) (Some (pos 1))
 span_of (a ∷ b ∷ c ∷ []) = span_by (int_value a) (int_value b) (int_value c)
 span_of _ = None
 
-abbrev pub range_by : Option Span → Product
-range_by (Some s) = span_made s
-range_by None = wrong (codes "range") 0
-
--- `range`
-abbrev pub range_of : List Value → List (List ℕ × Value) → Product
-range_of args [] = range_by (span_of args)
-range_of args (n ∷ ns) = wrong (codes "range") 0
+-- of a call, which takes no arguments by name
+abbrev pub span_given : List Value → List (List ℕ × Value) → Option Span
+span_given args [] = span_of args
+span_given args (n ∷ ns) = None

@@ -1,9 +1,8 @@
 -- Lists and tuples of elements (Python library reference, built-in functions). Each costs the length of what it gives. Where Python gives
 -- an iterator, here it is a list.
-use Rattle.std.specs.Prelude.{ℕ, suc, ◌+◌, ◌-◌, List, [], ◌∷◌, ◌++◌, length, reverse, codes, pos, Option, Some, None, slice_get}
-use Rattle.call_products.specs.Arguments.{sole, pair}
+use Rattle.std.specs.Prelude.{ℕ, suc, ◌+◌, ◌-◌, List, [], ◌∷◌, ◌++◌, length, reverse, pos, Option, Some, None, slice_get}
 use Rattle.call_products.specs.Elements.{elements_of}
-use Rattle.call_products.specs.Products.{plain, wrong, refs_from}
+use Rattle.call_products.specs.Products.{plain, refs_from}
 use Rattle.call_products.specs.declared.elements.Elements.{Elements}
 use Rattle.call_products.specs.declared.elements.ElementsResult.{ElementsResult}
 use Rattle.call_products.specs.declared.elements.ElementsResult.TheVariants as gathered
@@ -22,13 +21,6 @@ refused r = plain (Fail r 0)
 abbrev pub list_made : ElementsResult → Product
 list_made (gathered.Elements e) = record { objects = e.objects; made = New (obj.List e.values) (length e.values) }
 list_made (gathered.Refused r) = refused r
-
-abbrev pub list_by : List Obj → Option Value → Product
-list_by heap (Some v) = list_made (elements_of heap (length heap) v)
-list_by heap None = wrong (codes "list") 0
-
-abbrev pub list_of : List Obj → List Value → List (List ℕ × Value) → Product
-list_of heap args named = list_by heap (sole args named)
 
 -- `tuple(x)`: a tuple is given itself
 abbrev pub obj_tuple_length : Option Obj → Option ℕ
@@ -52,24 +44,10 @@ itself_or v p None = p
 abbrev pub tuple_of_value : List Obj → Value → Product
 tuple_of_value heap v = itself_or v (tuple_made (elements_of heap (length heap) v)) (tuple_length heap v)
 
-abbrev pub tuple_by : List Obj → Option Value → Product
-tuple_by heap (Some v) = tuple_of_value heap v
-tuple_by heap None = wrong (codes "tuple") 0
-
-abbrev pub tuple_of : List Obj → List Value → List (List ℕ × Value) → Product
-tuple_of heap args named = tuple_by heap (sole args named)
-
 -- `reversed(x)`
 abbrev pub reversed_made : ElementsResult → Product
 reversed_made (gathered.Elements e) = record { objects = e.objects; made = New (obj.List (reverse e.values)) (length e.values) }
 reversed_made (gathered.Refused r) = refused r
-
-abbrev pub reversed_by : List Obj → Option Value → Product
-reversed_by heap (Some v) = reversed_made (elements_of heap (length heap) v)
-reversed_by heap None = wrong (codes "reversed") 0
-
-abbrev pub reversed_of : List Obj → List Value → List (List ℕ × Value) → Product
-reversed_of heap args named = reversed_by heap (sole args named)
 
 abbrev pub tuple_pair : Value → Value → Obj
 tuple_pair a b = obj.Tuple (a ∷ b ∷ [])
@@ -99,13 +77,6 @@ abbrev pub enumerate_made : ℕ → ElementsResult → Product
 enumerate_made behind (gathered.Elements e) = list_from behind (e.objects ++ numbered 0 e.values) (length e.objects)
 enumerate_made behind (gathered.Refused r) = refused r
 
-abbrev pub enumerate_by : List Obj → Option Value → Product
-enumerate_by heap (Some v) = enumerate_made (length heap) (elements_of heap (length heap) v)
-enumerate_by heap None = wrong (codes "enumerate") 0
-
-abbrev pub enumerate_of : List Obj → List Value → List (List ℕ × Value) → Product
-enumerate_of heap args named = enumerate_by heap (sole args named)
-
 -- `zip(x, y)`
 abbrev pub zip_with : ℕ → Elements → ElementsResult → Product
 zip_with behind xs (gathered.Elements ys) =
@@ -118,10 +89,3 @@ zip_first heap y (gathered.Refused r) = refused r
 
 abbrev pub zip_values : List Obj → Value → Value → Product
 zip_values heap x y = zip_first heap y (elements_of heap (length heap) x)
-
-abbrev pub zip_by : List Obj → Option (Value × Value) → Product
-zip_by heap (Some p) = zip_values heap p.0 p.1
-zip_by heap None = wrong (codes "zip") 0
-
-abbrev pub zip_of : List Obj → List Value → List (List ℕ × Value) → Product
-zip_of heap args named = zip_by heap (pair args named)

@@ -1,6 +1,5 @@
 -- `all` and `any` (Python library reference, built-in functions). They cost one for each element that they visit.
-use Rattle.std.specs.Prelude.{ℕ, suc, ◌+◌, Bool, true, false, not, List, [], ◌∷◌, length, codes, if◌then◌else◌, Option, Some, None}
-use Rattle.call_products.specs.Arguments.{sole}
+use Rattle.std.specs.Prelude.{ℕ, suc, ◌+◌, Bool, true, false, not, List, [], ◌∷◌, length, if◌then◌else◌, Option, Some, None}
 use Rattle.call_products.specs.Elements.{elements_of}
 use Rattle.call_products.specs.Products.{plain, wrong}
 use Rattle.call_products.specs.declared.elements.ElementsResult.{ElementsResult}
@@ -33,11 +32,3 @@ decided_by heap wanted (gathered.Refused r) = plain (Fail r 0)
 abbrev pub decided_of : List Obj → Bool → List ℕ → Option Value → Product
 decided_of heap wanted name (Some v) = decided_by heap wanted (elements_of heap (length heap) v)
 decided_of heap wanted name None = wrong name 0
-
--- `all(x)`
-abbrev pub all_of : List Obj → List Value → List (List ℕ × Value) → Product
-all_of heap args named = decided_of heap true (codes "all") (sole args named)
-
--- `any(x)`
-abbrev pub any_of : List Obj → List Value → List (List ℕ × Value) → Product
-any_of heap args named = decided_of heap false (codes "any") (sole args named)

@@ -1,5 +1,5 @@
-//! The built-in functions that make sequences or ask all their elements, with their cost: `list`, `tuple`, `range`, `enumerate`, `zip`,
-//! `reversed`, `all` and `any`.
+//! The built-in functions that make sequences and dicts or ask all elements, with their cost: `list`, `tuple`, `dict`, `range`,
+//! `enumerate`, `zip`, `reversed`, `sorted`, `all` and `any`.
 //!
 //! # What it is for
 //!
@@ -8,10 +8,11 @@
 //!
 //! # What is proved
 //!
-//! - `list`, `tuple`, `enumerate`, `zip` and `reversed` give exactly the product that the definitions of the same names say, at the cost of
-//!   the result's length; `range` gives its numbers' range at no cost, or the raise for a step that is zero or a range that is too long;
-//!   `all` and `any` stop at the element that decides, at the cost of those visited.
-//! - What isn't iterable is a `TypeError` at no cost; arguments that don't fit are `wrong arguments for NAME`.
+//! - [`calls::sequence_call`]: exactly the product that `sequence_call_of` says, which has an equation for each function; arguments that
+//!   don't fit are `wrong arguments for NAME`, and what isn't iterable is a `TypeError`, both at no cost.
+//! - `list`, `tuple`, `enumerate`, `zip` and `reversed` cost the result's length. `range` gives its numbers' range at no cost, or the raise
+//!   for a step that is zero or a range that is too long. `all` and `any` stop at the element that decides, at the cost of those visited.
+//!   `dict` copies a dict and `sorted` sorts as the crates `dict_methods` and `sorting` say.
 //!
 //! # What tests alone show
 //!
@@ -22,6 +23,7 @@
 //! How long a call takes.
 #![tactic(auto)]
 
-pub mod ranges;
-pub mod sequences;
-pub mod truths;
+pub mod calls;
+mod ranges;
+mod sequences;
+mod truths;

@@ -45,7 +45,7 @@ fn span_length(span: Span) -> u128
     }
 }
 
-fn span_made(alloc: Global, span: Span) -> Result<Product, OutOfMemory>
+pub(crate) fn span_made(alloc: Global, span: Span) -> Result<Product, OutOfMemory>
     ensures { IfOk result (λ p. p ≡ ranges.span_made span) }
 {
     if span.step == 0 {
@@ -80,19 +80,12 @@ fn span_of(args: &[Value]) -> Option<Span>
     Some(Span { start, stop, step })
 }
 
-/// A call of `range` (Python library reference, ranges).
-pub fn range(
-    alloc: Global,
-    args: &[Value],
-    named: &[(PyText, Value)],
-) -> Result<Product, OutOfMemory>
-    ensures { IfOk result (λ p. p ≡ ranges.range_of args.now named.now) }
+/// The numbers of a range, where a call has no arguments by name.
+pub(crate) fn span_given(args: &[Value], named: &[(PyText, Value)]) -> Option<Span>
+    ensures { result ≡ ranges.span_given args.now named.now }
 {
-    if !named.is_empty() {
-        return wrong(alloc, "range", 0);
-    }
-    match span_of(args) {
-        Some(span) => span_made(alloc, span),
-        None => wrong(alloc, "range", 0),
+    match named {
+        [] => span_of(args),
+        _ => None,
     }
 }

@@ -22,7 +22,7 @@ fn refused(alloc: Global, raise: Raise) -> Product
 }
 
 /// A list of elements.
-fn list_made(alloc: Global, gathered: ElementsResult) -> Product
+pub(crate) fn list_made(alloc: Global, gathered: ElementsResult) -> Product
     ensures { result ≡ sequences.list_made gathered }
 {
     match gathered {
@@ -34,24 +34,6 @@ fn list_made(alloc: Global, gathered: ElementsResult) -> Product
             }
         }
         ElementsResult::Refused(raise) => refused(alloc, raise),
-    }
-}
-
-/// A call of `list` (Python library reference, lists).
-pub fn list(
-    alloc: Global,
-    heap: &Heap,
-    args: &[Value],
-    named: &[(PyText, Value)],
-) -> Result<Product, OutOfMemory>
-    ensures { IfOk result (λ p. p ≡ sequences.list_of heap.now args.now named.now) }
-{
-    match sole(args, named) {
-        Some(v) => {
-            let gathered = elements_of(alloc, heap, heap.len(), v)?;
-            Ok(list_made(alloc, gathered))
-        }
-        None => wrong(alloc, "list", 0),
     }
 }
 
@@ -84,7 +66,7 @@ fn tuple_made(alloc: Global, gathered: ElementsResult) -> Product
     }
 }
 
-fn tuple_of_value(alloc: Global, heap: &Heap, v: Value) -> Result<Product, OutOfMemory>
+pub(crate) fn tuple_of_value(alloc: Global, heap: &Heap, v: Value) -> Result<Product, OutOfMemory>
     ensures { IfOk result (λ p. p ≡ sequences.tuple_of_value heap.now v) }
 {
     match tuple_length(heap, v) {
@@ -96,21 +78,6 @@ fn tuple_of_value(alloc: Global, heap: &Heap, v: Value) -> Result<Product, OutOf
     }
 }
 
-/// A call of `tuple` (Python library reference, tuples): a tuple is given itself.
-pub fn tuple(
-    alloc: Global,
-    heap: &Heap,
-    args: &[Value],
-    named: &[(PyText, Value)],
-) -> Result<Product, OutOfMemory>
-    ensures { IfOk result (λ p. p ≡ sequences.tuple_of heap.now args.now named.now) }
-{
-    match sole(args, named) {
-        Some(v) => tuple_of_value(alloc, heap, v),
-        None => wrong(alloc, "tuple", 0),
-    }
-}
-
 fn reversed_items(alloc: Global, items: &[Value]) -> Result<Vec<Value>, OutOfMemory>
     ensures { IfOk result (λ v. v.items ≡ reverse items.now) }
 {
@@ -118,7 +85,7 @@ fn reversed_items(alloc: Global, items: &[Value]) -> Result<Vec<Value>, OutOfMem
     Ok(values)
 }
 
-fn reversed_made(alloc: Global, gathered: ElementsResult) -> Result<Product, OutOfMemory>
+pub(crate) fn reversed_made(alloc: Global, gathered: ElementsResult) -> Result<Product, OutOfMemory>
     ensures { IfOk result (λ p. p ≡ sequences.reversed_made gathered) }
 {
     match gathered {
@@ -131,24 +98,6 @@ fn reversed_made(alloc: Global, gathered: ElementsResult) -> Result<Product, Out
             })
         }
         ElementsResult::Refused(raise) => Ok(refused(alloc, raise)),
-    }
-}
-
-/// A call of `reversed` (Python library reference, built-in functions).
-pub fn reversed(
-    alloc: Global,
-    heap: &Heap,
-    args: &[Value],
-    named: &[(PyText, Value)],
-) -> Result<Product, OutOfMemory>
-    ensures { IfOk result (λ p. p ≡ sequences.reversed_of heap.now args.now named.now) }
-{
-    match sole(args, named) {
-        Some(v) => {
-            let gathered = elements_of(alloc, heap, heap.len(), v)?;
-            reversed_made(alloc, gathered)
-        }
-        None => wrong(alloc, "reversed", 0),
     }
 }
 
@@ -224,7 +173,7 @@ fn place_behind(place: usize, far: usize) -> Result<usize, OutOfMemory>
     }
 }
 
-fn enumerate_made(
+pub(crate) fn enumerate_made(
     alloc: Global,
     heap: &Heap,
     gathered: ElementsResult,
@@ -239,24 +188,6 @@ fn enumerate_made(
             list_from(alloc, heap, objects, from)
         }
         ElementsResult::Refused(raise) => Ok(refused(alloc, raise)),
-    }
-}
-
-/// A call of `enumerate` (Python library reference, built-in functions).
-pub fn enumerate(
-    alloc: Global,
-    heap: &Heap,
-    args: &[Value],
-    named: &[(PyText, Value)],
-) -> Result<Product, OutOfMemory>
-    ensures { IfOk result (λ p. p ≡ sequences.enumerate_of heap.now args.now named.now) }
-{
-    match sole(args, named) {
-        Some(v) => {
-            let gathered = elements_of(alloc, heap, heap.len(), v)?;
-            enumerate_made(alloc, heap, gathered)
-        }
-        None => wrong(alloc, "enumerate", 0),
     }
 }
 
@@ -289,7 +220,12 @@ fn zip_with(
     }
 }
 
-fn zip_values(alloc: Global, heap: &Heap, x: Value, y: Value) -> Result<Product, OutOfMemory>
+pub(crate) fn zip_values(
+    alloc: Global,
+    heap: &Heap,
+    x: Value,
+    y: Value,
+) -> Result<Product, OutOfMemory>
     ensures { IfOk result (λ p. p ≡ sequences.zip_values heap.now x y) }
 {
     match elements_of(alloc, heap, heap.len(), x)? {
@@ -299,20 +235,5 @@ fn zip_values(alloc: Global, heap: &Heap, x: Value, y: Value) -> Result<Product,
             zip_with(alloc, heap, xs, gathered)
         }
         ElementsResult::Refused(raise) => Ok(refused(alloc, raise)),
-    }
-}
-
-/// A call of `zip` (Python library reference, built-in functions).
-pub fn zip(
-    alloc: Global,
-    heap: &Heap,
-    args: &[Value],
-    named: &[(PyText, Value)],
-) -> Result<Product, OutOfMemory>
-    ensures { IfOk result (λ p. p ≡ sequences.zip_of heap.now args.now named.now) }
-{
-    match pair(args, named) {
-        Some((x, y)) => zip_values(alloc, heap, x, y),
-        None => wrong(alloc, "zip", 0),
     }
 }

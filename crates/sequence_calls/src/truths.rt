@@ -53,7 +53,7 @@ fn decided_by(alloc: Global, heap: &Heap, wanted: bool, gathered: ElementsResult
     }
 }
 
-fn decided_of(
+pub(crate) fn decided_of(
     alloc: Global,
     heap: &Heap,
     wanted: bool,
@@ -69,28 +69,4 @@ fn decided_of(
         }
         None => wrong(alloc, name, 0),
     }
-}
-
-/// A call of `all` (Python library reference, built-in functions).
-pub fn all(
-    alloc: Global,
-    heap: &Heap,
-    args: &[Value],
-    named: &[(PyText, Value)],
-) -> Result<Product, OutOfMemory>
-    ensures { IfOk result (λ p. p ≡ truths.all_of heap.now args.now named.now) }
-{
-    decided_of(alloc, heap, true, "all", sole(args, named))
-}
-
-/// A call of `any` (Python library reference, built-in functions).
-pub fn any(
-    alloc: Global,
-    heap: &Heap,
-    args: &[Value],
-    named: &[(PyText, Value)],
-) -> Result<Product, OutOfMemory>
-    ensures { IfOk result (λ p. p ≡ truths.any_of heap.now args.now named.now) }
-{
-    decided_of(alloc, heap, false, "any", sole(args, named))
 }

@@ -19,7 +19,7 @@ use Rattle.runtest_rules.specs.py_world.Resuming.{Sent, SentValue, abandon_of, i
 use Rattle.fixture_sessions.specs.report_rules.Rows.{Task, task_item, ran}
 use Rattle.runtest_rules.specs.Failures.{fixture_fault, skipped, wrong_arguments}
 use Rattle.runtest_rules.specs.Language.{python}
-use Rattle.runtest_rules.specs.Objects.{instance_made, item_object}
+use Rattle.runtest_rules.specs.Objects.{instance_of_item, item_object}
 use Rattle.runtest_rules.specs.Phases.{phase_ended}
 use Rattle.runtest_rules.specs.Rules.{body_end_of, hooks_of, rules}
 use Rattle.session_rules.specs.Fits.{Distinct}
@@ -32,9 +32,9 @@ use Rattle.runtest_rules.specs.test_suite.declared.suite.Suite.{Suite}
 use Rattle.session_frames.proofs.Worlds.{body_frames, call_frames, instance_frames, none_added, one_less, request_frames, skip_frames}
 
 -- what the runner makes
-made_instance : (i : Item) (w : SourceWorld) → AddsNone is_out w (instance_made i w).1
-unfolding instance_made
-made_instance i w = none_added w (instance_made i w).1 (instance_frames i.test.class w)
+made_instance : (i : Item) (w : SourceWorld) → AddsNone is_out w (instance_of_item i w).1
+unfolding instance_of_item
+made_instance i w = none_added w (instance_of_item i w).1 (instance_frames i.test.class w)
 
 made_object : (i : Item) (w : SourceWorld) → AddsNone is_out w (item_object i w).1
 unfolding item_object

@@ -13,8 +13,8 @@ use Rattle.session_rules.specs.Fits.{HasFixtureClosure}
 use Rattle.session_rules.specs.Frames.{Tidy, frozen_by}
 use Rattle.session_rules.specs.Hooks.{AtYield, HookStep, HookEnd, HookGave, HookInner, HookBeginning, HookRaised, HookAnswer, HookRunner, OpenRaised, around, around_all, each, each_next}
 use Rattle.session_types.specs.Live.{dependents, down_order, find, not_on, instance_by_number, instance_numbers, without}
-use Rattle.session_rules.specs.Session.{all_down, hook_arguments, bad_behind, built_in, call_after, call_phase, chain_of, demand_closure, demand_next, did_call, did_step, finalize_own, has_reached, implemented, in_hooks, leave, next_unless, node_of, noted, object_of, with_new_instance, opening, reaches, ready, resuming, run_item, runner_of, sent_to_wrapper, session, set_up_by, set_up_item, set_up_phase, initial_state, teardown_phase, pyfunc_call, test_with, torn_down, values_for, with_item_object, with_nextitem, make_missing_object}
-use Rattle.session_rules.specs.Teardown.{Grant, SessionState, Step, TeardownEnd, also_raised, closed_request, down, down_all, down_more, down_one, emit, finalize_all, in_world, rest_ended, resumed, session_step, torn_of}
+use Rattle.session_rules.specs.Session.{all_down, hook_arguments, bad_behind, built_in, call_after, call_phase, chain_of, demand_closure, demand_next, did_call, did_step, finalize_own, has_reached, implemented, in_hooks, leave, next_unless, node_of, with_grant, object_of, with_new_instance, opening, reaches, ready, resuming, run_item, runner_of, sent_to_wrapper, session, set_up_by, set_up_item, set_up_phase, initial_state, teardown_phase, pyfunc_call, test_with, torn_down, values_for, with_item_object, with_nextitem, make_missing_object}
+use Rattle.session_rules.specs.Teardown.{Grant, SessionState, Step, TeardownEnd, also_raised, closed_request, down, down_all, down_more, down_one, emit, finalize_all, in_world, rest_ended, rest_resumed, session_step, torn_of}
 use Rattle.session_rules.specs.World.{Call, BodyEnd, Item, Language, LiveInstance, Phase, Raised, Exceptions, Returned, Rules, SetUp, Teardown, Yielded, Frame}
 use Rattle.session_types.specs.declared.journal.Event.TheVariants.{CallBegins}
 
@@ -83,7 +83,7 @@ module _ {L : Language} (rules : Rules L) (out : L.World → ℕ) (tidy : Tidy r
       let y = tidy.yielded_again d (rules.abandon rest w) in
       omega (arith, a, y, e)
 
-  resumed_rest : (d : ℕ) (rest : Option L.Rest) (w : L.World) → held rest ≤ out w → out (resumed rules d rest w).world + held rest ≡ out w
+  resumed_rest : (d : ℕ) (rest : Option L.Rest) (w : L.World) → held rest ≤ out w → out (rest_resumed rules d rest w).world + held rest ≡ out w
   resumed_rest d None w some = omega arith
   resumed_rest d (Some rest) w some =
       let h : 0 < out w = omega (arith, some) in
@@ -95,7 +95,7 @@ module _ {L : Language} (rules : Rules L) (out : L.World → ℕ) (tidy : Tidy r
       let e = closed_same i.slot.request w in
       let h : held i.slot.rest ≤ out c.world = omega (arith, some, e) in
       let r = resumed_rest i.def i.slot.rest c.world h in
-      let f = finalized_all c.finalizers (resumed rules i.def i.slot.rest c.world) in
+      let f = finalized_all c.finalizers (rest_resumed rules i.def i.slot.rest c.world) in
       omega (arith, e, r, f)
 
   down_counted : (k n : ℕ) (i : LiveInstance L) (s : SessionState L) → instance_by_number n s.live ≡ Some i → Counted k s → Counted k (down rules i s).state
@@ -185,7 +185,7 @@ module _ {L : Language} (rules : Rules L) (out : L.World → ℕ) (tidy : Tidy r
       with_counted k item d r.answers r.state (asked_counted k (demand rules item depth) (λ e t p. demand_counted k item depth e t p) (item.requests d) [] s c)
 
   closure_next : (k : ℕ) (rest : SessionState L → Step L) → ((s : SessionState L) → Counted k s → Counted k (rest s).state) → (a : Answer L) (s : SessionState L) → Counted k s → Counted k (demand_next rest a s).state
-  closure_next k rest law (Given i) s c = law (noted i s) (record { rising = c.rising; low = c.low; exact = c.exact })
+  closure_next k rest law (Given i) s c = law (with_grant i s) (record { rising = c.rising; low = c.low; exact = c.exact })
   closure_next k rest law (Refused es) s c = c
 
   closure_counted : (k : ℕ) (item : Item) (ds : List ℕ) (s : SessionState L) → Counted k s → Counted k (demand_closure rules item ds s).state
@@ -198,13 +198,13 @@ module _ {L : Language} (rules : Rules L) (out : L.World → ℕ) (tidy : Tidy r
 
   -- HOOKS
 
-  abbrev WrapperStart : {F E : Type 0} → ℕ → HookBeginning F E → SessionState L → Type 0
-  WrapperStart k (AtYield frame) s = Counted (k + 1) s
-  WrapperStart k (OpenRaised e) s = Counted k s
+  abbrev IsCountedStart : {F E : Type 0} → ℕ → HookBeginning F E → SessionState L → Type 0
+  IsCountedStart k (AtYield frame) s = Counted (k + 1) s
+  IsCountedStart k (OpenRaised e) s = Counted k s
 
   record Runs (runner : HookRunner (SessionState L) L.Value (Exceptions L) (Frame L)) : Type 0 where
     call : (k : ℕ) (which : Impl) (s : SessionState L) → Counted k s → Counted k (runner.call which s).state
-    begin : (k : ℕ) (which : Impl) (s : SessionState L) → Counted k s → WrapperStart k (runner.begin which s).answer (runner.begin which s).state
+    begin : (k : ℕ) (which : Impl) (s : SessionState L) → Counted k s → IsCountedStart k (runner.begin which s).answer (runner.begin which s).state
     resume : (k : ℕ) (frame : Frame L) (inner : HookInner L.Value (Exceptions L)) (s : SessionState L) → Counted (k + 1) s → Counted k (runner.resume frame inner s).state
 
   each_next_counted : (k : ℕ) (rest : SessionState L → HookEnd (SessionState L) L.Value (Exceptions L)) → ((s : SessionState L) → Counted k s → Counted k (rest s).state) → (answer : HookAnswer L.Value (Exceptions L)) (s : SessionState L) → Counted k s → Counted k (each_next rest answer s).state
@@ -215,7 +215,7 @@ module _ {L : Language} (rules : Rules L) (out : L.World → ℕ) (tidy : Tidy r
   each_counted runner r k [] s c = c
   each_counted runner r k (which ∷ rest) s c = each_next_counted k (each runner rest) (each_counted runner r k rest) (runner.call which s).answer (runner.call which s).state (r.call k which s c)
 
-  around_counted : (runner : HookRunner (SessionState L) L.Value (Exceptions L) (Frame L)) → Runs runner → (k : ℕ) (rest : SessionState L → HookEnd (SessionState L) L.Value (Exceptions L)) → ((s : SessionState L) → Counted (k + 1) s → Counted (k + 1) (rest s).state) → (answer : HookBeginning (Frame L) (Exceptions L)) (s : SessionState L) → WrapperStart k answer s → Counted k (around runner rest answer s).state
+  around_counted : (runner : HookRunner (SessionState L) L.Value (Exceptions L) (Frame L)) → Runs runner → (k : ℕ) (rest : SessionState L → HookEnd (SessionState L) L.Value (Exceptions L)) → ((s : SessionState L) → Counted (k + 1) s → Counted (k + 1) (rest s).state) → (answer : HookBeginning (Frame L) (Exceptions L)) (s : SessionState L) → IsCountedStart k answer s → Counted k (around runner rest answer s).state
   around_counted runner r k rest law (AtYield frame) s c = r.resume k frame (rest s).outcome (rest s).state (law s c)
   around_counted runner r k rest law (OpenRaised e) s c = c
 
@@ -227,7 +227,7 @@ module _ {L : Language} (rules : Rules L) (out : L.World → ℕ) (tidy : Tidy r
         | false ↦ each_counted runner r k (which ∷ rest) s c
       ]
 
-  opening_counted : (k : ℕ) (which : Impl) (s : SessionState L) (how : BodyEnd L) (w : L.World) → Counted k s → out w ≡ out s.world + frozen_by how → WrapperStart k (opening rules which how w).answer (in_world (opening rules which how w).world s)
+  opening_counted : (k : ℕ) (which : Impl) (s : SessionState L) (how : BodyEnd L) (w : L.World) → Counted k s → out w ≡ out s.world + frozen_by how → IsCountedStart k (opening rules which how w).answer (in_world (opening rules which how w).world s)
   opening_counted k which s (Yielded v rest) w c e = moved k (k + 1) w s c (omega (arith, e))
   opening_counted k which s (Raised v) w c e = moved k k w s c (omega (arith, e))
   opening_counted k which s (Returned v) w c e = (let f = tidy.wrapper_did_not_yield which w in moved k k _ s c (omega (arith, e, f)))

@@ -5,8 +5,8 @@ use Rattle.session_rules.proofs.Hooked.{cond_law, in_hooks_keeps}
 use Rattle.session_rules.proofs.Seen.{Keeps, demand_keeps, down_keeps}
 use Rattle.session_rules.specs.Demand.{Answer, Given, Refused, demand, event_of, numbers_of}
 use Rattle.session_types.specs.Live.{not_on}
-use Rattle.session_rules.specs.Reports.{IsEnd, IsTestProtocol, IsReport, Reported, bads, events_of}
-use Rattle.session_rules.specs.Session.{all_down, as_count, bad_behind, call_after, call_item, chain_of, demand_closure, demand_next, emitted, end_of, phase_finished, finalize_own, has_reached, in_hooks, leave, next_unless, node_of, noted, with_new_instance, reaches, run_item, session, set_up_by, set_up_item, set_up_phase, initial_state, teardown_phase, telling, pyfunc_call, test_with, torn_down, values_for}
+use Rattle.session_rules.specs.Reports.{IsEnd, IsTestProtocol, IsSessionReport, Reported, bads, events_of}
+use Rattle.session_rules.specs.Session.{all_down, as_count, bad_behind, call_after, call_item, chain_of, demand_closure, demand_next, emitted, end_of, phase_finished, finalize_own, has_reached, in_hooks, leave, next_unless, node_of, with_grant, with_new_instance, reaches, run_item, session, set_up_by, set_up_item, set_up_phase, initial_state, teardown_phase, telling, pyfunc_call, test_with, torn_down, values_for}
 use Rattle.session_rules.specs.Teardown.{PhaseEnd, SessionState, Step, also_raised, down_all, emit, some_raised, torn_of}
 use Rattle.session_rules.specs.World.{Call, Item, Language, LiveInstance, Phase, Rules, SetUp, Teardown}
 use Rattle.session_types.specs.declared.journal.Event.{Event}
@@ -51,7 +51,7 @@ hooks_quiet {L} rules phase item next built law s =
     (λ w values objects t p. record { ends = p.ends; bad = p.bad; told = p.told; longer = p.longer }) s (still s s refl refl refl refl)
 
 next_quiet : {L : Language} (rest : SessionState L → Step L) → ((s : SessionState L) → Quiet s (rest s).state) → (s : SessionState L) (a : Answer L) (t : SessionState L) → Quiet s t → Quiet s (demand_next rest a t).state
-next_quiet rest law s (Given i) t q = then_quiet s (noted i t) (rest (noted i t)).state (record { ends = q.ends; bad = q.bad; told = q.told; longer = q.longer }) (law (noted i t))
+next_quiet rest law s (Given i) t q = then_quiet s (with_grant i t) (rest (with_grant i t)).state (record { ends = q.ends; bad = q.bad; told = q.told; longer = q.longer }) (law (with_grant i t))
 next_quiet rest law s (Refused es) t q = q
 
 closure_quiet : {L : Language} (rules : Rules L) (item : Item) (ds : List ℕ) (s : SessionState L) → Quiet s (demand_closure rules item ds s).state
@@ -219,7 +219,7 @@ report_adds {L} rules maxfail (item ∷ items) s =
       }
     ] refl
 
-pub session_reports : {L : Language} (rules : Rules L) (maxfail : ℕ) (items : List Item) (w : L.World) → IsReport maxfail items (session rules maxfail items (initial_state w))
+pub session_reports : {L : Language} (rules : Rules L) (maxfail : ℕ) (items : List Item) (w : L.World) → IsSessionReport maxfail items (session rules maxfail items (initial_state w))
 session_reports {L} rules maxfail items w =
     let s = session rules maxfail items (initial_state w) in
     let r = report_adds rules maxfail items (initial_state w) in

@@ -10,7 +10,7 @@ use Rattle.session_types.specs.Members.{IsMember}
 use Rattle.session_rules.specs.Events.{IsCalled, calls_of, is_call}
 use Rattle.session_rules.specs.Fits.{Distinct}
 use Rattle.session_types.specs.Live.{dependents, down_order, find, not_on, instance_by_number, instance_numbers}
-use Rattle.session_rules.specs.Session.{bad_behind, call_after, call_item, call_phase, chain_of, demand_closure, demand_next, finalize_own, has_reached, in_hooks, leave, next_unless, node_of, noted, with_new_instance, reaches, run_item, session, set_up_by, set_up_item, set_up_phase, teardown_phase, pyfunc_call, test_with, torn_down, values_for}
+use Rattle.session_rules.specs.Session.{bad_behind, call_after, call_item, call_phase, chain_of, demand_closure, demand_next, finalize_own, has_reached, in_hooks, leave, next_unless, node_of, with_grant, with_new_instance, reaches, run_item, session, set_up_by, set_up_item, set_up_phase, teardown_phase, pyfunc_call, test_with, torn_down, values_for}
 use Rattle.session_rules.specs.Teardown.{Grant, SessionState, Step, also_raised, down, down_all, down_more, down_one, emit, in_world, some_raised, session_step, torn_of}
 use Rattle.session_rules.specs.World.{Call, Failure, Item, SetUpEnd, Language, LiveInstance, Phase, Rules, SetUp, Teardown, Value}
 use Rattle.session_types.specs.declared.journal.Event.{Event}
@@ -98,7 +98,7 @@ pub unseen_given : {L : Language} (rules : Rules L) → Unseen rules (λ (s : Se
 unseen_given rules = record { down = λ i s. refl; born = λ bases i w s. refl; world = λ w s. refl }
 
 next_seen : {L : Language} (j : ℕ) (rest : SessionState L → Step L) → ((s : SessionState L) → calls_of j (rest s).state.events ≡ calls_of j s.events) → (a : Answer L) (s : SessionState L) → calls_of j (demand_next rest a s).state.events ≡ calls_of j s.events
-next_seen j rest law (Given i) s = law (noted i s)
+next_seen j rest law (Given i) s = law (with_grant i s)
 next_seen j rest law (Refused es) s = refl
 
 closure_seen : {L : Language} (rules : Rules L) (j : ℕ) (item : Item) (ds : List ℕ) (s : SessionState L) → calls_of j (demand_closure rules item ds s).state.events ≡ calls_of j s.events

@@ -10,13 +10,13 @@ use Rattle.session_rules.proofs.Hooked.{aside, in_hooks_keeps}
 use Rattle.session_types.proofs.Lists.{In-append, In-left, In-right, and_both, empty, eqb_is}
 use Rattle.session_types.proofs.Order.{In-down_order}
 use Rattle.session_rules.proofs.Seen.{call_events, call_untouched, demand_same, down_same, given_numbers, session_called, unseen_given}
-use Rattle.session_rules.specs.Demand.{AllGiven, Answer, JointAnswer, Given, NewInstance, OneRefused, Refused, Replies, Reply, answer_of, ask_all, ask_next, call_fixture_func, born, demand, fresh, got, is_same, made, numbers_of, replace, set_up_after, settle, with_arguments}
+use Rattle.session_rules.specs.Demand.{AllGiven, Answer, JointAnswer, Given, NewInstance, OneRefused, Refused, Replies, Reply, answer_of, ask_all, ask_next, call_fixture_func, born, demand, fresh, got, is_same, instance_reply, numbers_of, replace, set_up_after, settle, with_arguments}
 use Rattle.session_types.specs.Members.{IsMember}
 use Rattle.session_rules.specs.Events.{Lawful}
 use Rattle.session_rules.specs.Fits.{Distinct, HasFixtureClosure, FitsClosure, IsWellScoped}
 use Rattle.session_types.specs.Live.{dependents, down_order, find, is_at, not_on}
 use Rattle.session_types.specs.Scopes.{rank}
-use Rattle.session_rules.specs.Session.{all_down, bad_behind, call_after, call_item, call_phase, chain_of, demand_closure, demand_next, down_off, phase_finished, finalize_own, has_reached, in_hooks, leave, next_unless, node_of, noted, with_new_instance, reaches, run_item, session, set_up_by, set_up_item, set_up_phase, initial_state, teardown_ended, teardown_phase, torn_down}
+use Rattle.session_rules.specs.Session.{all_down, bad_behind, call_after, call_item, call_phase, chain_of, demand_closure, demand_next, down_off, phase_finished, finalize_own, has_reached, in_hooks, leave, next_unless, node_of, with_grant, with_new_instance, reaches, run_item, session, set_up_by, set_up_item, set_up_phase, initial_state, teardown_ended, teardown_phase, torn_down}
 use Rattle.session_rules.specs.Teardown.{Grant, SessionState, Step, also_raised, down_all, emit, in_world, session_step}
 use Rattle.session_rules.specs.World.{Failure, Item, SetUpEnd, Language, LiveInstance, Rules, SetUp, Teardown, Value}
 use Rattle.session_types.specs.declared.journal.Event.TheVariants.{CallBegins, CallEnds}
@@ -97,7 +97,7 @@ born_law {L} rules item bases i w s g ok e same =
       covered = covered_answer item (book (born bases i w s).state) i i.slot.kept (inl (record { instance = i; member = In-right i s.live (i ∷ []) (inl refl); number = refl; parameter = same }));
     }
 
-make_law : {L : Language} (rules : Rules L) (item : Item) (d : ℕ) (given : List (Grant L)) (m : NewInstance L) (s : SessionState L) → Good rules s → AllTold (book s) (rank (rules.scope d)) given → Replied rules item (rank (rules.scope d)) s (made rules item d given m s)
+make_law : {L : Language} (rules : Rules L) (item : Item) (d : ℕ) (given : List (Grant L)) (m : NewInstance L) (s : SessionState L) → Good rules s → AllTold (book s) (rank (rules.scope d)) given → Replied rules item (rank (rules.scope d)) s (instance_reply rules item d given m s)
 make_law rules item d given m s g told = (let i = fresh rules item d given s.next m.held in born_law rules item (numbers_of given []) i m.world s g (ready (book s) (rank (rules.scope d)) given i told refl refl refl) refl refl)
 
 Replied-after : {L : Language} (rules : Rules L) (item : Item) (r : ℕ) (s t : SessionState L) (q : Reply L) → Goes rules item s t → Replied rules item r t q → Replied rules item r s q
@@ -164,10 +164,10 @@ ok_again {L} rules item s t o e f h k =
       given = λ g m. subst (λ (x : Book L). Covered item x g.order) b (o.given g (subst (λ (x : List (Grant L)). IsMember g x) (sym k) m));
     }
 
-noted_ok : {L : Language} (rules : Rules L) (item : Item) (i : Grant L) (s : SessionState L) → Ok rules item s → Covered item (book s) i.order → Ok rules item (noted i s)
+noted_ok : {L : Language} (rules : Rules L) (item : Item) (i : Grant L) (s : SessionState L) → Ok rules item s → Covered item (book s) i.order → Ok rules item (with_grant i s)
 noted_ok {L} rules item i s o c =
     record {
-      good = good_again rules s (noted i s) o.good refl refl refl;
+      good = good_again rules s (with_grant i s) o.good refl refl refl;
       given = λ g m. elim (In-append g s.given (i ∷ []) m) [
         | inl l ↦ o.given g l
         | inr r ↦ elim r [ inl e ↦ subst (λ (x : Grant L). Covered item (book s) x.order) (sym e) c | inr z ↦ absurd z ]
@@ -178,7 +178,7 @@ abbrev KeepsOk : {L : Language} → Rules L → Item → (SessionState L → Ste
 KeepsOk {L} rules item built = (s : SessionState L) → Ok rules item s → Ok rules item (built s).state
 
 demand_next_law : {L : Language} (rules : Rules L) (item : Item) (rest : SessionState L → Step L) → KeepsOk rules item rest → (a : Answer L) (s : SessionState L) → Ok rules item s → CoveredAnswer item (book s) a → Ok rules item (demand_next rest a s).state
-demand_next_law rules item rest law (Given i) s o c = law (noted i s) (noted_ok rules item i s o c)
+demand_next_law rules item rest law (Given i) s o c = law (with_grant i s) (noted_ok rules item i s o c)
 demand_next_law rules item rest law (Refused es) s o c = o
 
 closure_law : {L : Language} (rules : Rules L) (item : Item) (ds : List ℕ) → ((d : ℕ) → IsMember d ds → IsWellScoped rules item rules.depth d) → KeepsOk rules item (demand_closure rules item ds)

@@ -1,7 +1,7 @@
 -- What a demand for a fixture does and answers (pytest's fixture guide, "Fixtures can request other fixtures", "Fixtures can be
 -- requested more than once per test (return values are cached)", "Automatic grouping of tests by fixture instances").
 use Rattle.std.specs.Prelude.{ℕ, zero, suc, ◌+◌, ◌==◌, Bool, true, false, List, [], ◌∷◌, ◌++◌, Option, Some, None, map, if◌then◌else◌}
-use Rattle.session_types.specs.declared.journal.Birth.{Birth}
+use Rattle.session_types.specs.declared.journal.Made.{Made}
 use Rattle.session_types.specs.declared.journal.Event.{Event}
 use Rattle.session_types.specs.declared.journal.Event.TheVariants.{Up, UpFailed}
 use Rattle.session_types.specs.Live.{find, dependents}
@@ -63,7 +63,7 @@ abbrev pub answer_of : {L : Language} → LiveInstance L → SetUpEnd L → Answ
 answer_of i (Value v) = Given (got v i)
 answer_of i (Failure e) = Refused (e ∷ [])
 
-abbrev pub made_of : {L : Language} → List ℕ → LiveInstance L → Birth
+abbrev pub made_of : {L : Language} → List ℕ → LiveInstance L → Made
 made_of bases i = record { n = i.order; def = i.def; param = i.param; node = i.node; bases = bases }
 
 abbrev pub event_of : {L : Language} → List ℕ → LiveInstance L → SetUpEnd L → Event
@@ -82,14 +82,14 @@ pub record NewInstance (L : Language) : Type 0 where
 abbrev pub making : {L : Language} → SetUpEnd L → Option L.Rest → Option L.Value → L.World → NewInstance L
 making kept rest request w = record { held = record { kept = kept; rest = rest; request = request }; world = w }
 
-abbrev pub failed_with : {L : Language} → Option L.Value → NewException L → NewInstance L
-failed_with request t = making (Failure t.thrown) None request t.world
+abbrev pub failed_instance : {L : Language} → Option L.Value → NewException L → NewInstance L
+failed_instance request t = making (Failure t.thrown) None request t.world
 
 -- a function without `yield` gives what it returns. One with a `yield` is frozen there; where it ends without, it fails
 abbrev pub making_of : {L : Language} → Rules L → ℕ → Option L.Value → BodyEnd L → L.World → NewInstance L
 making_of rules d request (Yielded v rest) w = making (Value v) (Some rest) request w
 making_of rules d request (Raised e) w = making (Failure e) None request w
-making_of rules d request (Returned v) w = if rules.yields d then failed_with request (rules.did_not_yield d w) else making (Value v) None request w
+making_of rules d request (Returned v) w = if rules.yields d then failed_instance request (rules.did_not_yield d w) else making (Value v) None request w
 
 abbrev pub call_fixture_func : {L : Language} → Rules L → Item → ℕ → List (Grant L) → Option L.Value → NewRequest L → NewInstance L
 call_fixture_func rules item d given own a =
@@ -109,11 +109,11 @@ fresh rules item d given n held =
       slot = held;
     }
 
-abbrev pub made : {L : Language} → Rules L → Item → ℕ → List (Grant L) → NewInstance L → SessionState L → Reply L
-made rules item d given m s = born (numbers_of given []) (fresh rules item d given s.next m.held) m.world s
+abbrev pub instance_reply : {L : Language} → Rules L → Item → ℕ → List (Grant L) → NewInstance L → SessionState L → Reply L
+instance_reply rules item d given m s = born (numbers_of given []) (fresh rules item d given s.next m.held) m.world s
 
 abbrev pub set_up : {L : Language} → Rules L → Item → ℕ → List (Grant L) → SessionState L → Reply L
-set_up rules item d given s = made rules item d given (call_fixture_func rules item d given s.instance (rules.ask item.node d (item.parameter d) s.world)) s
+set_up rules item d given s = instance_reply rules item d given (call_fixture_func rules item d given s.instance (rules.ask item.node d (item.parameter d) s.world)) s
 
 -- where the old one is gone: where teardowns raised, these exceptions are the answer
 abbrev pub set_up_after : {L : Language} → Rules L → Item → ℕ → List (Grant L) → List L.Thrown → SessionState L → Reply L
@@ -145,11 +145,11 @@ with_arguments rules item d (OneRefused es) s = reply (Refused es) s
 abbrev pub answer_with : {L : Language} → Rules L → Item → ℕ → Replies L → Reply L
 answer_with rules item d r = with_arguments rules item d r.answers r.state
 
-abbrev pub faulty : {L : Language} → NewException L → SessionState L → Reply L
-faulty t s = reply (Refused (t.thrown ∷ [])) (in_world t.world s)
+abbrev pub fault_reply : {L : Language} → NewException L → SessionState L → Reply L
+fault_reply t s = reply (Refused (t.thrown ∷ [])) (in_world t.world s)
 
 -- its arguments are demanded in order, and then it is found or made. What asks `depth` deep asks for itself: that is a fault of
 -- the item's closure
 abbrev pub demand : {L : Language} → Rules L → Item → ℕ → ℕ → SessionState L → Reply L
-demand rules item zero d s = faulty (rules.fault item.node s.world) s
+demand rules item zero d s = fault_reply (rules.fault item.node s.world) s
 demand rules item (suc depth) d s = answer_with rules item d (ask_all (demand rules item depth) (item.requests d) [] s)

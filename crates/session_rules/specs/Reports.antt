@@ -36,7 +36,7 @@ Reported {L} maxfail bad (item ∷ items) ends =
     × MatchBool (reaches maxfail (bad + bads mine)) (more ≡ []) (Reported maxfail (bad + bads mine) items more)
 
 -- the report of a session: its failures and errors are those that are counted, and its events are those of its phases
-pub record IsReport {L : Language} (maxfail : ℕ) (items : List Item) (s : SessionState L) : Type 0 where
+pub record IsSessionReport {L : Language} (maxfail : ℕ) (items : List Item) (s : SessionState L) : Type 0 where
   pub reported : Reported maxfail 0 items s.ends
   pub counted : s.bad ≡ bads s.ends
   pub journal : s.events ≡ events_of s.ends

@@ -176,11 +176,11 @@ has_reached maxfail s = reaches maxfail s.bad
 
 -- SET-UP
 
-abbrev pub noted : {L : Language} → Grant L → SessionState L → SessionState L
-noted i s = record s { given = s.given ++ i ∷ [] }
+abbrev pub with_grant : {L : Language} → Grant L → SessionState L → SessionState L
+with_grant i s = record s { given = s.given ++ i ∷ [] }
 
 abbrev pub demand_next : {L : Language} → (SessionState L → Step L) → Answer L → SessionState L → Step L
-demand_next rest (Given i) s = rest (noted i s)
+demand_next rest (Given i) s = rest (with_grant i s)
 demand_next rest (Refused es) s = session_step es s
 
 abbrev pub demand_closure : {L : Language} → Rules L → Item → List ℕ → SessionState L → Step L

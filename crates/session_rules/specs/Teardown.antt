@@ -91,9 +91,9 @@ rest_ended rules d (Returned v) w = torn [] w
 rest_ended rules d (Raised e) w = torn (e ∷ []) w
 rest_ended rules d (Yielded v rest) w = also_threw (rules.yielded_again d (rules.abandon rest w))
 
-abbrev pub resumed : {L : Language} → Rules L → ℕ → Option L.Rest → L.World → TeardownEnd L
-resumed rules d None w = torn [] w
-resumed rules d (Some rest) w = rest_ended rules d (rules.resume rest w).how (rules.resume rest w).world
+abbrev pub rest_resumed : {L : Language} → Rules L → ℕ → Option L.Rest → L.World → TeardownEnd L
+rest_resumed rules d None w = torn [] w
+rest_resumed rules d (Some rest) w = rest_ended rules d (rules.resume rest w).how (rules.resume rest w).world
 
 abbrev pub closed_request : {L : Language} → Rules L → Option L.Value → L.World → ClosedRequest L
 closed_request rules None w = record { finalizers = []; world = w }
@@ -101,7 +101,7 @@ closed_request rules (Some request) w = rules.close request w
 
 -- from here on it takes no finalizers; what remains is resumed, and then its finalizers are called, latest first
 abbrev pub torn_behind : {L : Language} → Rules L → LiveInstance L → ClosedRequest L → TeardownEnd L
-torn_behind rules i c = finalize_all rules c.finalizers (resumed rules i.def i.slot.rest c.world)
+torn_behind rules i c = finalize_all rules c.finalizers (rest_resumed rules i.def i.slot.rest c.world)
 
 abbrev pub torn_of : {L : Language} → Rules L → LiveInstance L → L.World → TeardownEnd L
 torn_of rules i w = torn_behind rules i (closed_request rules i.slot.request w)

@@ -3,7 +3,7 @@ ghost use Rattle.hook_order.specs.declared.implementation.Impl.{Impl};
 ghost use Rattle.hook_order.specs.declared.answers.Inner.{Inner};
 ghost use Rattle.hook_order.specs.HookCall.{CallsEach, FindsFirst, HookCall};
 ghost use Rattle.session_rules.specs.Hooks.{HookRunner, first_call, hook_call};
-ghost use Rattle.session_rules.specs.HookFollows.{Agrees, Follows, HookView, itself};
+ghost use Rattle.session_rules.specs.HookFollows.{Agrees, RunnerFollows, HookView, itself};
 ghost use Rattle.session_rules.specs.Request.{RequestFinalizers, new_request, added_all, closed};
 ghost use Rattle.session_types.specs.Members.{IsMember};
 ghost use Rattle.session_rules.specs.Events.{Lawful};
@@ -11,9 +11,9 @@ ghost use Rattle.session_rules.specs.World.{Frame, Item, Phase, Exceptions, Rule
 ghost use Rattle.session_rules.specs.Teardown.{SessionState};
 ghost use Rattle.session_rules.specs.Demand.{Refused, demand};
 ghost use Rattle.session_rules.specs.Session.{HookPlace, hook_runner, session, initial_state};
-ghost use Rattle.session_rules.specs.Reports.{IsReport};
+ghost use Rattle.session_rules.specs.Reports.{IsSessionReport};
 ghost use Rattle.session_rules.specs.Frames.{Tidy};
-ghost use Rattle.session_rules.specs.Fits.{HasFixtureClosure, Distinct, IsWellScoped, IsClosure};
+ghost use Rattle.session_rules.specs.Fits.{HasFixtureClosure, Distinct, IsWellScoped, IsValidClosure};
 
 use hook_order::Runner;
 
@@ -41,7 +41,7 @@ pub fn every_journal_is_lawful<W: Acts>()
 /// or up to the first with which maxfail is reached. What is counted is what these phases tell, and the journal is the events of
 /// these phases, in order.
 pub fn every_item_is_reported_once<W: Acts>()
-    ensures { (rules : Rules (language W W.Value W.Thrown W.Rest W.Told W.is_bad)) (maxfail : ℕ) (items : List Item) (world : W) → IsReport maxfail items (session rules maxfail items (initial_state world)) }
+    ensures { (rules : Rules (language W W.Value W.Thrown W.Rest W.Told W.is_bad)) (maxfail : ℕ) (items : List Item) (world : W) → IsSessionReport maxfail items (session rules maxfail items (initial_state world)) }
 {}
 
 /// No frozen frame is out at the end of a session that wasn't out at its start, whatever is raised.
@@ -62,16 +62,16 @@ pub fn depth_does_not_matter<W: Acts>()
 /// A closure without fault is what the demands need: nothing that it reaches goes deeper than there are definitions, and nothing
 /// asks for narrower scope.
 pub fn closures_are_settled<W: Acts>()
-    ensures { (rules : Rules (language W W.Value W.Thrown W.Rest W.Told W.is_bad)) (item : Item) (ds : List ℕ) → IsClosure rules item ds → (d : ℕ) → IsMember d ds → IsWellScoped rules item rules.depth d }
+    ensures { (rules : Rules (language W W.Value W.Thrown W.Rest W.Told W.is_bad)) (item : Item) (ds : List ℕ) → IsValidClosure rules item ds → (d : ℕ) → IsMember d ds → IsWellScoped rules item rules.depth d }
 {}
 
 /// What hook_order's calls do and answer are the hook calls of a session, where their runner does what the session says of each
 /// implementation, or wants memory.
 pub fn hook_calls_agree<R: Runner>()
-    ensures all { (runner : HookRunner R R.Got R.Exc R.Frozen) → Follows itself R.calls R.begins R.resumes (λ place. runner)
+    ensures all { (runner : HookRunner R R.Got R.Exc R.Frozen) → RunnerFollows itself R.calls R.begins R.resumes (λ place. runner)
         → (impls : List Impl) (before after : R) (end : Inner R.Got R.Exc) (values : List R.Got)
         → HookCall (CallsEach R.calls) R.begins R.resumes impls before end values after → Agrees {Z = R.Frozen} itself (hook_call runner impls before) before end values after }
-    ensures first { (runner : HookRunner R R.Got R.Exc R.Frozen) → Follows itself R.calls R.begins R.resumes (λ place. runner)
+    ensures first { (runner : HookRunner R R.Got R.Exc R.Frozen) → RunnerFollows itself R.calls R.begins R.resumes (λ place. runner)
         → (impls : List Impl) (before after : R) (end : Inner R.Got R.Exc) (values : List R.Got)
         → HookCall (FindsFirst R.calls) R.begins R.resumes impls before end values after → Agrees {Z = R.Frozen} itself (first_call runner impls before) before end values after }
 {}
@@ -80,7 +80,7 @@ pub fn hook_calls_agree<R: Runner>()
 pub fn hook_calls_are_a_sessions<R: Runner, W: Acts>()
     ensures { (rules : Rules (language W W.Value W.Thrown W.Rest W.Told W.is_bad))
         (view : HookView R R.Got R.Exc R.Frozen (SessionState (language W W.Value W.Thrown W.Rest W.Told W.is_bad)) HookPlace W.Value (Exceptions (language W W.Value W.Thrown W.Rest W.Told W.is_bad)) (Frame (language W W.Value W.Thrown W.Rest W.Told W.is_bad)))
-        → Follows view R.calls R.begins R.resumes (hook_runner rules)
+        → RunnerFollows view R.calls R.begins R.resumes (hook_runner rules)
         → (impls : List Impl) (before after : R) (end : Inner R.Got R.Exc) (values : List R.Got)
         → HookCall (CallsEach R.calls) R.begins R.resumes impls before end values after → Agrees view (hook_call (hook_runner rules (view.place before)) impls (view.state before)) before end values after }
 {}

@@ -17,7 +17,7 @@
 //!   instances that live, or that went down before something on which they depend; at the end nothing is up.
 //! - `every_item_is_reported_once`: the items that ran are a prefix of the list, each once, with its set-up, its call exactly where
 //!   the set-up raised nothing, and its teardown; where items are left, maxfail was reached; what is counted is what these phases
-//!   tell, and the journal is the events of these phases, each once (`IsReport`).
+//!   tell, and the journal is the events of these phases, each once (`IsSessionReport`).
 //! - `no_frame_is_left_out`: for items that fit, at the end no frozen frame is out that wasn't at the start, where each rule but
 //!   those of a frame leaves the frames alone (`Tidy`).
 //! - `closures_are_settled`, `depth_does_not_matter`, `refusals_tell`: a closure without fault asks less deep than there are

@@ -2,7 +2,7 @@ ghost use Rattle.std.specs.Prelude.{◌≡◌, ⊤, Contains};
 ghost use Rattle.hook_order.specs.Answers.{HandsOnWant};
 ghost use Rattle.hook_order.specs.Frames.{TakesFrame};
 
-use hook_order::{Impl, ImplEnd, Inner, Runner, WrapperStart, call_all, call_first, order};
+use hook_order::{Impl, Inner, Opened, Ran, Runner, call_all, call_first, order};
 use std::alloc::{AllocError, Global};
 use std::fmt::Write;
 
@@ -74,29 +74,29 @@ impl Runner for Fake {
 
     ghost resumes = { λ _ _ _ _ _. ⊤ };
 
-    fn call(&mut self, which: &Impl) -> ImplEnd<u32, u32> {
+    fn call(&mut self, which: &Impl) -> Ran<u32, u32> {
         self.note("call", which.code);
         match self.act(which.code) {
-            Act::Gives(value) => ImplEnd::Gave(Some(value)),
-            Act::GivesNone => ImplEnd::Gave(None),
-            Act::Raises(exception) => ImplEnd::Raised(exception),
-            _ => ImplEnd::OutOfMemory,
+            Act::Gives(value) => Ran::Gave(Some(value)),
+            Act::GivesNone => Ran::Gave(None),
+            Act::Raises(exception) => Ran::Raised(exception),
+            _ => Ran::OutOfMemory,
         }
     }
 
-    fn begin(&mut self, which: &Impl) -> WrapperStart<u32, u32> {
+    fn begin(&mut self, which: &Impl) -> Opened<u32, u32> {
         self.note("begin", which.code);
         match self.act(which.code) {
-            Act::RaisesBefore(exception) => WrapperStart::Raised(exception),
-            Act::WantsMemoryBefore => WrapperStart::OutOfMemory,
+            Act::RaisesBefore(exception) => Opened::Raised(exception),
+            Act::WantsMemoryBefore => Opened::OutOfMemory,
             _ => match self.out.push(which.code) {
-                Ok(()) => WrapperStart::Yielded(which.code),
-                Err(_) => WrapperStart::OutOfMemory,
+                Ok(()) => Opened::Yielded(which.code),
+                Err(_) => Opened::OutOfMemory,
             },
         }
     }
 
-    fn resume(&mut self, frozen: u32, inner: Inner<u32, u32>) -> ImplEnd<u32, u32>
+    fn resume(&mut self, frozen: u32, inner: Inner<u32, u32>) -> Ran<u32, u32>
         requires { Contains self.old.out.items frozen }
         ensures frames { TakesFrame frozen self.old.out.items self.new.out.items }
         ensures want { HandsOnWant inner result }
@@ -113,23 +113,23 @@ impl Runner for Fake {
     }
 }
 
-fn answer_to(act: Act, inner: Inner<u32, u32>) -> ImplEnd<u32, u32>
+fn answer_to(act: Act, inner: Inner<u32, u32>) -> Ran<u32, u32>
     ensures { HandsOnWant inner result }
 {
     match inner {
-        Inner::OutOfMemory => ImplEnd::OutOfMemory,
-        Inner::List => outcome(act, ImplEnd::Gave(Some(1000))),
-        Inner::Gave(value) => outcome(act, ImplEnd::Gave(value)),
-        Inner::Raised(exception) => outcome(act, ImplEnd::Raised(exception)),
+        Inner::OutOfMemory => Ran::OutOfMemory,
+        Inner::List => outcome(act, Ran::Gave(Some(1000))),
+        Inner::Gave(value) => outcome(act, Ran::Gave(value)),
+        Inner::Raised(exception) => outcome(act, Ran::Raised(exception)),
     }
 }
 
-fn outcome(act: Act, handed_on: ImplEnd<u32, u32>) -> ImplEnd<u32, u32> {
+fn outcome(act: Act, handed_on: Ran<u32, u32>) -> Ran<u32, u32> {
     match act {
-        Act::Replaces(value) => ImplEnd::Gave(Some(value)),
-        Act::Swallows => ImplEnd::Gave(None),
-        Act::RaisesBehind(exception) => ImplEnd::Raised(exception),
-        Act::WantsMemoryBehind => ImplEnd::OutOfMemory,
+        Act::Replaces(value) => Ran::Gave(Some(value)),
+        Act::Swallows => Ran::Gave(None),
+        Act::RaisesBehind(exception) => Ran::Raised(exception),
+        Act::WantsMemoryBehind => Ran::OutOfMemory,
         _ => handed_on,
     }
 }

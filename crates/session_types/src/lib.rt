@@ -3,7 +3,7 @@
 //! # What it is for
 //!
 //! `Scope` with its rank, the number of a definition (`DefId`), lists of numbers (`Numbers`, the list type of the crate seq), a
-//! fixture that was set up (`Instance`), and the events of a session (`Event`, `Birth`). A later scope is one more line here: in
+//! fixture that was set up (`Instance`), and the events of a session (`Event`, `Made`). A later scope is one more line here: in
 //! the enum, in `rank`, and in the count.
 //!
 //! # What is proved
@@ -28,6 +28,6 @@ mod scope;
 
 pub use def_id::DefId;
 pub use instance::Instance;
-pub use journal::{Birth, Event};
+pub use journal::{Event, Made};
 pub use numbers::Numbers;
 pub use scope::{SCOPE_COUNT, Scope};

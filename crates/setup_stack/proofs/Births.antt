@@ -6,12 +6,12 @@ use Rattle.session_types.specs.declared.scope.Scope.{Scope}
 use Rattle.session_types.specs.declared.journal.Event.{Event}
 use Rattle.session_rules.specs.World.{Language, Rules, Item, LiveInstance}
 use Rattle.session_rules.specs.Teardown.{Grant}
-use Rattle.session_rules.specs.Demand.{NewInstance, Reply, answer_of, call_fixture_func, event_of, fresh, kept_of, made, numbers_of, set_up}
+use Rattle.session_rules.specs.Demand.{NewInstance, Reply, answer_of, call_fixture_func, event_of, fresh, kept_of, instance_reply, numbers_of, set_up}
 use Rattle.fixture_instances.specs.declared.ends.SetUpEnd.{SetUpEnd as KeptEnd}
 use Rattle.fixture_instances.specs.declared.ends.SetUpEnd.TheVariants as kept
 use Rattle.setup_stack.specs.declared.answers.Answer.{Answer as CodeAnswer}
 use Rattle.fixture_instances.specs.declared.ends.CachedResult.{CachedResult}
-use Rattle.setup_stack.specs.declared.stack.FixtureStack.{FixtureStack}
+use Rattle.setup_stack.specs.declared.stack.SetupStack.{SetupStack}
 use Rattle.setup_stack.specs.Borne.{answer_with, birth_of, event_by, event_for}
 use Rattle.setup_stack.specs.Making.{made_with}
 use Rattle.setup_stack.specs.Views.{answer_in, stack_state}
@@ -33,7 +33,7 @@ event_same_by rules bases i (kept.Failure e) = refl
 pub event_same : {L : Language} (rules : Rules L) (bases : List ℕ) (i : Instance (CachedResult L.Value L.Thrown L.Rest)) → event_for bases i ≡ event_of bases (live_instance rules i) (set_up_end rules i.slot.kept)
 event_same rules bases i = event_same_by rules bases (live_instance rules i) i.slot.kept
 
-pub record IsSetUp {L : Language} (rules : Rules L) (item : Item) (d : ℕ) (given : List (Grant L)) (w0 : L.World) (s0 : FixtureStack L.Value L.Thrown L.Rest) (w1 : L.World) (s1 : FixtureStack L.Value L.Thrown L.Rest) (a : CodeAnswer L.Value L.Thrown) : Type 0 where
+pub record IsSetUp {L : Language} (rules : Rules L) (item : Item) (d : ℕ) (given : List (Grant L)) (w0 : L.World) (s0 : SetupStack L.Value L.Thrown L.Rest) (w1 : L.World) (s1 : SetupStack L.Value L.Thrown L.Rest) (a : CodeAnswer L.Value L.Thrown) : Type 0 where
   pub answer : answer_in rules a ≡ (set_up rules item d given (stack_state rules w0 s0)).answer
   pub state : stack_state rules w1 s1 ≡ (set_up rules item d given (stack_state rules w0 s0)).state
 
@@ -61,7 +61,7 @@ fresh_same {L} rules item d given i next eb ed ep en es eo =
     ∙ (ap (λ (x : ℕ). build d (item.parameter d) (item.place d) (rules.scope d) x i.bases) eo
     ∙ ap (λ (x : List ℕ). build d (item.parameter d) (item.place d) (rules.scope d) next x) eb))))
 
-pub was_set_up : {L : Language} (rules : Rules L) (item : Item) (d : ℕ) (given : List (Grant L)) (i : Instance (CachedResult L.Value L.Thrown L.Rest)) (direct copy : List ℕ) (told : KeptEnd L.Value (List L.Thrown)) (w0 w1 : L.World) (s0 s1 : FixtureStack L.Value L.Thrown L.Rest)
+pub was_set_up : {L : Language} (rules : Rules L) (item : Item) (d : ℕ) (given : List (Grant L)) (i : Instance (CachedResult L.Value L.Thrown L.Rest)) (direct copy : List ℕ) (told : KeptEnd L.Value (List L.Thrown)) (w0 w1 : L.World) (s0 s1 : SetupStack L.Value L.Thrown L.Rest)
     → Calls rules item d given i direct copy told s0.live.next s0.own w0 w1
     → s1.live.live ≡ s0.live.live ++ i ∷ []
     → s1.live.next ≡ s0.live.next + 1
@@ -74,7 +74,7 @@ was_set_up {L} rules item d given i direct copy told w0 w1 s0 s1 k live next eve
     let m = call_fixture_func rules item d given s0.own (rules.ask item.node d (item.parameter d) w0) in
     let f = live_instance rules i in
     let ef : f ≡ fresh rules item d given s0.live.next (slot_of rules i.slot) = fresh_same rules item d given i s0.live.next k.bases k.def k.param k.node k.scope k.order in
-    let em : made rules item d given (made_with rules i.slot w1) s ≡ set_up rules item d given s = ap (λ (x : NewInstance L). made rules item d given x s) k.made in
+    let em : instance_reply rules item d given (made_with rules i.slot w1) s ≡ set_up rules item d given s = ap (λ (x : NewInstance L). instance_reply rules item d given x s) k.made in
     let g = fresh rules item d given s0.live.next (slot_of rules i.slot) in
     let ea : answer_in rules (answer_with d s0.live.next copy told) ≡ answer_of g (set_up_end rules i.slot.kept) =
     ap (λ (x : ℕ). answer_in rules (answer_with x s0.live.next copy told)) (sym k.def)
@@ -89,7 +89,7 @@ was_set_up {L} rules item d given i direct copy told w0 w1 s0 s1 k live next eve
     ∙ (ap (λ (x : List ℕ). s0.events ++ event_for x i ∷ []) k.direct_is
     ∙ (ap (λ (x : Event). s0.events ++ x ∷ []) (event_same rules (numbers_of given []) i)
     ∙ ap (λ (x : LiveInstance L). s0.events ++ event_of (numbers_of given []) x (set_up_end rules i.slot.kept) ∷ []) ef)) in
-    let es : stack_state rules w1 s1 ≡ (made rules item d given (made_with rules i.slot w1) s).state =
+    let es : stack_state rules w1 s1 ≡ (instance_reply rules item d given (made_with rules i.slot w1) s).state =
     state_same rules w1 w1 s1 (live_instances rules s0.live.live ++ g ∷ []) (s0.live.next + 1) (s0.events ++ event_of (numbers_of given []) g (set_up_end rules i.slot.kept) ∷ []) s0.given s0.own refl el next ev gave own in
     record {
       answer = ea ∙ ap (λ (x : Reply L). x.answer) em;

@@ -3,16 +3,16 @@ use Rattle.std.proofs.Common.{◌≡◌, ℕ, List, [], ◌∷◌, ◌++◌, ref
 use Rattle.setup_stack.specs.declared.answers.Answer.{Answer as CodeAnswer}
 use Rattle.setup_stack.specs.declared.answers.Answer.TheVariants as told
 use Rattle.setup_stack.specs.declared.answers.Grant.{Grant as CodeGrant}
-use Rattle.setup_stack.specs.declared.stack.FixtureStack.{FixtureStack}
+use Rattle.setup_stack.specs.declared.stack.SetupStack.{SetupStack}
 use Rattle.setup_stack.specs.SetUps.{IsDemanded}
 use Rattle.setup_stack.specs.Views.{answer_in, grant_of, grants_of, stack_state}
 use Rattle.session_rules.specs.Demand.{Given, Reply, demand, reply}
-use Rattle.session_rules.specs.Session.{demand_closure, demand_next, noted}
+use Rattle.session_rules.specs.Session.{demand_closure, demand_next, with_grant}
 use Rattle.session_rules.specs.Teardown.{Grant, SessionState, session_step}
 use Rattle.session_rules.specs.World.{Item, Language, Rules}
 use Rattle.setup_stack.proofs.Turns.{grants_push}
 
-pub given_noted : {L : Language} (rules : Rules L) (a : CodeAnswer L.Value L.Thrown) (g : CodeGrant L.Value) (w : L.World) (s : FixtureStack L.Value L.Thrown L.Rest) (given : List (CodeGrant L.Value)) (r : Reply L)
+pub given_noted : {L : Language} (rules : Rules L) (a : CodeAnswer L.Value L.Thrown) (g : CodeGrant L.Value) (w : L.World) (s : SetupStack L.Value L.Thrown L.Rest) (given : List (CodeGrant L.Value)) (r : Reply L)
     → r ≡ reply (answer_in rules a) (stack_state rules w s)
     → a ≡ told.Given g
     → given ≡ s.given ++ g ∷ []
@@ -23,11 +23,11 @@ given_noted {L} rules a g w s given r er ea eg =
       grant_of rules g,
       ap (λ (x : Reply L). x.answer) e,
       refl,
-      ap (λ (l : List (Grant L)). record (stack_state rules w s) { given = l }) more ∙ ap (λ (x : Reply L). noted (grant_of rules g) x.state) (sym e),
+      ap (λ (l : List (Grant L)). record (stack_state rules w s) { given = l }) more ∙ ap (λ (x : Reply L). with_grant (grant_of rules g) x.state) (sym e),
     )
 
 -- one definition more of a closure
-module _ {L : Language} (rules : Rules L) (item : Item) (d : ℕ) (ds : List ℕ) (s : SessionState L) (a : CodeAnswer L.Value L.Thrown) (w : L.World) (t : FixtureStack L.Value L.Thrown L.Rest) (e : demand rules item rules.depth d s ≡ reply (answer_in rules a) (stack_state rules w t)) where
+module _ {L : Language} (rules : Rules L) (item : Item) (d : ℕ) (ds : List ℕ) (s : SessionState L) (a : CodeAnswer L.Value L.Thrown) (w : L.World) (t : SetupStack L.Value L.Thrown L.Rest) (e : demand rules item rules.depth d s ≡ reply (answer_in rules a) (stack_state rules w t)) where
   next_of_closure : demand_closure rules item (d ∷ ds) s ≡ demand_next (demand_closure rules item ds) (answer_in rules a) (stack_state rules w t)
   next_of_closure = ap (λ (r : Reply L). demand_next (demand_closure rules item ds) r.answer r.state) e
 

@@ -8,14 +8,14 @@ use Rattle.session_types.specs.declared.instance.Instance.{Instance}
 use Rattle.session_types.specs.declared.journal.Event.TheVariants.{DownBegins, Down}
 use Rattle.session_types.specs.Live.{dependents, down_order, not_on, instance_by_number, instance_numbers, without}
 use Rattle.session_rules.specs.World.{Language, Rules, LiveInstance, ClosedRequest}
-use Rattle.session_rules.specs.Teardown.{SessionState, TeardownEnd, torn, torn_of, torn_behind, finalize_all, resumed, closed_request, down_all, down_more, down_one, some_raised, session_step}
+use Rattle.session_rules.specs.Teardown.{SessionState, TeardownEnd, torn, torn_of, torn_behind, finalize_all, rest_resumed, closed_request, down_all, down_more, down_one, some_raised, session_step}
 use Rattle.session_types.proofs.Lists.{filter-In}
 use Rattle.live_chains.specs.declared.id.LiveId.{LiveId}
 use Rattle.live_chains.specs.Chained.{Apart, id_order, ids_without}
 use Rattle.setup_stack.specs.Borne.{without_all}
 use Rattle.setup_stack.specs.declared.answers.Grant.{Grant as CodeGrant}
 use Rattle.fixture_instances.specs.declared.ends.CachedResult.{CachedResult}
-use Rattle.setup_stack.specs.declared.stack.FixtureStack.{FixtureStack}
+use Rattle.setup_stack.specs.declared.stack.SetupStack.{SetupStack}
 use Rattle.setup_stack.specs.Views.{stack_state}
 use Rattle.fixture_instances.specs.Views.{closed_with, live_instance, live_instances, slot_of}
 use Rattle.fixture_instances.proofs.Slots.{dependents_numbers, not_on_numbers, numbered_dress, without_dress}
@@ -29,21 +29,21 @@ numbered_number {S} n (x ∷ xs) i e =
       | false ↦ λ q h. numbered_number n xs i h
     ] refl e
 
-pub record IsDown {L : Language} (rules : Rules L) (n : ℕ) (w0 : L.World) (s0 : FixtureStack L.Value L.Thrown L.Rest) (w1 : L.World) (s1 : FixtureStack L.Value L.Thrown L.Rest) (more : List L.Thrown) : Type 0 where
+pub record IsDown {L : Language} (rules : Rules L) (n : ℕ) (w0 : L.World) (s0 : SetupStack L.Value L.Thrown L.Rest) (w1 : L.World) (s1 : SetupStack L.Value L.Thrown L.Rest) (more : List L.Thrown) : Type 0 where
   pub state : stack_state rules w1 s1 ≡ (down_one rules (instance_by_number n (live_instances rules s0.live.live)) (stack_state rules w0 s0)).state
   pub raised : more ≡ (down_one rules (instance_by_number n (live_instances rules s0.live.live)) (stack_state rules w0 s0)).raised
 
 -- the teardown that the calls made
-pub torn_is : {L : Language} (rules : Rules L) (i : Instance (CachedResult L.Value L.Thrown L.Rest)) (request : Option L.Value) (fs : List L.Value) (more : List L.Thrown) (w0 w1 w2 : L.World) → request ≡ i.slot.request → closed_with rules fs w1 ≡ closed_request rules request w0 → torn more w2 ≡ finalize_all rules fs (resumed rules i.def i.slot.rest w1) → torn more w2 ≡ torn_of rules (live_instance rules i) w0
+pub torn_is : {L : Language} (rules : Rules L) (i : Instance (CachedResult L.Value L.Thrown L.Rest)) (request : Option L.Value) (fs : List L.Value) (more : List L.Thrown) (w0 w1 w2 : L.World) → request ≡ i.slot.request → closed_with rules fs w1 ≡ closed_request rules request w0 → torn more w2 ≡ finalize_all rules fs (rest_resumed rules i.def i.slot.rest w1) → torn more w2 ≡ torn_of rules (live_instance rules i) w0
 torn_is {L} rules i request fs more w0 w1 w2 er ec et =
     let q : closed_with rules fs w1 ≡ closed_request rules i.slot.request w0 = ec ∙ ap (λ (r : Option L.Value). closed_request rules r w0) er in
     et ∙ ap (λ (c : ClosedRequest L). torn_behind rules (live_instance rules i) c) q
 
-pub went_down : {L : Language} (rules : Rules L) (n : ℕ) (i : Instance (CachedResult L.Value L.Thrown L.Rest)) (h : CachedResult L.Value L.Thrown L.Rest) (fs : List L.Value) (more : List L.Thrown) (any : Bool) (w0 w1 w2 : L.World) (s0 s1 : FixtureStack L.Value L.Thrown L.Rest)
+pub went_down : {L : Language} (rules : Rules L) (n : ℕ) (i : Instance (CachedResult L.Value L.Thrown L.Rest)) (h : CachedResult L.Value L.Thrown L.Rest) (fs : List L.Value) (more : List L.Thrown) (any : Bool) (w0 w1 w2 : L.World) (s0 s1 : SetupStack L.Value L.Thrown L.Rest)
     → instance_by_number n s0.live.live ≡ Some i
     → option_map (λ (k : Instance (CachedResult L.Value L.Thrown L.Rest)). k.slot) (instance_by_number n s0.live.live) ≡ Some h
     → closed_with rules fs w1 ≡ closed_request rules h.request w0
-    → torn more w2 ≡ finalize_all rules fs (resumed rules i.def i.slot.rest w1)
+    → torn more w2 ≡ finalize_all rules fs (rest_resumed rules i.def i.slot.rest w1)
     → any ≡ some_raised more
     → s1.live.live ≡ without n s0.live.live
     → s1.live.next ≡ s0.live.next
@@ -84,13 +84,13 @@ there_next id rest ids there apart j h =
     filter-In (λ (k : LiveId). not (eqb id.order k.order)) j ids (there j (inr h)) (ap not e)
 
 -- one more went down
-pub record DownStep {L : Language} (rules : Rules L) (ids0 : List LiveId) (raised0 : List L.Thrown) (s0 : SessionState L) (live0 : List (Instance (CachedResult L.Value L.Thrown L.Rest))) (rest : List LiveId) (raised : List L.Thrown) (w : L.World) (s : FixtureStack L.Value L.Thrown L.Rest) : Type 0 where
+pub record DownStep {L : Language} (rules : Rules L) (ids0 : List LiveId) (raised0 : List L.Thrown) (s0 : SessionState L) (live0 : List (Instance (CachedResult L.Value L.Thrown L.Rest))) (rest : List LiveId) (raised : List L.Thrown) (w : L.World) (s : SetupStack L.Value L.Thrown L.Rest) : Type 0 where
   pub down : down_more rules (map id_order rest) raised (stack_state rules w s) ≡ down_more rules (map id_order ids0) raised0 s0
   pub live : without_all (map id_order rest) s.live.live ≡ without_all (map id_order ids0) live0
   pub there : (id : LiveId) → IsMember id rest → IsMember id s.live.ids
   pub once : Apart id_order rest
 
-pub down_step : {L : Language} (rules : Rules L) (ids0 : List LiveId) (raised0 : List L.Thrown) (s0 : SessionState L) (live0 : List (Instance (CachedResult L.Value L.Thrown L.Rest))) (now rest : List LiveId) (id : LiveId) (raised raised1 : List L.Thrown) (w w1 : L.World) (s s1 : FixtureStack L.Value L.Thrown L.Rest)
+pub down_step : {L : Language} (rules : Rules L) (ids0 : List LiveId) (raised0 : List L.Thrown) (s0 : SessionState L) (live0 : List (Instance (CachedResult L.Value L.Thrown L.Rest))) (now rest : List LiveId) (id : LiveId) (raised raised1 : List L.Thrown) (w w1 : L.World) (s s1 : SetupStack L.Value L.Thrown L.Rest)
     → now ≡ id ∷ rest
     → DownStep rules ids0 raised0 s0 live0 now raised w s
     → stack_state rules w1 s1 ≡ (down_one rules (instance_by_number id.order (live_instances rules s.live.live)) (stack_state rules w s)).state
@@ -112,7 +112,7 @@ down_step {L} rules ids0 raised0 s0 live0 now rest id raised raised1 w w1 s s1 c
     }
 
 -- all went down
-pub down_done : {L : Language} (rules : Rules L) (ids0 : List LiveId) (raised0 : List L.Thrown) (s0 : SessionState L) (live0 : List (Instance (CachedResult L.Value L.Thrown L.Rest))) (i : ℕ) (raised : List L.Thrown) (w : L.World) (s : FixtureStack L.Value L.Thrown L.Rest) → length ids0 ≤ i → DownStep rules ids0 raised0 s0 live0 (drop i ids0) raised w s → (session_step raised (stack_state rules w s) ≡ down_more rules (map id_order ids0) raised0 s0) × (s.live.live ≡ without_all (map id_order ids0) live0)
+pub down_done : {L : Language} (rules : Rules L) (ids0 : List LiveId) (raised0 : List L.Thrown) (s0 : SessionState L) (live0 : List (Instance (CachedResult L.Value L.Thrown L.Rest))) (i : ℕ) (raised : List L.Thrown) (w : L.World) (s : SetupStack L.Value L.Thrown L.Rest) → length ids0 ≤ i → DownStep rules ids0 raised0 s0 live0 (drop i ids0) raised w s → (session_step raised (stack_state rules w s) ≡ down_more rules (map id_order ids0) raised0 s0) × (s.live.live ≡ without_all (map id_order ids0) live0)
 down_done {L} rules ids0 raised0 s0 live0 i raised w s past h = (
   sym (at_drop_all (λ (l : List LiveId). down_more rules (map id_order l) raised (stack_state rules w s)) ids0 i past) ∙ h.down,
   sym (at_drop_all (λ (l : List LiveId). without_all (map id_order l) s.live.live) ids0 i past) ∙ h.live,
@@ -122,7 +122,7 @@ down_done {L} rules ids0 raised0 s0 live0 i raised w s past h = (
 pub there_at : {A : Type 0} (xs : List A) (i : ℕ) (d : A) (held : List A) → i < length xs → ((x : A) → IsMember x (drop i xs) → IsMember x held) → IsMember (get_or xs i d) held
 there_at {A} xs i d held lt h = h (get_or xs i d) (subst (λ (l : List A). IsMember (get_or xs i d) l) (sym (drop_more xs i d lt)) (inl refl))
 
-pub down_step_at : {L : Language} (rules : Rules L) (ids0 : List LiveId) (raised0 : List L.Thrown) (s0 : SessionState L) (live0 : List (Instance (CachedResult L.Value L.Thrown L.Rest))) (i : ℕ) (d : LiveId) (raised raised1 : List L.Thrown) (w w1 : L.World) (s s1 : FixtureStack L.Value L.Thrown L.Rest)
+pub down_step_at : {L : Language} (rules : Rules L) (ids0 : List LiveId) (raised0 : List L.Thrown) (s0 : SessionState L) (live0 : List (Instance (CachedResult L.Value L.Thrown L.Rest))) (i : ℕ) (d : LiveId) (raised raised1 : List L.Thrown) (w w1 : L.World) (s s1 : SetupStack L.Value L.Thrown L.Rest)
     → i < length ids0
     → DownStep rules ids0 raised0 s0 live0 (drop i ids0) raised w s
     → stack_state rules w1 s1 ≡ (down_one rules (instance_by_number (get_or ids0 i d).order (live_instances rules s.live.live)) (stack_state rules w s)).state
@@ -134,14 +134,14 @@ down_step_at rules ids0 raised0 s0 live0 i d raised raised1 w w1 s s1 lt h es er
     down_step rules ids0 raised0 s0 live0 (drop i ids0) (drop (i + 1) ids0) (get_or ids0 i d) raised raised1 w w1 s s1 (drop_more ids0 i d lt) h es er ei el
 
 -- what isn't for the next item went down, and what was given is forgotten
-pub left_for : {L : Language} (rules : Rules L) (chain ns : List ℕ) (raised : List L.Thrown) (given : List (CodeGrant L.Value)) (w : L.World) (s : FixtureStack L.Value L.Thrown L.Rest) → raised ≡ [] → given ≡ [] → ns ≡ instance_numbers (down_order (not_on chain s.live.live)) → down_more rules ns raised (stack_state rules w (record s { given = given })) ≡ down_all rules (not_on chain (live_instances rules s.live.live)) (stack_state rules w (record s { given = [] }))
+pub left_for : {L : Language} (rules : Rules L) (chain ns : List ℕ) (raised : List L.Thrown) (given : List (CodeGrant L.Value)) (w : L.World) (s : SetupStack L.Value L.Thrown L.Rest) → raised ≡ [] → given ≡ [] → ns ≡ instance_numbers (down_order (not_on chain s.live.live)) → down_more rules ns raised (stack_state rules w (record s { given = given })) ≡ down_all rules (not_on chain (live_instances rules s.live.live)) (stack_state rules w (record s { given = [] }))
 left_for {L} rules chain ns raised given w s er eg en =
     ap (λ (r : List L.Thrown). down_more rules ns r (stack_state rules w (record s { given = given }))) er
     ∙ (ap (λ (gs : List (CodeGrant L.Value)). down_more rules ns [] (stack_state rules w (record s { given = gs }))) eg
     ∙ ap (λ (l : List ℕ). down_more rules l [] (stack_state rules w (record s { given = [] }))) (en ∙ sym (not_on_numbers (λ (i : Instance (CachedResult L.Value L.Thrown L.Rest)). slot_of rules i.slot) chain s.live.live)))
 
 -- one went down, and all that depends on it
-pub gone_with : {L : Language} (rules : Rules L) (n : ℕ) (ns : List ℕ) (before raised : List L.Thrown) (w : L.World) (s : FixtureStack L.Value L.Thrown L.Rest) (t : SessionState L) → session_step raised t ≡ down_more rules ns before (stack_state rules w s) → before ≡ [] → ns ≡ instance_numbers (down_order (dependents n s.live.live)) → session_step raised t ≡ down_all rules (dependents n (live_instances rules s.live.live)) (stack_state rules w s)
+pub gone_with : {L : Language} (rules : Rules L) (n : ℕ) (ns : List ℕ) (before raised : List L.Thrown) (w : L.World) (s : SetupStack L.Value L.Thrown L.Rest) (t : SessionState L) → session_step raised t ≡ down_more rules ns before (stack_state rules w s) → before ≡ [] → ns ≡ instance_numbers (down_order (dependents n s.live.live)) → session_step raised t ≡ down_all rules (dependents n (live_instances rules s.live.live)) (stack_state rules w s)
 gone_with {L} rules n ns before raised w s t e eb en =
     e
     ∙ (ap (λ (r : List L.Thrown). down_more rules ns r (stack_state rules w s)) eb

@@ -3,7 +3,7 @@ use Rattle.std.proofs.Common.{◌≡◌, ℕ, zero, suc, true, false, cond, List
 use Rattle.session_types.specs.Live.{dependents, down_order, find, instance_by_number, instance_numbers}
 use Rattle.session_rules.specs.World.{Item, Language, LiveInstance, Rules}
 use Rattle.session_rules.specs.Teardown.{Grant, SessionState, Step, down_all, down_more, down_one}
-use Rattle.session_rules.specs.Demand.{Answer, JointAnswer, AllGiven, Given, OneRefused, Refused, Replies, Reply, answer_of, answer_with, ask_all, ask_next, demand, faulty, is_same, replace, replies, reply, set_up, set_up_after, settle, with_arguments}
+use Rattle.session_rules.specs.Demand.{Answer, JointAnswer, AllGiven, Given, OneRefused, Refused, Replies, Reply, answer_of, answer_with, ask_all, ask_next, demand, fault_reply, is_same, replace, replies, reply, set_up, set_up_after, settle, with_arguments}
 use Rattle.setup_stack.specs.Passing.{AreAsked, over, over_reply, over_step}
 
 module _ {L : Language} (rules : Rules L) (s : SessionState L) where
@@ -95,7 +95,7 @@ module _ {L : Language} (rules : Rules L) (one other : Item) (same : AreAsked on
       ∙ next_alike (ask_all ask ds) (ask_all and ds) (asked_alike ask and law ds) given (and d t).answer (and d t).state
 
   pub demand_alike : (depth d : ℕ) (s : SessionState L) → demand rules one depth d s ≡ demand rules other depth d s
-  demand_alike zero d s = ap (λ (n : ℕ). faulty (rules.fault n s.world) s) same.node
+  demand_alike zero d s = ap (λ (n : ℕ). fault_reply (rules.fault n s.world) s) same.node
   demand_alike (suc depth) d s =
       ap (λ (ds : List ℕ). answer_with rules one d (ask_all (demand rules one depth) ds [] s)) (same.requests d)
       ∙ (ap (λ (r : Replies L). answer_with rules one d r) (asked_alike (demand rules one depth) (demand rules other depth) (demand_alike depth) (other.requests d) [] s)

@@ -3,11 +3,11 @@ use Rattle.std.proofs.Common.{◌≡◌, ℕ, List, ap, ◌∙◌, Option}
 use Rattle.session_types.specs.declared.journal.Event.{Event}
 use Rattle.session_rules.specs.World.{Language, Rules, LiveInstance}
 use Rattle.setup_stack.specs.declared.answers.Grant.{Grant as CodeGrant}
-use Rattle.setup_stack.specs.declared.stack.FixtureStack.{FixtureStack}
+use Rattle.setup_stack.specs.declared.stack.SetupStack.{SetupStack}
 use Rattle.setup_stack.specs.Views.{stack_state, stated}
 use Rattle.fixture_instances.specs.Views.{live_instances}
 
-pub state_same : {L : Language} (rules : Rules L) (w v : L.World) (s : FixtureStack L.Value L.Thrown L.Rest) (live : List (LiveInstance L)) (next : ℕ) (events : List Event) (given : List (CodeGrant L.Value)) (own : Option L.Value)
+pub state_same : {L : Language} (rules : Rules L) (w v : L.World) (s : SetupStack L.Value L.Thrown L.Rest) (live : List (LiveInstance L)) (next : ℕ) (events : List Event) (given : List (CodeGrant L.Value)) (own : Option L.Value)
     → w ≡ v → live_instances rules s.live.live ≡ live → s.live.next ≡ next → s.events ≡ events → s.given ≡ given → s.own ≡ own
     → stack_state rules w s ≡ stated rules v live next events given own
 state_same {L} rules w v s live next events given own ew el en ee eg eo =

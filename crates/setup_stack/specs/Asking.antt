@@ -4,7 +4,7 @@ use Rattle.std.specs.Prelude.{◌≡◌, ℕ, zero, suc, ◌+◌, ◌<◌, List,
 use Rattle.session_types.specs.Members.{IsMember}
 use Rattle.session_rules.specs.World.{Language, Rules, Item}
 use Rattle.session_rules.specs.Teardown.{SessionState, Step, session_step}
-use Rattle.session_rules.specs.Demand.{Reply, reply, answer_with, ask_all, ask_next, demand, faulty}
+use Rattle.session_rules.specs.Demand.{Reply, reply, answer_with, ask_all, ask_next, demand, fault_reply}
 use Rattle.session_rules.specs.Fits.{IsWellScoped}
 use Rattle.setup_stack.specs.declared.answers.Answer.{Answer as CodeAnswer}
 use Rattle.setup_stack.specs.declared.answers.Answer.TheVariants as told
@@ -35,7 +35,7 @@ handed_on rules item depth f r = answer_with rules item f.def (ask_next (ask_all
 
 -- what comes of all of them
 abbrev pub left_of : {L : Language} → Rules L → Item → ℕ → List (AskFrame L.Value) → AskFrame L.Value → SessionState L → Reply L
-left_of rules item zero below top s = faulty (rules.fault item.node s.world) s
+left_of rules item zero below top s = fault_reply (rules.fault item.node s.world) s
 left_of rules item (suc depth) [] top s = goes_on rules item depth top s
 left_of rules item (suc depth) (f ∷ below) top s = handed_on rules item depth f (left_of rules item depth below top s)
 

@@ -1,7 +1,7 @@
 -- What is noted of an instance that comes up, and what is answered.
 use Rattle.std.specs.Prelude.{ℕ, List, [], ◌∷◌}
 use Rattle.session_types.specs.declared.instance.Instance.{Instance}
-use Rattle.session_types.specs.declared.journal.Birth.{Birth}
+use Rattle.session_types.specs.declared.journal.Made.{Made}
 use Rattle.session_types.specs.declared.journal.Event.{Event}
 use Rattle.session_types.specs.declared.journal.Event.TheVariants.{Up, UpFailed}
 use Rattle.session_types.specs.Live.{without}
@@ -11,10 +11,10 @@ use Rattle.setup_stack.specs.declared.answers.Answer.{Answer as CodeAnswer}
 use Rattle.setup_stack.specs.declared.answers.Answer.TheVariants as told
 use Rattle.fixture_instances.specs.declared.ends.CachedResult.{CachedResult}
 
-abbrev pub birth_of : {S : Type 0} → List ℕ → Instance S → Birth
+abbrev pub birth_of : {S : Type 0} → List ℕ → Instance S → Made
 birth_of bases i = record { n = i.order; def = i.def; param = i.param; node = i.node; bases = bases }
 
-abbrev pub event_by : {V E : Type 0} → KeptEnd V E → Birth → Event
+abbrev pub event_by : {V E : Type 0} → KeptEnd V E → Made → Event
 event_by (kept.Value v) made = Up made
 event_by (kept.Failure e) made = UpFailed made
 

@@ -3,7 +3,7 @@ use Rattle.std.specs.Prelude.{◌≡◌, ℕ, ◌<◌, length, List, [], Option,
 use Rattle.session_rules.specs.World.{Language, Rules}
 use Rattle.session_rules.specs.Teardown.{Grant, SessionState}
 use Rattle.session_rules.specs.Demand.{Given, Refused, Reply}
-use Rattle.session_rules.specs.Session.{noted}
+use Rattle.session_rules.specs.Session.{with_grant}
 use Rattle.fixture_table.specs.Tables.{TableValue}
 use Rattle.fixture_table.specs.Tree.{iter_parents}
 use Rattle.fixture_instances.specs.declared.items.ItemRef.{ItemRef}
@@ -12,7 +12,7 @@ use Rattle.setup_stack.specs.declared.error.SetupError.TheVariants.{Told, OutOfM
 
 -- what was given is noted, and its value is the answer; or the exceptions are
 abbrev pub IsDemanded : {L : Language} → Rules L → Result L.Value (SetupError L.Thrown) → Reply L → SessionState L → Type 0
-IsDemanded {L} rules (Ok value) r t = (grant : Grant L) × (r.answer ≡ Given grant) × (value ≡ grant.value) × (t ≡ noted grant r.state)
+IsDemanded {L} rules (Ok value) r t = (grant : Grant L) × (r.answer ≡ Given grant) × (value ≡ grant.value) × (t ≡ with_grant grant r.state)
 IsDemanded rules (Err (Told es)) r t = (r.answer ≡ Refused es) × (t ≡ r.state)
 IsDemanded rules (Err OutOfMemory) r t = Unit {0}
 

@@ -7,7 +7,7 @@ use Rattle.session_rules.specs.Demand.{Answer, Given, Refused}
 use Rattle.setup_stack.specs.declared.answers.Grant.{Grant as CodeGrant}
 use Rattle.setup_stack.specs.declared.answers.Answer.{Answer as CodeAnswer}
 use Rattle.setup_stack.specs.declared.answers.Answer.TheVariants as told
-use Rattle.setup_stack.specs.declared.stack.FixtureStack.{FixtureStack}
+use Rattle.setup_stack.specs.declared.stack.SetupStack.{SetupStack}
 use Rattle.fixture_instances.specs.Views.{live_instances}
 
 abbrev pub grant_of : {L : Language} → Rules L → CodeGrant L.Value → Grant L
@@ -41,5 +41,5 @@ stated rules w live next events given own =
     }
 
 -- the state that a world and a stack make together
-abbrev pub stack_state : {L : Language} → Rules L → L.World → FixtureStack L.Value L.Thrown L.Rest → SessionState L
+abbrev pub stack_state : {L : Language} → Rules L → L.World → SetupStack L.Value L.Thrown L.Rest → SessionState L
 stack_state rules w s = stated rules w (live_instances rules s.live.live) s.live.next s.events s.given s.own

@@ -3,7 +3,7 @@ ghost use Rattle.session_types.specs.Members.{IsMember};
 ghost use Rattle.session_rules.specs.World.{Item, LiveInstance, Rules, language};
 ghost use Rattle.session_rules.specs.Teardown.{SessionState, down_all};
 ghost use Rattle.session_rules.specs.Demand.{demand};
-ghost use Rattle.fixture_table.specs.Faults.{Settled};
+ghost use Rattle.fixture_table.specs.Faults.{CanBeSetUp};
 ghost use Rattle.fixture_table.specs.Tables.{TableValue};
 ghost use Rattle.fixture_instances.specs.declared.items.ItemRef.{ItemRef};
 ghost use Rattle.setup_stack.specs.Asking.{IsReady};
@@ -27,5 +27,5 @@ pub fn the_rest_of_an_item_does_not_matter<W: Acts>()
 
 /// What the closure of an item has, as a table answers it, is ready to be demanded, where the rules go by the table.
 pub fn what_a_closure_has_is_ready<W: Acts>()
-    ensures { (rules : Rules (language W W.Value W.Thrown W.Rest W.Told W.is_bad)) (table : TableValue) (item : ItemRef W.Value) (ids : List ℕ) → HasScopes rules table → rules.depth ≡ length table.defs → ((d : ℕ) → IsMember d ids → d < length table.defs) → Settled table.nodes table.defs item.node (bound_names item.bound) ids → (d : ℕ) → IsMember d ids → IsReady rules (item_for_session table item) (length table.defs) rules.depth d }
+    ensures { (rules : Rules (language W W.Value W.Thrown W.Rest W.Told W.is_bad)) (table : TableValue) (item : ItemRef W.Value) (ids : List ℕ) → HasScopes rules table → rules.depth ≡ length table.defs → ((d : ℕ) → IsMember d ids → d < length table.defs) → CanBeSetUp table.nodes table.defs item.node (bound_names item.bound) ids → (d : ℕ) → IsMember d ids → IsReady rules (item_for_session table item) (length table.defs) rules.depth d }
 {}

@@ -3,7 +3,7 @@
 //! # What it is for
 //!
 //! What a fixture's function, its rest behind a `yield`, its finalizers and its `request` do is an `Executor`'s. The table of
-//! definitions is lent to each call. `FixtureStack` has the live instances with what is kept of each (`LiveFixtures`), the journal,
+//! definitions is lent to each call. `SetupStack` has the live instances with what is kept of each (`LiveFixtures`), the journal,
 //! what answered the demands since the last `leave`, and the instance of the item's class. With a world it makes a session's state
 //! (`stack_state`).
 //!
@@ -63,5 +63,5 @@ pub use law::{
 };
 pub use lists::push_all;
 pub use making::SetUpOutcome;
-pub use stack::FixtureStack;
+pub use stack::SetupStack;
 pub use tearing::{close_request, finalize_each};

@@ -9,7 +9,7 @@ ghost use Rattle.fixture_table.specs.Tree.{IsTree};
 ghost use Rattle.setup_stack.specs.Asking.{AreReady, IsReady};
 ghost use Rattle.setup_stack.specs.Grants.{orders_of};
 ghost use Rattle.fixture_instances.specs.Items.{item_for_session};
-ghost use Rattle.fixture_instances.specs.Resting.{AreSpent, abandoned, spent};
+ghost use Rattle.fixture_instances.specs.Resting.{AreSpent, abandoned, spent_instance};
 ghost use Rattle.setup_stack.specs.Scopes.{HasScopes};
 ghost use Rattle.setup_stack.specs.SetUps.{IsDemanded, IsNode, next_chain};
 ghost use Rattle.setup_stack.specs.Views.{stack_state};
@@ -18,7 +18,7 @@ ghost use Rattle.fixture_instances.specs.Views.{live_instances};
 use crate::answers::Answer;
 use crate::error::SetupError;
 use crate::lists::orders_of;
-use crate::stack::{FixtureStack, demand, demand_noted, leave};
+use crate::stack::{SetupStack, demand, demand_noted, leave};
 use fixture_instances::{Executor, ItemRef, LiveFixtures, abandon_all, chain_of};
 use fixture_table::Table;
 use seq::{OutOfMemory, Seq};
@@ -44,13 +44,13 @@ fn next_chain<V>(
     }
 }
 
-impl<V: Copy, E: Drop, R> FixtureStack<V, E, R> {
+impl<V: Copy, E: Drop, R> SetupStack<V, E, R> {
     /// No instance lives, and nothing was noted.
     pub fn new(alloc: Global) -> Result<Self, OutOfMemory>
         ensures { IfOk result (λ made. made ≡ record { live = record { live = []; ids = []; spare = 0; next = 0 }; events = []; given = []; own = None }) }
     {
         let live = LiveFixtures::new(alloc)?;
-        Ok(FixtureStack {
+        Ok(SetupStack {
             live,
             events: Seq::new(alloc),
             given: Seq::new(alloc),
@@ -170,7 +170,7 @@ impl<V: Copy, E: Drop, R> FixtureStack<V, E, R> {
         setting: &W::Setting,
     )
         ensures world { world.new ≡ abandoned (W.rules setting.now) self.old.live.live world.old }
-        ensures stack { self.new ≡ record self.old { live = record self.old.live { live = map spent self.old.live.live } } }
+        ensures stack { self.new ≡ record self.old { live = record self.old.live { live = map spent_instance self.old.live.live } } }
         ensures spent { AreSpent self.new.live.live }
     {
         abandon_all(&mut self.live, world, setting);
@@ -180,7 +180,7 @@ impl<V: Copy, E: Drop, R> FixtureStack<V, E, R> {
     pub fn close(self)
         requires { AreSpent self.live.live }
     {
-        let FixtureStack {
+        let SetupStack {
             live,
             events: _events,
             given: _given,

@@ -33,11 +33,11 @@ use fixture_instances::{
 use fixture_table::Table;
 use live_chains::LiveId;
 use seq::{OutOfMemory, Seq};
-use session_types::{Birth, DefId, Event, Instance, Numbers};
+use session_types::{DefId, Event, Instance, Made, Numbers};
 use std::alloc::Global;
 
 /// The live instances, the journal, and what answered the demands of the item at hand.
-pub struct FixtureStack<V, E, R> {
+pub struct SetupStack<V, E, R> {
     pub live: LiveFixtures<V, E, R>,
     pub events: Seq<Event>,
     pub given: Seq<Grant<V>>,
@@ -58,7 +58,7 @@ fn has_any<E>(raised: &[E]) -> bool
 /// One goes down: its `request` closes, what remains is resumed, and then its finalizers are called.
 fn down<W: Executor>(
     alloc: Global,
-    stack: &mut FixtureStack<W::Value, W::Thrown, W::Rest>,
+    stack: &mut SetupStack<W::Value, W::Thrown, W::Rest>,
     world: &mut W,
     setting: &W::Setting,
     id: LiveId,
@@ -97,7 +97,7 @@ fn down<W: Executor>(
 /// These go down in order, whatever raises.
 fn down_each<W: Executor>(
     alloc: Global,
-    stack: &mut FixtureStack<W::Value, W::Thrown, W::Rest>,
+    stack: &mut SetupStack<W::Value, W::Thrown, W::Rest>,
     world: &mut W,
     setting: &W::Setting,
     ids: &[LiveId],
@@ -117,7 +117,7 @@ fn down_each<W: Executor>(
 /// What isn't for these nodes goes down, whatever raises.
 pub(crate) fn leave<W: Executor>(
     alloc: Global,
-    stack: &mut FixtureStack<W::Value, W::Thrown, W::Rest>,
+    stack: &mut SetupStack<W::Value, W::Thrown, W::Rest>,
     world: &mut W,
     setting: &W::Setting,
     chain: &[u32],
@@ -158,7 +158,7 @@ fn begin<W: Executor>(
 fn event_for<V, E, R>(bases: Numbers, instance: &Instance<CachedResult<V, E, R>>) -> Event
     ensures { result ≡ event_for bases instance.now }
 {
-    let birth = Birth {
+    let birth = Made {
         n: instance.order,
         def: instance.def,
         param: instance.param,
@@ -173,7 +173,7 @@ fn event_for<V, E, R>(bases: Numbers, instance: &Instance<CachedResult<V, E, R>>
 
 /// One comes up, or fails to.
 fn bear<V, E, R>(
-    stack: &mut FixtureStack<V, E, R>,
+    stack: &mut SetupStack<V, E, R>,
     instance: Instance<CachedResult<V, E, R>>,
     bases: Numbers,
 ) -> Result<(), OutOfMemory>
@@ -216,7 +216,7 @@ fn answer_with<V, E>(
 /// None lives on its scope node: one is reserved, its function is called, and it comes up or fails to.
 fn set_up<W: Executor>(
     alloc: Global,
-    stack: &mut FixtureStack<W::Value, W::Thrown, W::Rest>,
+    stack: &mut SetupStack<W::Value, W::Thrown, W::Rest>,
     world: &mut W,
     setting: &W::Setting,
     table: &Table,
@@ -256,7 +256,7 @@ fn set_up<W: Executor>(
 /// The answer of one that lives: its value, or its exception, which is raised again with its trace.
 fn found<W: Executor>(
     alloc: Global,
-    stack: &FixtureStack<W::Value, W::Thrown, W::Rest>,
+    stack: &SetupStack<W::Value, W::Thrown, W::Rest>,
     world: &W,
     setting: &W::Setting,
     id: LiveId,
@@ -273,7 +273,7 @@ fn found<W: Executor>(
 /// The one that lives has another parameter: it goes down with all that depend on it. Where that raises nothing, another is set up.
 fn replace<W: Executor>(
     alloc: Global,
-    stack: &mut FixtureStack<W::Value, W::Thrown, W::Rest>,
+    stack: &mut SetupStack<W::Value, W::Thrown, W::Rest>,
     world: &mut W,
     setting: &W::Setting,
     table: &Table,
@@ -305,7 +305,7 @@ fn replace<W: Executor>(
 /// One lives on its scope node: with the same parameter it answers, with another it is replaced.
 fn settle_found<W: Executor>(
     alloc: Global,
-    stack: &mut FixtureStack<W::Value, W::Thrown, W::Rest>,
+    stack: &mut SetupStack<W::Value, W::Thrown, W::Rest>,
     world: &mut W,
     setting: &W::Setting,
     table: &Table,
@@ -339,7 +339,7 @@ fn settle_found<W: Executor>(
 /// What was given to a definition's arguments is there: it is found or made.
 fn settle<W: Executor>(
     alloc: Global,
-    stack: &mut FixtureStack<W::Value, W::Thrown, W::Rest>,
+    stack: &mut SetupStack<W::Value, W::Thrown, W::Rest>,
     world: &mut W,
     setting: &W::Setting,
     table: &Table,
@@ -370,7 +370,7 @@ fn settle<W: Executor>(
 /// It is found or made, and was given nothing.
 fn settle_bare<W: Executor>(
     alloc: Global,
-    stack: &mut FixtureStack<W::Value, W::Thrown, W::Rest>,
+    stack: &mut SetupStack<W::Value, W::Thrown, W::Rest>,
     world: &mut W,
     setting: &W::Setting,
     table: &Table,
@@ -393,7 +393,7 @@ fn settle_bare<W: Executor>(
 /// It is found or made, and is marked where it stands from here on. Where one goes down, nothing is marked.
 fn settle_noted<W: Executor>(
     alloc: Global,
-    stack: &mut FixtureStack<W::Value, W::Thrown, W::Rest>,
+    stack: &mut SetupStack<W::Value, W::Thrown, W::Rest>,
     world: &mut W,
     setting: &W::Setting,
     table: &Table,
@@ -425,7 +425,7 @@ fn settle_noted<W: Executor>(
 /// What stands is found again, and is handed to the one that asks for it.
 fn again<W: Executor>(
     alloc: Global,
-    stack: &mut FixtureStack<W::Value, W::Thrown, W::Rest>,
+    stack: &mut SetupStack<W::Value, W::Thrown, W::Rest>,
     world: &mut W,
     setting: &W::Setting,
     table: &Table,
@@ -453,7 +453,7 @@ fn again<W: Executor>(
 /// The one that asks goes on: it asks for what comes next, or it is found or made and answers the one below.
 fn turn<W: Executor>(
     alloc: Global,
-    stack: &mut FixtureStack<W::Value, W::Thrown, W::Rest>,
+    stack: &mut SetupStack<W::Value, W::Thrown, W::Rest>,
     world: &mut W,
     setting: &W::Setting,
     table: &Table,
@@ -503,7 +503,7 @@ fn turn<W: Executor>(
 /// and is not demanded again.
 pub(crate) fn demand<W: Executor>(
     alloc: Global,
-    stack: &mut FixtureStack<W::Value, W::Thrown, W::Rest>,
+    stack: &mut SetupStack<W::Value, W::Thrown, W::Rest>,
     world: &mut W,
     setting: &W::Setting,
     table: &Table,
@@ -539,7 +539,7 @@ pub(crate) fn demand<W: Executor>(
 /// Demands a definition and notes what was given. The exceptions of a refusal, where it is refused.
 pub(crate) fn demand_noted<W: Executor>(
     alloc: Global,
-    stack: &mut FixtureStack<W::Value, W::Thrown, W::Rest>,
+    stack: &mut SetupStack<W::Value, W::Thrown, W::Rest>,
     world: &mut W,
     setting: &W::Setting,
     table: &Table,

@@ -1,5 +1,5 @@
 ghost use Rattle.std.specs.Prelude.{◌≡◌, List, [], ◌∷◌, ◌++◌, Some, None, IfOk, OnOk};
-ghost use Rattle.session_rules.specs.Teardown.{TeardownEnd, torn, finalize_all, rest_ended, resumed, closed_request};
+ghost use Rattle.session_rules.specs.Teardown.{TeardownEnd, torn, finalize_all, rest_ended, rest_resumed, closed_request};
 ghost use Rattle.fixture_instances.specs.Views.{body_end, closed_with};
 
 use crate::lists::{alone, push_if};
@@ -41,7 +41,7 @@ pub fn resume_rest<W: Executor>(
     def: DefId,
     rest: Option<W::Rest>,
 ) -> Result<Seq<W::Thrown>, OutOfMemory>
-    ensures { IfOk result (λ raised. torn raised world.new ≡ resumed (W.rules setting.now) def rest world.old) }
+    ensures { IfOk result (λ raised. torn raised world.new ≡ rest_resumed (W.rules setting.now) def rest world.old) }
 {
     match rest {
         None => Ok(Seq::new(alloc)),
@@ -96,7 +96,7 @@ pub fn tear<W: Executor>(
     rest: Option<W::Rest>,
     finalizers: &[W::Value],
 ) -> Result<Seq<W::Thrown>, OutOfMemory>
-    ensures { IfOk result (λ raised. torn raised world.new ≡ finalize_all (W.rules setting.now) finalizers.now (resumed (W.rules setting.now) def rest world.old)) }
+    ensures { IfOk result (λ raised. torn raised world.new ≡ finalize_all (W.rules setting.now) finalizers.now (rest_resumed (W.rules setting.now) def rest world.old)) }
 {
     let mut raised = resume_rest(alloc, world, setting, def, rest)?;
     finalize_each(world, setting, finalizers, &mut raised)?;

@@ -5,7 +5,7 @@ use Rattle.std.specs.declared.vec.Vec.{Vec}
 use Rattle.std.specs.Result.{result_and}
 use Rattle.atomic_table.specs.Table.{Me}
 use Rattle.share_files.specs.declared.rule.Range.{Range}
-use Rattle.share_files.specs.Work.{AllWork, Took, IsRange, Ran, held_lists}
+use Rattle.share_files.specs.Work.{AllWork, Took, IsRange, HaveRun, held_lists}
 
 pub beside : {S : Type 0} (k a b : ℕ) (me other : Me S Range) → IsRange k a me → IsRange (k + a) b other → other.0.first ≡ me.0.first + length me.0.lists
 beside k a b me other low high = omega (arith, ap (λ m. m.0.first) low.0, ap (λ m. m.0.first) high.0, low.1)
@@ -25,9 +25,9 @@ all_work-append works (w ∷ ws) [] vs xs ms ys low high = absurd low
 all_work-append works (w ∷ ws) (l ∷ ls) [] xs ms ys low high = absurd low
 
 pub ran-append : {W : Type 0} (works : W → List ℕ → W → Type 0) (groups k a : ℕ) (ds es : List (List ℕ)) (ws xs : List W) (ls ms : List (Vec ℕ Global)) (vs ys : List W) → length ds ≡ a
-    → Ran works groups k ds ws (held_lists ls) vs → Ran works groups (k + a) es xs (held_lists ms) ys → Ran works groups k (ds ++ es) (ws ++ xs) (held_lists (ls ++ ms)) (vs ++ ys)
+    → HaveRun works groups k ds ws (held_lists ls) vs → HaveRun works groups (k + a) es xs (held_lists ms) ys → HaveRun works groups k (ds ++ es) (ws ++ xs) (held_lists (ls ++ ms)) (vs ++ ys)
 ran-append works groups k a ds es ws xs ls ms vs ys len low high =
-    subst (λ (ts : List (List ℕ)). Ran works groups k (ds ++ es) (ws ++ xs) ts (vs ++ ys)) (sym (map-append (λ v. v.items) ls ms))
+    subst (λ (ts : List (List ℕ)). HaveRun works groups k (ds ++ es) (ws ++ xs) ts (vs ++ ys)) (sym (map-append (λ v. v.items) ls ms))
     (took-append groups k ds (held_lists ls) es (held_lists ms) low.0 (subst (λ n. Took groups (k + n) es (held_lists ms)) (sym len) high.0), all_work-append works ws (held_lists ls) vs xs (held_lists ms) ys low.1 high.1)
 
 -- both were well
@@ -37,5 +37,5 @@ on_both (Ok a) (Err e) f p q = tt
 on_both (Err e) y f p q = tt
 
 pub ran_both : {W E : Type 0} (works : W → List ℕ → W → Type 0) (groups k a : ℕ) (x y : Result (Unit {0}) E) (ds es : List (List ℕ)) (ws xs : List W) (ls ms : List (Vec ℕ Global)) (vs ys : List W) → length ds ≡ a
-    → OnOk x (Ran works groups k ds ws (held_lists ls) vs) → OnOk y (Ran works groups (k + a) es xs (held_lists ms) ys) → OnOk (result_and x y) (Ran works groups k (ds ++ es) (ws ++ xs) (held_lists (ls ++ ms)) (vs ++ ys))
+    → OnOk x (HaveRun works groups k ds ws (held_lists ls) vs) → OnOk y (HaveRun works groups (k + a) es xs (held_lists ms) ys) → OnOk (result_and x y) (HaveRun works groups k (ds ++ es) (ws ++ xs) (held_lists (ls ++ ms)) (vs ++ ys))
 ran_both works groups k a x y ds es ws xs ls ms vs ys len low high = on_both x y (ran-append works groups k a ds es ws xs ls ms vs ys len) low high

@@ -14,24 +14,24 @@ pub data Origin : Type 0 where
   Drawn : TableId → ℕ → Origin
 
 -- its shared word, its worker, the number of groups, the groups that it gave, and the number drawn that isn't below that number
-pub record Fed : Type 0 where
+pub record FeedState : Type 0 where
   pub table : TableId
   pub worker : ℕ
   pub limit : ℕ
   pub given : List ℕ
   pub last : Option ℕ
 
-abbrev pub origin : Fed → Origin
+abbrev pub origin : FeedState → Origin
 origin f = Drawn f.table f.worker
 
-abbrev pub given : Fed → List ℕ
+abbrev pub given : FeedState → List ℕ
 given f = f.given
 
-abbrev pub limit : Fed → ℕ
+abbrev pub limit : FeedState → ℕ
 limit f = f.limit
 
 -- it has answered None
-abbrev pub has_ended : Fed → Bool
+abbrev pub has_ended : FeedState → Bool
 has_ended f = is_some f.last
 
 -- the numbers drawn: the first group is the worker's own

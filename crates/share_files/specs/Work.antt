@@ -34,8 +34,8 @@ abbrev pub IsRange : ℕ → ℕ → {S : Type 0} → Me S Range → Type 0
 IsRange k count me = (me ≡ (range k me.0.lists, [])) × (length me.0.lists ≡ count)
 
 -- the workers from k on ran: what they took, and what they made of it
-abbrev pub Ran : {W : Type 0} → (W → List ℕ → W → Type 0) → ℕ → ℕ → List (List ℕ) → List W → List (List ℕ) → List W → Type 0
-Ran works groups k drawn before taken after = Took groups k drawn taken × AllWork works before taken after
+abbrev pub HaveRun : {W : Type 0} → (W → List ℕ → W → Type 0) → ℕ → ℕ → List (List ℕ) → List W → List (List ℕ) → List W → Type 0
+HaveRun works groups k drawn before taken after = Took groups k drawn taken × AllWork works before taken after
 
 -- there is a seat, of this table, of so many workers from k on, none of which drew
 abbrev pub Starts : {S : Type 0} → TableId → ℕ → ℕ → Option (Seat S Range) → Type 0

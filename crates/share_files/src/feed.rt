@@ -45,9 +45,9 @@ pub struct DrawFeed<'a, G> {
 
 impl<'a, G> Model for DrawFeed<'a, G> {
     ghost use Rattle.std.specs.Prelude.{vec_capacity};
-    ghost use Rattle.share_files.specs.Fed.{Fed, IsFeed};
+    ghost use Rattle.share_files.specs.Fed.{FeedState, IsFeed};
 
-    ghost Value = { Fed };
+    ghost Value = { FeedState };
 
     ghost view = { λ f. record { table = f.seat.table_id; worker = f.worker; limit = f.groups; given = f.taken.items; last = f.last } };
 

@@ -2,7 +2,7 @@ ghost use Rattle.std.specs.Prelude.{◌≡◌, ℕ, ◌+◌, ◌/◌, ◌<◌, �
 ghost use Rattle.std.specs.Thread.{IsSync, IsSend};
 ghost use Rattle.share_files.specs.Deal.{Every, Share, lists_from};
 ghost use Rattle.share_files.specs.Rule.{range};
-ghost use Rattle.share_files.specs.Work.{AllWork, Took, IsBlank, IsRange, ReadyWorkers, Ran, held_lists};
+ghost use Rattle.share_files.specs.Work.{AllWork, Took, IsBlank, IsRange, ReadyWorkers, HaveRun, held_lists};
 
 use crate::draws::Draws;
 use crate::feed::DrawFeed;
@@ -65,7 +65,7 @@ fn run_range<R: Threads + Sync, W: Worker + Send, G: Gate + Sync>(
     requires blank { (length lists.old ≡ length workers.old) × All (IsBlank crew.now.groups) lists.old }
     requires groups { All (λ w. W.groups w ≡ crew.now.groups) workers.old }
     ensures seat { (result.0.table_id ≡ seat.table_id) × IsRange first (length workers.old) result.0.me }
-    ensures ran { OnOk result.1 (Ran W.works crew.entry.now.groups first result.0.me.0.lists workers.old (held_lists lists.new) workers.new) }
+    ensures ran { OnOk result.1 (HaveRun W.works crew.entry.now.groups first result.0.me.0.lists workers.old (held_lists lists.new) workers.new) }
 {
     if workers.len() == 1 {
         return run_one(crew, seat, first, &mut lists[0], &mut workers[0]);
@@ -94,18 +94,18 @@ fn run_halves<R: Threads + Sync, W: Worker + Send, G: Gate + Sync>(
     requires blank_high { (length high_lists.old ≡ length high.old) × All (IsBlank crew.now.groups) high_lists.old }
     requires groups { All (λ w. W.groups w ≡ crew.now.groups) low.old × All (λ w. W.groups w ≡ crew.now.groups) high.old }
     ensures seat { (result.0.table_id ≡ seat.table_id) × IsRange first (length low.old + length high.old) result.0.me }
-    ensures ran { OnOk result.1 (Ran W.works crew.entry.now.groups first result.0.me.0.lists (low.old ++ high.old) (held_lists (low_lists.new ++ high_lists.new)) (low.new ++ high.new)) }
+    ensures ran { OnOk result.1 (HaveRun W.works crew.entry.now.groups first result.0.me.0.lists (low.old ++ high.old) (held_lists (low_lists.new ++ high_lists.new)) (low.new ++ high.new)) }
 {
     let middle = first + low.len() as u32;
     let mut upper = Some(crew.shared.split_seat::<Halves>(&mut seat));
     let mut lower = Some(seat);
     let mut left = || -> (Seat<(), Range>, Result<(), OutOfMemory>)
         requires { IsSync R.row × IsSync G.row × IsSend W.row × ReadyWorkers W.groups crew.now.shared.now.table_id crew.now.groups first lower low_lists.now low.now }
-        ensures { (result.0.table_id ≡ crew.entry.now.shared.now.table_id) × IsRange first (length low.entry.now) result.0.me × OnOk result.1 (Ran W.works crew.entry.now.groups first result.0.me.0.lists low.entry.now (held_lists low_lists.exit.now) low.exit.now) }
+        ensures { (result.0.table_id ≡ crew.entry.now.shared.now.table_id) × IsRange first (length low.entry.now) result.0.me × OnOk result.1 (HaveRun W.works crew.entry.now.groups first result.0.me.0.lists low.entry.now (held_lists low_lists.exit.now) low.exit.now) }
     { run_range(rt, crew, lower.take().unwrap(), first, low_lists, low) };
     let mut right = || -> (Seat<(), Range>, Result<(), OutOfMemory>)
         requires { IsSync R.row × IsSync G.row × IsSend W.row × ReadyWorkers W.groups crew.now.shared.now.table_id crew.now.groups middle upper high_lists.now high.now }
-        ensures { (result.0.table_id ≡ crew.entry.now.shared.now.table_id) × IsRange middle (length high.entry.now) result.0.me × OnOk result.1 (Ran W.works crew.entry.now.groups middle result.0.me.0.lists high.entry.now (held_lists high_lists.exit.now) high.exit.now) }
+        ensures { (result.0.table_id ≡ crew.entry.now.shared.now.table_id) × IsRange middle (length high.entry.now) result.0.me × OnOk result.1 (HaveRun W.works crew.entry.now.groups middle result.0.me.0.lists high.entry.now (held_lists high_lists.exit.now) high.exit.now) }
     { run_range(rt, crew, upper.take().unwrap(), middle, high_lists, high) };
     let ((mut seat, below), (other, above)) = join_mut(rt, &mut left, &mut right);
     crew.shared.join_seat::<Whole>(&mut seat, other);

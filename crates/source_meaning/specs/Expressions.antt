@@ -15,34 +15,34 @@ SourcePart = Denotation source_kinds
 
 abbrev mutual
   -- WHAT AN EXPRESSION DOES
-  pub eval : Tree → SourcePart
-  eval (t.Name at name) = noted at (name_part name)
-  eval (t.Number at n) = noted at (constant (val.Int n))
-  eval (t.Text at text) = noted at (text_part text)
-  eval (t.True at) = noted at (constant (val.Bool true))
-  eval (t.False at) = noted at (constant (val.Bool false))
-  eval (t.NoneTree at) = noted at (constant val.None)
-  eval (t.Paren at e) = noted at (eval e)
-  eval (t.Call at f args names) = noted at (call_part (eval f) (arguments_of names) (parts args))
-  eval (t.Unary at op e) = noted at (unary_part op (eval e))
-  eval (t.Binary at l op r) = noted at (binary_part (eval l) op (eval r))
-  eval (t.Compare at e ops es) = noted at (compare_part (eval e) ops (parts es))
-  eval (t.Not at e) = noted at (not_part (eval e))
-  eval (t.And at e es) = noted at (and_part (eval e) (parts es))
-  eval (t.Or at e es) = noted at (or_part (eval e) (parts es))
-  eval (t.IfElse at e condition other) = noted at (choice_part (eval e) (eval condition) (eval other))
-  eval (t.Tuple at es) = noted at (tuple_part (parts es))
-  eval (t.Listed at es) = noted at (list_part (parts es))
-  eval (t.Dict at ks es) = noted at (dict_part (parts ks) (parts es))
-  eval (t.Attribute at e name) = noted at (attribute_part (eval e) name)
-  eval (t.Subscript at e i) = noted at (subscript_part (eval e) (eval i))
-  eval (t.Slice at e from to by) = noted at (slice_part (eval e) (some_part from) (some_part to) (some_part by))
+  pub source_eval : Tree → SourcePart
+  source_eval (t.Name at name) = noted at (name_part name)
+  source_eval (t.Number at n) = noted at (constant (val.Int n))
+  source_eval (t.Text at text) = noted at (text_part text)
+  source_eval (t.True at) = noted at (constant (val.Bool true))
+  source_eval (t.False at) = noted at (constant (val.Bool false))
+  source_eval (t.NoneTree at) = noted at (constant val.None)
+  source_eval (t.Paren at e) = noted at (source_eval e)
+  source_eval (t.Call at f args names) = noted at (call_part (source_eval f) (arguments_of names) (source_parts args))
+  source_eval (t.Unary at op e) = noted at (unary_part op (source_eval e))
+  source_eval (t.Binary at l op r) = noted at (binary_part (source_eval l) op (source_eval r))
+  source_eval (t.Compare at e ops es) = noted at (compare_part (source_eval e) ops (source_parts es))
+  source_eval (t.Not at e) = noted at (not_part (source_eval e))
+  source_eval (t.And at e es) = noted at (and_part (source_eval e) (source_parts es))
+  source_eval (t.Or at e es) = noted at (or_part (source_eval e) (source_parts es))
+  source_eval (t.IfElse at e condition other) = noted at (choice_part (source_eval e) (source_eval condition) (source_eval other))
+  source_eval (t.Tuple at es) = noted at (tuple_part (source_parts es))
+  source_eval (t.Listed at es) = noted at (list_part (source_parts es))
+  source_eval (t.Dict at ks es) = noted at (dict_part (source_parts ks) (source_parts es))
+  source_eval (t.Attribute at e name) = noted at (attribute_part (source_eval e) name)
+  source_eval (t.Subscript at e i) = noted at (subscript_part (source_eval e) (source_eval i))
+  source_eval (t.Slice at e from to by) = noted at (slice_part (source_eval e) (some_source_part from) (some_source_part to) (some_source_part by))
 
   -- what each of them does
-  pub parts : Trees → List SourcePart
-  parts Empty = []
-  parts (More before e) = parts before ++ eval e ∷ []
+  pub source_parts : Trees → List SourcePart
+  source_parts Empty = []
+  source_parts (More before e) = source_parts before ++ source_eval e ∷ []
 
-  pub some_part : Maybe → Option SourcePart
-  some_part Absent = None
-  some_part (Present e) = Some (eval e)
+  pub some_source_part : Maybe → Option SourcePart
+  some_source_part Absent = None
+  some_source_part (Present e) = Some (source_eval e)

@@ -6,7 +6,7 @@ use Rattle.source_meaning.specs.Requests.{source_kinds}
 use Rattle.source_meaning.specs.Statements.{source_entry, source_act, script_body, source_remains}
 use Rattle.py_world.specs.World.{World}
 use Rattle.py_world.specs.Calls.{Meaning}
-use Rattle.py_world.specs.Runs.{Told, call_of, module_of}
+use Rattle.py_world.specs.Runs.{Told, call_of, module_load}
 use Rattle.py_world.specs.Resuming.{Sent, ToldBegun, begin_of, resume_of}
 
 abbrev pub SourceWorld : Type 0
@@ -19,7 +19,7 @@ abbrev pub source_call : Value → List Value → ℕ → SourceWorld → Told s
 source_call f args budget w = call_of source_semantics f args budget w
 
 abbrev pub source_module : List ℕ → ℕ → SourceWorld → Told source_kinds
-source_module path budget w = module_of source_semantics path budget w
+source_module path budget w = module_load source_semantics path budget w
 
 abbrev pub source_begin : Value → List Value → ℕ → SourceWorld → ToldBegun source_kinds
 source_begin f args budget w = begin_of source_semantics f args budget w

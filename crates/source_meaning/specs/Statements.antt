@@ -6,14 +6,14 @@ use Rattle.py_tree.specs.Statements as t
 use Rattle.py_tree.specs.Statements.{Statement, Block, Branches, Handlers, NoStatement, NoBranch, NoHandler, Place, NamePlace, AttributePlace, SubscriptPlace, Taker, One, Unpack, Parameter, Parameter_at}
 use Rattle.py_tree.specs.Names.{locals_of, yields_in}
 use Rattle.py_world.specs.py_kinds.Truth.{truth}
-use Rattle.source_meaning.specs.Expressions.{SourcePart, eval, parts, some_part}
+use Rattle.source_meaning.specs.Expressions.{SourcePart, source_eval, source_parts, some_source_part}
 use Rattle.source_meaning.specs.Requests.{source_kinds, Use, NoUse, Targets, ReturnIt, SourceLayer, Statements, Guard, Receives, SourceTurn, StatementOf, TurnOf, ForOf, Script, Function}
 use Rattle.source_meaning.specs.Watched.{watch}
 use Rattle.py_tree.specs.Trees.{Tree, Maybe, Absent, Present}
 use Rattle.py_world.specs.Site.{site}
 use Rattle.py_world.specs.World.{heap_of, unset}
 use Rattle.py_world.specs.Outcome.{Body, After, Next, on_next, on_value, if_true}
-use Rattle.py_world.specs.Statements.{IfClause, asked, expression_statement, return_value, yield_value, received, no_use, return_sent, pass, leave_loop, next_turn, fail, fail_explained, choose, loop, turn_of}
+use Rattle.py_world.specs.Statements.{IfClause, asked, expression_statement, return_value, yield_value, received, no_use, return_sent, pass_statement, leave_loop, next_turn, fail, fail_explained, choose, loop, while_turn}
 use Rattle.py_world.specs.Definitions.{Written, define, class_statement}
 use Rattle.py_world.specs.Names.{delete_name}
 use Rattle.py_world.specs.Targets.{Store, store_name, store_attribute, store_item, store_all, unpack, assign, augment_name, augment_attribute, augment_item, delete_attribute, delete_item}
@@ -63,8 +63,8 @@ position (t.Class at decorators word name base body) = at
 
 abbrev pub store_place : Place → SourceStore
 store_place (NamePlace at name) = store_name name
-store_place (AttributePlace at e name) = store_attribute (eval e) name
-store_place (SubscriptPlace at e i) = store_item (eval e) (eval i)
+store_place (AttributePlace at e name) = store_attribute (source_eval e) name
+store_place (SubscriptPlace at e i) = store_item (source_eval e) (source_eval i)
 
 abbrev pub store_places : List Place → List SourceStore
 store_places [] = []
@@ -86,13 +86,13 @@ source_use ReturnIt = return_sent
 
 abbrev pub augment : Place → BinOp → SourcePart → SourcePart
 augment (NamePlace at name) op e = augment_name name op e
-augment (AttributePlace at a name) op e = augment_attribute (eval a) name op e
-augment (SubscriptPlace at a i) op e = augment_item (eval a) (eval i) op e
+augment (AttributePlace at a name) op e = augment_attribute (source_eval a) name op e
+augment (SubscriptPlace at a i) op e = augment_item (source_eval a) (source_eval i) op e
 
 abbrev pub delete : Place → SourcePart
 delete (NamePlace at name) = delete_name name
-delete (AttributePlace at e name) = delete_attribute (eval e) name
-delete (SubscriptPlace at e i) = delete_item (eval e) (eval i)
+delete (AttributePlace at e name) = delete_attribute (source_eval e) name
+delete (SubscriptPlace at e i) = delete_item (source_eval e) (source_eval i)
 
 -- an assert, whose failure is a part of it
 abbrev pub source_assert : SourcePart → SourcePart → SourcePart
@@ -100,7 +100,7 @@ source_assert e failure p s k = e p (unset s) (λ o. on_value o k (λ v s. if_tr
 
 -- a plain one, and one whose failure tells the parts of its condition
 abbrev pub assert_as : Bool → Tree → Option SourcePart → SourcePart
-assert_as false e message = source_assert (eval e) (fail message)
+assert_as false e message = source_assert (source_eval e) (fail message)
 assert_as true e message = source_assert (watch 0 e) (fail_explained e message)
 
 -- a statement begins with a step
@@ -123,7 +123,7 @@ source_block_body x ls b = source_sequence x ls (statements_listed b)
 -- the handlers of a `try`, the first one first
 abbrev pub source_handlings : Bool → List SourceLayer → Handlers → List SourceHandling
 source_handlings x ls NoHandler = []
-source_handlings x ls (t.Handler before at class name body) = source_handlings x ls before ++ (some_part class, (name, source_block_body x ls body)) ∷ []
+source_handlings x ls (t.Handler before at class name body) = source_handlings x ls before ++ (some_source_part class, (name, source_block_body x ls body)) ∷ []
 
 -- what guards the block of a `try`
 abbrev pub source_guard : Bool → List SourceLayer → Handlers → List Statement → List Statement → After source_kinds
@@ -138,7 +138,7 @@ source_remains (Receives u ∷ ls) p o k = received (source_use u) p o (λ o. so
 
 abbrev pub source_choices : Bool → List SourceLayer → Branches → List SourceChoice
 source_choices x ls NoBranch = []
-source_choices x ls (t.Branch before at condition body) = source_choices x ls before ++ (at.line, (eval condition, source_block_body x ls body)) ∷ []
+source_choices x ls (t.Branch before at condition body) = source_choices x ls before ++ (at.line, (source_eval condition, source_block_body x ls body)) ∷ []
 
 abbrev pub function : Bool → List ℕ → List Parameter → Block → Function
 function x name params body = record { explains = x; name = name; params = params; body = body }
@@ -168,7 +168,7 @@ source_written (Parameter_at at name annotation default ∷ ps) = (name, is_give
 
 abbrev pub with_part : Maybe → List SourcePart → List SourcePart
 with_part Absent es = es
-with_part (Present e) es = eval e ∷ es
+with_part (Present e) es = source_eval e ∷ es
 
 abbrev pub default_parts : List Parameter → List SourcePart
 default_parts [] = []
@@ -176,31 +176,31 @@ default_parts (Parameter_at at name annotation default ∷ ps) = with_part defau
 
 -- WHAT A STATEMENT DOES, its step being taken
 abbrev pub source_statement : Bool → List SourceLayer → Statement → SourcePart
-source_statement x ls (t.Do at e) = expression_statement (eval e)
-source_statement x ls (t.Assign at ts e) = assign (source_stores ts) (eval e)
-source_statement x ls (t.AugAssign at p op e) = augment p op (eval e)
-source_statement x ls (t.Return at e) = return_value (some_part e)
-source_statement x ls (t.Assert at e m) = assert_as x e (some_part m)
-source_statement x ls (t.GlobalOf at names) = pass
-source_statement x ls (t.Pass at) = pass
+source_statement x ls (t.Do at e) = expression_statement (source_eval e)
+source_statement x ls (t.Assign at ts e) = assign (source_stores ts) (source_eval e)
+source_statement x ls (t.AugAssign at p op e) = augment p op (source_eval e)
+source_statement x ls (t.Return at e) = return_value (some_source_part e)
+source_statement x ls (t.Assert at e m) = assert_as x e (some_source_part m)
+source_statement x ls (t.GlobalOf at names) = pass_statement
+source_statement x ls (t.Pass at) = pass_statement
 source_statement x ls (t.Break at) = leave_loop
 source_statement x ls (t.Continue at) = next_turn
 source_statement x ls (t.If at branches other) = choose (source_choices x ls branches) (source_block_body x ls other)
-source_statement x ls (t.While at e body) = loop (TurnOf x e body) (eval e)
-source_statement x ls (t.Def at decorators word name params returns body) = define (parts decorators) (default_parts params) (source_written params) name word.line (yields_in body) (function x name params body)
-source_statement x ls (t.YieldOf at word e) = yield_value (some_part e) (Receives NoUse ∷ ls)
-source_statement x ls (t.AssignYield at ts word e) = yield_value (some_part e) (Receives (Targets ts) ∷ ls)
-source_statement x ls (t.ReturnYield at word e) = yield_value (some_part e) (Receives ReturnIt ∷ ls)
-source_statement x ls (t.Raise at e) = raise_value source_entry (some_part e)
+source_statement x ls (t.While at e body) = loop (TurnOf x e body) (source_eval e)
+source_statement x ls (t.Def at decorators word name params returns body) = define (source_parts decorators) (default_parts params) (source_written params) name word.line (yields_in body) (function x name params body)
+source_statement x ls (t.YieldOf at word e) = yield_value (some_source_part e) (Receives NoUse ∷ ls)
+source_statement x ls (t.AssignYield at ts word e) = yield_value (some_source_part e) (Receives (Targets ts) ∷ ls)
+source_statement x ls (t.ReturnYield at word e) = yield_value (some_source_part e) (Receives ReturnIt ∷ ls)
+source_statement x ls (t.Raise at e) = raise_value source_entry (some_source_part e)
 source_statement x ls (t.Del at p) = delete p
 source_statement x ls (t.Import at names alias) = import_statement script_body names alias
 source_statement x ls (t.ImportFrom at names all) = import_from script_body names all
-source_statement x ls (t.For at taker e body) = for_statement (ForOf x taker body) (eval e)
+source_statement x ls (t.For at taker e body) = for_statement (ForOf x taker body) (source_eval e)
 source_statement x ls (t.Try at body handlers other final) = source_try x ls body handlers (statements_listed other) (statements_listed final)
-source_statement x ls (t.With at e name body) = with_statement (eval e) name (source_block_body x [] body)
-source_statement x ls (t.Class at decorators word name base body) = class_statement (parts decorators) (some_part base) name word.line (source_block_body x [] body)
+source_statement x ls (t.With at e name body) = with_statement (source_eval e) name (source_block_body x [] body)
+source_statement x ls (t.Class at decorators word name base body) = class_statement (source_parts decorators) (some_source_part base) name word.line (source_block_body x [] body)
 
 abbrev pub source_act : SourceTurn → SourcePart
 source_act (StatementOf x ls st) = source_statement x ls st
-source_act (TurnOf x e body) = turn_of (TurnOf x e body) (eval e) (source_block_body x [] body)
+source_act (TurnOf x e body) = while_turn (TurnOf x e body) (source_eval e) (source_block_body x [] body)
 source_act (ForOf x taker body at) = for_turn (ForOf x taker body) (source_store taker) (source_block_body x [] body) at

@@ -2,7 +2,7 @@
 use Rattle.std.specs.Prelude.{ℕ, suc, ◌+◌, List, [], ◌∷◌, ◌++◌}
 use Rattle.py_tree.specs.Trees as t
 use Rattle.py_tree.specs.Trees.{Tree, Trees, Empty, More}
-use Rattle.source_meaning.specs.Expressions.{SourcePart, eval}
+use Rattle.source_meaning.specs.Expressions.{SourcePart, source_eval}
 use Rattle.py_world.specs.Arguments.{arguments_of}
 use Rattle.py_world.specs.Explained.{kept_count, kept_count_all}
 use Rattle.py_world.specs.Expressions.{noted, unary_part, binary_part, compare_part, not_part, and_part, or_part, call_part, kept_part}
@@ -19,19 +19,19 @@ abbrev mutual
   watch n (t.Not at e) = noted at (not_part (watch n e))
   watch n (t.And at e es) = noted at (and_part (watch n e) (watch_all (n + kept_count e) es))
   watch n (t.Or at e es) = noted at (or_part (watch n e) (watch_all (n + kept_count e) es))
-  watch n (t.Name at name) = kept_part n (eval (t.Name at name))
-  watch n (t.Number at x) = kept_part n (eval (t.Number at x))
-  watch n (t.Text at text) = kept_part n (eval (t.Text at text))
-  watch n (t.True at) = kept_part n (eval (t.True at))
-  watch n (t.False at) = kept_part n (eval (t.False at))
-  watch n (t.NoneTree at) = kept_part n (eval (t.NoneTree at))
-  watch n (t.Tuple at es) = kept_part n (eval (t.Tuple at es))
-  watch n (t.Listed at es) = kept_part n (eval (t.Listed at es))
-  watch n (t.Dict at ks es) = kept_part n (eval (t.Dict at ks es))
+  watch n (t.Name at name) = kept_part n (source_eval (t.Name at name))
+  watch n (t.Number at x) = kept_part n (source_eval (t.Number at x))
+  watch n (t.Text at text) = kept_part n (source_eval (t.Text at text))
+  watch n (t.True at) = kept_part n (source_eval (t.True at))
+  watch n (t.False at) = kept_part n (source_eval (t.False at))
+  watch n (t.NoneTree at) = kept_part n (source_eval (t.NoneTree at))
+  watch n (t.Tuple at es) = kept_part n (source_eval (t.Tuple at es))
+  watch n (t.Listed at es) = kept_part n (source_eval (t.Listed at es))
+  watch n (t.Dict at ks es) = kept_part n (source_eval (t.Dict at ks es))
   watch n (t.Attribute at e name) = kept_part n (noted at (attribute_part (watch (suc n) e) name))
-  watch n (t.Subscript at e i) = kept_part n (eval (t.Subscript at e i))
-  watch n (t.Slice at e from to by) = kept_part n (eval (t.Slice at e from to by))
-  watch n (t.IfElse at e c o) = kept_part n (eval (t.IfElse at e c o))
+  watch n (t.Subscript at e i) = kept_part n (source_eval (t.Subscript at e i))
+  watch n (t.Slice at e from to by) = kept_part n (source_eval (t.Slice at e from to by))
+  watch n (t.IfElse at e c o) = kept_part n (source_eval (t.IfElse at e c o))
 
   pub watch_all : ℕ → Trees → List SourcePart
   watch_all n Empty = []

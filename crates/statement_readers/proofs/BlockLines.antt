@@ -95,14 +95,14 @@ elif_step n at K J h j (Branch before here test body) o p =
     bind_eq (reads_as 100 e.expr o.1) _ _ (λ x rest. bind_eq (one_among (k.colon ∷ []) rest) _ _ (λ c rest. bind_eq (L n v.body rest) _ _ (λ y rest. h (Branch (Branch before here test body) o.0.at x.0 y) rest tt)))
     ∙ sym (bind_assoc (w.arm (λ ts. L n v.body ts) o.1) _ (routed J j) ∙ arm_on n (λ y. J (Branch (Branch before here test body) o.0.at y.0.0 y.0.1, y.1)) o.1)
 
-if_loop : (n : ℕ) (at : Pos) (bs : Branches) (ts : List Token) → Opened bs → (ML n {S = choice} (token {A = opening} (k.elif ∷ []) (λ c u. record { at = c.at; before = v.branches_of c; here = u.at }) ⨾ g.arm) (opened at bs, ts) >>= if_end n) ≡ (w.elifs_on (λ ts. L n v.body ts) (bs, ts) >>= λ y. w.suite_behind (λ ts. L n v.body ts) k.else y.1 >>= λ x. Found (Next NoStatement (If at y.0 x.0)) x.1)
+if_loop : (n : ℕ) (at : Pos) (bs : Branches) (ts : List Token) → Opened bs → (ML n {S = choice} (token {A = opening} (k.elif ∷ []) (λ c u. record { at = c.at; before = v.branches_of c; here = u.at }) ⨾ g.condition_clause) (opened at bs, ts) >>= if_end n) ≡ (w.elifs_on (λ ts. L n v.body ts) (bs, ts) >>= λ y. w.suite_behind (λ ts. L n v.body ts) k.else y.1 >>= λ x. Found (Next NoStatement (If at y.0 x.0)) x.1)
 unfolding w.elifs_on
 if_loop n at bs ts p = rounds _ _ (k.elif ∷ []) (λ bs. bs) (w.elif_step (λ ts. L n v.body ts)) (opened at) Opened (if_end n) (λ y. w.suite_behind (λ ts. L n v.body ts) k.else y.1 >>= λ x. Found (Next NoStatement (If at y.0 x.0)) x.1) (λ s ts p. if_over n at s ts p)
-    (λ K J h i s ts p. again_flat statements fr n {S = choice} {A = choice} (token {A = opening} (k.elif ∷ []) (λ c u. record { at = c.at; before = v.branches_of c; here = u.at }) ⨾ g.arm) refl refl (opened at s) ts K (if_end n (opened at s, ts))
+    (λ K J h i s ts p. again_flat statements fr n {S = choice} {A = choice} (token {A = opening} (k.elif ∷ []) (λ c u. record { at = c.at; before = v.branches_of c; here = u.at }) ⨾ g.condition_clause) refl refl (opened at s) ts K (if_end n (opened at s, ts))
     ∙ picks (one k.elif ts) _ _ _ _ (λ o. elif_step n at K J h (λ y. w.suite_behind (λ ts. L n v.body ts) k.else y.1 >>= λ x. Found (Next NoStatement (If at y.0 x.0)) x.1) s o p) (if_over n at s ts p)
     ∙ sym (bind_pick (one k.elif ts) (w.elif_step (λ ts. L n v.body ts) s) (Found (Out s) ts) (routed J (λ y. w.suite_behind (λ ts. L n v.body ts) k.else y.1 >>= λ x. Found (Next NoStatement (If at y.0 x.0)) x.1)))) bs ts p
 
-if_is : (n : ℕ) (at : Pos) (ts : List Token) → (reads_as 100 e.expr ts >>= λ x. one_among (k.colon ∷ []) x.1 >>= λ c. L n v.body c.1 >>= λ y. ML n {S = choice} (token {A = opening} (k.elif ∷ []) (λ c u. record { at = c.at; before = v.branches_of c; here = u.at }) ⨾ g.arm) (record { at = at; before = NoBranch; here = at; test = x.0.0; body = y.0 }, y.1) >>= if_end n)
+if_is : (n : ℕ) (at : Pos) (ts : List Token) → (reads_as 100 e.expr ts >>= λ x. one_among (k.colon ∷ []) x.1 >>= λ c. L n v.body c.1 >>= λ y. ML n {S = choice} (token {A = opening} (k.elif ∷ []) (λ c u. record { at = c.at; before = v.branches_of c; here = u.at }) ⨾ g.condition_clause) (record { at = at; before = NoBranch; here = at; test = x.0.0; body = y.0 }, y.1) >>= if_end n)
     ≡ (w.if_behind (λ ts. L n v.body ts) at ts >>= alone)
 unfolding w.if_behind w.arm w.suite
 if_is n at ts = onward (w.arm (λ ts. L n v.body ts) ts) _ _ (onward (reads_as 100 e.expr ts) _ _ (next (reads_as 100 e.expr ts) _ _ (λ x rest. onward (w.suite (λ ts. L n v.body ts) rest) _ _ (onward (one_among (k.colon ∷ []) rest) _ _ (next (one_among (k.colon ∷ []) rest) _ _ (λ c rest. next (L n v.body rest) _ _ (λ y rest.
@@ -129,7 +129,7 @@ param_on n h f ts = sym (bind_assoc (one_among (k.name ∷ []) ts) _ _ ∙ bind_
 param_first : {C : Type 0} (n : ℕ) (h : v.Head) (f : v.Head × List Token → Read Token C) (z : Read Token C) (ts : List Token) → FL n g.parameter_rule h ts f (Some z) ≡ cond (starts (k.name ∷ []) ts) (w.param h.params ts >>= λ ps. f (record { begun = h.begun; name = h.name; params = ps.0; ended = false }, ps.1)) z
 param_first n h f z ts = chosen (k.name ∷ []) _ z ts ∙ ap (λ r. cond (starts (k.name ∷ []) ts) r z) (param_on n h f ts)
 
-params_loop : {C : Type 0} (n : ℕ) (b : v.Begun) (name : List ℕ) (f : v.Head × List Token → Read Token C) → ((ps : List Parameter) (ts : List Token) → f (record { begun = b; name = name; params = ps; ended = true }, ts) ≡ f (record { begun = b; name = name; params = ps; ended = false }, ts)) → (ps : List Parameter) (ts : List Token)
+params_loop : {C : Type 0} (n : ℕ) (b : v.DefinitionStart) (name : List ℕ) (f : v.Head × List Token → Read Token C) → ((ps : List Parameter) (ts : List Token) → f (record { begun = b; name = name; params = ps; ended = true }, ts) ≡ f (record { begun = b; name = name; params = ps; ended = false }, ts)) → (ps : List Parameter) (ts : List Token)
     → (ML n (when (λ h. not h.ended) (require k.comma ⨾ (g.parameter_rule ∣ give v.end_params))) (record { begun = b; name = name; params = ps; ended = false }, ts) >>= f) ≡ (w.params_on (ps, ts) >>= λ y. f (record { begun = b; name = name; params = y.0; ended = false }, y.1))
 unfolding w.params_on
 params_loop n b name f e ps ts = rounds _ _ (k.comma ∷ []) (λ ps. ps) w.param_step (λ ps. record { begun = b; name = name; params = ps; ended = false }) (λ _. Unit {0}) f (λ y. f (record { begun = b; name = name; params = y.0; ended = false }, y.1)) (λ s ts p. refl)
@@ -153,8 +153,8 @@ unfolding w.suite_behind w.suite
 try_over n at x hs ts = choose (one k.else ts) _ _ _ _ _ (λ o. onward (one_among (k.colon ∷ []) o.1) _ _ (next (one_among (k.colon ∷ []) o.1) _ _ (λ c rest. next (L n v.body rest) _ _ (λ y rest. choose (one k.finally rest) _ _ _ _ _ (λ o. onward (one_among (k.colon ∷ []) o.1) _ _ refl) refl))))
     (choose (one k.finally ts) _ _ _ _ _ (λ o. onward (one_among (k.colon ∷ []) o.1) _ _ refl) refl)
 
-handlers_loop : (n : ℕ) (at : Pos) (x : Block) (hs : Handlers) (ts : List Token) → (ML n g.excepting (record { at = at; tried = x; handlers = hs }, ts) >>= try_end n) ≡ (w.handlers_on (λ ts. L n v.body ts) (hs, ts) >>= try_code n at x)
-unfolding w.handlers_on
+handlers_loop : (n : ℕ) (at : Pos) (x : Block) (hs : Handlers) (ts : List Token) → (ML n g.excepting (record { at = at; tried = x; handlers = hs }, ts) >>= try_end n) ≡ (w.excepts_on (λ ts. L n v.body ts) (hs, ts) >>= try_code n at x)
+unfolding w.excepts_on
 handlers_loop n at x hs ts = rounds _ _ (k.except ∷ []) (λ hs. hs) (w.handler_step (λ ts. L n v.body ts)) (λ hs. record { at = at; tried = x; handlers = hs }) (λ _. Unit {0}) (try_end n) (try_code n at x) (λ s ts p. try_over n at x s ts)
     (λ K J h i s ts p. again_flat statements fr n g.excepting refl refl (record { at = at; tried = x; handlers = s }) ts K (try_end n (record { at = at; tried = x; handlers = s }, ts))
     ∙ picks (one k.except ts) _ _ _ _ (λ o. catch_on n (record { at = at; tried = x; handlers = s }) o.0.at K o.1 ∙ bind_eq (w.handler (λ ts. L n v.body ts) s o.0.at o.1) _ _ (λ hs rest. h hs rest tt) ∙ sym (bind_assoc (w.handler (λ ts. L n v.body ts) s o.0.at o.1) _ (routed J (try_code n at x)))) (try_over n at x s ts)
@@ -162,8 +162,8 @@ handlers_loop n at x hs ts = rounds _ _ (k.except ∷ []) (λ hs. hs) (w.handler
 
 handled_is : (n : ℕ) (at : Pos) (x : Block) (word : Pos) (ts : List Token) → (w.handler (λ ts. L n v.body ts) NoHandler word ts >>= λ hs. ML n g.excepting (record { at = at; tried = x; handlers = hs.0 }, hs.1) >>= try_end n) ≡ (w.handled (λ ts. L n v.body ts) at x word ts >>= alone)
 unfolding w.handled
-handled_is n at x word ts = onward (w.handler (λ ts. L n v.body ts) NoHandler word ts) _ _ (next (w.handler (λ ts. L n v.body ts) NoHandler word ts) _ _ (λ hs rest. onward (w.handlers_on (λ ts. L n v.body ts) (hs, rest)) _ _ (handlers_loop n at x hs rest
-    ∙ next (w.handlers_on (λ ts. L n v.body ts) (hs, rest)) _ _ (λ hs rest. onward (w.suite_behind (λ ts. L n v.body ts) k.else rest) _ _ (next (w.suite_behind (λ ts. L n v.body ts) k.else rest) _ _ (λ y rest. onward (w.suite_behind (λ ts. L n v.body ts) k.finally rest) _ _ refl))))))
+handled_is n at x word ts = onward (w.handler (λ ts. L n v.body ts) NoHandler word ts) _ _ (next (w.handler (λ ts. L n v.body ts) NoHandler word ts) _ _ (λ hs rest. onward (w.excepts_on (λ ts. L n v.body ts) (hs, rest)) _ _ (handlers_loop n at x hs rest
+    ∙ next (w.excepts_on (λ ts. L n v.body ts) (hs, rest)) _ _ (λ hs rest. onward (w.suite_behind (λ ts. L n v.body ts) k.else rest) _ _ (next (w.suite_behind (λ ts. L n v.body ts) k.else rest) _ _ (λ y rest. onward (w.suite_behind (λ ts. L n v.body ts) k.finally rest) _ _ refl))))))
 
 try_is : (n : ℕ) (at : Pos) (ts : List Token) → FL n {S = v.position} (require k.colon ⨾ inner {A = attempt} v.body (λ at b. record { at = at; tried = b; handlers = NoHandler })
     ⨾ (g.excepting ⨾ many g.excepting ⨾ (require k.else ⨾ require k.colon ⨾ inner {A = two attempt block} v.body (λ a b. (a, b)) ∣ give (λ a. (a, NoStatement))) ⨾ (require k.finally ⨾ require k.colon ⨾ inner {A = two (two attempt block) block} v.body (λ x b. (x, b)) ∣ give (λ x. (x, NoStatement)))
@@ -175,7 +175,7 @@ try_is n at ts = onward (w.suite (λ ts. L n v.body ts) ts) _ _ (onward (one_amo
     (onward (one_among (k.finally ∷ []) rest) _ _ (next (one_among (k.finally ∷ []) rest) _ _ (λ o rest. onward (w.suite (λ ts. L n v.body ts) rest) _ _ (onward (one_among (k.colon ∷ []) rest) _ _ refl))))))))
 
 -- A FUNCTION
-params_on : {C : Type 0} (n : ℕ) (b : v.Begun) (name : List ℕ) (f : v.Head × List Token → Read Token C) → ((ps : List Parameter) (ts : List Token) → f (record { begun = b; name = name; params = ps; ended = true }, ts) ≡ f (record { begun = b; name = name; params = ps; ended = false }, ts)) → (ts : List Token)
+params_on : {C : Type 0} (n : ℕ) (b : v.DefinitionStart) (name : List ℕ) (f : v.Head × List Token → Read Token C) → ((ps : List Parameter) (ts : List Token) → f (record { begun = b; name = name; params = ps; ended = true }, ts) ≡ f (record { begun = b; name = name; params = ps; ended = false }, ts)) → (ts : List Token)
     → FL n (require k.right_paren ∣ g.parameter_rule ⨾ many (when (λ h. not h.ended) (require k.comma ⨾ (g.parameter_rule ∣ give v.end_params))) ⨾ require k.right_paren) (record { begun = b; name = name; params = []; ended = false }) ts f None ≡ (w.params ts >>= λ ps. f (record { begun = b; name = name; params = ps.0; ended = false }, ps.1))
 unfolding w.params
 params_on n b name f e ts = choose (one k.right_paren ts) _ _ _ _ (λ ps. f (record { begun = b; name = name; params = ps.0; ended = false }, ps.1)) (λ o. refl) (onward (w.param [] ts) _ _ (param_on n (record { begun = b; name = name; params = []; ended = false }) (λ h. ML n (when (λ h. not h.ended) (require k.comma ⨾ (g.parameter_rule ∣ give v.end_params))) (h.0, h.1) >>= λ h. one_among (k.right_paren ∷ []) h.1 >>= λ o. f (h.0, o.1)) ts
@@ -184,13 +184,13 @@ params_on n b name f e ts = choose (one k.right_paren ts) _ _ _ _ (λ ps. f (rec
 abbrev def_tail : (n : ℕ) → v.Head × List Token → Read Token Block
 def_tail n h = pick (one k.arrow h.1) (λ o. reads_as 100 e.expr o.1 >>= λ x. one_among (k.colon ∷ []) x.1 >>= λ o. L n v.body o.1 >>= λ y. Found (Next NoStatement (Def h.0.begun.at h.0.begun.decorators h.0.begun.word h.0.name h.0.params (Present x.0.0) y.0)) y.1) (one_among (k.colon ∷ []) h.1 >>= λ o. L n v.body o.1 >>= λ y. Found (Next NoStatement (Def h.0.begun.at h.0.begun.decorators h.0.begun.word h.0.name h.0.params Absent y.0)) y.1)
 
-def_is : (n : ℕ) (b : v.Begun) (ts : List Token) → FL n g.defining b ts found None ≡ (w.def_behind (λ ts. L n v.body ts) b.at b.decorators b.word ts >>= alone)
+def_is : (n : ℕ) (b : v.DefinitionStart) (ts : List Token) → FL n g.defining b ts found None ≡ (w.def_behind (λ ts. L n v.body ts) b.at b.decorators b.word ts >>= alone)
 unfolding w.def_behind w.name_reader w.expr_behind w.suite
 def_is n b ts = onward (w.name_reader ts) _ _ (onward (one_among (k.name ∷ []) ts) _ _ (next (one_among (k.name ∷ []) ts) _ _ (λ u rest. onward (one_among (k.left_paren ∷ []) rest) _ _ (next (one_among (k.left_paren ∷ []) rest) _ _ (λ o rest. onward (w.params rest) _ _ (params_on n b (text_of u) (def_tail n) (λ ps ts. refl) rest
     ∙ next (w.params rest) _ _ (λ ps rest. onward (w.expr_behind k.arrow rest) _ _ (choose (one k.arrow rest) _ _ _ _ _ (λ o. onward (reads_as 100 e.expr o.1) _ _ (next (reads_as 100 e.expr o.1) _ _ (λ x rest. onward (w.suite (λ ts. L n v.body ts) rest) _ _ (onward (one_among (k.colon ∷ []) rest) _ _ refl)))) (onward (w.suite (λ ts. L n v.body ts) rest) _ _ (onward (one_among (k.colon ∷ []) rest) _ _ refl))))))))))
 
 -- A CLASS
-class_is : (n : ℕ) (b : v.Begun) (ts : List Token) → FL n g.naming b ts found None ≡ (w.class_behind (λ ts. L n v.body ts) b.at b.decorators b.word ts >>= alone)
+class_is : (n : ℕ) (b : v.DefinitionStart) (ts : List Token) → FL n g.naming b ts found None ≡ (w.class_behind (λ ts. L n v.body ts) b.at b.decorators b.word ts >>= alone)
 unfolding w.class_behind w.base w.name_reader w.suite
 class_is n b ts = onward (w.name_reader ts) _ _ (onward (one_among (k.name ∷ []) ts) _ _ (next (one_among (k.name ∷ []) ts) _ _ (λ u rest. onward (w.base rest) _ _ (choose (one k.left_paren rest) _ _ _ _ _
     (λ o. choose (one k.right_paren o.1) _ _ _ _ _ (λ c. onward (w.suite (λ ts. L n v.body ts) c.1) _ _ (onward (one_among (k.colon ∷ []) c.1) _ _ refl)) (onward (reads_as 100 e.expr o.1) _ _ (next (reads_as 100 e.expr o.1) _ _ (λ x rest. onward (one_among (k.right_paren ∷ []) rest) _ _ (next (one_among (k.right_paren ∷ []) rest) _ _ (λ c rest. onward (w.suite (λ ts. L n v.body ts) rest) _ _ (onward (one_among (k.colon ∷ []) rest) _ _ refl)))))))
@@ -211,7 +211,7 @@ decorated_is n at ts = onward (w.decorators ts) _ _ (onward (w.decorator ts) _ _
     ∙ next (w.decorators_on (More Empty x.0, rest)) _ _ (λ ds rest. choose (one k.def rest) _ _ _ _ _ (λ o. def_is n (record { at = at; decorators = ds; word = o.0.at }) o.1) (onward (one_among (k.class ∷ []) rest) _ _ (next (one_among (k.class ∷ []) rest) _ _ (λ o rest. class_is n (record { at = at; decorators = ds; word = o.at }) rest))))))))))
 
 -- A STATEMENT WITH BLOCKS
-compound_is : (n : ℕ) (ts : List Token) → FL n (g.choosing ∣ g.repeating ∣ g.running ∣ g.attempting ∣ g.raises ∣ g.definition (λ _ u. record { at = u.at; decorators = Empty; word = u.at }) ∣ g.decorated) tt ts found None ≡ (w.compound (λ ts. L n v.body ts) ts >>= alone)
+compound_is : (n : ℕ) (ts : List Token) → FL n (g.choosing ∣ g.repeating ∣ g.running ∣ g.attempting ∣ g.raises ∣ g.definition (λ _ u. record { at = u.at; decorators = Empty; word = u.at }) ∣ g.decorated_definition) tt ts found None ≡ (w.compound (λ ts. L n v.body ts) ts >>= alone)
 unfolding w.compound
 compound_is n ts = picks_bind (one k.if ts) _ _ _ _ alone (λ o. if_is n o.0.at o.1) (picks_bind (one k.while ts) _ _ _ _ alone (λ o. while_is n o.0.at o.1) (picks_bind (one k.for ts) _ _ _ _ alone (λ o. for_is n o.0.at o.1) (picks_bind (one k.try ts) _ _ _ _ alone (λ o. try_is n o.0.at o.1)
     (picks_bind (one k.with ts) _ _ _ _ alone (λ o. with_is n o.0.at o.1) (picks_bind (one k.def ts) _ _ _ _ alone (λ o. def_is n (record { at = o.0.at; decorators = Empty; word = o.0.at }) o.1) (picks_bind (one k.class ts) _ _ _ _ alone (λ o. class_is n (record { at = o.0.at; decorators = Empty; word = o.0.at }) o.1)

@@ -121,8 +121,8 @@ listed_loop n at ns f e all ts = rounds _ _ (k.comma ∷ []) (λ all. all) w.lis
 -- the names behind "import"; what is read behind them doesn't see whether a comma stands at the end
 imported_is : {C : Type 0} (n : ℕ) (at : Pos) (ns : List (List ℕ)) (f : v.Listing × List Token → Read Token C) → ((all : List Alias) (ts : List Token) → f (record { at = at; from = ns; all = all; ended = true }, ts) ≡ f (record { at = at; from = ns; all = all; ended = false }, ts)) → (ts : List Token)
     → FL n (g.one_name ⨾ many (require k.comma ⨾ g.one_name) ∣ require k.left_paren ⨾ g.one_name ⨾ many (when (λ l. not l.ended) (require k.comma ⨾ (g.one_name ∣ give (λ l. record { at = l.at; from = l.from; all = l.all; ended = true })))) ⨾ require k.right_paren) (record { at = at; from = ns; all = []; ended = false }) ts f None
-    ≡ (w.imported ts >>= λ all. f (record { at = at; from = ns; all = all.0; ended = false }, all.1))
-unfolding w.imported
+    ≡ (w.imported_names ts >>= λ all. f (record { at = at; from = ns; all = all.0; ended = false }, all.1))
+unfolding w.imported_names
 imported_is {C} n at ns f e ts =
     alias_first n at ns [] false (λ y. ML n (require k.comma ⨾ g.one_name) (y.0, y.1) >>= f) (one_among (k.left_paren ∷ []) ts >>= λ o. FL n g.one_name (record { at = at; from = ns; all = []; ended = false }) o.1 (λ y. ML n (when (λ l. not l.ended) (require k.comma ⨾ (g.one_name ∣ give (λ l. record { at = l.at; from = l.from; all = l.all; ended = true })))) (y.0, y.1) >>= λ y. one_among (k.right_paren ∷ []) y.1 >>= λ c. f (y.0, c.1)) None) ts
     ∙ either (starts (k.name ∷ []) ts) _ _ _ _ (λ all. f (record { at = at; from = ns; all = all.0; ended = false }, all.1))
@@ -204,7 +204,7 @@ unfolding w.value_statement
 valued_is n ts = bind_eq (reads_as 100 e.exprs ts) _ _ (λ x rest. go x.0 rest (ML n (seen v.targets_in g.assigned) (Do (at_of x.0) x.0, rest) >>= with_statement) (place_in x.0)
     ∙ ap (λ z. pick (w.change_on rest) (λ c. pick (place_in x.0) (λ p. reads_as 100 e.expr c.1 >>= λ y. Found (AugAssign (at_of x.0) p c.0.1 y.0.0) y.1) z) z) (assigns_loop n (at_of x.0) [] x.0 rest (λ _. refl)))
   where
-    go : (x : Tree) (rest : List Token) (z : Read Token Statement) (o : Option Place) → seen_or z (λ b. FL n g.augmented b rest with_statement (Some z)) (v.at_place (at_of x) o)
+    go : (x : Tree) (rest : List Token) (z : Read Token Statement) (o : Option Place) → seen_or z (λ b. FL n g.augmented_assignment b rest with_statement (Some z)) (v.at_place (at_of x) o)
         ≡ pick (w.change_on rest) (λ c. pick o (λ p. reads_as 100 e.expr c.1 >>= λ y. Found (AugAssign (at_of x) p c.0.1 y.0.0) y.1) z) z
     go x rest z (Some p) = one_of_flat statements (nat_le 1 n) fr (λ r ts. L (suc n) r ts) (λ r ts. L n r ts) {S = v.changing} {A = change} (λ p _ o. (p, o)) changes.0 changes.1 (at_of x, p) rest (λ y. reads_as 100 e.expr y.1 >>= λ x. Found (AugAssign y.0.0.0 y.0.0.1 y.0.1 x.0.0) x.1) z
     go x rest z None = pick_const (w.change_on rest) z

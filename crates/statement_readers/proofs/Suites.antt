@@ -18,7 +18,7 @@ use Rattle.py_cursor.specs.declared.stop.Stop.{Stop}
 use Rattle.py_cursor.specs.Cursor.{FailsAs}
 use Rattle.statement_readers.specs.Turns.{Reader, On, turns}
 use Rattle.statement_readers.specs.Words as w
-use Rattle.statement_readers.specs.Words.{one_among, starts, one, suite, arm, elif_step, elifs_on, handler_head, handler, handler_step, handlers_on, stmt, stmt_step, stmts_on, stmts, block_at, simples, CO, compound}
+use Rattle.statement_readers.specs.Words.{one_among, starts, one, suite, arm, elif_step, elifs_on, handler_head, handler, handler_step, excepts_on, stmt, stmt_step, stmts_on, stmts, block_at, simples, CO, compound}
 use Rattle.statement_readers.proofs.Turns.{Keeps, over, fails, next, fails_bind, wanted_takes, first_takes, first_whole}
 use Rattle.statement_readers.proofs.Loops.{takes_bind, takes_then, keeps_bind}
 use Rattle.statement_readers.proofs.Signatures.{keeps_then, caught_keeps}
@@ -54,16 +54,16 @@ handler_keeps n hs word ts x rest e = keeps_then (handler_head ts) _ (length ts)
 handler_step_keeps : (n : ℕ) → Keeps (handler_step (block_at n))
 handler_step_keeps n hs o after t rest e = takes_bind (handler (block_at n) hs o.at after) (λ x. On x) (suc (length after)) (λ y rest i. let h = handler_keeps n hs o.at after y rest i in omega arith) (On t) rest e
 
-pub handlers_over : (n : ℕ) (hs : Handlers) (ts : List Token) → first_of kind (k.except ∷ []) ts ≡ None → handlers_on (block_at n) (hs, ts) ≡ Found hs ts
-unfolding handlers_on
+pub handlers_over : (n : ℕ) (hs : Handlers) (ts : List Token) → first_of kind (k.except ∷ []) ts ≡ None → excepts_on (block_at n) (hs, ts) ≡ Found hs ts
+unfolding excepts_on
 handlers_over n hs ts e = over (k.except ∷ []) (λ hs. hs) (handler_step (block_at n)) hs ts e
 
-pub handlers_fails : (n : ℕ) (hs : Handlers) (ts : List Token) (o : Token) (after : List Token) (stop : Stop) (whole : Read Token Handlers) → first_of kind (k.except ∷ []) ts ≡ Some (o, after) → FailsAs stop (handler (block_at n) hs o.at after) → handlers_on (block_at n) (hs, ts) ≡ whole → FailsAs stop whole
-unfolding handlers_on
+pub handlers_fails : (n : ℕ) (hs : Handlers) (ts : List Token) (o : Token) (after : List Token) (stop : Stop) (whole : Read Token Handlers) → first_of kind (k.except ∷ []) ts ≡ Some (o, after) → FailsAs stop (handler (block_at n) hs o.at after) → excepts_on (block_at n) (hs, ts) ≡ whole → FailsAs stop whole
+unfolding excepts_on
 handlers_fails n hs ts o after stop whole e i v = fails (k.except ∷ []) (λ hs. hs) (handler_step (block_at n)) (handler_step_keeps n) hs ts o after stop whole e (fails_bind stop (handler (block_at n) hs o.at after) _ i) v
 
-pub handlers_next : (n : ℕ) (hs : Handlers) (ts : List Token) (o : Token) (after : List Token) (more : Handlers) (rest : List Token) (whole : Read Token Handlers) → first_of kind (k.except ∷ []) ts ≡ Some (o, after) → handler (block_at n) hs o.at after ≡ Found more rest → handlers_on (block_at n) (hs, ts) ≡ whole → handlers_on (block_at n) (more, rest) ≡ whole
-unfolding handlers_on
+pub handlers_next : (n : ℕ) (hs : Handlers) (ts : List Token) (o : Token) (after : List Token) (more : Handlers) (rest : List Token) (whole : Read Token Handlers) → first_of kind (k.except ∷ []) ts ≡ Some (o, after) → handler (block_at n) hs o.at after ≡ Found more rest → excepts_on (block_at n) (hs, ts) ≡ whole → excepts_on (block_at n) (more, rest) ≡ whole
+unfolding excepts_on
 handlers_next n hs ts o after more rest whole e i v = next (k.except ∷ []) (λ hs. hs) (handler_step (block_at n)) (handler_step_keeps n) hs ts o after more rest whole e (rw i refl) v
 
 stmt_step_keeps : (n : ℕ) → Keeps (stmt_step (block_at n) (nat_le 1 n))

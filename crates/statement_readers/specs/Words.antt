@@ -75,8 +75,8 @@ listed_step all o = cond (starts (k.name ∷ []) o.1) (alias o.1 >>= λ a. Found
 unfoldable pub listed_on : List Alias × List Token → Read Token (List Alias)
 listed_on = turns (k.comma ∷ []) (λ all. all) listed_step
 
-unfoldable pub imported : Reader (List Alias)
-imported ts = cond (starts (k.name ∷ []) ts) (alias ts >>= λ a. aliases_on (a.0 ∷ [], a.1)) (one_among (k.left_paren ∷ []) ts >>= λ o. alias o.1 >>= λ a. listed_on (a.0 ∷ [], a.1) >>= λ all. one_among (k.right_paren ∷ []) all.1 >>= λ c. Found all.0 c.1)
+unfoldable pub imported_names : Reader (List Alias)
+imported_names ts = cond (starts (k.name ∷ []) ts) (alias ts >>= λ a. aliases_on (a.0 ∷ [], a.1)) (one_among (k.left_paren ∷ []) ts >>= λ o. alias o.1 >>= λ a. listed_on (a.0 ∷ [], a.1) >>= λ all. one_among (k.right_paren ∷ []) all.1 >>= λ c. Found all.0 c.1)
 
 -- SIMPLE STATEMENTS, behind their first word
 abbrev pub two : ℕ → ℕ → List Token → Option (Token × List Token)
@@ -101,7 +101,7 @@ unfoldable pub import_behind : Pos → Reader Statement
 import_behind at ts = names k.dot ts >>= λ ns. alias_behind ns.1 >>= λ a. Found (Import at ns.0 a.0) a.1
 
 unfoldable pub from_behind : Pos → Reader Statement
-from_behind at ts = names k.dot ts >>= λ ns. one_among (k.import ∷ []) ns.1 >>= λ o. imported o.1 >>= λ all. Found (ImportFrom at ns.0 all.0) all.1
+from_behind at ts = names k.dot ts >>= λ ns. one_among (k.import ∷ []) ns.1 >>= λ o. imported_names o.1 >>= λ all. Found (ImportFrom at ns.0 all.0) all.1
 
 -- ASSIGNMENTS. The expression alone, or its assignment to targets; a state has the targets, and what stands last.
 abbrev pub assignment : Pos → List Taker → Tree → Statement
@@ -218,11 +218,11 @@ module _ (b : Reader Block) where
   abbrev pub handler_step : Handlers → Token × List Token → Read Token (Turn Handlers Handlers)
   handler_step hs o = handler hs o.0.at o.1 >>= λ y. Found (On y.0) y.1
 
-  unfoldable pub handlers_on : Handlers × List Token → Read Token Handlers
-  handlers_on = turns (k.except ∷ []) (λ hs. hs) handler_step
+  unfoldable pub excepts_on : Handlers × List Token → Read Token Handlers
+  excepts_on = turns (k.except ∷ []) (λ hs. hs) handler_step
 
   unfoldable pub handled : Pos → Block → Pos → Reader Statement
-  handled at x word ts = handler NoHandler word ts >>= λ y. handlers_on (y.0, y.1) >>= λ hs. suite_behind k.else hs.1 >>= λ e. suite_behind k.finally e.1 >>= λ f. Found (Try at x hs.0 e.0 f.0) f.1
+  handled at x word ts = handler NoHandler word ts >>= λ y. excepts_on (y.0, y.1) >>= λ hs. suite_behind k.else hs.1 >>= λ e. suite_behind k.finally e.1 >>= λ f. Found (Try at x hs.0 e.0 f.0) f.1
 
   unfoldable pub try_behind : Pos → Reader Statement
   try_behind at ts = suite ts >>= λ x. pick (one k.except x.1) (λ o. handled at x.0 o.0.at o.1) (one_among (k.finally ∷ []) x.1 >>= λ w. suite w.1 >>= λ f. Found (Try at x.0 NoHandler NoStatement f.0) f.1)

@@ -96,7 +96,23 @@ parts_in heap (Some (obj.List vs)) = texts_to_join (texts_of heap vs)
 parts_in heap (Some (obj.Tuple vs)) = texts_to_join (texts_of heap vs)
 parts_in heap (Some (obj.Dict es)) = texts_to_join (texts_of heap (keys_of es))
 parts_in heap (Some (obj.Range r)) = if eqb r.length 0 then parts.Texts [] else parts.OtherElements
-parts_in heap _ = parts.NoElements
+parts_in heap (Some (obj.Function x)) = parts.NoElements
+parts_in heap (Some (obj.Method x)) = parts.NoElements
+parts_in heap (Some (obj.Builtin x)) = parts.NoElements
+parts_in heap (Some (obj.Class x)) = parts.NoElements
+parts_in heap (Some (obj.Instance x)) = parts.NoElements
+parts_in heap (Some (obj.Exception x)) = parts.NoElements
+parts_in heap (Some (obj.Module x)) = parts.NoElements
+parts_in heap (Some (obj.Fixture x)) = parts.NoElements
+parts_in heap (Some obj.MarkMaker) = parts.NoElements
+parts_in heap (Some (obj.Mark x)) = parts.NoElements
+parts_in heap (Some (obj.Hook x)) = parts.NoElements
+parts_in heap (Some (obj.Param x)) = parts.NoElements
+parts_in heap (Some (obj.Request x)) = parts.NoElements
+parts_in heap (Some (obj.Raises x)) = parts.NoElements
+parts_in heap (Some (obj.Info x)) = parts.NoElements
+parts_in heap (Some (obj.Item x)) = parts.NoElements
+parts_in heap None = parts.NoElements
 
 abbrev pub parts_of_value : List Obj → Value → Parts
 parts_of_value heap (val.Ref id) = parts_in heap (slice_get heap id.at)

@@ -105,8 +105,8 @@ number_of (kinds.Op o) = op_number o
 abbrev pub kind : Token → ℕ
 kind t = number_of t.kind
 
-abbrev pub is : ℕ → Token → Bool
-is k t = has (kind t) (k ∷ [])
+abbrev pub is_of_kind : ℕ → Token → Bool
+is_of_kind k t = has (kind t) (k ∷ [])
 
 -- the token of this kind
 abbrev pub Tok : ℕ → List Token → Token → Type 0

@@ -2,7 +2,7 @@
 // `arguments` stand the parameters, `NAME` or `NAME=DEFAULT`, and its operands are numbers, by place, and `NAME=NUMBER`, by name. Behind
 // `import` stand the importing file's path and a dotted name, and its operands are the paths that there are.
 
-use crate::spelled::{Tried, copied, text, whole};
+use crate::spelled::{MemoryResult, copied, text, whole};
 use py_bind::{BindFault, bind, find_module};
 use py_values::value::Value;
 use py_values::{OutOfMemory, PyText};
@@ -13,14 +13,14 @@ fn number(spelled: &str) -> Value {
 }
 
 /// A parameter, with its default where it has one.
-fn parameter(alloc: Global, spelled: &str) -> Tried<(PyText, Option<Value>)> {
+fn parameter(alloc: Global, spelled: &str) -> MemoryResult<(PyText, Option<Value>)> {
     match spelled.split_once('=') {
         Some((name, default)) => Ok((text(alloc, name)?, Some(number(default)))),
         None => Ok((text(alloc, spelled)?, None)),
     }
 }
 
-fn parameters(alloc: Global, spelled: &str) -> Tried<Vec<(PyText, Option<Value>)>> {
+fn parameters(alloc: Global, spelled: &str) -> MemoryResult<Vec<(PyText, Option<Value>)>> {
     let mut all = Vec::new(alloc);
     for word in spelled.split_ascii_whitespace() {
         all.push(parameter(alloc, word)?)?;
@@ -29,7 +29,7 @@ fn parameters(alloc: Global, spelled: &str) -> Tried<Vec<(PyText, Option<Value>)
 }
 
 /// The arguments by place.
-fn by_place(alloc: Global, spelled: &str) -> Tried<Vec<Value>> {
+fn by_place(alloc: Global, spelled: &str) -> MemoryResult<Vec<Value>> {
     let mut all = Vec::new(alloc);
     for word in spelled.split_ascii_whitespace() {
         if !word.contains('=') {
@@ -40,7 +40,7 @@ fn by_place(alloc: Global, spelled: &str) -> Tried<Vec<Value>> {
 }
 
 /// The arguments by name.
-fn by_name(alloc: Global, spelled: &str) -> Tried<Vec<(PyText, Value)>> {
+fn by_name(alloc: Global, spelled: &str) -> MemoryResult<Vec<(PyText, Value)>> {
     let mut all = Vec::new(alloc);
     for word in spelled.split_ascii_whitespace() {
         if let Some((name, value)) = word.split_once('=') {
@@ -50,7 +50,7 @@ fn by_name(alloc: Global, spelled: &str) -> Tried<Vec<(PyText, Value)>> {
     Ok(all)
 }
 
-fn push_number(all: &mut String, v: Value) -> Tried<()> {
+fn push_number(all: &mut String, v: Value) -> MemoryResult<()> {
     match v {
         Value::Int(n) => Ok(write!(all, "{n}")?),
         Value::None | Value::Bool(_) | Value::Ref(_) => Ok(all.push_str("no number")?),
@@ -58,7 +58,7 @@ fn push_number(all: &mut String, v: Value) -> Tried<()> {
 }
 
 /// What is told of values.
-fn numbers_told(alloc: Global, values: &[Value]) -> Tried<String> {
+fn numbers_told(alloc: Global, values: &[Value]) -> MemoryResult<String> {
     let mut all = String::new(alloc);
     for v in values {
         if !all.is_empty() {
@@ -70,7 +70,7 @@ fn numbers_told(alloc: Global, values: &[Value]) -> Tried<String> {
 }
 
 /// The values of a call's parameters in order.
-pub fn arguments_bound(alloc: Global, params: &str, spelled: &str) -> Tried<String> {
+pub fn arguments_bound(alloc: Global, params: &str, spelled: &str) -> MemoryResult<String> {
     let params = parameters(alloc, params)?;
     let args = by_place(alloc, spelled)?;
     let named = by_name(alloc, spelled)?;
@@ -82,7 +82,7 @@ pub fn arguments_bound(alloc: Global, params: &str, spelled: &str) -> Tried<Stri
 }
 
 /// The paths that there are.
-fn paths_of(alloc: Global, spelled: &str) -> Tried<Vec<String>> {
+fn paths_of(alloc: Global, spelled: &str) -> MemoryResult<Vec<String>> {
     let mut all = Vec::new(alloc);
     for path in spelled.split_ascii_whitespace() {
         all.push(copied(alloc, path)?)?;
@@ -91,7 +91,7 @@ fn paths_of(alloc: Global, spelled: &str) -> Tried<Vec<String>> {
 }
 
 /// The names of a dotted name.
-fn names_of(alloc: Global, dotted: &str) -> Tried<Vec<PyText>> {
+fn names_of(alloc: Global, dotted: &str) -> MemoryResult<Vec<PyText>> {
     let mut all = Vec::new(alloc);
     for name in dotted.split('.') {
         all.push(text(alloc, name)?)?;
@@ -99,7 +99,7 @@ fn names_of(alloc: Global, dotted: &str) -> Tried<Vec<PyText>> {
     Ok(all)
 }
 
-fn path_told(alloc: Global, paths: &[String], found: Option<usize>) -> Tried<String> {
+fn path_told(alloc: Global, paths: &[String], found: Option<usize>) -> MemoryResult<String> {
     let Some(at) = found else {
         return copied(alloc, "-");
     };
@@ -110,7 +110,7 @@ fn path_told(alloc: Global, paths: &[String], found: Option<usize>) -> Tried<Str
 }
 
 /// The path that an import names.
-pub fn imported(alloc: Global, import: &str, spelled: &str) -> Tried<String> {
+pub fn imported(alloc: Global, import: &str, spelled: &str) -> MemoryResult<String> {
     let (importer, dotted) = import.split_once(' ').unwrap_or((import, ""));
     let paths = paths_of(alloc, spelled)?;
     let names = names_of(alloc, dotted)?;

@@ -2,7 +2,7 @@
 // methods, with their receiver first. Named arguments stand behind it, each `NAME=VALUE`, with `|` between them.
 
 use crate::shown::{cost, ended, repr_told};
-use crate::spelled::{Operands, Tried, characters, copied, count, text};
+use crate::spelled::{MemoryResult, Operands, characters, copied, count, text};
 use py_calls::call::builtin;
 use py_kinds::builtins::{
     dict_method_named, list_method_named, text_method_named, tuple_method_named,
@@ -30,7 +30,7 @@ fn function_named(name: &str) -> Option<Builtin> {
 }
 
 /// What is built in, by its group and its name.
-fn built_in(alloc: Global, group: &str, name: &str) -> Tried<Option<Builtin>> {
+fn built_in(alloc: Global, group: &str, name: &str) -> MemoryResult<Option<Builtin>> {
     let letters = characters(alloc, name)?;
     match group {
         "text" => Ok(text_method_named(&letters)),
@@ -43,7 +43,7 @@ fn built_in(alloc: Global, group: &str, name: &str) -> Tried<Option<Builtin>> {
 }
 
 /// What a row calls, by its word.
-pub fn call_by(alloc: Global, word: &str) -> Tried<Option<Call>> {
+pub fn call_by(alloc: Global, word: &str) -> MemoryResult<Option<Call>> {
     let Some((group, name)) = word.split_once('.') else {
         return Ok(None);
     };
@@ -61,13 +61,17 @@ fn named_part(
     on: &mut Operands,
     name: &str,
     spelled: &str,
-) -> Tried<(PyText, Value)> {
+) -> MemoryResult<(PyText, Value)> {
     on.push(alloc, spelled)?;
     let v = on.values.pop().unwrap_or(Value::None);
     Ok((text(alloc, name)?, v))
 }
 
-fn named_args(alloc: Global, on: &mut Operands, spelled: &str) -> Tried<Vec<(PyText, Value)>> {
+fn named_args(
+    alloc: Global,
+    on: &mut Operands,
+    spelled: &str,
+) -> MemoryResult<Vec<(PyText, Value)>> {
     let mut all = Vec::new(alloc);
     for part in spelled.split('|') {
         if let Some((name, v)) = part.split_once('=') {
@@ -84,7 +88,7 @@ fn told_of(
     call: Call,
     printed: &[u8],
     end: &OpEnd,
-) -> Tried<(String, u64)> {
+) -> MemoryResult<(String, u64)> {
     let mut all = String::from_utf8_lossy(alloc, printed)?;
     all.push_str(ended(alloc, &on.heap, end)?.as_str())?;
     if call.changes {
@@ -101,7 +105,7 @@ pub fn told(
     call: Call,
     named: &str,
     budget: u64,
-) -> Tried<(String, u64)> {
+) -> MemoryResult<(String, u64)> {
     let named = named_args(alloc, on, named)?;
     let mut printed = Vec::new(alloc);
     let end = builtin(
@@ -117,7 +121,7 @@ pub fn told(
 }
 
 /// What is told of a call that is spelled behind its budget.
-pub fn within(alloc: Global, on: &mut Operands, spelled: &str) -> Tried<String> {
+pub fn within(alloc: Global, on: &mut Operands, spelled: &str) -> MemoryResult<String> {
     let (budget, call) = spelled.split_once(' ').unwrap_or((spelled, ""));
     let (word, named) = call.split_once(' ').unwrap_or((call, ""));
     match call_by(alloc, word)? {

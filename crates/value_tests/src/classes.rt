@@ -2,7 +2,7 @@
 
 use crate::objects::{added, class};
 use crate::shown::value_told;
-use crate::spelled::{Operands, Tried, copied};
+use crate::spelled::{MemoryResult, Operands, copied};
 use crate::values::builtin;
 use py_kinds::builtins::first_heap;
 use py_kinds::classes::{is_a, root_of};
@@ -23,7 +23,7 @@ fn new_class(
     name: &str,
     form: ClassForm,
     base: Option<ObjId>,
-) -> Tried<ObjId> {
+) -> MemoryResult<ObjId> {
     let class = class(alloc, name, form, base, Values::new(alloc))?;
     heap.add(Obj::Class(class))
 }
@@ -34,15 +34,15 @@ fn built_in(
     name: &str,
     class: ExcClass,
     base: Option<ObjId>,
-) -> Tried<ObjId> {
+) -> MemoryResult<ObjId> {
     new_class(alloc, heap, name, ClassForm::Exception(class), base)
 }
 
-fn source(alloc: Global, heap: &mut Heap, name: &str, base: Option<ObjId>) -> Tried<ObjId> {
+fn source(alloc: Global, heap: &mut Heap, name: &str, base: Option<ObjId>) -> MemoryResult<ObjId> {
     new_class(alloc, heap, name, ClassForm::Source, base)
 }
 
-fn pair(alloc: Global, heap: &mut Heap, a: ObjId, b: ObjId) -> Tried<Value> {
+fn pair(alloc: Global, heap: &mut Heap, a: ObjId, b: ObjId) -> MemoryResult<Value> {
     let mut items = Values::new(alloc);
     items.push(Value::Ref(a))?;
     items.push(Value::Ref(b))?;
@@ -51,7 +51,7 @@ fn pair(alloc: Global, heap: &mut Heap, a: ObjId, b: ObjId) -> Tried<Value> {
 
 /// An exception of a class of the sources that stands on `KeyError`; whether it is a `LookupError`, one of its own class, one of
 /// another, and one of the other or of `KeyError`.
-pub fn own(alloc: Global, on: &mut Operands) -> Tried<String> {
+pub fn own(alloc: Global, on: &mut Operands) -> MemoryResult<String> {
     let count = on.values.len();
     let args = on.taken(alloc, count)?;
     let heap = &mut on.heap;
@@ -70,7 +70,7 @@ pub fn own(alloc: Global, on: &mut Operands) -> Tried<String> {
 }
 
 /// The last of so many classes, each standing on the one before.
-fn last_of(alloc: Global, heap: &mut Heap, first: ObjId, levels: usize) -> Tried<ObjId> {
+fn last_of(alloc: Global, heap: &mut Heap, first: ObjId, levels: usize) -> MemoryResult<ObjId> {
     let mut last = first;
     for _ in 0..levels {
         last = source(alloc, heap, "C", Some(last))?;
@@ -79,7 +79,7 @@ fn last_of(alloc: Global, heap: &mut Heap, first: ObjId, levels: usize) -> Tried
 }
 
 /// Whether an instance of the last is one of the first, and whether the last stands on no class of exceptions.
-pub fn chain(alloc: Global, heap: &mut Heap, levels: usize) -> Tried<String> {
+pub fn chain(alloc: Global, heap: &mut Heap, levels: usize) -> MemoryResult<String> {
     let first = source(alloc, heap, "C", None)?;
     let last = last_of(alloc, heap, first, levels)?;
     let names = Names::new(alloc);
@@ -90,7 +90,7 @@ pub fn chain(alloc: Global, heap: &mut Heap, levels: usize) -> Tried<String> {
 }
 
 /// The names of the built-in classes of exceptions of which a value is an instance.
-fn classes_of(alloc: Global, heap: &Heap, v: Value) -> Tried<String> {
+fn classes_of(alloc: Global, heap: &Heap, v: Value) -> MemoryResult<String> {
     let mut all = String::new(alloc);
     for class in &EXCEPTIONS {
         let name = class_name(*class);
@@ -115,13 +115,13 @@ fn class_of(heap: &Heap, id: ObjId) -> ClassRef {
 }
 
 /// The built-in classes of an exception of a class.
-fn classes_below(alloc: Global, heap: &mut Heap, class: ClassRef) -> Tried<String> {
+fn classes_below(alloc: Global, heap: &mut Heap, class: ClassRef) -> MemoryResult<String> {
     let exc = throw_with(alloc, heap, class, Values::new(alloc))?;
     classes_of(alloc, heap, exc)
 }
 
 /// The built-in classes of an exception of the class of a name.
-pub fn below(alloc: Global, name: &str) -> Tried<String> {
+pub fn below(alloc: Global, name: &str) -> MemoryResult<String> {
     let Value::Ref(id) = builtin(alloc, name)? else {
         return copied(alloc, "no class");
     };
@@ -131,7 +131,7 @@ pub fn below(alloc: Global, name: &str) -> Tried<String> {
 }
 
 /// The built-in classes of an exception of a class of the sources that stands on the class of a name.
-pub fn under(alloc: Global, name: &str) -> Tried<String> {
+pub fn under(alloc: Global, name: &str) -> MemoryResult<String> {
     let Value::Ref(id) = builtin(alloc, name)? else {
         return copied(alloc, "no class");
     };

@@ -7,7 +7,7 @@ pub mod verdicts;
 
 use crate::collection::modules::{Module, module_of};
 use crate::shown::push_text;
-use crate::spelled::{Tried, text};
+use crate::spelled::{MemoryResult, text};
 use collect_marks::given::item_marks;
 use collect_marks::names::{keyword_names, mark_names};
 use collect_marks::says::{skipped_by, xfail_of};
@@ -23,14 +23,14 @@ use std::alloc::Global;
 const PATH: &str = "a/b c/test_m.py";
 
 /// A text that was made.
-fn push_made(all: &mut String, made: Tried<PyText>) -> Tried<()> {
+fn push_made(all: &mut String, made: MemoryResult<PyText>) -> MemoryResult<()> {
     let text = made?;
     push_text(all, &text)?;
     Ok(all.push('|')?)
 }
 
 /// Texts that were made, with a comma behind each.
-fn push_texts(all: &mut String, made: Tried<Vec<PyText>>) -> Tried<()> {
+fn push_texts(all: &mut String, made: MemoryResult<Vec<PyText>>) -> MemoryResult<()> {
     for text in &made? {
         push_text(all, text)?;
         all.push(',')?;
@@ -39,7 +39,7 @@ fn push_texts(all: &mut String, made: Tried<Vec<PyText>>) -> Tried<()> {
 }
 
 /// What `skip` and `skipif` say.
-fn push_skip(alloc: Global, all: &mut String, heap: &Heap, marks: &[Value]) -> Tried<()> {
+fn push_skip(alloc: Global, all: &mut String, heap: &Heap, marks: &[Value]) -> MemoryResult<()> {
     match skipped_by(alloc, heap, marks)? {
         Some(reason) => {
             all.push_str("skip ")?;
@@ -50,7 +50,7 @@ fn push_skip(alloc: Global, all: &mut String, heap: &Heap, marks: &[Value]) -> T
 }
 
 /// What `xfail` says.
-fn push_xfail(alloc: Global, all: &mut String, heap: &Heap, marks: &[Value]) -> Tried<()> {
+fn push_xfail(alloc: Global, all: &mut String, heap: &Heap, marks: &[Value]) -> MemoryResult<()> {
     match xfail_of(alloc, heap, marks)? {
         Some(xfail) => {
             all.push_str(if xfail.strict { "strict " } else { "xfail " })?;
@@ -69,7 +69,7 @@ fn push_item(
     module: &Module,
     path: &PyText,
     test: &TestFunction,
-) -> Tried<()> {
+) -> MemoryResult<()> {
     let heap = &module.heap;
     let marks = item_marks(alloc, heap, test, &module.names)?;
     push_made(all, item_id(alloc, path, test, None))?;
@@ -86,7 +86,7 @@ fn push_item(
 }
 
 /// What is told of a module.
-fn module_told(alloc: Global, module: &Module) -> Tried<String> {
+fn module_told(alloc: Global, module: &Module) -> MemoryResult<String> {
     let path = text(alloc, PATH)?;
     let mut all = String::new(alloc);
     for test in &test_functions(alloc, &module.heap, &module.names)? {
@@ -98,7 +98,7 @@ fn module_told(alloc: Global, module: &Module) -> Tried<String> {
 }
 
 /// What is told of the module that a row spells.
-pub fn collected(alloc: Global, spelled: &str) -> Tried<String> {
+pub fn collected(alloc: Global, spelled: &str) -> MemoryResult<String> {
     let module = module_of(alloc, spelled)?;
     let told = module_told(alloc, &module);
     drop(module);

@@ -1,7 +1,7 @@
 // Rows on subscripts, slices, stores and deletions of items, and turns of a `for`.
 
 use crate::shown::{cost, ended, raised, repr_told};
-use crate::spelled::{Operands, Tried, copied};
+use crate::spelled::{MemoryResult, Operands, copied};
 use py_items::iter::{IterAt, Turn};
 use py_items::store::{delete_item, store_item};
 use py_items::subscript::subscript;
@@ -40,7 +40,7 @@ fn bound(on: &Operands, place: usize) -> Option<Value> {
 }
 
 /// How an act ends on its operands.
-fn done(alloc: Global, on: &mut Operands, act: ItemAct, budget: u64) -> Tried<OpEnd> {
+fn done(alloc: Global, on: &mut Operands, act: ItemAct, budget: u64) -> MemoryResult<OpEnd> {
     let (of, at, v) = (on.at(0), on.at(1), on.at(2));
     let index = match act {
         ItemAct::Slice => Index::Slice(bound(on, 1), bound(on, 2), bound(on, 3)),
@@ -54,14 +54,14 @@ fn done(alloc: Global, on: &mut Operands, act: ItemAct, budget: u64) -> Tried<Op
 }
 
 /// The object behind a store or a deletion, with the cost.
-fn behind(alloc: Global, on: &Operands, end: &OpEnd) -> Tried<String> {
+fn behind(alloc: Global, on: &Operands, end: &OpEnd) -> MemoryResult<String> {
     let text = repr_told(alloc, &on.heap, on.at(0))?;
     let cost = cost(end);
     Ok(format!(in alloc; "{text} {cost}")?)
 }
 
 /// What is told of an act's end, for a store and a deletion of the object behind it; and its steps.
-fn told_of(alloc: Global, on: &Operands, act: ItemAct, end: &OpEnd) -> Tried<(String, u64)> {
+fn told_of(alloc: Global, on: &Operands, act: ItemAct, end: &OpEnd) -> MemoryResult<(String, u64)> {
     let text = match (act, end) {
         (ItemAct::Store | ItemAct::Delete, OpEnd::Value(_, _)) => behind(alloc, on, end),
         _ => ended(alloc, &on.heap, end),
@@ -70,13 +70,18 @@ fn told_of(alloc: Global, on: &Operands, act: ItemAct, end: &OpEnd) -> Tried<(St
 }
 
 /// What is told of an act within a budget, and its steps.
-pub fn told(alloc: Global, on: &mut Operands, act: ItemAct, budget: u64) -> Tried<(String, u64)> {
+pub fn told(
+    alloc: Global,
+    on: &mut Operands,
+    act: ItemAct,
+    budget: u64,
+) -> MemoryResult<(String, u64)> {
     let end = done(alloc, on, act, budget)?;
     told_of(alloc, on, act, &end)
 }
 
 /// A turn's element, or what else it is, and whether there may be another.
-fn turn_told(alloc: Global, heap: &Heap, turn: &Turn) -> Tried<(String, bool)> {
+fn turn_told(alloc: Global, heap: &Heap, turn: &Turn) -> MemoryResult<(String, bool)> {
     let text = match turn {
         Turn::Item(v) => repr_told(alloc, heap, *v),
         Turn::End => copied(alloc, "-"),
@@ -85,7 +90,7 @@ fn turn_told(alloc: Global, heap: &Heap, turn: &Turn) -> Tried<(String, bool)> {
     Ok((text?, matches!(turn, Turn::Item(_))))
 }
 
-fn next_told(alloc: Global, heap: &mut Heap, place: &mut IterAt) -> Tried<(String, bool)> {
+fn next_told(alloc: Global, heap: &mut Heap, place: &mut IterAt) -> MemoryResult<(String, bool)> {
     let next = turn(alloc, heap, place)?;
     turn_told(alloc, heap, &next)
 }
@@ -103,7 +108,7 @@ fn start_of(heap: &Heap, of: Value) -> IterAt {
 }
 
 /// The elements that a `for` gives, up to nine turns, and how it ends.
-fn all_turns(alloc: Global, heap: &mut Heap, of: Value) -> Tried<String> {
+fn all_turns(alloc: Global, heap: &mut Heap, of: Value) -> MemoryResult<String> {
     let mut place = start_of(heap, of);
     let mut all = String::new(alloc);
     for _ in 0..9 {
@@ -118,7 +123,7 @@ fn all_turns(alloc: Global, heap: &mut Heap, of: Value) -> Tried<String> {
 }
 
 /// Stores or deletes an item between turns.
-fn change(alloc: Global, heap: &mut Heap, by: &str, of: Value, at: Value) -> Tried<OpEnd> {
+fn change(alloc: Global, heap: &mut Heap, by: &str, of: Value, at: Value) -> MemoryResult<OpEnd> {
     match by {
         "store" => store_item(alloc, heap, of, at, Value::None, 9),
         _ => delete_item(alloc, heap, of, at, 9),
@@ -126,7 +131,7 @@ fn change(alloc: Global, heap: &mut Heap, by: &str, of: Value, at: Value) -> Tri
 }
 
 /// What the second turn gives when an item is stored or deleted behind the first.
-fn changed_turn(alloc: Global, on: &mut Operands, by: &str) -> Tried<String> {
+fn changed_turn(alloc: Global, on: &mut Operands, by: &str) -> MemoryResult<String> {
     let (of, at) = (on.at(0), on.at(1));
     let mut place = start_of(&on.heap, of);
     let _first = turn(alloc, &mut on.heap, &mut place)?;
@@ -136,7 +141,7 @@ fn changed_turn(alloc: Global, on: &mut Operands, by: &str) -> Tried<String> {
 }
 
 /// The turns of a `for`, or the second one where an item is stored or deleted behind the first.
-pub fn turns(alloc: Global, on: &mut Operands, by: &str) -> Tried<String> {
+pub fn turns(alloc: Global, on: &mut Operands, by: &str) -> MemoryResult<String> {
     if by.is_empty() {
         let of = on.at(0);
         return all_turns(alloc, &mut on.heap, of);
@@ -145,7 +150,7 @@ pub fn turns(alloc: Global, on: &mut Operands, by: &str) -> Tried<String> {
 }
 
 /// A dict behind the deletion of a key and two stores.
-pub fn order(alloc: Global, on: &mut Operands) -> Tried<String> {
+pub fn order(alloc: Global, on: &mut Operands) -> MemoryResult<String> {
     let (dict, gone) = (on.at(0), on.at(1));
     let (again, v, first, w) = (on.at(2), on.at(3), on.at(4), on.at(5));
     let _gone = delete_item(alloc, &mut on.heap, dict, gone, 0)?;
@@ -155,7 +160,7 @@ pub fn order(alloc: Global, on: &mut Operands) -> Tried<String> {
 }
 
 /// How the store of a key within a budget ends, in a dict that may be too large to be shown.
-pub fn key_stored(alloc: Global, on: &mut Operands, budget: u64) -> Tried<String> {
+pub fn key_stored(alloc: Global, on: &mut Operands, budget: u64) -> MemoryResult<String> {
     let (dict, key, v) = (on.at(0), on.at(1), on.at(2));
     let end = store_item(alloc, &mut on.heap, dict, key, v, budget)?;
     ended(alloc, &on.heap, &end)

@@ -1,6 +1,6 @@
 // Objects that no operator makes.
 
-use crate::spelled::{Tried, text};
+use crate::spelled::{MemoryResult, text};
 use py_kinds::kinds::class_name;
 use py_values::builtin::{BUILTINS, Builtin, EXCEPTIONS};
 use py_values::class::{ClassForm, ClassRef, ExcClass};
@@ -12,12 +12,12 @@ use py_values::value::{ObjId, Value};
 use std::alloc::Global;
 
 /// The value of a new object.
-pub fn added(heap: &mut Heap, object: Obj) -> Tried<Value> {
+pub fn added(heap: &mut Heap, object: Obj) -> MemoryResult<Value> {
     Ok(Value::Ref(heap.add(object)?))
 }
 
 /// A function of a name with marks, without parameters.
-pub fn function(alloc: Global, name: &str, marks: Values) -> Tried<Obj> {
+pub fn function(alloc: Global, name: &str, marks: Values) -> MemoryResult<Obj> {
     let path = text(alloc, "test_a.py")?;
     let name = text(alloc, name)?;
     let params = Params::from_vec(Vec::new(alloc));
@@ -34,7 +34,7 @@ pub fn function(alloc: Global, name: &str, marks: Values) -> Tried<Obj> {
 }
 
 /// A module of a path, without names.
-pub fn module(alloc: Global, path: &str) -> Tried<Obj> {
+pub fn module(alloc: Global, path: &str) -> MemoryResult<Obj> {
     let path = text(alloc, path)?;
     let names = Names::new(alloc);
     Ok(Obj::Module(ModuleObj { path, names }))
@@ -55,7 +55,7 @@ pub fn class(
     form: ClassForm,
     base: Option<ObjId>,
     marks: Values,
-) -> Tried<ClassObj> {
+) -> MemoryResult<ClassObj> {
     let path = text(alloc, "test_a.py")?;
     let name = text(alloc, name)?;
     Ok(ClassObj {
@@ -99,7 +99,7 @@ fn class_form(name: &str) -> ClassForm {
 }
 
 /// A built-in class of a name.
-pub fn builtin_class(alloc: Global, name: &str) -> Tried<Obj> {
+pub fn builtin_class(alloc: Global, name: &str) -> MemoryResult<Obj> {
     let class = class(alloc, name, class_form(name), None, Values::new(alloc))?;
     Ok(Obj::Class(class))
 }

@@ -1,7 +1,7 @@
 // Rows on operators.
 
 use crate::shown::{cost, ended, repr_told};
-use crate::spelled::{Operands, Tried};
+use crate::spelled::{MemoryResult, Operands};
 use py_ops::binary::{augmented, binary, binary_text};
 use py_ops::compare::{compare, compare_text};
 use py_ops::unary::{unary, unary_text};
@@ -86,7 +86,7 @@ pub fn operator_by(word: &str, text: &str) -> Option<Operator> {
 }
 
 /// How an operator ends on its operands.
-fn applied(alloc: Global, on: &mut Operands, op: Operator, budget: u64) -> Tried<OpEnd> {
+fn applied(alloc: Global, on: &mut Operands, op: Operator, budget: u64) -> MemoryResult<OpEnd> {
     let (a, b) = (on.at(0), on.at(1));
     match op {
         Operator::Binary(op) => binary(alloc, &mut on.heap, op, a, b, budget),
@@ -97,7 +97,7 @@ fn applied(alloc: Global, on: &mut Operands, op: Operator, budget: u64) -> Tried
 }
 
 /// What is told of an operator's end, of an augmented one the left operand behind it first; and its steps.
-fn told_of(alloc: Global, on: &Operands, op: Operator, end: &OpEnd) -> Tried<(String, u64)> {
+fn told_of(alloc: Global, on: &Operands, op: Operator, end: &OpEnd) -> MemoryResult<(String, u64)> {
     let text = ended(alloc, &on.heap, end)?;
     match (op, end) {
         (Operator::Augmented(_), OpEnd::Value(_, _) | OpEnd::Raised(_, _)) => {
@@ -109,7 +109,12 @@ fn told_of(alloc: Global, on: &Operands, op: Operator, end: &OpEnd) -> Tried<(St
 }
 
 /// What is told of an operator within a budget, and its steps.
-pub fn told(alloc: Global, on: &mut Operands, op: Operator, budget: u64) -> Tried<(String, u64)> {
+pub fn told(
+    alloc: Global,
+    on: &mut Operands,
+    op: Operator,
+    budget: u64,
+) -> MemoryResult<(String, u64)> {
     let end = applied(alloc, on, op, budget)?;
     told_of(alloc, on, op, &end)
 }

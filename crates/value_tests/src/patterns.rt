@@ -1,13 +1,13 @@
 // Rows on patterns. The operand of `pattern` is a text, and whether it is a pattern is told; those of `found`, and of `search` with a budget
 // behind it, are a pattern and a text with `|` between them.
 
-use crate::spelled::{Tried, characters, copied};
+use crate::spelled::{MemoryResult, characters, copied};
 use match_pattern::{Pattern, PatternFault, SearchEnd, found, read_pattern, search};
 use py_values::OutOfMemory;
 use std::alloc::Global;
 
 /// What is told of a text that isn't read as a pattern.
-fn refused(alloc: Global, fault: PatternFault) -> Tried<String> {
+fn refused(alloc: Global, fault: PatternFault) -> MemoryResult<String> {
     match fault {
         PatternFault::Unsupported => Ok(format!(in alloc; "{fault}")?),
         PatternFault::OutOfMemory => Err(OutOfMemory),
@@ -15,7 +15,7 @@ fn refused(alloc: Global, fault: PatternFault) -> Tried<String> {
 }
 
 /// Whether a text is a pattern.
-pub fn read(alloc: Global, spelled: &str) -> Tried<String> {
+pub fn read(alloc: Global, spelled: &str) -> MemoryResult<String> {
     let letters = characters(alloc, spelled)?;
     match read_pattern(alloc, &letters) {
         Ok(_) => copied(alloc, "pattern"),
@@ -24,13 +24,18 @@ pub fn read(alloc: Global, spelled: &str) -> Tried<String> {
 }
 
 /// Whether a pattern is found in a text.
-fn found_told(alloc: Global, pattern: &Pattern, text: &[char]) -> Tried<String> {
+fn found_told(alloc: Global, pattern: &Pattern, text: &[char]) -> MemoryResult<String> {
     let is_found = found(alloc, pattern, text)?;
     copied(alloc, if is_found { "yes" } else { "no" })
 }
 
 /// How a search within a budget ends, with its cost.
-fn search_told(alloc: Global, pattern: &Pattern, text: &[char], budget: u64) -> Tried<String> {
+fn search_told(
+    alloc: Global,
+    pattern: &Pattern,
+    text: &[char],
+    budget: u64,
+) -> MemoryResult<String> {
     match search(alloc, pattern, text, budget)? {
         SearchEnd::Found(cost) => Ok(format!(in alloc; "found {cost}")?),
         SearchEnd::NotFound(cost) => Ok(format!(in alloc; "not found {cost}")?),
@@ -39,7 +44,12 @@ fn search_told(alloc: Global, pattern: &Pattern, text: &[char], budget: u64) -> 
 }
 
 /// What is told of a pattern and a text: of a search, where there is a budget.
-fn told(alloc: Global, pattern: &Pattern, text: &[char], budget: Option<u64>) -> Tried<String> {
+fn told(
+    alloc: Global,
+    pattern: &Pattern,
+    text: &[char],
+    budget: Option<u64>,
+) -> MemoryResult<String> {
     match budget {
         Some(budget) => search_told(alloc, pattern, text, budget),
         None => found_told(alloc, pattern, text),
@@ -47,7 +57,7 @@ fn told(alloc: Global, pattern: &Pattern, text: &[char], budget: Option<u64>) ->
 }
 
 /// What is told of the pattern and the text that a row spells.
-pub fn searched(alloc: Global, budget: Option<u64>, spelled: &str) -> Tried<String> {
+pub fn searched(alloc: Global, budget: Option<u64>, spelled: &str) -> MemoryResult<String> {
     let (pattern, text) = spelled.split_once('|').unwrap_or((spelled, ""));
     let letters = characters(alloc, pattern)?;
     let text = characters(alloc, text)?;

@@ -1,7 +1,7 @@
 // A row, and whether it gives what it wants.
 
 use crate::collection::verdicts;
-use crate::spelled::{Operands, Tried, copied, count};
+use crate::spelled::{MemoryResult, Operands, copied, count};
 use crate::steps::act_by;
 use crate::{binding, calls, classes, collection, items, patterns, steps, values};
 use std::alloc::Global;
@@ -22,7 +22,7 @@ fn unpictured(c: char) -> char {
 }
 
 /// A field as it is meant.
-fn field(alloc: Global, written: &str) -> Tried<String> {
+fn field(alloc: Global, written: &str) -> MemoryResult<String> {
     let mut all = String::new(alloc);
     for c in written.chars() {
         all.push(unpictured(c))?;
@@ -31,7 +31,7 @@ fn field(alloc: Global, written: &str) -> Tried<String> {
 }
 
 /// What is told of items, classes and calls.
-fn of_items(alloc: Global, word: &str, rest: &str, on: &mut Operands) -> Tried<String> {
+fn of_items(alloc: Global, word: &str, rest: &str, on: &mut Operands) -> MemoryResult<String> {
     match word {
         "for" => items::turns(alloc, on, rest),
         "key" => items::key_stored(alloc, on, count(rest) as u64),
@@ -44,7 +44,7 @@ fn of_items(alloc: Global, word: &str, rest: &str, on: &mut Operands) -> Tried<S
 }
 
 /// What is told of values, or of what else has operands.
-fn of_values(alloc: Global, word: &str, rest: &str, on: &mut Operands) -> Tried<String> {
+fn of_values(alloc: Global, word: &str, rest: &str, on: &mut Operands) -> MemoryResult<String> {
     match word {
         "show" => values::shown(alloc, on),
         "cut" => values::cut(alloc, on, count(rest)),
@@ -57,13 +57,13 @@ fn of_values(alloc: Global, word: &str, rest: &str, on: &mut Operands) -> Tried<
     }
 }
 
-fn of_operands(alloc: Global, word: &str, rest: &str, operands: &str) -> Tried<String> {
+fn of_operands(alloc: Global, word: &str, rest: &str, operands: &str) -> MemoryResult<String> {
     let mut on = Operands::of(alloc, operands)?;
     of_values(alloc, word, rest, &mut on)
 }
 
 /// What is told of arguments, imports and patterns, or of what has operands.
-fn of_texts(alloc: Global, word: &str, rest: &str, operands: &str) -> Tried<String> {
+fn of_texts(alloc: Global, word: &str, rest: &str, operands: &str) -> MemoryResult<String> {
     match word {
         "arguments" => binding::arguments_bound(alloc, rest, operands),
         "import" => binding::imported(alloc, rest, operands),
@@ -75,7 +75,7 @@ fn of_texts(alloc: Global, word: &str, rest: &str, operands: &str) -> Tried<Stri
 }
 
 /// What is told of names and of modules, or of other texts.
-fn of_names(alloc: Global, word: &str, rest: &str, operands: &str) -> Tried<String> {
+fn of_names(alloc: Global, word: &str, rest: &str, operands: &str) -> MemoryResult<String> {
     match word {
         "name" => values::named(alloc, operands),
         "bind" => values::bound(alloc, rest, operands),
@@ -88,21 +88,21 @@ fn of_names(alloc: Global, word: &str, rest: &str, operands: &str) -> Tried<Stri
 }
 
 /// What is given for what is done: a word, and what stands behind it.
-fn given(alloc: Global, word: &str, rest: &str, operands: &str) -> Tried<String> {
+fn given(alloc: Global, word: &str, rest: &str, operands: &str) -> MemoryResult<String> {
     match act_by(alloc, word, rest)? {
         Some(act) => steps::told(alloc, act, rest, operands),
         None => of_names(alloc, word, rest, operands),
     }
 }
 
-fn done(alloc: Global, act: &str, operands: &str) -> Tried<String> {
+fn done(alloc: Global, act: &str, operands: &str) -> MemoryResult<String> {
     let operands = field(alloc, operands)?;
     let (word, rest) = act.split_once(' ').unwrap_or((act, ""));
     given(alloc, word, rest, operands.as_str())
 }
 
 /// What a row gives where it isn't what the row wants.
-pub fn fault_of(alloc: Global, line: &str) -> Tried<Option<String>> {
+pub fn fault_of(alloc: Global, line: &str) -> MemoryResult<Option<String>> {
     if let Some((act, row)) = line.split_once('\t') {
         if let Some((operands, want)) = row.split_once('\t') {
             let want = field(alloc, want)?;

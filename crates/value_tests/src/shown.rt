@@ -1,6 +1,6 @@
 // What is told of values and of ends.
 
-use crate::spelled::{Tried, copied};
+use crate::spelled::{MemoryResult, copied};
 use py_kinds::kinds::{class_name, kind_name};
 use py_kinds::truth::truth;
 use py_repr::repr::{repr, str};
@@ -12,37 +12,37 @@ use py_values::value::Value;
 use std::alloc::Global;
 
 /// Puts the characters of a text behind what is told.
-pub fn push_text(all: &mut String, text: &PyText) -> Tried<()> {
+pub fn push_text(all: &mut String, text: &PyText) -> MemoryResult<()> {
     for c in text.chars() {
         all.push(*c)?;
     }
     Ok(())
 }
 
-pub fn string(alloc: Global, text: &PyText) -> Tried<String> {
+pub fn string(alloc: Global, text: &PyText) -> MemoryResult<String> {
     let mut all = String::new(alloc);
     push_text(&mut all, text)?;
     Ok(all)
 }
 
 /// A value's repr, up to 200 characters.
-pub fn repr_told(alloc: Global, heap: &Heap, v: Value) -> Tried<String> {
+pub fn repr_told(alloc: Global, heap: &Heap, v: Value) -> MemoryResult<String> {
     let shown = repr(alloc, heap, v, 200)?;
     string(alloc, &shown.text)
 }
 
-fn str_told(alloc: Global, heap: &Heap, v: Value) -> Tried<String> {
+fn str_told(alloc: Global, heap: &Heap, v: Value) -> MemoryResult<String> {
     let shown = str(alloc, heap, v, 200)?;
     string(alloc, &shown.text)
 }
 
-fn kind_told(alloc: Global, heap: &Heap, v: Value) -> Tried<String> {
+fn kind_told(alloc: Global, heap: &Heap, v: Value) -> MemoryResult<String> {
     let name = kind_name(alloc, heap, v)?;
     string(alloc, &name)
 }
 
 /// A value's kind, repr, text and truth.
-pub fn value_told(alloc: Global, heap: &Heap, v: Value) -> Tried<String> {
+pub fn value_told(alloc: Global, heap: &Heap, v: Value) -> MemoryResult<String> {
     let kind = kind_told(alloc, heap, v)?;
     let repr = repr_told(alloc, heap, v)?;
     let str = str_told(alloc, heap, v)?;
@@ -51,7 +51,7 @@ pub fn value_told(alloc: Global, heap: &Heap, v: Value) -> Tried<String> {
 }
 
 /// How long what is shown of a value is, whether it is cut, and whether a value in it lies too deep.
-pub fn length_told(alloc: Global, shown: &Shown) -> Tried<String> {
+pub fn length_told(alloc: Global, shown: &Shown) -> MemoryResult<String> {
     let length = shown.text.chars().len();
     let cut = shown.cut;
     let deep = shown.deep;
@@ -59,7 +59,7 @@ pub fn length_told(alloc: Global, shown: &Shown) -> Tried<String> {
 }
 
 /// An exception's class, and its text or the repr of its argument.
-pub fn raised(alloc: Global, heap: &Heap, raise: &Raise) -> Tried<String> {
+pub fn raised(alloc: Global, heap: &Heap, raise: &Raise) -> MemoryResult<String> {
     let class = class_name(raise.class);
     let text = match raise.arg {
         Some(v) => repr_told(alloc, heap, v),
@@ -70,7 +70,7 @@ pub fn raised(alloc: Global, heap: &Heap, raise: &Raise) -> Tried<String> {
 }
 
 /// What is told of an end, but for its cost.
-fn what(alloc: Global, heap: &Heap, end: &OpEnd) -> Tried<String> {
+fn what(alloc: Global, heap: &Heap, end: &OpEnd) -> MemoryResult<String> {
     match end {
         OpEnd::Value(v, _) => repr_told(alloc, heap, *v),
         OpEnd::Raised(raise, _) => raised(alloc, heap, raise),
@@ -88,7 +88,7 @@ pub fn cost(end: &OpEnd) -> u64 {
 }
 
 /// A value's repr, or an exception's class and text, and the cost.
-pub fn ended(alloc: Global, heap: &Heap, end: &OpEnd) -> Tried<String> {
+pub fn ended(alloc: Global, heap: &Heap, end: &OpEnd) -> MemoryResult<String> {
     let text = what(alloc, heap, end)?;
     if let OpEnd::Exhausted = end {
         return Ok(text);

@@ -1,7 +1,7 @@
 // Values that rows spell with one sign: values in themselves, values within many others, long ones.
 
 use crate::objects::added;
-use crate::spelled::{Operands, Tried, put};
+use crate::spelled::{MemoryResult, Operands, put};
 use py_ops::binary::binary;
 use py_tree::BinOp;
 use py_values::PyText;
@@ -17,7 +17,7 @@ use py_values::value::Value;
 use std::alloc::Global;
 
 /// A list that holds 1 and itself.
-pub fn own_list(alloc: Global, heap: &mut Heap) -> Tried<Value> {
+pub fn own_list(alloc: Global, heap: &mut Heap) -> MemoryResult<Value> {
     let id = heap.add(Obj::List(Values::new(alloc)))?;
     heap.change(id, Change::Push(Value::Int(1)))?;
     heap.change(id, Change::Push(Value::Ref(id)))?;
@@ -25,14 +25,14 @@ pub fn own_list(alloc: Global, heap: &mut Heap) -> Tried<Value> {
 }
 
 /// A value in a row of its own.
-fn sole(alloc: Global, v: Value) -> Tried<Values> {
+fn sole(alloc: Global, v: Value) -> MemoryResult<Values> {
     let mut items = Values::new(alloc);
     items.push(v)?;
     Ok(items)
 }
 
 /// 1 within so many tuples.
-pub fn nested(alloc: Global, heap: &mut Heap, levels: usize) -> Tried<Value> {
+pub fn nested(alloc: Global, heap: &mut Heap, levels: usize) -> MemoryResult<Value> {
     let mut v = Value::Int(1);
     for _ in 0..levels {
         v = added(heap, Obj::Tuple(sole(alloc, v)?))?;
@@ -41,7 +41,7 @@ pub fn nested(alloc: Global, heap: &mut Heap, levels: usize) -> Tried<Value> {
 }
 
 /// 7 within so many exceptions.
-pub fn nested_exception(alloc: Global, heap: &mut Heap, levels: usize) -> Tried<Value> {
+pub fn nested_exception(alloc: Global, heap: &mut Heap, levels: usize) -> MemoryResult<Value> {
     let mut v = Value::Int(7);
     for _ in 0..levels {
         let class = ClassRef::Builtin(ExcClass::KeyError);
@@ -51,7 +51,7 @@ pub fn nested_exception(alloc: Global, heap: &mut Heap, levels: usize) -> Tried<
 }
 
 /// A dict with the keys below a number.
-pub fn full_dict(alloc: Global, heap: &mut Heap, keys: usize) -> Tried<Value> {
+pub fn full_dict(alloc: Global, heap: &mut Heap, keys: usize) -> MemoryResult<Value> {
     let mut dict = Dict::new(alloc);
     for i in 0..keys {
         put(alloc, heap, &mut dict, Value::Int(i as i128), Value::None)?;
@@ -60,7 +60,7 @@ pub fn full_dict(alloc: Global, heap: &mut Heap, keys: usize) -> Tried<Value> {
 }
 
 /// A list of the numbers below one, from the greatest on.
-pub fn numbers(alloc: Global, heap: &mut Heap, count: usize) -> Tried<Value> {
+pub fn numbers(alloc: Global, heap: &mut Heap, count: usize) -> MemoryResult<Value> {
     let mut items = Values::new(alloc);
     for i in 0..count {
         items.push(Value::Int((count - i - 1) as i128))?;
@@ -69,7 +69,7 @@ pub fn numbers(alloc: Global, heap: &mut Heap, count: usize) -> Tried<Value> {
 }
 
 /// A text of so many spaces.
-pub fn spaces(alloc: Global, heap: &mut Heap, count: usize) -> Tried<Value> {
+pub fn spaces(alloc: Global, heap: &mut Heap, count: usize) -> MemoryResult<Value> {
     let mut chars = Vec::new(alloc);
     for _ in 0..count {
         chars.push(' ')?;
@@ -78,7 +78,7 @@ pub fn spaces(alloc: Global, heap: &mut Heap, count: usize) -> Tried<Value> {
 }
 
 /// The value before it so many times, which it takes away.
-pub fn repeated(alloc: Global, on: &mut Operands, times: usize) -> Tried<Value> {
+pub fn repeated(alloc: Global, on: &mut Operands, times: usize) -> MemoryResult<Value> {
     let v = on.values.pop().unwrap_or(Value::None);
     let times = Value::Int(times as i128);
     match binary(alloc, &mut on.heap, BinOp::Mul, v, times, u64::MAX)? {

@@ -16,7 +16,7 @@ use py_values::value::Value;
 use py_values::{OutOfMemory, PyText};
 use std::alloc::Global;
 
-pub type Tried<T> = Result<T, OutOfMemory>;
+pub type MemoryResult<T> = Result<T, OutOfMemory>;
 
 /// The operands of a row, in a heap of their own.
 #[derive(Drop)]
@@ -25,15 +25,15 @@ pub struct Operands {
     pub values: Vec<Value>,
 }
 
-pub fn copied(alloc: Global, text: &str) -> Tried<String> {
+pub fn copied(alloc: Global, text: &str) -> MemoryResult<String> {
     Ok(String::from_str(alloc, text)?)
 }
 
-pub fn characters(alloc: Global, spelled: &str) -> Tried<Vec<char>> {
+pub fn characters(alloc: Global, spelled: &str) -> MemoryResult<Vec<char>> {
     Ok(spelled.chars().collect(alloc)?)
 }
 
-pub fn text(alloc: Global, spelled: &str) -> Tried<PyText> {
+pub fn text(alloc: Global, spelled: &str) -> MemoryResult<PyText> {
     PyText::from_str(alloc, spelled)
 }
 
@@ -82,7 +82,13 @@ fn range(spelled: &str) -> Obj {
     range_of(whole(start), whole(stop), whole(step))
 }
 
-pub fn put(alloc: Global, heap: &Heap, dict: &mut Dict, from: Value, to: Value) -> Tried<()> {
+pub fn put(
+    alloc: Global,
+    heap: &Heap,
+    dict: &mut Dict,
+    from: Value,
+    to: Value,
+) -> MemoryResult<()> {
     match key(alloc, heap, from)? {
         KeyResult::Key(plain) => dict.put(plain, from, to),
         KeyResult::Fault(_, _) => Ok(()),
@@ -90,7 +96,7 @@ pub fn put(alloc: Global, heap: &Heap, dict: &mut Dict, from: Value, to: Value) 
 }
 
 /// A dict of keys and values in turn.
-fn dict(alloc: Global, heap: &Heap, items: &[Value]) -> Tried<Obj> {
+fn dict(alloc: Global, heap: &Heap, items: &[Value]) -> MemoryResult<Obj> {
     let mut dict = Dict::new(alloc);
     for n in 0..items.len() / 2 {
         let (from, to) = (value_at(items, 2 * n), value_at(items, 2 * n + 1));
@@ -119,7 +125,7 @@ impl Operands {
     }
 
     /// The last so many values, which are taken away.
-    pub fn taken(&mut self, alloc: Global, count: usize) -> Tried<Vec<Value>> {
+    pub fn taken(&mut self, alloc: Global, count: usize) -> MemoryResult<Vec<Value>> {
         let mut items = Vec::new(alloc);
         let from = self.values.len().saturating_sub(count);
         for place in from..self.values.len() {
@@ -130,16 +136,16 @@ impl Operands {
     }
 
     /// The last so many values as a row, by how many they are.
-    fn elements(&mut self, alloc: Global, spelled: &str) -> Tried<Values> {
+    fn elements(&mut self, alloc: Global, spelled: &str) -> MemoryResult<Values> {
         Ok(Values::from_vec(self.taken(alloc, count(spelled))?))
     }
 
-    fn pairs(&mut self, alloc: Global, spelled: &str) -> Tried<Obj> {
+    fn pairs(&mut self, alloc: Global, spelled: &str) -> MemoryResult<Obj> {
         let items = self.taken(alloc, count(spelled).saturating_mul(2))?;
         dict(alloc, &self.heap, &items)
     }
 
-    fn object(&mut self, alloc: Global, kind: char, rest: &str) -> Tried<Obj> {
+    fn object(&mut self, alloc: Global, kind: char, rest: &str) -> MemoryResult<Obj> {
         match kind {
             'R' => Ok(range(rest)),
             'L' => Ok(Obj::List(self.elements(alloc, rest)?)),
@@ -154,7 +160,7 @@ impl Operands {
     }
 
     /// An exception, by how many of the values before it are its arguments, and its class.
-    fn exception(&mut self, alloc: Global, spelled: &str) -> Tried<Value> {
+    fn exception(&mut self, alloc: Global, spelled: &str) -> MemoryResult<Value> {
         match spelled.split_once(' ') {
             Some((args, class)) => {
                 let args = self.elements(alloc, args)?;
@@ -169,7 +175,7 @@ impl Operands {
     }
 
     /// The value that a part spells, by its first character and the rest.
-    fn value(&mut self, alloc: Global, kind: char, rest: &str) -> Tried<Value> {
+    fn value(&mut self, alloc: Global, kind: char, rest: &str) -> MemoryResult<Value> {
         match kind {
             '@' => Ok(self.at(count(rest))),
             'X' => self.exception(alloc, rest),
@@ -187,7 +193,7 @@ impl Operands {
         }
     }
 
-    fn part_value(&mut self, alloc: Global, part: &str) -> Tried<Value> {
+    fn part_value(&mut self, alloc: Global, part: &str) -> MemoryResult<Value> {
         if let Some(v) = plain(part) {
             return Ok(v);
         }
@@ -196,12 +202,12 @@ impl Operands {
     }
 
     /// Puts the value that a part spells behind the others.
-    pub fn push(&mut self, alloc: Global, part: &str) -> Tried<()> {
+    pub fn push(&mut self, alloc: Global, part: &str) -> MemoryResult<()> {
         let v = self.part_value(alloc, part)?;
         Ok(self.values.push(v)?)
     }
 
-    fn push_all(&mut self, alloc: Global, spelled: &str) -> Tried<()> {
+    fn push_all(&mut self, alloc: Global, spelled: &str) -> MemoryResult<()> {
         if spelled.is_empty() {
             return Ok(());
         }
@@ -223,7 +229,7 @@ impl Operands {
     ///   exception that has no `args`;
     /// - `F` and a function's name, `M` and a module's path, `C` and the name of a built-in class, or `B`, the built-in function
     ///   `print`.
-    pub fn of(alloc: Global, spelled: &str) -> Tried<Operands> {
+    pub fn of(alloc: Global, spelled: &str) -> MemoryResult<Operands> {
         let heap = Heap::new(alloc)?;
         let values = Vec::new(alloc);
         let mut all = Operands { heap, values };

@@ -3,7 +3,7 @@
 use crate::calls::{Call, call_by};
 use crate::items::{ItemAct, item_act_by};
 use crate::operators::{Operator, operator_by};
-use crate::spelled::{Operands, Tried, copied};
+use crate::spelled::{MemoryResult, Operands, copied};
 use crate::{calls, items, operators};
 use std::alloc::Global;
 
@@ -16,7 +16,7 @@ pub enum Act {
 }
 
 /// What has a cost, by its word and what stands behind it.
-pub fn act_by(alloc: Global, word: &str, rest: &str) -> Tried<Option<Act>> {
+pub fn act_by(alloc: Global, word: &str, rest: &str) -> MemoryResult<Option<Act>> {
     if let Some(op) = operator_by(word, rest) {
         return Ok(Some(Act::Operator(op)));
     }
@@ -36,7 +36,7 @@ fn told_on(
     act: Act,
     named: &str,
     budget: u64,
-) -> Tried<(String, u64)> {
+) -> MemoryResult<(String, u64)> {
     match act {
         Act::Operator(op) => operators::told(alloc, on, op, budget),
         Act::Item(act) => items::told(alloc, on, act, budget),
@@ -50,13 +50,13 @@ fn told_within(
     named: &str,
     operands: &str,
     budget: u64,
-) -> Tried<(String, u64)> {
+) -> MemoryResult<(String, u64)> {
     let mut on = Operands::of(alloc, operands)?;
     told_on(alloc, &mut on, act, named, budget)
 }
 
 /// What an act gives, of a call with its named arguments, or what is wrong with its steps.
-pub fn told(alloc: Global, act: Act, named: &str, operands: &str) -> Tried<String> {
+pub fn told(alloc: Global, act: Act, named: &str, operands: &str) -> MemoryResult<String> {
     let (text, cost) = told_within(alloc, act, named, operands, u64::MAX)?;
     let (again, _) = told_within(alloc, act, named, operands, cost)?;
     if again.as_str() != text.as_str() {

@@ -1,7 +1,7 @@
 // Rows on values: what is shown of them, comparison within a budget, exceptions, names, and changes of objects.
 
 use crate::shown::{length_told, repr_told, value_told};
-use crate::spelled::{Operands, Tried, characters, copied, text};
+use crate::spelled::{MemoryResult, Operands, characters, copied, text};
 use py_compare::equal::equal;
 use py_compare::order::less;
 use py_compare::tested::Tested;
@@ -18,36 +18,36 @@ use py_values::value::Value;
 use std::alloc::Global;
 
 /// A value's kind, repr, text and truth.
-pub fn shown(alloc: Global, on: &Operands) -> Tried<String> {
+pub fn shown(alloc: Global, on: &Operands) -> MemoryResult<String> {
     value_told(alloc, &on.heap, on.at(0))
 }
 
 /// The value of a built-in name in the first heap; `None` where there is none.
-pub fn builtin(alloc: Global, name: &str) -> Tried<Value> {
+pub fn builtin(alloc: Global, name: &str) -> MemoryResult<Value> {
     let name = characters(alloc, name)?;
     Ok(builtin_value(&name).unwrap_or(Value::None))
 }
 
 /// What is shown of the value of a built-in name.
-pub fn named(alloc: Global, name: &str) -> Tried<String> {
+pub fn named(alloc: Global, name: &str) -> MemoryResult<String> {
     let heap = first_heap(alloc)?;
     let v = builtin(alloc, name)?;
     value_told(alloc, &heap, v)
 }
 
 /// The length of what is shown of a value within a length, whether it is cut, and whether it lies too deep.
-pub fn cut(alloc: Global, on: &Operands, most: usize) -> Tried<String> {
+pub fn cut(alloc: Global, on: &Operands, most: usize) -> MemoryResult<String> {
     let shown = repr(alloc, &on.heap, on.at(0), most)?;
     length_told(alloc, &shown)
 }
 
 /// The same of an exception's message.
-pub fn message_cut(alloc: Global, on: &Operands, most: usize) -> Tried<String> {
+pub fn message_cut(alloc: Global, on: &Operands, most: usize) -> MemoryResult<String> {
     let shown = message(alloc, &on.heap, on.at(0), most)?;
     length_told(alloc, &shown)
 }
 
-fn tested_told(alloc: Global, tested: Tested) -> Tried<String> {
+fn tested_told(alloc: Global, tested: Tested) -> MemoryResult<String> {
     let (word, cost) = match tested {
         Tested::Yes(cost) => ("yes", cost),
         Tested::No(cost) => ("no", cost),
@@ -59,26 +59,26 @@ fn tested_told(alloc: Global, tested: Tested) -> Tried<String> {
 }
 
 /// Whether two values are equal, and whether the first is less, within a budget.
-pub fn compared(alloc: Global, on: &Operands, budget: u64) -> Tried<String> {
+pub fn compared(alloc: Global, on: &Operands, budget: u64) -> MemoryResult<String> {
     let same = tested_told(alloc, equal(&on.heap, on.at(0), on.at(1), budget))?;
     let less = tested_told(alloc, less(&on.heap, on.at(0), on.at(1), budget))?;
     Ok(format!(in alloc; "{same}, {less}")?)
 }
 
 /// The exception of a raise with a text, and with an argument where there is an operand.
-pub fn thrown(alloc: Global, on: &mut Operands, text: &str) -> Tried<String> {
+pub fn thrown(alloc: Global, on: &mut Operands, text: &str) -> MemoryResult<String> {
     let mut raise = Raise::from_ascii(alloc, ExcClass::NameError, text)?;
     raise.arg = on.values.first().copied();
     let exc = throw(alloc, &mut on.heap, raise)?;
     value_told(alloc, &on.heap, exc)
 }
 
-pub fn name(alloc: Global, spelled: &str) -> Tried<Name> {
+pub fn name(alloc: Global, spelled: &str) -> MemoryResult<Name> {
     Ok(Name::from_text(text(alloc, spelled)?))
 }
 
 /// Names bound to 1, 2 and so on in turn.
-fn names_of(alloc: Global, spelled: &str) -> Tried<Names> {
+fn names_of(alloc: Global, spelled: &str) -> MemoryResult<Names> {
     let mut names = Names::new(alloc);
     let mut n = 0i128;
     for part in spelled.split('|') {
@@ -88,7 +88,7 @@ fn names_of(alloc: Global, spelled: &str) -> Tried<Names> {
     Ok(names)
 }
 
-fn found(alloc: Global, heap: &Heap, v: Option<Value>) -> Tried<String> {
+fn found(alloc: Global, heap: &Heap, v: Option<Value>) -> MemoryResult<String> {
     match v {
         Some(v) => repr_told(alloc, heap, v),
         None => copied(alloc, "-"),
@@ -103,7 +103,7 @@ fn first_of(names: &Names) -> Option<Value> {
 }
 
 /// What a name is bound to, and the value that stands first.
-fn found_in(alloc: Global, names: &Names, wanted: &str) -> Tried<String> {
+fn found_in(alloc: Global, names: &Names, wanted: &str) -> MemoryResult<String> {
     let heap = Heap::new(alloc)?;
     let wanted = name(alloc, wanted)?;
     let there = found(alloc, &heap, names.find(&wanted))?;
@@ -112,13 +112,13 @@ fn found_in(alloc: Global, names: &Names, wanted: &str) -> Tried<String> {
 }
 
 /// The same behind bindings.
-pub fn bound(alloc: Global, wanted: &str, spelled: &str) -> Tried<String> {
+pub fn bound(alloc: Global, wanted: &str, spelled: &str) -> MemoryResult<String> {
     let names = names_of(alloc, spelled)?;
     found_in(alloc, &names, wanted)
 }
 
 /// A value whose object is written anew as a text.
-pub fn changed(alloc: Global, on: &mut Operands, spelled: &str) -> Tried<String> {
+pub fn changed(alloc: Global, on: &mut Operands, spelled: &str) -> MemoryResult<String> {
     let v = on.at(0);
     if let Value::Ref(id) = v {
         if id.at < on.heap.len() {
@@ -129,7 +129,7 @@ pub fn changed(alloc: Global, on: &mut Operands, spelled: &str) -> Tried<String>
 }
 
 /// A list behind which a value is put.
-pub fn pushed(alloc: Global, on: &mut Operands) -> Tried<String> {
+pub fn pushed(alloc: Global, on: &mut Operands) -> MemoryResult<String> {
     let (list, v) = (on.at(0), on.at(1));
     if let Value::Ref(id) = list {
         on.heap.change(id, Change::Push(v))?;

@@ -2,7 +2,7 @@
 // condition, `reason=TEXT`, `strict=True`, `raises=CLASS`. `3` is a number, and `[..]` a mark in a list of its own.
 
 use crate::objects::{added, builtin_class};
-use crate::spelled::{Tried, text};
+use crate::spelled::{MemoryResult, text};
 use crate::values::name;
 use py_values::heap::Heap;
 use py_values::names::Names;
@@ -12,7 +12,7 @@ use py_values::value::Value;
 use std::alloc::Global;
 
 /// The class of exceptions that an `xfail` covers.
-fn raises(alloc: Global, heap: &mut Heap, spelled: &str) -> Tried<Value> {
+fn raises(alloc: Global, heap: &mut Heap, spelled: &str) -> MemoryResult<Value> {
     if spelled == "None" {
         return Ok(Value::None);
     }
@@ -20,7 +20,7 @@ fn raises(alloc: Global, heap: &mut Heap, spelled: &str) -> Tried<Value> {
 }
 
 /// The value of a named argument.
-fn argument(alloc: Global, heap: &mut Heap, key: &str, spelled: &str) -> Tried<Value> {
+fn argument(alloc: Global, heap: &mut Heap, key: &str, spelled: &str) -> MemoryResult<Value> {
     match key {
         "reason" => added(heap, Obj::Text(text(alloc, spelled)?)),
         "raises" => raises(alloc, heap, spelled),
@@ -28,7 +28,12 @@ fn argument(alloc: Global, heap: &mut Heap, key: &str, spelled: &str) -> Tried<V
     }
 }
 
-fn take_argument(alloc: Global, heap: &mut Heap, mark: &mut MarkObj, part: &str) -> Tried<()> {
+fn take_argument(
+    alloc: Global,
+    heap: &mut Heap,
+    mark: &mut MarkObj,
+    part: &str,
+) -> MemoryResult<()> {
     let Some((key, spelled)) = part.split_once('=') else {
         return mark.args.push(Value::Bool(part == "True"));
     };
@@ -36,7 +41,12 @@ fn take_argument(alloc: Global, heap: &mut Heap, mark: &mut MarkObj, part: &str)
     mark.named.bind(name(alloc, key)?, v)
 }
 
-fn take_arguments(alloc: Global, heap: &mut Heap, mark: &mut MarkObj, spelled: &str) -> Tried<()> {
+fn take_arguments(
+    alloc: Global,
+    heap: &mut Heap,
+    mark: &mut MarkObj,
+    spelled: &str,
+) -> MemoryResult<()> {
     for part in spelled.split('&') {
         if !part.is_empty() {
             take_argument(alloc, heap, mark, part)?;
@@ -46,7 +56,7 @@ fn take_arguments(alloc: Global, heap: &mut Heap, mark: &mut MarkObj, spelled: &
 }
 
 /// A mark with the arguments of its call.
-fn mark(alloc: Global, heap: &mut Heap, spelled: &str) -> Tried<Value> {
+fn mark(alloc: Global, heap: &mut Heap, spelled: &str) -> MemoryResult<Value> {
     let (word, rest) = spelled.split_once('(').unwrap_or((spelled, ""));
     let arguments = rest.strip_suffix(')').unwrap_or(rest);
     let mut mark = MarkObj {
@@ -65,14 +75,14 @@ fn mark(alloc: Global, heap: &mut Heap, spelled: &str) -> Tried<Value> {
 }
 
 /// A list of one mark.
-fn list(alloc: Global, heap: &mut Heap, spelled: &str) -> Tried<Value> {
+fn list(alloc: Global, heap: &mut Heap, spelled: &str) -> MemoryResult<Value> {
     let mut items = Values::new(alloc);
     items.push(mark(alloc, heap, spelled)?)?;
     added(heap, Obj::List(items))
 }
 
 /// A value of a row of marks.
-pub fn marked(alloc: Global, heap: &mut Heap, spelled: &str) -> Tried<Value> {
+pub fn marked(alloc: Global, heap: &mut Heap, spelled: &str) -> MemoryResult<Value> {
     if spelled == "3" {
         return Ok(Value::Int(3));
     }
@@ -83,7 +93,7 @@ pub fn marked(alloc: Global, heap: &mut Heap, spelled: &str) -> Tried<Value> {
 }
 
 /// Marks with commas between them.
-pub fn all_marks(alloc: Global, heap: &mut Heap, spelled: &str) -> Tried<Values> {
+pub fn all_marks(alloc: Global, heap: &mut Heap, spelled: &str) -> MemoryResult<Values> {
     let mut all = Values::new(alloc);
     for part in spelled.split(',') {
         if !part.is_empty() {

@@ -5,7 +5,7 @@
 
 use crate::collection::marks::{all_marks, marked};
 use crate::objects::{added, builtin_class, class, function};
-use crate::spelled::Tried;
+use crate::spelled::MemoryResult;
 use crate::values::name;
 use py_values::builtin::Builtin;
 use py_values::class::{ClassForm, ExcClass};
@@ -52,7 +52,7 @@ fn form_of(kind: &str) -> ClassForm {
 }
 
 /// The base of a class of exceptions of the sources.
-fn base_of(alloc: Global, heap: &mut Heap, kind: &str) -> Tried<Option<ObjId>> {
+fn base_of(alloc: Global, heap: &mut Heap, kind: &str) -> MemoryResult<Option<ObjId>> {
     match kind {
         "e" => Ok(Some(heap.add(builtin_class(alloc, "Exception")?)?)),
         _ => Ok(None),
@@ -61,7 +61,7 @@ fn base_of(alloc: Global, heap: &mut Heap, kind: &str) -> Tried<Option<ObjId>> {
 
 impl Module {
     /// Binds the class that goes on.
-    fn close(&mut self) -> Tried<()> {
+    fn close(&mut self) -> MemoryResult<()> {
         match self.open.take() {
             Some(Open { name, class }) => {
                 let v = added(&mut self.heap, Obj::Class(class))?;
@@ -71,7 +71,13 @@ impl Module {
         }
     }
 
-    fn begin_class(&mut self, alloc: Global, kind: &str, spelled: &str, marks: &str) -> Tried<()> {
+    fn begin_class(
+        &mut self,
+        alloc: Global,
+        kind: &str,
+        spelled: &str,
+        marks: &str,
+    ) -> MemoryResult<()> {
         let name = name(alloc, spelled)?;
         let base = base_of(alloc, &mut self.heap, kind)?;
         let marks = all_marks(alloc, &mut self.heap, marks)?;
@@ -80,24 +86,30 @@ impl Module {
         Ok(())
     }
 
-    fn function(&mut self, alloc: Global, spelled: &str, marks: &str) -> Tried<Value> {
+    fn function(&mut self, alloc: Global, spelled: &str, marks: &str) -> MemoryResult<Value> {
         let marks = all_marks(alloc, &mut self.heap, marks)?;
         added(&mut self.heap, function(alloc, spelled, marks)?)
     }
 
-    fn list(&mut self, alloc: Global, marks: &str) -> Tried<Value> {
+    fn list(&mut self, alloc: Global, marks: &str) -> MemoryResult<Value> {
         let marks = all_marks(alloc, &mut self.heap, marks)?;
         added(&mut self.heap, Obj::List(marks))
     }
 
     /// The value of a name of the module.
-    fn old(&self, alloc: Global, spelled: &str) -> Tried<Value> {
+    fn old(&self, alloc: Global, spelled: &str) -> MemoryResult<Value> {
         let name = name(alloc, spelled)?;
         Ok(self.names.find(&name).unwrap_or(Value::None))
     }
 
     /// The value that a word binds.
-    fn value(&mut self, alloc: Global, kind: &str, spelled: &str, more: &str) -> Tried<Value> {
+    fn value(
+        &mut self,
+        alloc: Global,
+        kind: &str,
+        spelled: &str,
+        more: &str,
+    ) -> MemoryResult<Value> {
         match kind {
             "f" | "m" => self.function(alloc, spelled, more),
             "p" | "q" => self.list(alloc, spelled),
@@ -108,14 +120,14 @@ impl Module {
     }
 
     /// Binds a name of the class that goes on.
-    fn bind_inner(&mut self, name: Name, v: Value) -> Tried<()> {
+    fn bind_inner(&mut self, name: Name, v: Value) -> MemoryResult<()> {
         match &mut self.open {
             Some(open) => open.class.names.bind(name, v),
             None => Ok(()),
         }
     }
 
-    fn bind(&mut self, alloc: Global, kind: &str, spelled: &str, more: &str) -> Tried<()> {
+    fn bind(&mut self, alloc: Global, kind: &str, spelled: &str, more: &str) -> MemoryResult<()> {
         let v = self.value(alloc, kind, spelled, more)?;
         let name = name(alloc, bound_by(kind, spelled))?;
         if is_inner(kind) {
@@ -124,7 +136,7 @@ impl Module {
         self.names.bind(name, v)
     }
 
-    fn take(&mut self, alloc: Global, word: &str) -> Tried<()> {
+    fn take(&mut self, alloc: Global, word: &str) -> MemoryResult<()> {
         let (kind, rest) = word.split_once(':').unwrap_or((word, ""));
         let (spelled, more) = rest.split_once(':').unwrap_or((rest, ""));
         if !is_inner(kind) {
@@ -137,7 +149,7 @@ impl Module {
     }
 
     /// Binds what all words of a row bind.
-    fn take_all(&mut self, alloc: Global, spelled: &str) -> Tried<()> {
+    fn take_all(&mut self, alloc: Global, spelled: &str) -> MemoryResult<()> {
         for word in spelled.split(' ') {
             self.take(alloc, word)?;
         }
@@ -146,7 +158,7 @@ impl Module {
 }
 
 /// The module that a row spells.
-pub fn module_of(alloc: Global, spelled: &str) -> Tried<Module> {
+pub fn module_of(alloc: Global, spelled: &str) -> MemoryResult<Module> {
     let mut module = Module {
         heap: Heap::new(alloc)?,
         names: Names::new(alloc),

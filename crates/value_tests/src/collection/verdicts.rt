@@ -3,14 +3,14 @@
 
 use crate::collection::marks::all_marks;
 use crate::objects::{added, class_by, exception_without_args};
-use crate::spelled::Tried;
+use crate::spelled::MemoryResult;
 use collect_marks::says::xfail_of;
 use collect_marks::verdict::{call_verdict, set_up_verdict, teardown_verdict};
 use py_values::heap::Heap;
 use py_values::value::Value;
 use std::alloc::Global;
 
-fn raised(alloc: Global, heap: &mut Heap, spelled: &str) -> Tried<Vec<Value>> {
+fn raised(alloc: Global, heap: &mut Heap, spelled: &str) -> MemoryResult<Vec<Value>> {
     let mut all = Vec::new(alloc);
     for part in spelled.split(',') {
         if !part.is_empty() {
@@ -28,7 +28,7 @@ fn verdict_told(
     phase: &str,
     marks: &[Value],
     raised: &[Value],
-) -> Tried<String> {
+) -> MemoryResult<String> {
     let xfail = xfail_of(alloc, heap, marks)?;
     let verdict = match phase {
         "set-up" => set_up_verdict(heap, xfail.as_ref(), raised),
@@ -39,7 +39,7 @@ fn verdict_told(
 }
 
 /// How a phase has ended.
-pub fn verdict(alloc: Global, phase: &str, spelled: &str) -> Tried<String> {
+pub fn verdict(alloc: Global, phase: &str, spelled: &str) -> MemoryResult<String> {
     let mut heap = Heap::new(alloc)?;
     let (marks, exceptions) = spelled.split_once(' ').unwrap_or((spelled, ""));
     let marks = all_marks(alloc, &mut heap, marks)?;

@@ -7,7 +7,7 @@ use Rattle.py_tree.specs.declared.expr.ArgName.{ArgName}
 use Rattle.py_tree.specs.declared.expr.Expr.{Expr}
 use Rattle.py_tree.specs.declared.op.CmpOp.{CmpOp}
 use Rattle.py_tree.specs.Trees.{tree, trees}
-use Rattle.py_world.specs.Explained.{Shows, joined_shows, kept_count, last_pair, named_shows, show_all, show_evaluated, show_part}
+use Rattle.py_world.specs.Explained.{Explanation, joined_shows, kept_count, last_pair, named_shows, show_all, show_evaluated, show_part}
 use Rattle.assert_explain.specs.Texts.{call_with, in_parens, joint_text}
 use Rattle.assert_explain.proofs.Forms.{and_shown, call_shown, compare_shown, or_shown}
 use Rattle.assert_explain.proofs.Joining.{args_more, last_more, operand_more, pair_more, place_more}
@@ -64,7 +64,7 @@ show_call-returns t c =
     let callee = c.in_ok-callee.callee in
     let given = c.in_ok-args.args in
     let es' = c.deref-4.result.now in
-    IfOk-weaker c.call_shows.result (λ (s : Shows). s ≡ call_with heap kept n callee given) (λ (s : Shows). s ≡ show_part heap kept n (tree e))
+    IfOk-weaker c.call_shows.result (λ (s : Explanation). s ≡ call_with heap kept n callee given) (λ (s : Explanation). s ≡ show_part heap kept n (tree e))
     (λ s h. call_shown heap kept n e.at e.kind s c.args.f.now c.args.es.now c.args.names.now callee given next behind c.requires c.in_ok-next.ensures
     (c.in_ok-callee.ensures ∙ ap (λ (x : Expr). show_part heap kept next (tree x)) c.deref.ensures)
     (c.in_ok-place_behind.ensures ∙ ap (λ (x : Expr). next + kept_count (tree x)) c.deref-2.ensures)
@@ -84,7 +84,7 @@ show_compare-returns t c =
     let first = c.in_ok-first.first in
     let ops' = c.deref-4.result.now in
     let es' = c.deref-6.result.now in
-    IfOk-weaker c.show_pairs.result (λ (s : Shows). s ≡ last_pair heap kept next first ops' (trees es')) (λ (s : Shows). s ≡ show_part heap kept n (tree e))
+    IfOk-weaker c.show_pairs.result (λ (s : Explanation). s ≡ last_pair heap kept next first ops' (trees es')) (λ (s : Explanation). s ≡ show_part heap kept n (tree e))
     (λ s h. compare_shown heap kept n e.at e.kind s c.args.a.now c.args.es.now first next
     (c.in_ok-first.ensures ∙ ap (λ (x : Expr). show_part heap kept n (tree x)) c.deref.ensures)
     (c.in_ok-place_behind.ensures ∙ ap (λ (x : Expr). n + kept_count (tree x)) c.deref-2.ensures)
@@ -102,7 +102,7 @@ show_and-returns t c =
     let next = c.in_ok-place_behind.field-0 in
     let first = c.in_ok-first.first in
     let es' = c.deref-4.result.now in
-    IfOk-weaker c.show_others.result (λ (s : Shows). s ≡ in_parens (joined_shows (codes " and ") (first ∷ show_evaluated heap kept next (trees es')))) (λ (s : Shows). s ≡ show_part heap kept n (tree e))
+    IfOk-weaker c.show_others.result (λ (s : Explanation). s ≡ in_parens (joined_shows (codes " and ") (first ∷ show_evaluated heap kept next (trees es')))) (λ (s : Explanation). s ≡ show_part heap kept n (tree e))
     (λ s h. and_shown heap kept n e.at e.kind s c.args.a.now c.args.es.now first next
     (c.in_ok-first.ensures ∙ ap (λ (x : Expr). show_part heap kept n (tree x)) c.deref.ensures)
     (c.in_ok-place_behind.ensures ∙ ap (λ (x : Expr). n + kept_count (tree x)) c.deref-2.ensures)
@@ -119,7 +119,7 @@ show_or-returns t c =
     let next = c.in_ok-place_behind.field-0 in
     let first = c.in_ok-first.first in
     let es' = c.deref-4.result.now in
-    IfOk-weaker c.show_others.result (λ (s : Shows). s ≡ in_parens (joined_shows (codes " or ") (first ∷ show_evaluated heap kept next (trees es')))) (λ (s : Shows). s ≡ show_part heap kept n (tree e))
+    IfOk-weaker c.show_others.result (λ (s : Explanation). s ≡ in_parens (joined_shows (codes " or ") (first ∷ show_evaluated heap kept next (trees es')))) (λ (s : Explanation). s ≡ show_part heap kept n (tree e))
     (λ s h. or_shown heap kept n e.at e.kind s c.args.a.now c.args.es.now first next
     (c.in_ok-first.ensures ∙ ap (λ (x : Expr). show_part heap kept n (tree x)) c.deref.ensures)
     (c.in_ok-place_behind.ensures ∙ ap (λ (x : Expr). n + kept_count (tree x)) c.deref-2.ensures)

@@ -2,7 +2,7 @@ use Rattle.std.proofs.Common.{◌≡◌, Some, sym}
 use Rattle.std.specs.Option.{option_copied}
 use Rattle.std.proofs.lemmas.Result.{err_from_is_err_and}
 use Rattle.cli_words.specs.Table.{takes_named}
-use Rattle.cli_words.specs.declared.table.Takes.TheVariants.{Tells}
+use Rattle.cli_words.specs.declared.table.OptionKind.TheVariants.{Tells}
 use Rattle.cli_words.proofs.Outcomes.{no_option}
 use Rattle.cli_words.proofs.read.read_option.Goals as goal
 

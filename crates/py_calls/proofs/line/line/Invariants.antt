@@ -1,7 +1,7 @@
 use Rattle.std.proofs.Common.{◌≡◌, true, drop}
 use Rattle.py_calls.specs.Printing.{line_of}
 use Rattle.py_calls.specs.Texts.{append_text}
-use Rattle.py_calls.specs.declared.made.TextMade.TheVariants.{Text}
+use Rattle.py_calls.specs.declared.made.TextResult.TheVariants.{Text}
 use Rattle.py_calls.proofs.line.line.Given as goal
 
 abbrev pub invariant-loop-v : goal.invariant-loop-v

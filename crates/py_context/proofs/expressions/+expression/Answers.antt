@@ -3,7 +3,7 @@ use Rattle.std.specs.declared.rc.Rc.{Rc}
 use Rattle.py_tree.specs.declared.expr.Expr.{Expr}
 use Rattle.py_tree.specs.Trees.{tree, trees, some_tree}
 use Rattle.py_tree.specs.declared.expr.ExprKind.TheVariants as v
-use Rattle.py_grammar.specs.Context.{first_pos, in_tree, in_trees, in_maybe, wrong_arguments, each}
+use Rattle.py_grammar.specs.Context.{first_pos, in_tree, in_trees, in_maybe, wrong_arguments, places_of_each}
 use Rattle.py_context.specs.Parts.{expr_parts}
 use Rattle.py_context.proofs.ExpressionPlaces.{each_goes, each_over, of_kind, tuple_form, list_form, dict_form, call_form, slice_form, compare_form, and_form, or_form}
 use Rattle.py_context.proofs.expressions.+expression.Goals as goal
@@ -22,7 +22,7 @@ in_expr-returns-in-Dict t c = dict_form c.args.expr.now.at c.args.expr.now.kind 
 
 pub in_expr-returns-in-Call : goal.in_expr-returns-in-Call
 in_expr-returns-in-Call t c = call_form c.args.expr.now.at c.args.expr.now.kind c.join.result c.in-Call.function c.in-Call.arguments c.in-Call.names c.in-Call.is
-    (c.join.ensures (in_tree (tree c.in-Call.function.value)) (wrong_arguments [] c.in-Call.names.value.items (each (trees c.in-Call.arguments.value.items))) c.in_part-in-Call.ensures (c.in_arguments.ensures c.in-Call.arguments.value.items c.in_each-in-Call.ensures))
+    (c.join.ensures (in_tree (tree c.in-Call.function.value)) (wrong_arguments [] c.in-Call.names.value.items (places_of_each (trees c.in-Call.arguments.value.items))) c.in_part-in-Call.ensures (c.in_arguments.ensures c.in-Call.arguments.value.items c.in_each-in-Call.ensures))
 
 pub in_expr-returns-in-Subscript : goal.in_expr-returns-in-Subscript
 in_expr-returns-in-Subscript t c = of_kind c.args.expr.now.at c.args.expr.now.kind c.join-in-Subscript.result (v.Subscript c.in-Subscript.of c.in-Subscript.index) c.in-Subscript.is

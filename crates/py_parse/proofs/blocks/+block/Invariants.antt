@@ -1,6 +1,6 @@
 use Rattle.std.proofs.Common.{◌≡◌, ◌+◌, ◌*◌, nat_le, length}
 use Rattle.py_tree.specs.Statements.{block, branches, handlers}
-use Rattle.statement_readers.specs.Words.{elifs_on, handlers_on, stmts_on, block_at}
+use Rattle.statement_readers.specs.Words.{elifs_on, excepts_on, stmts_on, block_at}
 use Rattle.py_parse.proofs.blocks.+block.Given as goal
 
 abbrev pub decreases-block : goal.decreases-block
@@ -70,7 +70,7 @@ abbrev pub decreases-further_branches-loop-elif : goal.decreases-further_branche
 decreases-further_branches-loop-elif l = length l.p.rest.now
 
 abbrev pub invariant-further_handlers-loop-except : goal.invariant-further_handlers-loop-except
-invariant-further_handlers-loop-except l = handlers_on (block_at l.levels) (handlers l.all.items, l.p.rest.now) ≡ handlers_on (block_at l.levels) (handlers l.fn.first.items, l.fn.p.rest.now)
+invariant-further_handlers-loop-except l = excepts_on (block_at l.levels) (handlers l.all.items, l.p.rest.now) ≡ excepts_on (block_at l.levels) (handlers l.fn.first.items, l.fn.p.rest.now)
 
 abbrev pub decreases-further_handlers-loop-except : goal.decreases-further_handlers-loop-except
 decreases-further_handlers-loop-except l = length l.p.rest.now

@@ -1,6 +1,6 @@
 use Rattle.std.proofs.Common.{rules, ◌≡◌, ◌+◌, ◌++◌, length, arith, ap, OnOk}
 use Rattle.std.proofs.iter.Serving.{serving}
-use Rattle.share_files.specs.Work.{IsRange, Ran, held_lists}
+use Rattle.share_files.specs.Work.{IsRange, HaveRun, held_lists}
 use Rattle.share_files.proofs.Kept.{halves_kept, joined_kept}
 use Rattle.share_files.proofs.Ranges.{beside, ran_both}
 use Rattle.share_files.proofs.Feeding.{lower_blank, upper_blank}
@@ -37,7 +37,7 @@ run_halves-returns-clause-ran g t c =
     let below = c.join_mut-seat.result.0.0 in
     let above = c.join_mut-seat.result.1.0 in
     let low : IsRange c.args.first a below.me = search rules in
-    let ran_low : OnOk c.join_mut-seat.result.0.1 (Ran g.W.Worker.works c.args.crew.now.groups c.args.first below.me.0.lists c.args.low.now (held_lists c.low_lists-1.given.0) c.low-1.given.0) = search rules in
-    let ran_high : OnOk c.join_mut-seat.result.1.1 (Ran g.W.Worker.works c.args.crew.now.groups (c.args.first + a) above.me.0.lists c.args.high.now (held_lists c.high_lists-1.given.0) c.high-1.given.0) = search rules in
+    let ran_low : OnOk c.join_mut-seat.result.0.1 (HaveRun g.W.Worker.works c.args.crew.now.groups c.args.first below.me.0.lists c.args.low.now (held_lists c.low_lists-1.given.0) c.low-1.given.0) = search rules in
+    let ran_high : OnOk c.join_mut-seat.result.1.1 (HaveRun g.W.Worker.works c.args.crew.now.groups (c.args.first + a) above.me.0.lists c.args.high.now (held_lists c.high_lists-1.given.0) c.high-1.given.0) = search rules in
     let lists : c.join_seat.new.seat.me.0.lists ≡ below.me.0.lists ++ above.me.0.lists = ap (λ m. m.0.lists) c.join_seat.ensures.2 in
     rw (c.and.ensures, lists) (ran_both g.W.Worker.works c.args.crew.now.groups c.args.first a c.join_mut-seat.result.0.1 c.join_mut-seat.result.1.1 below.me.0.lists above.me.0.lists c.args.low.now c.args.high.now c.low_lists-1.given.0 c.high_lists-1.given.0 c.low-1.given.0 c.high-1.given.0 low.1 ran_low ran_high)

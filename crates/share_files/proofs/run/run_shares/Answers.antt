@@ -1,7 +1,7 @@
 use Rattle.std.proofs.Common.{rules, ◌≡◌, ℕ, ◌<◌, ◌≤◌, List, ◌++◌, length, take, drop, sym, ap, ◌∙◌}
 use Rattle.std.proofs.Math.Seq.{take-append_seam}
 use Rattle.share_files.specs.Deal.{Every, deal}
-use Rattle.share_files.specs.Work.{IsRange, Ran, held_lists}
+use Rattle.share_files.specs.Work.{IsRange, HaveRun, held_lists}
 use Rattle.share_files.proofs.Shares.{share_law}
 use Rattle.share_files.proofs.run.run_shares.Goals as goal
 
@@ -16,7 +16,7 @@ returns-clause-share g c =
     let long : length new ≡ c.in_ok-lists.lists.len = search rules in
     let same = all_taken c.in_ok-lists.lists.len new (drop (length new) c.in_ok-lists.lists.items) long in
     let at : IsRange 0 d.workers seat.me = search rules in
-    let ran : Ran g.W.Worker.works d.groups 0 seat.me.0.lists c.args.workers.now (held_lists new) c.run_range-seat.new.workers = search rules in
+    let ran : HaveRun g.W.Worker.works d.groups 0 seat.me.0.lists c.args.workers.now (held_lists new) c.run_range-seat.new.workers = search rules in
     let draws = c.close.ensures.0 in
     let key : c.draws.inside.table.shared.key ≡ d = search rules in
     let first : seat.me.0.first ≡ 0 = ap (λ m. m.0.first) at.0 in

@@ -5,7 +5,7 @@ use Rattle.session_rules.specs.Session.{demand_closure}
 use Rattle.setup_stack.specs.Asking.{AreReady}
 use Rattle.setup_stack.specs.Standing.{AllStand}
 use Rattle.setup_stack.specs.Views.{stack_state}
-use Rattle.setup_stack.proofs.stack.FixtureStack.demand_all.Given as goal
+use Rattle.setup_stack.proofs.stack.SetupStack.demand_all.Given as goal
 
 abbrev pub invariant-defs : goal.invariant-defs
 invariant-defs g l = record {

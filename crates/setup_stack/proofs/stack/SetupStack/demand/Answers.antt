@@ -2,7 +2,7 @@ use Rattle.fixture_instances.specs.Items.{item_for_session}
 use Rattle.fixture_instances.specs.Views.{live_instances}
 use Rattle.setup_stack.proofs.Demands.{given_noted}
 use Rattle.setup_stack.proofs.Stands.{none_stand}
-use Rattle.setup_stack.proofs.stack.FixtureStack.demand.Goals as goal
+use Rattle.setup_stack.proofs.stack.SetupStack.demand.Goals as goal
 
 pub returns : goal.returns
 returns g c =

@@ -6,7 +6,7 @@ use Rattle.session_types.specs.Members.{IsMember}
 use Rattle.setup_stack.specs.Asking.{goes_or_ends}
 use Rattle.setup_stack.specs.Views.{stack_state}
 use Rattle.setup_stack.proofs.Stands.{none_stand}
-use Rattle.setup_stack.proofs.stack.FixtureStack.demand_all.Goals as goal
+use Rattle.setup_stack.proofs.stack.SetupStack.demand_all.Goals as goal
 
 pub defs-init : goal.defs-init
 defs-init g c = record {

@@ -3,7 +3,7 @@ use Rattle.session_types.specs.Live.{not_on}
 use Rattle.session_rules.specs.Teardown.{down_all}
 use Rattle.setup_stack.specs.Views.{stack_state}
 use Rattle.fixture_instances.specs.Views.{live_instances}
-use Rattle.setup_stack.proofs.stack.FixtureStack.leave.Goals as goal
+use Rattle.setup_stack.proofs.stack.SetupStack.leave.Goals as goal
 
 pub returns : goal.returns
 returns g c =
