@@ -1,5 +1,10 @@
-"""rename.py ROOT MAP.. [--apply]: renames definitions ('crate/specs/F.antt OLD NEW') and types of code ('crate type OLD NEW')."""
+"""rename.py ROOT MAP.. [--apply]: renames definitions ('crate/specs/F.antt OLD NEW') and types of code ('crate type OLD NEW').
+
+Definitions are those that names.py sees, in modules and blocks of mutual definitions too; fields and variables of the same name keep theirs, and it warns of a constructor of the name.
+"""
 import glob, os, re, sys, collections
+sys.path.insert(0,os.path.dirname(os.path.abspath(__file__)))
+from names import definitions
 root=sys.argv[1]; apply='--apply' in sys.argv
 maps=[a for a in sys.argv[2:] if not a.startswith('--')]
 C=root+'/crates/'
@@ -42,6 +47,48 @@ def sub_spans(text,spans,f):
             a=p
         r.append(text[p:a]); r.append(f(text[a:b],text[:a])); p=b
     r.append(text[p:]); return ''.join(r)
+def hidden(t,names):
+    """where a name stands for a variable: behind a binder of a signature, in an equation whose patterns bind it, in the body of a λ, of a let or of an alternative"""
+    out=set()
+    units=[]; at=0; indent=None
+    for line in t.split('\n'):
+        body=line.strip(); i=len(line)-len(line.lstrip())
+        if body and not body.startswith('--'):
+            if indent is None or i<=indent or not units: units.append([at,at]); indent=i
+            units[-1][1]=at+len(line)
+            if re.match(r"module\b|(?:\w+ )?mutual$|pub (?:data|record) ",body): indent=None
+        at+=len(line)+1
+    for a,b in units:
+        u=t[a:b]
+        for n in names:
+            if n not in u: continue
+            at_n=[q.start() for q in re.finditer(r"(?<![A-Za-z0-9_'.\-])"+re.escape(n)+r"(?![A-Za-z0-9_'\-])",u)]
+            if not at_n: continue
+            def body_of(p):
+                """from p to the end of its line and of the deeper lines behind it"""
+                e=u.find('\n',p)
+                if e<0: return len(u)
+                s=u.rfind('\n',0,p)+1; i=len(u[s:])-len(u[s:].lstrip())
+                while e<len(u):
+                    f=u.find('\n',e+1); f=len(u) if f<0 else f
+                    l=u[e+1:f]
+                    if l.strip() and len(l)-len(l.lstrip())<=i: break
+                    e=f
+                return e
+            scopes=[]
+            q=re.match(r"\s*(\S+)(\s[^=≡:]*?)?\s=\s",u)
+            if q and q[2] and any(q.start(2)<=p<q.end(2) for p in at_n): scopes.append((q.start(2),len(u)))
+            w=r"(?:[\w'\-]+ )*"+re.escape(n)+r"(?: [\w'\-]+)* "
+            for q in re.finditer(r"[({]"+w+r":",u):
+                before=u[:q.start()].rstrip()
+                scopes.append((q.start(),body_of(q.start()) if before.endswith('λ') else len(u)))
+            for q in re.finditer(r"λ ([^.λ]*)\.",u):
+                if any(q.start(1)<=p<q.end(1) for p in at_n): scopes.append((q.start(),body_of(q.start())))
+            for q in re.finditer(r"\blet "+re.escape(n)+r"(?= )",u): scopes.append((q.start(),len(u)))
+            for q in re.finditer(r"[\[|]([^|\[↦]*)↦",u):
+                if any(q.start(1)<=p<q.end(1) for p in at_n): scopes.append((q.start(),body_of(q.end())))
+            out.update(a+p for p in at_n if any(x<=p<y for x,y in scopes))
+    return out
 changed=0; warn=[]
 hits=collections.Counter()
 def do_defs(path,text,crate,own=None,imports=None):
@@ -113,8 +160,17 @@ def do_defs(path,text,crate,own=None,imports=None):
                     if n in local and q.start(1 if q[1] else 2) not in marks: marks.append(q.start(1 if q[1] else 2))
                 for q in re.finditer(r"[A-Za-z_][\w'\-]*(?=\s*[=:]\s)",t):
                     if q[0] in local and any(a<=q.start()<b for a,b in rec) and re.search(r"[{;]\s*$",t[:q.start()]) and q.start() not in marks: marks.append(q.start())
-                for q in re.finditer(r"^\s+pub ([A-Za-z_][\w'\-]*)(?= :)",t,re.M):
-                    if q[1] in local: marks.append(q.start(1))
+                stand={n for n,_ in definitions(t.split('\n'))} if not isrt else set()
+                for q in re.finditer(r"^[ \t]+pub ([A-Za-z_][\w'\-]*)(?= :)",t,re.M):
+                    if q[1] in local and t.count('\n',0,q.start())+1 not in stand: marks.append(q.start(1))
+                # constructors of data types
+                for q in re.finditer(r"^([ \t]*)pub data .*\n((?:\1[ \t]+.*\n|[ \t]*\n)*)",t,re.M):
+                    for c in re.finditer(r"^[ \t]+([A-Za-z_][\w'\-]*)(?= :)",q[2],re.M):
+                        if c[1] in local: warn.append((path,'a constructor of this name',c[1]))
+                if not isrt:
+                    vars=hidden(t,local)-set(marks)
+                    if vars: warn.append((path[len(C):],'variables of this name kept',sorted({re.match(r"[\w'\-]+",t[v:])[0] for v in vars}),len(vars)))
+                    marks+=vars
                 for a in sorted(marks,reverse=True): t=t[:a]+'\x02'+t[a:]
             # comments stay prose: rename in code only, for .antt lines beginning with --
             lines=t.split('\n'); o=[]
