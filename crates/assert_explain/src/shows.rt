@@ -27,12 +27,14 @@ impl Model for Fact {
 }
 
 impl Fact {
+    /// Under how many nodes of the condition it lies.
     pub fn depth(&self) -> usize
         ensures { result ≡ self.now.depth }
     {
         self.depth
     }
 
+    /// What it shows.
     pub fn text(&self) -> &[char]
         ensures { result.now ≡ self.now.text }
     {
@@ -107,12 +109,14 @@ impl Explanation {
         }
     }
 
+    /// The condition with its values.
     pub fn text(&self) -> &[char]
         ensures { result.now ≡ self.now.text }
     {
         &self.text
     }
 
+    /// What is shown below it, in order.
     pub fn facts(&self) -> &[Fact]
         ensures { result.now ≡ self.now.facts }
     {

@@ -35,6 +35,7 @@ fn reach(marks: &mut Vec<bool>, number: usize) -> Result<(), OutOfMemory>
 }
 
 impl NumberSet {
+    /// The empty set.
     pub fn new(alloc: Global) -> Self
         ensures { result ≡ [] }
     {

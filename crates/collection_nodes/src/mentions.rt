@@ -25,6 +25,7 @@ impl Model for Mentions {
 }
 
 impl Mentions {
+    /// No name is mentioned yet.
     pub fn new(alloc: Global) -> Self
         ensures { result ≡ [] }
     {

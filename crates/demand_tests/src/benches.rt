@@ -43,6 +43,7 @@ pub struct Bench {
     pub stack: SetupStack<u32, Cause, u32>,
 }
 
+/// A fixture that asks for others by their numbers and acts in a way.
 pub fn row_of<'r>(scope: Scope, args: &'r [u32], way: Way) -> Row<'r> {
     Row {
         args,
@@ -153,6 +154,7 @@ pub fn deep(alloc: Global, count: u32) -> Result<Bench, OutOfMemory>
     stacked(alloc, table, script)
 }
 
+/// What was done on a bench, in order.
 pub fn end(bench: Bench) -> Log {
     let Bench {
         script,
@@ -316,6 +318,7 @@ fn end_all(bench: &mut Bench) -> Result<Seq<Cause>, OutOfMemory>
     )
 }
 
+/// An item that asks for one node, with nothing bound.
 pub fn item(alloc: Global, node: u32) -> ItemRef<u32>
     ensures node { result.node ≡ node }
     ensures bound { result.bound ≡ [] }
@@ -382,6 +385,7 @@ pub struct BenchOutcome {
     pub raised: Seq<Cause>,
 }
 
+/// What comes of a demand over a tree of fixtures, told in a row.
 pub fn told_of(alloc: Global, rows: &[Row], how: TestDemand) -> Result<BenchOutcome, OutOfMemory> {
     let mut made = bench_of(alloc, rows)?;
     let done = both(&mut made, &item(alloc, 2), &item(alloc, 3), how);

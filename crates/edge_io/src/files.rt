@@ -87,6 +87,7 @@ impl Model for Files {
 }
 
 impl Files {
+    /// Takes over the files, which are in the order of their paths, each path once.
     pub fn from_vec(pairs: Vec<(String, Vec<u8>)>) -> Self
         requires { InOrder (paths_of (files_of pairs.items)) }
         ensures { result ≡ files_of pairs.items }
@@ -94,6 +95,7 @@ impl Files {
         Files { pairs }
     }
 
+    /// The files in the order of their paths, each with its bytes.
     pub fn items(&self) -> &[(String, Vec<u8>)]
         ensures { files_of result.now ≡ self.now }
     {

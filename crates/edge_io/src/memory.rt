@@ -31,6 +31,7 @@ impl Model for SureTree {
 }
 
 impl SureTree {
+    /// Holds these files, of several with one path the first. No call fails but for want of memory.
     pub fn new(alloc: Global, files: Vec<(String, Vec<u8>)>) -> Self
         ensures { result ≡ files_of files.items }
     {
@@ -206,6 +207,7 @@ impl Model for SureSink {
 }
 
 impl SureSink {
+    /// Holds no bytes yet. No call fails but for want of memory.
     pub fn new(alloc: Global) -> Self
         ensures { result ≡ [] }
     {

@@ -64,6 +64,7 @@ impl<W: Write + Drop> Model for StdSink<W> {
 }
 
 impl<W: Write + Drop> StdSink<W> {
+    /// A sink that writes to a writer, with no fault so far.
     pub fn new(writer: W) -> Self
         ensures { result ≡ 0 }
     {

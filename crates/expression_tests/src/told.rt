@@ -5,6 +5,7 @@ use py_source::{Pos, SrcText};
 use py_tree::{ArgName, BinOp, CmpOp, Expr, ExprKind, UnOp};
 use std::rc::Rc;
 
+/// How a row writes an operator of two operands.
 pub fn binary(op: BinOp) -> &'static str {
     match op {
         BinOp::Add => "+",
@@ -52,6 +53,7 @@ pub fn place(out: &mut Writer, at: Pos) {
     out.put_number(i128::from(at.column));
 }
 
+/// A text in quotes, what a row can't have in it escaped.
 pub fn characters(out: &mut Writer, all: &SrcText) {
     for c in all.chars() {
         out.put_char(*c);
@@ -156,6 +158,7 @@ pub fn tree(out: &mut Writer, e: &Expr) {
     }
 }
 
+/// Trees one behind another.
 #[cycle(tree)]
 pub fn trees(out: &mut Writer, all: &[Rc<Expr>]) {
     for e in all {
@@ -163,6 +166,7 @@ pub fn trees(out: &mut Writer, all: &[Rc<Expr>]) {
     }
 }
 
+/// A tree, or a sign that there is none.
 #[cycle(tree)]
 pub fn maybe(out: &mut Writer, e: &Option<Rc<Expr>>) {
     match e {

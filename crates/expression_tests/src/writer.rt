@@ -10,6 +10,7 @@ pub struct Writer {
 }
 
 impl Writer {
+    /// An empty text.
     pub fn new(alloc: Global) -> Writer {
         Writer {
             text: String::new(alloc),
@@ -17,18 +18,21 @@ impl Writer {
         }
     }
 
+    /// Puts a piece behind the text, or remembers that memory was refused.
     pub fn put(&mut self, piece: &str) {
         if self.text.push_str(piece).is_err() {
             self.is_refused = true;
         }
     }
 
+    /// Puts a character behind the text, or remembers that memory was refused.
     pub fn put_char(&mut self, c: char) {
         if self.text.push(c).is_err() {
             self.is_refused = true;
         }
     }
 
+    /// Puts a number in decimal behind the text, or remembers that memory was refused.
     pub fn put_number(&mut self, n: i128) {
         if write!(self.text, "{n}").is_err() {
             self.is_refused = true;

@@ -10,6 +10,7 @@ use py_values::rows::Param;
 use seq::Seq;
 use std::alloc::Global;
 
+/// A copy of a text.
 pub fn copied(alloc: Global, text: &PyText) -> Result<PyText, OutOfMemory>
     ensures { IfOk result (λ t. t ≡ text.now) }
 {

@@ -65,6 +65,7 @@ pub fn append(
     }
 }
 
+/// What `clear` makes: the list becomes empty (Python library reference, mutable sequence types).
 pub fn clear(alloc: Global, id: ObjId, alone: bool) -> Result<Product, OutOfMemory>
     ensures { IfOk result (λ p. p ≡ lists.clear_of id alone) }
 {
@@ -202,6 +203,7 @@ fn backwards(alloc: Global, items: &[Value]) -> Result<Vec<Value>, OutOfMemory>
     Ok(values)
 }
 
+/// What `reverse` makes: the list's values in turned order (Python library reference, mutable sequence types).
 pub fn reverse(
     alloc: Global,
     id: ObjId,

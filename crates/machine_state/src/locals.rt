@@ -33,6 +33,7 @@ impl Model for Locals {
 }
 
 impl Locals {
+    /// No name is bound.
     pub fn new(alloc: Global) -> Self
         ensures { result ≡ [] }
     {

@@ -61,24 +61,28 @@ impl Model for SourceFile {
 }
 
 impl SourceFile {
+    /// A file by its path relative to the root, with its bytes and its code.
     pub fn new(path: PyText, bytes: Vec<u8>, code: SourceCode) -> Self
         ensures { result ≡ record { path = path; bytes = bytes.items; code = coded_of code } }
     {
         SourceFile { path, bytes, code }
     }
 
+    /// Its path, relative to the root, its parts joined by `/`.
     pub fn path(&self) -> &PyText
         ensures { result.now ≡ self.now.path }
     {
         &self.path
     }
 
+    /// Its bytes.
     pub fn bytes(&self) -> &[u8]
         ensures { result.now ≡ self.now.bytes }
     {
         &self.bytes
     }
 
+    /// Its code, or the fault for which it has none.
     pub fn code(&self) -> &SourceCode
         ensures { coded_of result.now ≡ self.now.code }
     {
@@ -108,18 +112,21 @@ impl Model for ModuleLoad {
 }
 
 impl ModuleLoad {
+    /// How far the load of the module of a path is.
     pub fn new(path: PyText, load: Load) -> Self
         ensures { result ≡ (path, load) }
     {
         ModuleLoad { path, load }
     }
 
+    /// The path of the module's file.
     pub fn path(&self) -> &PyText
         ensures { result.now ≡ self.now.0 }
     {
         &self.path
     }
 
+    /// How far the load is.
     pub fn load(&self) -> &Load
         ensures { result.now ≡ self.now.1 }
     {

@@ -52,6 +52,7 @@ impl Model for Traces {
 }
 
 impl Traces {
+    /// No trace is kept.
     pub fn new(alloc: Global) -> Self
         ensures { result ≡ [] }
     {

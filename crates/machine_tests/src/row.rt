@@ -61,6 +61,7 @@ fn push_want(alloc: Global, runs: &mut Vec<Run>, line: &str) -> Result<(), Alloc
 }
 
 impl Row {
+    /// A row of a name, with nothing else yet.
     pub fn new(alloc: Global, name: &str) -> Result<Row, AllocError> {
         Ok(Row {
             name: String::from_str(alloc, name)?,

@@ -9,12 +9,15 @@ use py_values::value::Value;
 use py_world::{Ended, Outcome, Thrown, Trace, TraceFrame};
 use std::alloc::Global;
 
+/// What can only want memory.
 pub type MemoryResult<T> = Result<T, OutOfMemory>;
 
+/// A copy of a text.
 pub fn copied(alloc: Global, text: &str) -> MemoryResult<String> {
     Ok(String::from_str(alloc, text)?)
 }
 
+/// A text of the language as UTF-8.
 pub fn string(alloc: Global, text: &PyText) -> MemoryResult<String> {
     let mut all = String::new(alloc);
     for c in text.chars() {

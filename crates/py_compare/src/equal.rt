@@ -28,6 +28,8 @@ fn behind(used: u64, t: Tested) -> Tested
     }
 }
 
+/// Whether two values are equal, none of which is an object: `None`, truth values and whole numbers, where `True` is 1 (Language Reference,
+/// 6.10.1 Value comparisons).
 pub fn is_plain_equal(a: Value, b: Value) -> bool
     ensures { result ≡ plain_equal a b }
 {

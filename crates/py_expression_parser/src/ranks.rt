@@ -22,6 +22,7 @@ pub enum Rank {
     Or,
 }
 
+/// The rank whose operators bind next more tightly (Language Reference, 6.17 Operator precedence).
 pub fn lower(rank: Rank) -> Rank
     ensures { result ≡ lower_of rank }
 {

@@ -38,6 +38,8 @@ pub enum IndexPlace {
     NoNumber,
 }
 
+/// The place of an index in a sequence of a length, counted from its end where the index is below zero (Language Reference, 6.3.2
+/// Subscriptions).
 pub fn find_place(len: usize, index: Option<i128>) -> IndexPlace
     ensures { result ≡ items.find_place len index }
 {
@@ -50,6 +52,7 @@ pub fn find_place(len: usize, index: Option<i128>) -> IndexPlace
     }
 }
 
+/// What gives the value of a subscript, or the `IndexError` where there is none.
 pub fn given(alloc: Global, v: Option<Value>) -> Result<Effect, OutOfMemory>
     ensures { IfOk result (λ m. m ≡ items.given v) }
 {
@@ -59,6 +62,7 @@ pub fn given(alloc: Global, v: Option<Value>) -> Result<Effect, OutOfMemory>
     }
 }
 
+/// What gives the character of a subscript as a new text, or the `IndexError` where there is none.
 pub fn char_given(alloc: Global, c: Option<&char>) -> Result<Effect, OutOfMemory>
     ensures { IfOk result (λ m. m ≡ items.char_given (option_copied c.entry)) }
 {
@@ -71,6 +75,7 @@ pub fn char_given(alloc: Global, c: Option<&char>) -> Result<Effect, OutOfMemory
     }
 }
 
+/// The value at a place, where there is one.
 pub fn value_at(vs: &[Value], at: usize) -> Option<Value>
     ensures { result ≡ slice_get vs.now at }
 {

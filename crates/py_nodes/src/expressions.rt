@@ -38,6 +38,7 @@ pub fn leaf_node(alloc: Global, at: Pos, kind: ExprKind) -> Result<Node, AllocEr
     made(alloc, Expr { at, kind }, 1)
 }
 
+/// A parenthesis around a node, a level higher.
 pub fn paren_node(alloc: Global, at: Pos, inner: Node) -> Result<Node, AllocError>
     requires { inner.height < u32.MAX }
     ensures tree { IfOk result (λ node. tree node.expr.value ≡ Paren at (tree inner.expr.value)) }
@@ -48,6 +49,7 @@ pub fn paren_node(alloc: Global, at: Pos, inner: Node) -> Result<Node, AllocErro
     made(alloc, Expr { at, kind }, height)
 }
 
+/// `-`, `+` or `~` before an operand, a level higher.
 pub fn unary_node(alloc: Global, at: Pos, op: UnOp, operand: Node) -> Result<Node, AllocError>
     requires { operand.height < u32.MAX }
     ensures tree { IfOk result (λ node. tree node.expr.value ≡ Unary at op (tree operand.expr.value)) }
@@ -58,6 +60,7 @@ pub fn unary_node(alloc: Global, at: Pos, op: UnOp, operand: Node) -> Result<Nod
     made(alloc, Expr { at, kind }, height)
 }
 
+/// `not` before an operand, a level higher.
 pub fn not_node(alloc: Global, at: Pos, operand: Node) -> Result<Node, AllocError>
     requires { operand.height < u32.MAX }
     ensures tree { IfOk result (λ node. tree node.expr.value ≡ Not at (tree operand.expr.value)) }

@@ -23,6 +23,7 @@ pub struct Nodes {
     pub ghost is_height: { height ≡ heights (trees items.items) },
 }
 
+/// No nodes, of height 0.
 pub fn no_nodes(alloc: Global) -> Nodes
     ensures tree { trees result.items.items ≡ Empty }
     ensures height { result.height ≡ 0 }

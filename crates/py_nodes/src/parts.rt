@@ -48,6 +48,7 @@ pub struct Bounds {
     pub by: Option<Node>,
 }
 
+/// An empty row of items that begins at a place.
 pub fn row_at(alloc: Global, at: Pos) -> Row
     ensures row { row_of result ≡ row at }
     ensures height { result.all.height ≡ 0 }
@@ -59,6 +60,7 @@ pub fn row_at(alloc: Global, at: Pos) -> Row
     }
 }
 
+/// A row with an item more behind it, as high as the highest.
 pub fn add_item(row: Row, node: Node) -> Result<Row, AllocError>
     ensures row { IfOk result (λ more. row_of more ≡ item (row_of row) (tree node.expr.value)) }
     ensures height { IfOk result (λ more. more.all.height ≡ max row.all.height node.height) }
@@ -82,6 +84,7 @@ pub fn end_row(row: Row) -> Row
     }
 }
 
+/// No pairs of a dict display that begins at a place.
 pub fn no_pairs(alloc: Global, at: Pos) -> Pairs
     ensures pairs { pairs_of result ≡ no_pairs at }
     ensures names { result.names.height ≡ 0 }
@@ -95,6 +98,7 @@ pub fn no_pairs(alloc: Global, at: Pos) -> Pairs
     }
 }
 
+/// Pairs with one more behind them: a key and a value.
 pub fn add_pair(pairs: Pairs, name: Node, value: Node) -> Result<Pairs, AllocError>
     ensures pairs { IfOk result (λ more. pairs_of more ≡ more_pairs (pairs_of pairs) (tree name.expr.value) (tree value.expr.value)) }
     ensures names { IfOk result (λ more. more.names.height ≡ max pairs.names.height name.height) }
@@ -122,6 +126,7 @@ pub fn end_pairs(pairs: Pairs) -> Pairs
     }
 }
 
+/// No arguments of a call.
 pub fn no_arguments(alloc: Global) -> Arguments
     ensures args { args_of result ≡ no_args }
     ensures height { result.all.height ≡ 0 }
@@ -173,6 +178,7 @@ pub fn end_arguments(arguments: Arguments) -> Arguments
     }
 }
 
+/// A chain of operands that has its first alone.
 pub fn chain_of(alloc: Global, head: Node) -> Chain
     ensures chain { chain_of result ≡ operand_chain (tree head.expr.value) }
     ensures head { result.head.height ≡ head.height }

@@ -108,18 +108,21 @@ fn about_kind(
     Ok(raise)
 }
 
+/// The `RecursionError` of what lies too deep.
 pub fn too_deep(alloc: Global) -> Result<Raise, OutOfMemory>
     ensures { IfOk result (λ r. r ≡ faults.too_deep) }
 {
     Raise::from_ascii(alloc, ExcClass::RecursionError, "nesting too deep")
 }
 
+/// The `TypeError` of a value that is iterated over and can't be.
 pub fn not_iterable(alloc: Global, heap: &Heap, v: Value) -> Result<Raise, OutOfMemory>
     ensures { IfOk result (λ r. r ≡ faults.not_iterable (kinds.kind_name heap.now v)) }
 {
     about_kind(alloc, heap, "'", v, "' object is not iterable")
 }
 
+/// The `TypeError` of a value that has no subscripts.
 pub fn not_subscriptable(alloc: Global, heap: &Heap, v: Value) -> Result<Raise, OutOfMemory>
     ensures { IfOk result (λ r. r ≡ faults.not_subscriptable (kinds.kind_name heap.now v)) }
 {
@@ -147,12 +150,14 @@ pub fn no_key(alloc: Global, key: Value) -> Result<Raise, OutOfMemory>
     })
 }
 
+/// The `IndexError` of an index past a sequence's ends, at no cost.
 pub fn out_of_range(alloc: Global) -> Result<Effect, OutOfMemory>
     ensures { IfOk result (λ m. m ≡ Effect.Fail faults.out_of_range 0) }
 {
     failed(alloc, ExcClass::IndexError, "index out of range")
 }
 
+/// The `TypeError` of a subscript that is neither a whole number nor a slice, at no cost.
 pub fn no_index(alloc: Global) -> Result<Effect, OutOfMemory>
     ensures { IfOk result (λ m. m ≡ Effect.Fail faults.no_index 0) }
 {

@@ -21,36 +21,42 @@ pub fn number_made(alloc: Global, n: Option<i128>) -> Result<Effect, OutOfMemory
     }
 }
 
+/// The sum of two numbers, where it has 128 bits.
 pub fn sum(x: i128, y: i128) -> Option<i128>
     ensures { result ≡ numbers.fitting (x +ℤ y) }
 {
     x.checked_add(y)
 }
 
+/// The difference of two numbers, where it has 128 bits.
 pub fn difference(x: i128, y: i128) -> Option<i128>
     ensures { result ≡ numbers.fitting (x -ℤ y) }
 {
     x.checked_sub(y)
 }
 
+/// The product of two numbers, where it has 128 bits.
 pub fn product(x: i128, y: i128) -> Option<i128>
     ensures { result ≡ numbers.fitting (x *ℤ y) }
 {
     x.checked_mul(y)
 }
 
+/// A number, which has 128 bits.
 pub fn itself(x: i128) -> Option<i128>
     ensures { result ≡ numbers.fitting x }
 {
     Some(x)
 }
 
+/// A number with the other sign, where it has 128 bits.
 pub fn negative(x: i128) -> Option<i128>
     ensures { result ≡ numbers.fitting (neg_ℤ x) }
 {
     x.checked_neg()
 }
 
+/// A number with each bit turned (`~`; Language Reference, 6.6 Unary arithmetic), which has 128 bits.
 pub fn inverted(x: i128) -> Option<i128>
     ensures { result ≡ numbers.fitting (numbers.inverted x) }
 {

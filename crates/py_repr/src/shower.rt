@@ -28,6 +28,7 @@ impl Model for Shower {
 }
 
 impl Shower {
+    /// An empty text that takes at most so many characters.
     pub fn new(alloc: Global, most: usize) -> Self
         ensures { result ≡ start_showing most }
     {
@@ -39,16 +40,19 @@ impl Shower {
         }
     }
 
+    /// Where its memory comes from.
     pub fn allocator(&self) -> Global {
         *self.out.allocator()
     }
 
+    /// Whether something had no more room.
     pub fn is_cut(&self) -> bool
         ensures { result ≡ self.now.cut }
     {
         self.cut
     }
 
+    /// Puts a character behind the text, where there is room.
     pub fn push(&mut self, c: char) -> Result<(), OutOfMemory>
         ensures { OnOk result (self.new ≡ add self.old (Char c)) }
     {
@@ -81,6 +85,7 @@ impl Shower {
         Ok(())
     }
 
+    /// Puts the characters of a text of ASCII behind the text, as far as there is room.
     pub fn push_ascii(&mut self, text: &str) -> Result<(), OutOfMemory>
         ensures { OnOk result (self.new ≡ fold add self.old (glyphs text.now)) }
     {
@@ -90,6 +95,7 @@ impl Shower {
         Ok(())
     }
 
+    /// Puts characters behind the text, as far as there is room.
     pub fn push_chars(&mut self, text: &[char]) -> Result<(), OutOfMemory>
         ensures { OnOk result (self.new ≡ fold add self.old (glyphs text.now)) }
     {
@@ -99,6 +105,7 @@ impl Shower {
         Ok(())
     }
 
+    /// Puts a whole number in decimal behind the text, as far as there is room.
     pub fn push_number(&mut self, n: i128) -> Result<(), OutOfMemory>
         ensures { OnOk result (self.new ≡ fold add self.old (glyphs (signed_decimal n))) }
     {
@@ -108,6 +115,7 @@ impl Shower {
         Ok(())
     }
 
+    /// The text that came of it, and whether it was cut or lay too deep.
     pub fn into_shown(self) -> Result<Shown, OutOfMemory>
         ensures { IfOk result (λ s. s ≡ shown_of self) }
     {

@@ -53,6 +53,7 @@ pub fn if_stmt(
     })
 }
 
+/// A `while` statement (Language Reference, 8.2).
 pub fn while_stmt(
     alloc: Global,
     at: Pos,
@@ -68,6 +69,7 @@ pub fn while_stmt(
     })
 }
 
+/// A `for` statement (Language Reference, 8.3).
 pub fn for_stmt(
     alloc: Global,
     at: Pos,
@@ -127,6 +129,7 @@ pub fn try_stmt(
     })
 }
 
+/// A `with` statement, with the name behind `as` where it has one (Language Reference, 8.5).
 pub fn with_stmt(
     alloc: Global,
     at: Pos,

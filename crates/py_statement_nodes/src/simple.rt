@@ -67,6 +67,7 @@ pub fn aug_assign_stmt(at: Pos, target: Single, op: BinOp, value: Rc<Expr>) -> S
     }
 }
 
+/// A `return` statement (Language Reference, 7.6).
 pub fn return_stmt(at: Pos, value: Option<Rc<Expr>>) -> Stmt
     ensures { statement result ≡ Return at (some_tree value) }
 {
@@ -86,6 +87,7 @@ pub fn return_yield_stmt(at: Pos, word: Pos, value: Option<Rc<Expr>>) -> Stmt
     }
 }
 
+/// A `raise` statement (Language Reference, 7.8).
 pub fn raise_stmt(at: Pos, value: Option<Rc<Expr>>) -> Stmt
     ensures { statement result ≡ Raise at (some_tree value) }
 {
@@ -95,6 +97,7 @@ pub fn raise_stmt(at: Pos, value: Option<Rc<Expr>>) -> Stmt
     }
 }
 
+/// An `assert` statement, with its message where it has one (Language Reference, 7.3).
 pub fn assert_stmt(at: Pos, condition: Rc<Expr>, message: Option<Rc<Expr>>) -> Stmt
     ensures { statement result ≡ Assert at (tree condition.value) (some_tree message) }
 {
@@ -104,6 +107,7 @@ pub fn assert_stmt(at: Pos, condition: Rc<Expr>, message: Option<Rc<Expr>>) -> S
     }
 }
 
+/// A `del` statement of one target (Language Reference, 7.5).
 pub fn del_stmt(at: Pos, target: Single) -> Stmt
     ensures { statement result ≡ Del at (place target) }
 {
@@ -113,6 +117,7 @@ pub fn del_stmt(at: Pos, target: Single) -> Stmt
     }
 }
 
+/// A `global` statement (Language Reference, 7.12).
 pub fn global_stmt(alloc: Global, at: Pos, names: Vec<SrcText>) -> Result<Stmt, AllocError>
     ensures { IfOk result (λ stmt. statement stmt ≡ GlobalOf at names.items) }
 {

@@ -44,6 +44,7 @@ fn operator_role(op: Op) -> BracketRole
     }
 }
 
+/// Whether a token opens a bracket or closes one, and of which shape (Language Reference, 2.6 Delimiters).
 pub fn token_role(kind: &TokenKind) -> BracketRole
     ensures { result ≡ token_role kind.now }
 {

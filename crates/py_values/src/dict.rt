@@ -40,6 +40,7 @@ impl Model for Dict {
 }
 
 impl Dict {
+    /// The empty dict.
     pub fn new(alloc: Global) -> Self
         ensures { result ≡ [] }
     {
@@ -48,6 +49,7 @@ impl Dict {
         }
     }
 
+    /// How many keys it has.
     pub fn len(&self) -> usize
         ensures { result ≡ length self.now }
     {

@@ -33,6 +33,7 @@ impl Model for Heap {
 }
 
 impl Heap {
+    /// No objects.
     pub fn new(alloc: Global) -> Result<Self, OutOfMemory>
         ensures { IfOk result (λ h. h ≡ []) }
     {
@@ -50,6 +51,7 @@ impl Heap {
         Ok(ObjId { at })
     }
 
+    /// How many objects there are; the next one stands at this place.
     pub fn len(&self) -> usize
         ensures { result ≡ length self.now }
     {
@@ -63,6 +65,7 @@ impl Heap {
         self.objs.get(id.at)
     }
 
+    /// The object at a place that the heap has.
     pub fn obj(&self, id: ObjId) -> &Obj
         requires { id.at < length self.now }
         ensures { slice_get self.now id.at ≡ Some result.now }
@@ -70,6 +73,7 @@ impl Heap {
         &self.objs[id.at]
     }
 
+    /// The object at a place that the heap has, lent to be changed.
     pub fn obj_mut(&mut self, id: ObjId) -> &mut Obj
         requires { id.at < length self.old }
         ensures* writes_back { sem 𝓛 (LendsObj self.entry id.at result) }

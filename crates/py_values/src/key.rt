@@ -66,6 +66,7 @@ impl Model for Key {
 }
 
 impl Key {
+    /// A key of these parts, taken over.
     pub fn from_vec(atoms: Vec<Atom>) -> Self
         ensures { result ≡ atoms.items }
     {

@@ -32,6 +32,7 @@ impl Model for Name {
 }
 
 impl Name {
+    /// A name of these characters.
     pub fn from_chars(alloc: Global, chars: &[char]) -> Result<Self, OutOfMemory>
         ensures { IfOk result (λ n. n ≡ chars.now) }
     {
@@ -40,12 +41,14 @@ impl Name {
         })
     }
 
+    /// A name with the characters of a text, which is taken over.
     pub fn from_text(text: PyText) -> Self
         ensures { result ≡ text }
     {
         Name { text }
     }
 
+    /// Its characters.
     pub fn text(&self) -> &PyText
         ensures { result.now ≡ self.now }
     {
@@ -110,6 +113,7 @@ impl Model for Names {
 }
 
 impl Names {
+    /// No name is bound.
     pub fn new(alloc: Global) -> Self
         ensures { result ≡ [] }
     {
@@ -140,6 +144,7 @@ impl Names {
         let _gone = self.map.shift_remove(name);
     }
 
+    /// How many names are bound.
     pub fn len(&self) -> usize
         ensures { result ≡ length self.now }
     {

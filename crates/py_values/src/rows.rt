@@ -28,6 +28,7 @@ impl Model for Values {
 }
 
 impl Values {
+    /// No values.
     pub fn new(alloc: Global) -> Self
         ensures { result ≡ [] }
     {
@@ -36,18 +37,21 @@ impl Values {
         }
     }
 
+    /// Takes the vector's values over, without taking memory.
     pub fn from_vec(items: Vec<Value>) -> Self
         ensures { result ≡ items.items }
     {
         Values { items }
     }
 
+    /// The values, in order.
     pub fn items(&self) -> &[Value]
         ensures { result.now ≡ self.now }
     {
         &self.items
     }
 
+    /// Puts a value behind the others.
     pub fn push(&mut self, v: Value) -> Result<(), OutOfMemory>
         ensures { OnOk result (self.new ≡ self.old ++ v ∷ []) }
     {

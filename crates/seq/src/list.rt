@@ -65,6 +65,7 @@ impl<T> Seq<T> {
         self.items.len()
     }
 
+    /// Whether it has no value.
     pub fn is_empty(&self) -> bool
         ensures { result ≡ (length self.now == 0) }
     {

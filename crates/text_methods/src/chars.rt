@@ -31,6 +31,7 @@ pub fn is_digits(text: &[char]) -> bool
     !text.is_empty() && has_only_digits(text)
 }
 
+/// A text with the capital letters of ASCII made small (Python library reference, `str.lower`).
 pub fn lower(alloc: Global, text: &[char]) -> Result<Vec<char>, OutOfMemory>
     ensures { IfOk result (λ v. v.items ≡ map to_ascii_lowercase text.now) }
 {
@@ -38,6 +39,7 @@ pub fn lower(alloc: Global, text: &[char]) -> Result<Vec<char>, OutOfMemory>
     Ok(chars)
 }
 
+/// A text with the small letters of ASCII made capital (Python library reference, `str.upper`).
 pub fn upper(alloc: Global, text: &[char]) -> Result<Vec<char>, OutOfMemory>
     ensures { IfOk result (λ v. v.items ≡ map to_ascii_uppercase text.now) }
 {

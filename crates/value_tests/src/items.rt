@@ -21,6 +21,7 @@ pub enum ItemAct {
     Delete,
 }
 
+/// What a row does with an item, by its word.
 pub fn item_act_by(word: &str) -> Option<ItemAct> {
     match word {
         "item" => Some(ItemAct::Subscript),

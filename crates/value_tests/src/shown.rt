@@ -19,6 +19,7 @@ pub fn push_text(all: &mut String, text: &PyText) -> MemoryResult<()> {
     Ok(())
 }
 
+/// A text of the language as UTF-8.
 pub fn string(alloc: Global, text: &PyText) -> MemoryResult<String> {
     let mut all = String::new(alloc);
     push_text(&mut all, text)?;

@@ -16,6 +16,7 @@ use py_values::value::Value;
 use py_values::{OutOfMemory, PyText};
 use std::alloc::Global;
 
+/// What can only want memory.
 pub type MemoryResult<T> = Result<T, OutOfMemory>;
 
 /// The operands of a row, in a heap of their own.
@@ -25,14 +26,17 @@ pub struct Operands {
     pub values: Vec<Value>,
 }
 
+/// A copy of a text.
 pub fn copied(alloc: Global, text: &str) -> MemoryResult<String> {
     Ok(String::from_str(alloc, text)?)
 }
 
+/// The characters of a text.
 pub fn characters(alloc: Global, spelled: &str) -> MemoryResult<Vec<char>> {
     Ok(spelled.chars().collect(alloc)?)
 }
 
+/// A text of the language.
 pub fn text(alloc: Global, spelled: &str) -> MemoryResult<PyText> {
     PyText::from_str(alloc, spelled)
 }
@@ -82,6 +86,7 @@ fn range(spelled: &str) -> Obj {
     range_of(whole(start), whole(stop), whole(step))
 }
 
+/// Binds a key of a dict to a value, where the value can be a key.
 pub fn put(
     alloc: Global,
     heap: &Heap,

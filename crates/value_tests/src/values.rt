@@ -73,6 +73,7 @@ pub fn thrown(alloc: Global, on: &mut Operands, text: &str) -> MemoryResult<Stri
     value_told(alloc, &on.heap, exc)
 }
 
+/// A name of the language.
 pub fn name(alloc: Global, spelled: &str) -> MemoryResult<Name> {
     Ok(Name::from_text(text(alloc, spelled)?))
 }

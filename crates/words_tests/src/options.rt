@@ -106,6 +106,7 @@ pub const PATHS_AND_SWITCHES: [(&str, &str); 30] = [
     ("---", "unrecognized arguments: ---"),
 ];
 
+/// Words with a text or a number, and what the options are then.
 pub const TEXTS_AND_NUMBERS: [(&str, &str); 36] = [
     ("-k|a and not b", " keyword:a and not b"),
     ("-ka", " keyword:a"),
@@ -157,6 +158,7 @@ pub const TEXTS_AND_NUMBERS: [(&str, &str); 36] = [
     ("--ignore=", " ignore:"),
 ];
 
+/// Words on workers and on the form of the report, and what the options are then.
 pub const WORKERS_AND_FORMS: [(&str, &str); 45] = [
     ("-n2", " workers:2"),
     ("-n|2", " workers:2"),
