@@ -1,7 +1,7 @@
 -- The same of statements, blocks and calls.
 use Rattle.std.proofs.Common.{◌≡◌, ℕ, zero, suc, List, [], ◌∷◌, ◌++◌, Option, Some, None, Bool, true, false, refl, sym, ap, subst}
 use Rattle.std.specs.Prelude.{slice_get, cond, nat_lt, length, Result, Ok, Err}
-use Rattle.explain_law.specs.Until as until
+use Rattle.explain_law.proofs.Until as until
 use Rattle.explain_law.proofs.Runs.{spend_all_same}
 use Rattle.py_tree.specs.Names.{is_among}
 use Rattle.py_values.specs.declared.end.Raise.{Raise}
@@ -32,12 +32,13 @@ use Rattle.source_meaning.specs.py_world.Names.{bound, bound_by, bound_global, b
 use Rattle.source_meaning.specs.py_world.Outcome.{Outcome, Rest, Continuation, Denotation, After, Body, Request, onward, gave_in, raised, product_end, on_next, on_turn}
 use Rattle.source_meaning.specs.py_world.Statements.{IfClause, asked, expression_statement, return_value, yield_value, pass_statement, leave_loop, next_turn, assertion, fail, branches_on, choose, loop, while_turn}
 use Rattle.source_meaning.specs.py_world.Calls.{Meaning, Entry, most_open, argument_error, not_callable, too_deep, arguments_for, function_of_object, class_takes, new_instance, init_of, init_end, scene_of, entered, function_called, function_with, builtin_called, mark_or, class_or, called_or, init_object, init_called, instance_made, class_called, value_called, invoke, body_of}
-use Rattle.source_meaning.specs.Requests.{Function, Script, SourceLayer, SourceTurn}
+use Rattle.source_meaning.specs.Requests.{Function, Script, Use, SourceLayer, Receives, SourceTurn}
 use Rattle.explain_law.specs.Choices as alike
-use Rattle.explain_law.specs.Choices.{Choices, K, J, worlds, StatesByChoice, states, EndsByChoice, gave, next, returned, broke, continued, SpentByChoice, out, PausedByChoice, stops, RequestsByChoice, calls, does, CodesByChoice, CodesAt, ScriptsAt, LayersAt, TurnsAt, FailedApart, stored_with}
+use Rattle.explain_law.specs.Choices.{Choices, K, J, worlds, StatesByChoice, states, EndsByChoice, gave, next, returned, broke, continued, CodesByChoice, CodesAt, ScriptsAt, LayersAt, stored_with}
+use Rattle.explain_law.proofs.Following.{Apart, SpentByChoice, out, PausedByChoice, stops, RequestsByChoice, calls, does, TurnsAt}
 use Rattle.explain_law.proofs.Parts as part
 
-module _ (R : Choices) where
+module _ (R : Choices) (P : Apart) where
   -- one more code
   pub codes_more : {cs : List (FunctionCode K.code)} {ds : List (FunctionCode J.code)} → CodesByChoice R cs ds → (path : List ℕ) (home : ℕ) (c : K.code) (d : J.code) → CodesAt R path c d → CodesByChoice R (cs ++ stored_with path home c ∷ []) (ds ++ stored_with path home d ∷ [])
   codes_more alike.none path home c d h = alike.more path home h alike.none
@@ -64,13 +65,13 @@ module _ (R : Choices) where
   Ends = EndsByChoice R false
 
   abbrev Follow : Rest K → Rest J → Type 0
-  Follow = part.Follow R false
+  Follow = part.Follow R P false
 
   abbrev Behind : Continuation K → Continuation J → Type 0
-  Behind = part.Behind R false
+  Behind = part.Behind R P false
 
   abbrev PartSame : Denotation K → Denotation J → Type 0
-  PartSame = part.PartSame R false
+  PartSame = part.PartSame R P false
 
   -- two statements that do the same at the places of a module, and two blocks likewise
   pub record PartAt (path : List ℕ) (e : Denotation K) (f : Denotation J) : Type 0 where
@@ -88,13 +89,13 @@ module _ (R : Choices) where
 
   pub next_same : {o : Outcome K} {q : Outcome J} → Ends o q → (k : Continuation K) (l : Continuation J) → Behind k l → (go : CallState K → Rest K) (go' : CallState J → Rest J) → ((s : CallState K) (r : CallState J) → States s r → Follow (go s) (go' r)) → Follow (on_next o k go) (on_next q l go')
   next_same n k l h go go' g =
-      let w : part.WaysSame R false (onward k) (onward l) = part.onward_same R false k l h in
-      part.route_same R false (record { gave = w.gave; next = g; returned = w.returned; broke = w.broke; continued = w.continued; raised = w.raised }) n
+      let w : part.WaysSame R P false (onward k) (onward l) = part.onward_same R P false k l h in
+      part.route_same R P false (record { gave = w.gave; next = g; returned = w.returned; broke = w.broke; continued = w.continued; raised = w.raised }) n
 
   pub turn_same : {o : Outcome K} {q : Outcome J} → Ends o q → (k : Continuation K) (l : Continuation J) → Behind k l → (go : CallState K → Rest K) (go' : CallState J → Rest J) → ((s : CallState K) (r : CallState J) → States s r → Follow (go s) (go' r)) → Follow (on_turn o k go) (on_turn q l go')
   turn_same n k l h go go' g =
-      let w : part.WaysSame R false (onward k) (onward l) = part.onward_same R false k l h in
-      part.route_same R false (record { gave = w.gave; next = g; returned = w.returned; broke = w.next; continued = g; raised = w.raised }) n
+      let w : part.WaysSame R P false (onward k) (onward l) = part.onward_same R P false k l h in
+      part.route_same R P false (record { gave = w.gave; next = g; returned = w.returned; broke = w.next; continued = g; raised = w.raised }) n
 
   pub unset_same : {s : CallState K} {r : CallState J} → States s r → States (unset s) (unset r)
   unset_same (states a t ws) = states a (part.none_kept false) ws
@@ -121,22 +122,22 @@ module _ (R : Choices) where
   bound_same name v scene ss = bound_by_same scene.own name v scene ss
 
   pub expression_same : {e : Denotation K} {f : Denotation J} → PartSame e f → PartSame (expression_statement e) (expression_statement f)
-  expression_same x = record { does = λ p ss k l h. x.does p ss _ _ (λ o q n. part.value_same R false n k l h _ _ (λ v s r ss. h _ _ (next ss))) }
+  expression_same x = record { does = λ p ss k l h. x.does p ss _ _ (λ o q n. part.value_same R P false n k l h _ _ (λ v s r ss. h _ _ (next ss))) }
 
   abbrev SomeSame : Option (Denotation K) → Option (Denotation J) → Type 0
-  SomeSame = part.SomeSame R false
+  SomeSame = part.SomeSame R P false
 
   pub return_same : {e : Option (Denotation K)} {f : Option (Denotation J)} → SomeSame e f → PartSame (return_value e) (return_value f)
   return_same part.absent = record { does = λ p ss k l h. h _ _ (returned val.None ss) }
-  return_same (part.present x) = record { does = λ p ss k l h. x.does p ss _ _ (λ o q n. part.value_same R false n k l h _ _ (λ v s r ss. h _ _ (returned v ss))) }
+  return_same (part.present x) = record { does = λ p ss k l h. x.does p ss _ _ (λ o q n. part.value_same R P false n k l h _ _ (λ v s r ss. h _ _ (returned v ss))) }
 
   -- a body that stops
   rest_here : {path other : List ℕ} → other ≡ path → {ls ks : List SourceLayer} → LayersAt R path ls ks → LayersAt R other ls ks
   rest_here is {ls = ls} {ks = ks} rest = subst (λ at. LayersAt R at ls ks) (sym is) rest
 
-  pub yield_same : {path : List ℕ} {e : Option (Denotation K)} {f : Option (Denotation J)} → SomeSame e f → {ls ks : List SourceLayer} → LayersAt R path ls ks → PartAt path (yield_value e ls) (yield_value f ks)
-  yield_same part.absent rest = record { does = λ p is ss k l h. until.freeze (stops val.None p (rest_here is rest) ss) }
-  yield_same (part.present x) rest = record { does = λ p is ss k l h. x.does p ss _ _ (λ o q n. part.value_same R false n k l h _ _ (λ v s r ss. until.freeze (stops v p (rest_here is rest) ss))) }
+  pub yield_same : {path : List ℕ} {e : Option (Denotation K)} {f : Option (Denotation J)} → SomeSame e f → (u : Use) {ls ks : List SourceLayer} → LayersAt R path ls ks → PartAt path (yield_value e (Receives u ∷ ls)) (yield_value f (Receives u ∷ ks))
+  yield_same part.absent u rest = record { does = λ p is ss k l h. until.freeze (stops val.None u p (rest_here is rest) ss) }
+  yield_same (part.present x) u rest = record { does = λ p is ss k l h. x.does p ss _ _ (λ o q n. part.value_same R P false n k l h _ _ (λ v s r ss. until.freeze (stops v u p (rest_here is rest) ss))) }
 
   pub pass_same : PartSame pass_statement pass_statement
   pass_same = record { does = λ p ss k l h. h _ _ (next ss) }
@@ -148,8 +149,8 @@ module _ (R : Choices) where
   again_same = record { does = λ p ss k l h. h _ _ (continued ss) }
 
   pub fail_same : {e : Option (Denotation K)} {f : Option (Denotation J)} → SomeSame e f → PartSame (fail e) (fail f)
-  fail_same part.absent = record { does = λ p ss k l h. h _ _ (part.raised_same R false (assertion None) (trace_of p) ss) }
-  fail_same (part.present x) = record { does = λ p ss k l h. x.does p ss _ _ (λ o q n. part.value_same R false n k l h _ _ (λ v s r ss. h _ _ (part.raised_same R false (assertion (Some v)) (trace_of p) ss))) }
+  fail_same part.absent = record { does = λ p ss k l h. h _ _ (part.raised_same R P false (assertion None) (trace_of p) ss) }
+  fail_same (part.present x) = record { does = λ p ss k l h. x.does p ss _ _ (λ o q n. part.value_same R P false n k l h _ _ (λ v s r ss. h _ _ (part.raised_same R P false (assertion (Some v)) (trace_of p) ss))) }
 
   pub asked_same : {what other : SourceTurn} (p : Site) → TurnsAt R p.scene.path what other → {s : CallState K} {r : CallState J} → States s r → (k : Continuation K) (l : Continuation J) → Behind k l → Follow (asked what p s k) (asked other p r l)
   asked_same p turn ss k l h = until.ask (out (trace_of p) ss) (does p turn ss) h
@@ -158,7 +159,7 @@ module _ (R : Choices) where
   turn_here is {what = what} {turn = turn} h = subst (λ at. TurnsAt R at what turn) (sym is) h
 
   pub loop_same : {path : List ℕ} {what other : SourceTurn} → TurnsAt R path what other → {e : Denotation K} {f : Denotation J} → PartSame e f → PartAt path (loop what e) (loop other f)
-  loop_same turn x = record { does = λ p is ss k l h. x.does p ss _ _ (λ o q n. part.value_same R false n k l h _ _ (λ v s r ss. part.truth_same R false v ss _ _ _ _ (asked_same p (turn_here is turn) ss k l h) (h _ _ (next ss)))) }
+  loop_same turn x = record { does = λ p is ss k l h. x.does p ss _ _ (λ o q n. part.value_same R P false n k l h _ _ (λ v s r ss. part.truth_same R P false v ss _ _ _ _ (asked_same p (turn_here is turn) ss k l h) (h _ _ (next ss)))) }
 
   pub turn_of_same : {path : List ℕ} {what other : SourceTurn} → TurnsAt R path what other → {e : Denotation K} {f : Denotation J} {b : Body K} {c : Body J} → PartSame e f → BodySame path b c → PartAt path (while_turn what e b) (while_turn other f c)
   turn_of_same turn x b = record { does = λ p is ss k l h. b.does p.scene is ss _ _ (λ o q n. turn_same n k l h _ _ (λ s r ss. (loop_same turn x).does p is ss k l h)) }
@@ -173,7 +174,7 @@ module _ (R : Choices) where
 
   branches_same : {path : List ℕ} {es : List (IfClause K)} {fs : List (IfClause J)} → ChoicesSame path es fs → {b : Body K} {c : Body J} → BodySame path b c → BodySame path (branches_on es b) (branches_on fs c)
   branches_same none b = b
-  branches_same (more line x y xs) b = record { does = λ scene is ss k l h. x.does (site scene line) ss _ _ (λ o q n. part.value_same R false n k l h _ _ (λ v s r ss. part.truth_same R false v ss _ _ _ _ (y.does scene is ss k l h) ((branches_same xs b).does scene is ss k l h))) }
+  branches_same (more line x y xs) b = record { does = λ scene is ss k l h. x.does (site scene line) ss _ _ (λ o q n. part.value_same R P false n k l h _ _ (λ v s r ss. part.truth_same R P false v ss _ _ _ _ (y.does scene is ss k l h) ((branches_same xs b).does scene is ss k l h))) }
 
   pub choose_same : {path : List ℕ} {es : List (IfClause K)} {fs : List (IfClause J)} → ChoicesSame path es fs → {b : Body K} {c : Body J} → BodySame path b c → PartAt path (choose es b) (choose fs c)
   choose_same xs b = record { does = λ p is ss k l h. (branches_same xs b).does p.scene is (unset_same ss) k l h }
@@ -199,7 +200,7 @@ module _ (R : Choices) where
   objects_same all (states a t (worlds xs ys zs modules heap printed traces)) = states a t (worlds xs ys zs modules (heap ++ all) printed traces)
 
   product_same : (x : Product) (trace : List TraceFrame) {s : CallState K} {r : CallState J} → States s r → Ends (product_end x trace s) (product_end x trace r)
-  product_same x trace ss = part.made_same R false x.made trace (objects_same x.objects ss)
+  product_same x trace ss = part.made_same R P false x.made trace (objects_same x.objects ss)
 
   with_heap_same : (heap : List Obj) {s : CallState K} {r : CallState J} → States s r → States (with_heap heap s) (with_heap heap r)
   with_heap_same heap (states a t (worlds xs ys zs modules old printed traces)) = states a t (worlds xs ys zs modules heap printed traces)
@@ -209,7 +210,7 @@ module _ (R : Choices) where
     pub does : {s : CallState K} {r : CallState J} → States s r → (k : Continuation K) (l : Continuation J) → Behind k l → Follow (e s k) (f r l)
 
   raise_same : (e : Raise) (trace : List TraceFrame) → CallSame (λ s k. k (raised e trace s)) (λ s k. k (raised e trace s))
-  raise_same e trace = record { does = λ ss k l h. h _ _ (part.raised_same R false e trace ss) }
+  raise_same e trace = record { does = λ ss k l h. h _ _ (part.raised_same R P false e trace ss) }
 
   call_cond : (b : Bool) {e e' : CallState K → Continuation K → Rest K} {f f' : CallState J → Continuation J → Rest J} → CallSame e f → CallSame e' f' → CallSame (λ s k. cond b (e s k) (e' s k)) (λ s k. cond b (f s k) (f' s k))
   call_cond true h g = record { does = λ ss k l b. h.does ss k l b }
@@ -242,12 +243,12 @@ module _ (R : Choices) where
 
     builtin_same : (c : CallEffect) (a : Around) → CallSame (builtin_called entry c a) (builtin_called other c a)
     builtin_same c a =
-        record { does = λ ss k l h. spend_all_same (SpentByChoice R) (RequestsByChoice R) (EndsByChoice R false) (PausedByChoice R) (FailedApart R) (cost_of c.product.made) _ _ _ _ (out a.trace ss) (h _ _ (product_same c.product a.trace (printed_same c.printed ss))) }
+        record { does = λ ss k l h. spend_all_same (SpentByChoice R) (RequestsByChoice R) (EndsByChoice R false) (PausedByChoice R) P (cost_of c.product.made) _ _ _ _ (out a.trace ss) (h _ _ (product_same c.product a.trace (printed_same c.printed ss))) }
 
     mark_same : (called : Bool) (x : Product) (e : Raise) (a : Around) → CallSame (mark_or entry called x e a) (mark_or other called x e a)
     mark_same true x e a = record { does = λ ss k l h. (raise_same e a.trace).does ss k l h }
     mark_same false x e a =
-        record { does = λ ss k l h. spend_all_same (SpentByChoice R) (RequestsByChoice R) (EndsByChoice R false) (PausedByChoice R) (FailedApart R) (cost_of x.made) _ _ _ _ (out a.trace ss) (h _ _ (product_same x a.trace ss)) }
+        record { does = λ ss k l h. spend_all_same (SpentByChoice R) (RequestsByChoice R) (EndsByChoice R false) (PausedByChoice R) P (cost_of x.made) _ _ _ _ (out a.trace ss) (h _ _ (product_same x a.trace ss)) }
 
     mark_here : (called : Bool) (x : List Obj → Product) (e : Raise) (a : Around) {s : CallState K} {r : CallState J} → States s r → (k : Continuation K) (l : Continuation J) → Behind k l → Follow (mark_or entry called (x (heap_of s)) e a s k) (mark_or other called (x (heap_of r)) e a r l)
     mark_here called x e a (states b t (worlds xs ys zs modules heap printed traces)) k l h = (mark_same called (x heap) e a).does (states b t (worlds xs ys zs modules heap printed traces)) k l h

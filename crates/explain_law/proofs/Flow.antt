@@ -38,12 +38,13 @@ use Rattle.source_meaning.specs.py_world.Contexts.{bad_context, context_of, info
 use Rattle.source_meaning.specs.py_world.Loops.{turn_begun, for_from, iterated, for_statement, behind_target, turn_with, for_turn}
 use Rattle.source_meaning.specs.Requests.{SourceTurn}
 use Rattle.explain_law.specs.Choices as alike
-use Rattle.explain_law.specs.Choices.{Choices, K, J, worlds, StatesByChoice, states, EndsByChoice, TurnsAt, gave, next, returned, broke, continued}
+use Rattle.explain_law.specs.Choices.{Choices, K, J, worlds, StatesByChoice, states, EndsByChoice, gave, next, returned, broke, continued}
+use Rattle.explain_law.proofs.Following.{Apart, TurnsAt}
 use Rattle.explain_law.proofs.Parts as part
 use Rattle.explain_law.proofs.Blocks as block
 use Rattle.explain_law.proofs.Displays as displays
 
-module _ (R : Choices) where
+module _ (R : Choices) (P : Apart) where
   abbrev States : CallState K → CallState J → Type 0
   States = StatesByChoice R false
 
@@ -51,51 +52,51 @@ module _ (R : Choices) where
   Ends = EndsByChoice R false
 
   abbrev Follow : Rest K → Rest J → Type 0
-  Follow = part.Follow R false
+  Follow = part.Follow R P false
 
   abbrev Behind : Continuation K → Continuation J → Type 0
-  Behind = part.Behind R false
+  Behind = part.Behind R P false
 
   abbrev PartSame : Denotation K → Denotation J → Type 0
-  PartSame = part.PartSame R false
+  PartSame = part.PartSame R P false
 
   abbrev PartsSame : List (Denotation K) → List (Denotation J) → Type 0
-  PartsSame = part.PartsSame R false
+  PartsSame = part.PartsSame R P false
 
   abbrev SomeSame : Option (Denotation K) → Option (Denotation J) → Type 0
-  SomeSame = part.SomeSame R false
+  SomeSame = part.SomeSame R P false
 
   abbrev PartAt : List ℕ → Denotation K → Denotation J → Type 0
-  PartAt = block.PartAt R
+  PartAt = block.PartAt R P
 
   abbrev BodySame : List ℕ → Body K → Body J → Type 0
-  BodySame = block.BodySame R
+  BodySame = block.BodySame R P
 
   abbrev AfterSame : List ℕ → After K → After J → Type 0
-  AfterSame = block.AfterSame R
+  AfterSame = block.AfterSame R P
 
   value_same : {o : Outcome K} {q : Outcome J} → Ends o q → (k : Continuation K) (l : Continuation J) → Behind k l → (go : Value → CallState K → Rest K) (go' : Value → CallState J → Rest J) → ((v : Value) (s : CallState K) (r : CallState J) → States s r → Follow (go v s) (go' v r)) → Follow (on_value o k go) (on_value q l go')
-  value_same n k l h go go' g = part.value_same R false n k l h go go' g
+  value_same n k l h go go' g = part.value_same R P false n k l h go go' g
 
   next_same : {o : Outcome K} {q : Outcome J} → Ends o q → (k : Continuation K) (l : Continuation J) → Behind k l → (go : CallState K → Rest K) (go' : CallState J → Rest J) → ((s : CallState K) (r : CallState J) → States s r → Follow (go s) (go' r)) → Follow (on_next o k go) (on_next q l go')
-  next_same n k l h go go' g = block.next_same R n k l h go go' g
+  next_same n k l h go go' g = block.next_same R P n k l h go go' g
 
   operated_same : (m : List Obj → Effect) (p : Site) {s : CallState K} {r : CallState J} → States s r → (k : Continuation K) (l : Continuation J) → Behind k l → Follow (operated (m (heap_of s)) p s k) (operated (m (heap_of r)) p r l)
-  operated_same m p ss k l h = part.operated_same R false m p ss k l h
+  operated_same m p ss k l h = part.operated_same R P false m p ss k l h
 
   raised_same : (e : Raise) (p : Site) {s : CallState K} {r : CallState J} → States s r → Ends (raised_at e p s) (raised_at e p r)
-  raised_same e p ss = part.raised_same R false e (trace_of p) ss
+  raised_same e p ss = part.raised_same R P false e (trace_of p) ss
 
   -- an error whose text names a kind
   raised_here : (e : List Obj → Raise) (p : Site) {s : CallState K} {r : CallState J} → States s r → Ends (raised_at (e (heap_of s)) p s) (raised_at (e (heap_of r)) p r)
   raised_here e p (states a t (worlds ss cs fs modules heap printed traces)) = raised_same (e heap) p (states a t (worlds ss cs fs modules heap printed traces))
 
   costing_same : (m : List Obj → Effect) (trace : List TraceFrame) {s : CallState K} {r : CallState J} → States s r → (k : Continuation K) (l : Continuation J) → Behind k l → Follow (costing (m (heap_of s)) trace s k) (costing (m (heap_of r)) trace r l)
-  costing_same m trace (states a t (worlds ss cs fs modules heap printed traces)) k l h = part.costing_same R false (m heap) trace (states a t (worlds ss cs fs modules heap printed traces)) k l h
+  costing_same m trace (states a t (worlds ss cs fs modules heap printed traces)) k l h = part.costing_same R P false (m heap) trace (states a t (worlds ss cs fs modules heap printed traces)) k l h
 
   -- attributes
   attribute_end_same : (x : Value) (name : List ℕ) (p : Site) {s : CallState K} {r : CallState J} → States s r → Ends (attribute_end x name p s) (attribute_end x name p r)
-  attribute_end_same x name p ss = displays.attribute_end_same R false x name p ss
+  attribute_end_same x name p ss = displays.attribute_end_same R P false x name p ss
 
   changed_or_same : (may : Bool) (f : Obj → Obj) (x : Value) (none : Raise) (p : Site) {s : CallState K} {r : CallState J} → States s r → Ends (changed_or may f x none p s) (changed_or may f x none p r)
   changed_or_same true f (val.Ref id) none p (states a t (worlds ss cs fs modules heap printed traces)) = next (states a t (worlds ss cs fs modules _ printed traces))
@@ -137,7 +138,7 @@ module _ (R : Choices) where
   stores_length (more x xs) = ap suc (stores_length xs)
 
   pub store_name_same : (name : List ℕ) → StoreSame (store_name name) (store_name name)
-  store_name_same name = record { stores = λ v. record { does = λ p ss k l h. h _ _ (next (block.bound_same R name v p.scene ss)) } }
+  store_name_same name = record { stores = λ v. record { does = λ p ss k l h. h _ _ (next (block.bound_same R P name v p.scene ss)) } }
 
   attribute_store : (x : Value) (name : List ℕ) → StoreSame (set_attribute x name) (set_attribute x name)
   attribute_store x name = record { stores = λ v. set_attribute_same x name v }
@@ -172,7 +173,7 @@ module _ (R : Choices) where
   counted n m ts v p s k = if eqb n m then store_elements ts (elements_from n v 0 n (heap_of s)) p s k else k (raised_at (wrong_count m n) p s)
 
   counted_same : {es : List (Store K)} {fs : List (Store J)} → StoresSame es fs → (n m : ℕ) (v : Value) (p : Site) {s : CallState K} {r : CallState J} → States s r → (k : Continuation K) (l : Continuation J) → Behind k l → Follow (counted n m es v p s k) (counted n m fs v p r l)
-  counted_same xs n m v p ss k l h = part.follow_cond R false (eqb n m) _ _ _ _ (elements_same xs n v p ss k l h) (h _ _ (raised_same (wrong_count m n) p ss))
+  counted_same xs n m v p ss k l h = part.follow_cond R P false (eqb n m) _ _ _ _ (elements_same xs n v p ss k l h) (h _ _ (raised_same (wrong_count m n) p ss))
 
   unpack_some : {es : List (Store K)} {fs : List (Store J)} → StoresSame es fs → (n : ℕ) (v : Value) (p : Site) {s : CallState K} {r : CallState J} → States s r → (k : Continuation K) (l : Continuation J) → Behind k l → Follow (counted n (length es) es v p s k) (counted n (length fs) fs v p r l)
   unpack_some {es = es} {fs = fs} xs n v p {s = s} {r = r} ss k l h = subst (λ m. Follow (counted n (length es) es v p s k) (counted n m fs v p r l)) (stores_length xs) (counted_same xs n (length es) v p ss k l h)
@@ -211,7 +212,7 @@ module _ (R : Choices) where
   augment_on_same x op e t = record { does = λ p ss k l h. e.does p ss _ _ (λ o q n. value_same n k l h _ _ (λ y s r ss. (augmented_same x op y t).does p ss k l h)) }
 
   pub augment_same : (name : List ℕ) (op : BinOp) {e : Denotation K} {f : Denotation J} → PartSame e f → PartSame (augment_name name op e) (augment_name name op f)
-  augment_same name op e = record { does = λ p ss k l h. value_same (part.name_end_same R false name p ss) k l h _ _ (λ x s r ss. (augment_on_same x op e (store_name_same name)).does p ss k l h) }
+  augment_same name op e = record { does = λ p ss k l h. value_same (part.name_end_same R P false name p ss) k l h _ _ (λ x s r ss. (augment_on_same x op e (store_name_same name)).does p ss k l h) }
 
   augment_attribute_of_same : (x : Value) (name : List ℕ) (op : BinOp) {e : Denotation K} {f : Denotation J} → PartSame e f → PartSame (augment_attribute_of x name op e) (augment_attribute_of x name op f)
   augment_attribute_of_same x name op e = record { does = λ p ss k l h. value_same (attribute_end_same x name p ss) k l h _ _ (λ old s r ss. (augment_on_same old op e (attribute_store x name)).does p ss k l h) }
@@ -237,7 +238,7 @@ module _ (R : Choices) where
 
   unbound_by_same : (own : Own) (name : List ℕ) (scene : Scene) {s : CallState K} {r : CallState J} → States s r → States (unbound_by own name scene s) (unbound_by own name scene r)
   unbound_by_same InModule name scene ss = unbound_global_same name scene ss
-  unbound_by_same (InFunction own) name scene ss = block.state_cond R (is_among own name) _ _ _ _ (unbound_here_same name ss) (unbound_global_same name scene ss)
+  unbound_by_same (InFunction own) name scene ss = block.state_cond R P (is_among own name) _ _ _ _ (unbound_here_same name ss) (unbound_global_same name scene ss)
   unbound_by_same (InClass at) name scene ss = unbound_class_same name at ss
 
   unbound_same : (name : List ℕ) (scene : Scene) {s : CallState K} {r : CallState J} → States s r → States (unbound name scene s) (unbound name scene r)
@@ -287,12 +288,12 @@ module _ (R : Choices) where
 
   unbound_behind : (name : List ℕ) (scene : Scene) (k : Continuation K) (l : Continuation J) → Behind k l → {o : Outcome K} {q : Outcome J} → Ends o q → Follow (route (changing (unbound name scene) k) o) (route (changing (unbound name scene) l) q)
   unbound_behind name scene k l h n =
-      part.route_same R false (record { gave = λ v s r ss. h _ _ (gave v (unbound_same name scene ss)); next = λ s r ss. h _ _ (next (unbound_same name scene ss)); returned = λ v s r ss. h _ _ (returned v (unbound_same name scene ss)); broke = λ s r ss. h _ _ (broke (unbound_same name scene ss)); continued = λ s r ss. h _ _ (continued (unbound_same name scene ss)); raised = λ e trace s r ss. h _ _ (alike.raised e trace (unbound_same name scene ss)) }) n
+      part.route_same R P false (record { gave = λ v s r ss. h _ _ (gave v (unbound_same name scene ss)); next = λ s r ss. h _ _ (next (unbound_same name scene ss)); returned = λ v s r ss. h _ _ (returned v (unbound_same name scene ss)); broke = λ s r ss. h _ _ (broke (unbound_same name scene ss)); continued = λ s r ss. h _ _ (continued (unbound_same name scene ss)); raised = λ e trace s r ss. h _ _ (alike.raised e trace (unbound_same name scene ss)) }) n
 
   handler_same : {path : List ℕ} (name : Option (List ℕ)) {b : Body K} {c : Body J} → BodySame path b c → (e : Value) (trace : List TraceFrame) → PartAt path (handler_block name b e trace) (handler_block name c e trace)
   handler_same None b e trace = record { does = λ p is ss k l h. b.does p.scene is ss k l h }
   handler_same (Some name) b e trace =
-      record { does = λ p is ss k l h. b.does p.scene is (block.bound_same R name e p.scene (trace_same e trace ss)) (λ o. route (changing (unbound name p.scene) k) o) (λ o. route (changing (unbound name p.scene) l) o) (λ o q n. unbound_behind name p.scene k l h n) }
+      record { does = λ p is ss k l h. b.does p.scene is (block.bound_same R P name e p.scene (trace_same e trace ss)) (λ o. route (changing (unbound name p.scene) k) o) (λ o. route (changing (unbound name p.scene) l) o) (λ o q n. unbound_behind name p.scene k l h n) }
 
   pub data HandlersSame (path : List ℕ) : List (Handling K) → List (Handling J) → Type 0 where
     none : HandlersSame path [] []
@@ -319,8 +320,8 @@ module _ (R : Choices) where
   guarded_by_same hs other =
       record {
         does = λ p is n k l h.
-            let w : part.WaysSame R false (onward k) (onward l) = part.onward_same R false k l h in
-            part.route_same R false (record { gave = w.gave; next = λ s r ss. other.does p.scene is ss k l h; returned = w.returned; broke = w.broke; continued = w.continued; raised = λ e trace s r ss. (handlers_same hs e trace).does (site_handling e trace p) is ss k l h }) n;
+            let w : part.WaysSame R P false (onward k) (onward l) = part.onward_same R P false k l h in
+            part.route_same R P false (record { gave = w.gave; next = λ s r ss. other.does p.scene is ss k l h; returned = w.returned; broke = w.broke; continued = w.continued; raised = λ e trace s r ss. (handlers_same hs e trace).does (site_handling e trace p) is ss k l h }) n;
       }
 
   again_same : {path : List ℕ} {last : Body K} {last' : Body J} → BodySame path last last' → (scene : Scene) → scene.path ≡ path → {s : CallState K} {r : CallState J} → States s r → (k : Continuation K) (l : Continuation J) → Behind k l → (again : CallState K → Outcome K) (again' : CallState J → Outcome J) → ((s : CallState K) (r : CallState J) → States s r → Ends (again s) (again' r)) → Follow (then_again last scene s k again) (then_again last' scene r l again')
@@ -329,7 +330,7 @@ module _ (R : Choices) where
   finally_same : {path : List ℕ} {last : Body K} {last' : Body J} → BodySame path last last' → AfterSame path (finally_on last) (finally_on last')
   finally_same last =
       record {
-        does = λ p is n k l h. part.route_same R false
+        does = λ p is n k l h. part.route_same R P false
             (record { gave = λ v s r ss. again_same last p.scene is ss k l h (Gave v) (Gave v) (λ s r ss. gave v ss); next = λ s r ss. again_same last p.scene is ss k l h Next Next (λ s r ss. next ss); returned = λ v s r ss. again_same last p.scene is ss k l h (Returned v) (Returned v) (λ s r ss. returned v ss); broke = λ s r ss. again_same last p.scene is ss k l h Broke Broke (λ s r ss. broke ss); continued = λ s r ss. again_same last p.scene is ss k l h Continued Continued (λ s r ss. continued ss); raised = λ e trace s r ss. again_same last (scene_handling e trace p.scene) is ss k l h (Raised e trace) (Raised e trace) (λ s r ss. alike.raised e trace ss) })
             n;
       }
@@ -342,7 +343,7 @@ module _ (R : Choices) where
 
   -- `with`
   info_named_same : (name : Option (List ℕ)) (v : Value) (scene : Scene) {s : CallState K} {r : CallState J} → States s r → States (info_named name v scene s) (info_named name v scene r)
-  info_named_same (Some name) v scene ss = block.bound_same R name v scene ss
+  info_named_same (Some name) v scene ss = block.bound_same R P name v scene ss
   info_named_same None v scene ss = ss
 
   with_info_same : (name : Option (List ℕ)) (scene : Scene) {s : CallState K} {r : CallState J} → States s r → States (with_info name scene s) (with_info name scene r)
@@ -353,7 +354,7 @@ module _ (R : Choices) where
 
   searched_here : (pattern : Option (List ℕ)) (e : Value) (p : Site) {s : CallState K} {r : CallState J} → States s r → (k : Continuation K) (l : Continuation J) → Behind k l → Follow (searched pattern e p s k) (searched pattern e p r l)
   searched_here pattern e p (states a t (worlds ss cs fs modules heap printed traces)) k l h =
-      part.costing_same R false (pattern_end heap pattern e) (trace_of p) (states a t (worlds ss cs fs modules heap printed traces)) (λ o. on_value o k (λ v s. k (Next s))) (λ o. on_value o l (λ v s. l (Next s))) (λ o q n. value_same n k l h (λ v s. k (Next s)) (λ v s. l (Next s)) (λ v s r ss. h _ _ (next ss)))
+      part.costing_same R P false (pattern_end heap pattern e) (trace_of p) (states a t (worlds ss cs fs modules heap printed traces)) (λ o. on_value o k (λ v s. k (Next s))) (λ o. on_value o l (λ v s. l (Next s))) (λ o q n. value_same n k l h (λ v s. k (Next s)) (λ v s. l (Next s)) (λ v s r ss. h _ _ (next ss)))
 
   taken_or_same : (taken : Bool) (x : RaisesObj) (info : ObjId) (e : Value) (trace : List TraceFrame) → PartSame (taken_or taken x info e trace) (taken_or taken x info e trace)
   taken_or_same true x info e trace = record { does = λ p ss k l h. searched_here x.pattern e p (info_taken_same info e (trace_same e trace ss)) k l h }
@@ -368,7 +369,7 @@ module _ (R : Choices) where
   left_same : {path : List ℕ} (x : RaisesObj) (info : ObjId) → AfterSame path (context_left x info) (context_left x info)
   left_same x info =
       record {
-        does = λ p is n k l h. part.route_same R false
+        does = λ p is n k l h. part.route_same R P false
             (record { gave = λ v s r ss. not_raised_here x p ss k l h; next = λ s r ss. not_raised_here x p ss k l h; returned = λ v s r ss. not_raised_here x p ss k l h; broke = λ s r ss. not_raised_here x p ss k l h; continued = λ s r ss. not_raised_here x p ss k l h; raised = λ e trace s r ss. taken_or_here x info e trace p ss k l h })
             n;
       }
@@ -390,9 +391,9 @@ module _ (R : Choices) where
 
   begun_same : {path : List ℕ} (m : Option Effect) {what other : SourceTurn} → TurnsAt R path what other → PartAt path (turn_begun {K = K} m what) (turn_begun {K = J} m other)
   begun_same None turn = record { does = λ p is ss k l h. h _ _ (next ss) }
-  begun_same (Some (Give v n)) turn = record { does = λ p is ss k l h. block.asked_same R p (block.turn_here R is turn) ss k l h }
-  begun_same (Some (New o n)) turn = record { does = λ p is ss k l h. block.asked_same R p (block.turn_here R is turn) ss k l h }
-  begun_same (Some (Put id c v n)) turn = record { does = λ p is ss k l h. block.asked_same R p (block.turn_here R is turn) ss k l h }
+  begun_same (Some (Give v n)) turn = record { does = λ p is ss k l h. block.asked_same R P p (block.turn_here R P is turn) ss k l h }
+  begun_same (Some (New o n)) turn = record { does = λ p is ss k l h. block.asked_same R P p (block.turn_here R P is turn) ss k l h }
+  begun_same (Some (Put id c v n)) turn = record { does = λ p is ss k l h. block.asked_same R P p (block.turn_here R P is turn) ss k l h }
   begun_same (Some (Fail e n)) turn = record { does = λ p is ss k l h. h _ _ (raised_same e p ss) }
 
   from_here : {path : List ℕ} {what other : IterAt → SourceTurn} → Turns path what other → (at : IterAt) (p : Site) → p.scene.path ≡ path → {s : CallState K} {r : CallState J} → States s r → (k : Continuation K) (l : Continuation J) → Behind k l → Follow (for_from {K = K} what at p s k) (for_from {K = J} other at p r l)
@@ -412,11 +413,11 @@ module _ (R : Choices) where
   for_same turn x = record { does = λ p is ss k l h. x.does p ss _ _ (λ o q n. value_same n k l h _ _ (λ v s r ss. iterated_here turn v p is ss k l h)) }
 
   behind_same : {path : List ℕ} {what other : IterAt → SourceTurn} → Turns path what other → {b : Body K} {c : Body J} → BodySame path b c → (at : IterAt) → PartAt path (behind_target what b at) (behind_target other c at)
-  behind_same turn b at = record { does = λ p is ss k l h. b.does p.scene is ss _ _ (λ o q n. block.turn_same R n k l h _ _ (λ s r ss. (for_from_same turn at).does p is ss k l h)) }
+  behind_same turn b at = record { does = λ p is ss k l h. b.does p.scene is ss _ _ (λ o q n. block.turn_same R P n k l h _ _ (λ s r ss. (for_from_same turn at).does p is ss k l h)) }
 
   turn_with_same : {path : List ℕ} {what other : IterAt → SourceTurn} → Turns path what other → {t : Store K} {u : Store J} {b : Body K} {c : Body J} → StoreSame t u → BodySame path b c → (at : IterAt) (m : Option Effect) → PartAt path (turn_with what t b at m) (turn_with other u c at m)
   turn_with_same turn t b at None = record { does = λ p is ss k l h. h _ _ (next ss) }
-  turn_with_same turn t b at (Some m) = record { does = λ p is ss k l h. value_same (part.made_same R false m (trace_of p) ss) k l h _ _ (λ v s r ss. (t.stores v).does p ss _ _ (λ o q n. next_same n k l h _ _ (λ s r ss. (behind_same turn b (iterator_after at m)).does p is ss k l h))) }
+  turn_with_same turn t b at (Some m) = record { does = λ p is ss k l h. value_same (part.made_same R P false m (trace_of p) ss) k l h _ _ (λ v s r ss. (t.stores v).does p ss _ _ (λ o q n. next_same n k l h _ _ (λ s r ss. (behind_same turn b (iterator_after at m)).does p is ss k l h))) }
 
   turn_here : {path : List ℕ} {what other : IterAt → SourceTurn} → Turns path what other → {t : Store K} {u : Store J} {b : Body K} {c : Body J} → StoreSame t u → BodySame path b c → (at : IterAt) (p : Site) → p.scene.path ≡ path → {s : CallState K} {r : CallState J} → States s r → (k : Continuation K) (l : Continuation J) → Behind k l → Follow (for_turn what t b at p s k) (for_turn other u c at p r l)
   turn_here turn x y at p is (states a t (worlds ss cs fs modules heap printed traces)) k l h = (turn_with_same turn x y at (element_of heap at)).does p is (states a t (worlds ss cs fs modules heap printed traces)) k l h

@@ -1,3 +1,5 @@
+pub mod Until
+pub mod Following
 pub mod Runs
 pub mod Parts
 pub mod Displays
@@ -6,5 +8,11 @@ pub mod Flow
 pub mod Classes
 pub mod Loads
 pub mod Forms
+pub mod Real
+pub mod Stops
 pub mod Whole
+pub mod Together
+pub mod One
+pub mod Told
+pub mod Ends
 pub mod Resumes

@@ -1,8 +1,8 @@
 -- What the forms do keeps sameness: of parts that do the same, each form makes one that does the same.
 use Rattle.std.proofs.Common.{ℕ, List, [], ◌∷◌, ◌++◌, Option, Some, None, Bool, true, false, refl, ap}
 use Rattle.std.specs.Prelude.{cond, nat_lt, length, not, codes}
-use Rattle.explain_law.specs.Until as until
-use Rattle.explain_law.specs.Law as law
+use Rattle.explain_law.proofs.Until as until
+use Rattle.explain_law.proofs.Following as following
 use Rattle.explain_law.proofs.Runs.{spend_all_same}
 use Rattle.py_source.specs.declared.pos.Pos.{Pos}
 use Rattle.py_tree.specs.declared.op.BinOp.{BinOp}
@@ -30,7 +30,8 @@ use Rattle.source_meaning.specs.py_world.Outcome.{Outcome, Gave, Rest, Continuat
 use Rattle.source_meaning.specs.py_world.Names.{value_of_name, name_end}
 use Rattle.source_meaning.specs.py_world.Expressions.{noted, constant, kept_part, name_part, text_part, unary_part, binary_part, compared, compare_on, compare_part, not_part, and_on, and_part, or_on, or_part, choice_part, called, call_on, call_part}
 use Rattle.explain_law.specs.Choices as alike
-use Rattle.explain_law.specs.Choices.{Choices, K, J, worlds, StatesByChoice, states, TwoTemps, Tied, EndsByChoice, FailedApart, gave, next, returned, broke, continued, SpentByChoice, out, PausedByChoice, RequestsByChoice, calls, does}
+use Rattle.explain_law.specs.Choices.{Choices, K, J, worlds, StatesByChoice, states, TwoTemps, Tied, EndsByChoice, gave, next, returned, broke, continued}
+use Rattle.explain_law.proofs.Following.{Apart, SpentByChoice, out, PausedByChoice, RequestsByChoice, calls, does}
 
 set_tied : (m : Bool) (i : ℕ) (v : Value) (t u : Temps) → Tied m t u → Tied m (set_at i v t) (set_at i v u)
 set_tied true i v t u h = ap (set_at i v) h
@@ -44,7 +45,7 @@ tied_none false = tt
 abbrev pub none_kept : (m : Bool) → TwoTemps m
 none_kept m = record { first = []; second = []; tied = tied_none m }
 
-module _ (R : Choices) (m : Bool) where
+module _ (R : Choices) (P : Apart) (m : Bool) where
   abbrev pub States : CallState K → CallState J → Type 0
   States = StatesByChoice R m
 
@@ -52,7 +53,7 @@ module _ (R : Choices) (m : Bool) where
   Ends = EndsByChoice R m
 
   abbrev pub Follow : Rest K → Rest J → Type 0
-  Follow = law.Follow R
+  Follow = following.Follow R P
 
   -- whatever is kept
   pub loosen : {s : CallState K} {r : CallState J} → States s r → StatesByChoice R false s r
@@ -122,7 +123,7 @@ module _ (R : Choices) (m : Bool) where
 
   pub costing_same : (x : Effect) (trace : List TraceFrame) {s : CallState K} {r : CallState J} → States s r → (k : Continuation K) (l : Continuation J) → Behind k l → Follow (costing x trace s k) (costing x trace r l)
   costing_same x trace ss k l h =
-      spend_all_same (SpentByChoice R) (RequestsByChoice R) (EndsByChoice R false) (PausedByChoice R) (FailedApart R) (cost_of x) _ _ _ _ (out trace (loosen ss)) (h _ _ (made_same x trace ss))
+      spend_all_same (SpentByChoice R) (RequestsByChoice R) (EndsByChoice R false) (PausedByChoice R) P (cost_of x) _ _ _ _ (out trace (loosen ss)) (h _ _ (made_same x trace ss))
 
   pub operated_same : (f : List Obj → Effect) (p : Site) {s : CallState K} {r : CallState J} → States s r → (k : Continuation K) (l : Continuation J) → Behind k l → Follow (operated (f (heap_of s)) p s k) (operated (f (heap_of r)) p r l)
   operated_same f p (states a t (worlds ss cs fs modules heap printed traces)) k l h =
@@ -235,9 +236,9 @@ module _ (R : Choices) (m : Bool) where
   parts_push (more y ys) x = more y (parts_push ys x)
 
 -- what is kept on one side alone
-module _ (R : Choices) where
+module _ (R : Choices) (P : Apart) where
   abbrev Loose : Denotation K → Denotation J → Type 0
-  Loose = PartSame R false
+  Loose = PartSame R P false
 
   kept_second : (i : ℕ) (v : Value) {s : CallState K} {r : CallState J} → StatesByChoice R false s r → StatesByChoice R false s (with_temp i v r)
   kept_second i v (states a t ws) = states a (record { first = t.first; second = set_at i v t.second; tied = tt }) ws
@@ -245,7 +246,7 @@ module _ (R : Choices) where
   kept_first : (i : ℕ) (v : Value) {s : CallState K} {r : CallState J} → StatesByChoice R false s r → StatesByChoice R false (with_temp i v s) r
   kept_first i v (states a t ws) = states a (record { first = set_at i v t.first; second = t.second; tied = tt }) ws
 
-  to_second : (i : ℕ) (l : Continuation J) → {k : Continuation K} → Behind R false k l → Behind R false k (λ o. on_value o l (λ v s. l (Gave v (with_temp i v s))))
+  to_second : (i : ℕ) (l : Continuation J) → {k : Continuation K} → Behind R P false k l → Behind R P false k (λ o. on_value o l (λ v s. l (Gave v (with_temp i v s))))
   to_second i l h _ _ (gave v ss) = h _ _ (gave v (kept_second i v ss))
   to_second i l h _ _ (next ss) = h _ _ (next ss)
   to_second i l h _ _ (returned v ss) = h _ _ (returned v ss)
@@ -253,7 +254,7 @@ module _ (R : Choices) where
   to_second i l h _ _ (continued ss) = h _ _ (continued ss)
   to_second i l h _ _ (alike.raised e trace ss) = h _ _ (alike.raised e trace ss)
 
-  to_first : (i : ℕ) (k : Continuation K) → {l : Continuation J} → Behind R false k l → Behind R false (λ o. on_value o k (λ v s. k (Gave v (with_temp i v s)))) l
+  to_first : (i : ℕ) (k : Continuation K) → {l : Continuation J} → Behind R P false k l → Behind R P false (λ o. on_value o k (λ v s. k (Gave v (with_temp i v s)))) l
   to_first i k h _ _ (gave v ss) = h _ _ (gave v (kept_first i v ss))
   to_first i k h _ _ (next ss) = h _ _ (next ss)
   to_first i k h _ _ (returned v ss) = h _ _ (returned v ss)

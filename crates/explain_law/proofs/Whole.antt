@@ -5,37 +5,30 @@ use Rattle.std.specs.List.{list_any}
 use Rattle.run_tree.specs.Todo as tree
 use Rattle.run_tree.specs.Todo.{Done}
 use Rattle.run_tree.specs.Same.{SameEnding}
-use Rattle.py_source.specs.declared.pos.Pos.{Pos}
 use Rattle.py_values.specs.declared.end.Raise.{Raise}
 use Rattle.py_values.specs.declared.object.FunctionObj.{FunctionObj}
 use Rattle.py_values.specs.declared.value.Value.{Value}
 use Rattle.py_values.specs.declared.value.Value.TheVariants as val
-use Rattle.source_meaning.specs.py_world.declared.load.Load.{Load}
-use Rattle.source_meaning.specs.py_world.declared.load.Load.TheVariants.{Running, Loaded, Failed}
 use Rattle.source_meaning.specs.py_world.declared.trace.TraceFrame.{TraceFrame}
 use Rattle.source_meaning.specs.py_world.World.{World, Locals, FunctionCode}
 use Rattle.source_meaning.specs.py_world.Site.{no_call, frame}
 use Rattle.source_meaning.specs.py_world.Arguments.{positional_arguments}
-use Rattle.source_meaning.specs.py_world.Outcome.{Outcome, Rest, Exhaustion, Suspension, Request, call_end}
-use Rattle.source_meaning.specs.py_world.Calls.{arguments_for, invoke, body_of}
-use Rattle.source_meaning.specs.py_world.Runs.{ended_value, ended_spent, is_running, out_of_steps, ended_by, told_by, start, run_of, function_and, fitting_begun, function_begun, object_begun, begun_by_runner, loading, loaded_first, loaded_by, load_at}
+use Rattle.source_meaning.specs.py_world.Outcome.{Outcome, Rest, Exhaustion, Suspension, call_end}
+use Rattle.source_meaning.specs.py_world.Calls.{arguments_for, invoke}
+use Rattle.source_meaning.specs.py_world.Runs.{ended_value, ended_spent, is_running, out_of_steps, ended_by, told_by, start, function_and, fitting_begun, function_begun, object_begun, begun_by_runner, loading}
 use Rattle.source_meaning.specs.Requests.{Script, Function}
-use Rattle.source_meaning.specs.Meaning.{SourceWorld, source_semantics, source_call, source_module}
-use Rattle.explain_law.specs.Until as until
+use Rattle.source_meaning.specs.Meaning.{SourceWorld, source_semantics}
+use Rattle.explain_law.proofs.Until as until
 use Rattle.explain_law.specs.Choices as alike
-use Rattle.explain_law.specs.Choices.{Choices, K, J, WorldsByChoice, worlds, states, EndsByChoice, gave, next, returned, broke, continued, SpentByChoice, out, PausedByChoice, stops, RequestsByChoice, FailedApart, ScriptsAt}
-use Rattle.explain_law.specs.Law as law
-use Rattle.explain_law.specs.Law.{Follow, RunsAlike, SourceRun, ToldByChoice, ToldUntil}
-use Rattle.explain_law.proofs.Runs.{run_until}
+use Rattle.explain_law.specs.Choices.{Choices, K, J, WorldsByChoice, worlds, states, EndsByChoice, gave, next, returned, broke, continued, ScriptsAt}
+use Rattle.explain_law.proofs.Following.{Apart, Follow, SpentByChoice, out, PausedByChoice, stops, RequestsByChoice}
+use Rattle.explain_law.specs.Law.{SourceEnding, ToldByChoice}
 use Rattle.explain_law.proofs.Parts as part
 use Rattle.explain_law.proofs.Blocks as block
 use Rattle.explain_law.proofs.Loads as loads
-use Rattle.explain_law.proofs.Forms.{meanings_same, bodies_same}
+use Rattle.explain_law.proofs.Forms.{entries_same, bodies_same}
 
-abbrev pub SourceEnding : Type 0
-SourceEnding = tree.Ending Pos (Exhaustion K) (Request K) (Outcome K) (Suspension K)
-
-module _ (R : Choices) where
+module _ (R : Choices) (P : Apart) where
   ended_with : {o : Outcome K} {q : Outcome J} → EndsByChoice R false o q → (n : ℕ) → ToldByChoice R (ended_by o n) (ended_by q n)
   ended_with (gave v (states a t ws)) n = (refl, ws)
   ended_with (next (states a t ws)) n = (refl, ws)
@@ -58,12 +51,12 @@ module _ (R : Choices) where
   spent_told budget (out trace (states a t ws)) = (refl, spent_world budget trace ws)
 
   stopped_with : {f : Suspension K} {g : Suspension J} → PausedByChoice R f g → (n : ℕ) → ToldByChoice R (ended_value f.value n f.state.world) (ended_value g.value n g.state.world)
-  stopped_with (stops v p rest (states a t ws)) n = (refl, ws)
+  stopped_with (stops v u p rest (states a t ws)) n = (refl, ws)
 
   stopped_same : {f : Suspension K} {g : Suspension J} → PausedByChoice R f g → (budget m n : ℕ) → m ≡ n → ToldByChoice R (ended_value f.value (budget - m) f.state.world) (ended_value g.value (budget - n) g.state.world)
   stopped_same {f = f} {g = g} e budget m n is = subst (λ k. ToldByChoice R (ended_value f.value (budget - m) f.state.world) (ended_value g.value (budget - k) g.state.world)) is (stopped_with e (budget - m))
 
-  told_same : (budget : ℕ) (a b : SourceEnding) → SameEnding (SpentByChoice R) (RequestsByChoice R) (EndsByChoice R false) (PausedByChoice R) a b → ToldByChoice R (told_by budget a) (told_by budget b)
+  pub told_same : (budget : ℕ) (a b : SourceEnding) → SameEnding (SpentByChoice R) (RequestsByChoice R) (EndsByChoice R false) (PausedByChoice R) a b → ToldByChoice R (told_by budget a) (told_by budget b)
   told_same budget (tree.Ended o m) (tree.Ended q n) h = ended_same h.0 budget m n h.1
   told_same budget (tree.Spent x) (tree.Spent y) h = spent_told budget h
   told_same budget (tree.Frozen f m) (tree.Frozen g n) h = stopped_same h.0 budget m n h.1
@@ -74,62 +67,30 @@ module _ (R : Choices) where
   told_same budget (tree.Frozen o m) (tree.Ended q n) h = elim h [ ]
   told_same budget (tree.Frozen o m) (tree.Spent y) h = elim h [ ]
 
-  -- runs of what is left to do
-  pub runs_alike : (budget : ℕ) (x : Rest K) (y : Rest J) → Follow R x y → RunsAlike R (tree.run (body_of source_semantics) budget x) (tree.run (body_of source_semantics) budget y)
-  runs_alike budget x y h = run_until _ _ _ _ _ (body_of source_semantics) (body_of source_semantics) (block.body_same R source_semantics source_semantics (meanings_same R)) budget h
-
-  told_until : (budget : ℕ) (x : Rest K) (y : Rest J) → RunsAlike R (tree.run (body_of source_semantics) budget x) (tree.run (body_of source_semantics) budget y) → ToldUntil R (run_of source_semantics budget x) (run_of source_semantics budget y)
-  told_until budget x y (until.same h) = law.told (told_same budget _ _ h.1)
-  told_until budget x y (until.apart h) = law.parted budget x y h
-
-  run_told : (budget : ℕ) (x : Rest K) (y : Rest J) → Follow R x y → ToldUntil R (run_of source_semantics budget x) (run_of source_semantics budget y)
-  run_told budget x y h = told_until budget x y (runs_alike budget x y h)
-
   abbrev begun_plain : Value → List Value → SourceWorld → Rest K
   begun_plain f args w = invoke source_semantics.entry f (positional_arguments args) no_call (start w) (λ o. Done (call_end (start w) o))
 
-  invoked : (f : Value) (args : List Value) (w z : SourceWorld) → WorldsByChoice R w z → Follow R (begun_plain f args w) (begun_plain f args z)
+  invoked : (f : Value) (args : List Value) (w z : SourceWorld) → WorldsByChoice R w z → Follow R P (begun_plain f args w) (begun_plain f args z)
   invoked f args w z ws =
-      (block.invoke_same R source_semantics.entry source_semantics.entry (meanings_same R).entries f (positional_arguments args) no_call).does (states [] (part.none_kept false) ws) _ _ (λ o q n. until.done (part.call_end_same R false (states [] (part.none_kept false) ws) n))
+      (block.invoke_same R P source_semantics.entry source_semantics.entry (entries_same R P) f (positional_arguments args) no_call).does (states [] (part.none_kept false) ws) _ _ (λ o q n. until.done (part.call_end_same R P false (states [] (part.none_kept false) ws) n))
 
-  fitting_begun_same : (r : Result Locals Raise) (at : List TraceFrame) (f : Value) (args : List Value) (w z : SourceWorld) → WorldsByChoice R w z → Follow R (fitting_begun source_semantics r at f args (start w)) (fitting_begun source_semantics r at f args (start z))
+  fitting_begun_same : (r : Result Locals Raise) (at : List TraceFrame) (f : Value) (args : List Value) (w z : SourceWorld) → WorldsByChoice R w z → Follow R P (fitting_begun source_semantics r at f args (start w)) (fitting_begun source_semantics r at f args (start z))
   fitting_begun_same (Ok names) at f args w z ws = invoked f args w z ws
-  fitting_begun_same (Err r) at f args w z ws = until.done (part.raised_same R false r at (states [] (part.none_kept false) ws))
+  fitting_begun_same (Err r) at f args w z ws = until.done (part.raised_same R P false r at (states [] (part.none_kept false) ws))
 
-  function_begun_same : {x y : Option (FunctionCode Function)} → block.FoundAlike R x y → (g : FunctionObj) (all : List Value) (f : Value) (args : List Value) (w z : SourceWorld) → WorldsByChoice R w z → Follow R (function_begun source_semantics x g all f args (start w)) (function_begun source_semantics y g all f args (start z))
+  function_begun_same : {x y : Option (FunctionCode Function)} → block.FoundAlike R P x y → (g : FunctionObj) (all : List Value) (f : Value) (args : List Value) (w z : SourceWorld) → WorldsByChoice R w z → Follow R P (function_begun source_semantics x g all f args (start w)) (function_begun source_semantics y g all f args (start z))
   function_begun_same block.absent g all f args w z ws = invoked f args w z ws
   function_begun_same (block.present path home h) g all f args w z ws = fitting_begun_same (arguments_for g (positional_arguments all)) (frame g.path g.line g.name ∷ []) f args w z ws
 
-  object_begun_same : (o : Option (FunctionObj × List Value)) (f : Value) (args : List Value) {w z : SourceWorld} → WorldsByChoice R w z → Follow R (object_begun source_semantics o f args (start w)) (object_begun source_semantics o f args (start z))
-  object_begun_same (Some x) f args (worlds xs ys zs modules heap printed traces) = function_begun_same (block.found R ys x.0.code) x.0 x.1 f args _ _ (worlds xs ys zs modules heap printed traces)
+  object_begun_same : (o : Option (FunctionObj × List Value)) (f : Value) (args : List Value) {w z : SourceWorld} → WorldsByChoice R w z → Follow R P (object_begun source_semantics o f args (start w)) (object_begun source_semantics o f args (start z))
+  object_begun_same (Some x) f args (worlds xs ys zs modules heap printed traces) = function_begun_same (block.found R P ys x.0.code) x.0 x.1 f args _ _ (worlds xs ys zs modules heap printed traces)
   object_begun_same None f args ws = invoked f args _ _ ws
 
-  pub begun_by_runner_same : (f : Value) (args : List Value) {w z : SourceWorld} → WorldsByChoice R w z → Follow R (begun_by_runner source_semantics f args (start w)) (begun_by_runner source_semantics f args (start z))
+  pub begun_by_runner_same : (f : Value) (args : List Value) {w z : SourceWorld} → WorldsByChoice R w z → Follow R P (begun_by_runner source_semantics f args (start w)) (begun_by_runner source_semantics f args (start z))
   begun_by_runner_same (val.Ref id) args (worlds xs ys zs modules heap printed traces) = object_begun_same (function_and heap args (slice_get heap id.at)) (val.Ref id) args (worlds xs ys zs modules heap printed traces)
   begun_by_runner_same val.None args ws = invoked val.None args _ _ ws
   begun_by_runner_same (val.Bool b) args ws = invoked (val.Bool b) args _ _ ws
   begun_by_runner_same (val.Int n) args ws = invoked (val.Int n) args _ _ ws
 
-  -- CALLS
-  pub calls_until : (w z : SourceWorld) → WorldsByChoice R w z → (f : Value) (args : List Value) (budget : ℕ) → ToldUntil R (source_call f args budget w) (source_call f args budget z)
-  calls_until w z ws f args budget = run_told budget _ _ (begun_by_runner_same f args ws)
-
-  loading_same : (path : List ℕ) (b code : Script) → ScriptsAt R path b code → {w z : SourceWorld} → WorldsByChoice R w z → Follow R (loading source_semantics path b w) (loading source_semantics path code z)
-  loading_same path b code h ws = loads.executed_same R source_semantics.body source_semantics.body (bodies_same R) path b code h no_call ws (λ o. Done o) (λ o. Done o) (λ o q n. until.done n)
-
-  loaded_first_until : {b code : Option Script} (path : List ℕ) → loads.CodeFound R path b code → (budget : ℕ) {w z : SourceWorld} → WorldsByChoice R w z → ToldUntil R (loaded_first source_semantics b path budget w) (loaded_first source_semantics code path budget z)
-  loaded_first_until path loads.none budget ws = law.told (refl, ws)
-  loaded_first_until path (loads.some {b = b} {code = code} h) budget ws = run_told budget _ _ (loading_same path b code h ws)
-
-  loaded_by_until : (load : Option Load) (path : List ℕ) (budget : ℕ) {w z : SourceWorld} → WorldsByChoice R w z → ToldUntil R (loaded_by source_semantics load path budget w) (loaded_by source_semantics load path budget z)
-  loaded_by_until (Some (Running id)) path budget ws = law.told (refl, ws)
-  loaded_by_until (Some (Loaded id)) path budget ws = law.told (refl, ws)
-  loaded_by_until (Some (Failed e trace)) path budget ws = law.told (refl, ws)
-  loaded_by_until None path budget (worlds xs ys zs modules heap printed traces) = loaded_first_until path (loads.code_found R path xs) budget (worlds xs ys zs modules heap printed traces)
-
-  modules_from : (path : List ℕ) (budget : ℕ) {w z : SourceWorld} → WorldsByChoice R w z → ToldUntil R (source_module path budget w) (source_module path budget z)
-  modules_from path budget (worlds xs ys zs modules heap printed traces) = loaded_by_until (load_at path modules) path budget (worlds xs ys zs modules heap printed traces)
-
-  -- LOADS OF MODULES
-  pub modules_until : (w z : SourceWorld) → WorldsByChoice R w z → (path : List ℕ) (budget : ℕ) → ToldUntil R (source_module path budget w) (source_module path budget z)
-  modules_until w z ws path budget = modules_from path budget ws
+  pub loading_same : (path : List ℕ) (b code : Script) → ScriptsAt R path b code → {w z : SourceWorld} → WorldsByChoice R w z → Follow R P (loading source_semantics path b w) (loading source_semantics path code z)
+  loading_same path b code h ws = loads.executed_same R P source_semantics.body source_semantics.body (bodies_same R P) path b code h no_call ws (λ o. Done o) (λ o. Done o) (λ o q n. until.done n)

@@ -1,0 +1,4 @@
+mod Apart
+mod Differ
+mod Comes
+mod Handled

@@ -1,0 +1,4 @@
+pub mod Calls
+pub mod Asserts
+pub mod Caught
+pub mod Endings
