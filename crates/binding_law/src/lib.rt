@@ -9,6 +9,12 @@
 //!
 //! - [`locals_are_what_is_bound`]: a name is local exactly where it is a parameter's or is bound in the body, and is not declared
 //!   global (`local`); no local name stands twice (`once`).
+//!
+//! # What meets the law, and what it refuses
+//!
+//! - Nothing is asked of a function: of one with the parameter `a`, whose body has `global c`, `b = a` and `c = b`, the names `a` and `b`
+//!   are local, in this order, and `c` is not.
+//! - Refused, each as an edit: that a name that is declared global is local, that what the body binds is lost.
 #![tactic(auto)]
 
 ghost use Rattle.std.specs.Prelude.{◌≡◌, ℕ, List, ◌&&◌, ◌||◌, not};

@@ -13,6 +13,13 @@
 //! - [`bodies_fall_into_items`]: a literal's body has a text exactly where it falls into items, each of which is spelled by the
 //!   characters that stand at its place; the text is what they stand for, one behind the other (`text`). The body is what they
 //!   spell, one behind the other (`spelling`), and it falls into items in one way only (`one_way`).
+//!
+//! # What meets the laws, and what they refuse
+//!
+//! - Nothing is asked: each law says when a word or a body has a value, and when not. `1_000` writes 1000, `1__0` writes no number; the body
+//!   `a\n` of a literal that isn't raw falls into two items, the second of which stands for a line end.
+//! - Refused, each as an edit: that a digit stands a place higher, that a number begins with no one, that octal digits are decimal, that a
+//!   body is what its items mean, that a text is what its items spell, that an item is as long as its meaning.
 #![tactic(auto)]
 
 ghost use Rattle.std.specs.Prelude.{◌≡◌, ◌↔◌, ℕ, Bool, List, Ok, Some};

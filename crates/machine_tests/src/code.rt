@@ -11,14 +11,14 @@ use file_source::source_of;
 use py_core::Core;
 use py_source::SourceFault;
 use py_tree::Module;
-use read_law::every_tree_has_a_meaning;
+use read_law::every_tree_can_be_lowered;
 use std::alloc::Global;
 
 /// The code of a tree.
 fn lowered(alloc: Global, explains: bool, module: &Module) -> MemoryResult<Core>
     ensures { IfOk result (λ core. LoweredModule (module_of core) core) }
 {
-    every_tree_has_a_meaning();
+    every_tree_can_be_lowered();
     let core = lower(alloc, explains, module)?;
     Ok(core)
 }

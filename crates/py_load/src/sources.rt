@@ -15,7 +15,7 @@ use py_machine::{World, add_source};
 use py_source::SourceFault;
 use py_text::OutOfMemory;
 use py_tree::Module;
-use read_law::every_tree_has_a_meaning;
+use read_law::every_tree_can_be_lowered;
 use seq::ByteText;
 use std::alloc::Global;
 
@@ -31,7 +31,7 @@ fn add_tree(
     requires absent { source_at (chars path.now) world.old.sources ≡ None }
     ensures { OnOk result (world.new ≡ with_sources (source_as explains path.now bytes.now (Given (module_tree «module».now)) ∷ []) world.old) }
 {
-    every_tree_has_a_meaning();
+    every_tree_can_be_lowered();
     let code = lower(alloc, explains, module)?;
     add_source(world, path, bytes, Ok(code))
 }

@@ -1,6 +1,6 @@
 // The world.
 
-ghost use Rattle.std.specs.Prelude.{◌≡◌, [], None, IfOk, OnOk, chars, length, slice_get, option_map};
+ghost use Rattle.std.specs.Prelude.{◌≡◌, ◌≤◌, [], None, IfOk, OnOk, chars, length, slice_get, option_map};
 ghost use Rattle.lower_law.specs.py_world.Names.{names_in};
 ghost use Rattle.lower_law.specs.py_world.Runs.{source_at};
 ghost use Rattle.lower_law.specs.py_world.World as seen;
@@ -207,7 +207,8 @@ ghost use Rattle.py_machine.specs.Worlds.{IsModule, told_name};
 
 /// Calls a value with arguments, within a budget of steps.
 pub fn call(world: &mut World, f: Value, args: &[Value], budget: u64) -> Result<Ended, OutOfMemory>
-    ensures { IfOk result (λ e. (e, world.new) ≡ source_call f args.now budget world.old) }
+    ensures told { IfOk result (λ e. (e, world.new) ≡ source_call f args.now budget world.old) }
+    ensures steps { IfOk result (λ e. e.steps ≤ budget) }
 {
     match calls::call(&mut world.machine, f, args, budget) {
         Ok(ended) => Ok(ended),
@@ -221,7 +222,8 @@ pub fn call(world: &mut World, f: Value, args: &[Value], budget: u64) -> Result<
 /// Begins a value with arguments, within a budget of steps: the body of a yield function, or of a method that is one, runs until it stops
 /// at a `yield` or is over; another value is called.
 pub fn begin(world: &mut World, f: Value, args: &[Value], budget: u64) -> Result<Begun, OutOfMemory>
-    ensures { IfOk result (λ b. (told_begun b, world.new) ≡ source_begin f args.now budget world.old) }
+    ensures told { IfOk result (λ b. (told_begun b, world.new) ≡ source_begin f args.now budget world.old) }
+    ensures steps { IfOk result (λ b. b.steps ≤ budget) }
 {
     match yields::begin(&mut world.machine, f, args, budget) {
         Ok(begun) => Ok(begun),
@@ -240,7 +242,8 @@ pub fn resume(
     sent: Sent,
     budget: u64,
 ) -> Result<Begun, OutOfMemory>
-    ensures { IfOk result (λ b. (told_begun b, world.new) ≡ source_resume frozen (sent_of sent) budget world.old) }
+    ensures told { IfOk result (λ b. (told_begun b, world.new) ≡ source_resume frozen (sent_of sent) budget world.old) }
+    ensures steps { IfOk result (λ b. b.steps ≤ budget) }
 {
     let number = frozen.spend();
     match yields::resume(&mut world.machine, number, sent, budget) {
@@ -276,7 +279,8 @@ fn forget_code(m: &mut Machine)
 
 /// Executes a module, at most once per world, within a budget of steps. A path without code gives `None` at no step.
 pub fn run_module(world: &mut World, path: &str, budget: u64) -> Result<Ended, OutOfMemory>
-    ensures { IfOk result (λ e. (e, world.new) ≡ source_module (chars path.now) budget world.old) }
+    ensures told { IfOk result (λ e. (e, world.new) ≡ source_module (chars path.now) budget world.old) }
+    ensures steps { IfOk result (λ e. e.steps ≤ budget) }
 {
     match load::load(&mut world.machine, path, budget) {
         Ok(ended) => Ok(ended),

@@ -1,1 +1,5 @@
 mod Forms
+mod Parts
+mod Standing
+mod Yielding
+mod Parameters

@@ -1,8 +1,12 @@
-use Rattle.std.proofs.Common.{map, ap, ◌∙◌}
+use Rattle.std.proofs.Common.{◌≤◌, map, ap, subst, ◌∙◌}
 use Rattle.machine_state.specs.Frames.{frozen_of, world_of}
+use Rattle.lower_law.specs.core_meaning.Meaning.{core}
+use Rattle.lower_law.specs.core_meaning.Requests.{core_kinds}
 use Rattle.lower_law.specs.source_meaning.Meaning.{source_resume}
+use Rattle.lower_law.specs.py_world.Resuming.{ToldBegun}
 use Rattle.py_machine.specs.Yields.{sent_of, told_begun}
 use Rattle.py_machine.proofs.Seen.{resume_told, resume_kept, bare_sound}
+use Rattle.py_machine.proofs.Steps.{resume_within}
 use Rattle.py_machine.proofs.world.resume.Goals as goal
 
 pub invariant_of-world : goal.invariant_of-world
@@ -13,7 +17,10 @@ pub invariant_of-world-in-Err : goal.invariant_of-world-in-Err
 invariant_of-world-in-Err c =
     let m = c.forget_code.new.m in bare_sound m.sources.items m.modules.items m.heap m.codes.items m.printed.items (map frozen_of m.frozen.items) m.traces c.forget_code.ensures.sources c.forget_code.ensures.codes (ap (map frozen_of) c.forget_code.ensures.frozen)
 
-pub returns-in-Ok : goal.returns-in-Ok
-returns-in-Ok c =
+pub returns-in-Ok-clause-told : goal.returns-in-Ok-clause-told
+returns-in-Ok-clause-told c =
     rw (← c.spend-number.ensures) (resume_told (world_of c.world.inside.machine) (world_of c.resume.new.m) c.spend-number.result (sent_of c.args.sent) c.args.budget (told_begun c.in-Ok.begun) c.world.invariant c.in-Ok.ensures
     ∙ ap (source_resume c.spend-number.result (sent_of c.args.sent) c.args.budget) c.world.view_is)
+
+pub returns-in-Ok-clause-steps : goal.returns-in-Ok-clause-steps
+returns-in-Ok-clause-steps c = subst (λ (t : ToldBegun core_kinds). t.0.steps ≤ c.args.budget) c.in-Ok.ensures (resume_within core c.spend-number.result (sent_of c.args.sent) c.args.budget (world_of c.world.inside.machine))

@@ -1,8 +1,12 @@
-use Rattle.std.proofs.Common.{map, ap, ◌∙◌}
+use Rattle.std.proofs.Common.{◌≤◌, map, ap, subst, ◌∙◌}
 use Rattle.std.specs.Str.{chars}
 use Rattle.machine_state.specs.Frames.{frozen_of, world_of}
+use Rattle.lower_law.specs.core_meaning.Meaning.{core}
+use Rattle.lower_law.specs.core_meaning.Requests.{core_kinds}
 use Rattle.lower_law.specs.source_meaning.Meaning.{source_module}
+use Rattle.lower_law.specs.py_world.Runs.{Told}
 use Rattle.py_machine.proofs.Seen.{load_told, load_kept, bare_sound}
+use Rattle.py_machine.proofs.Steps.{module_within}
 use Rattle.py_machine.proofs.world.run_module.Goals as goal
 
 pub invariant_of-world : goal.invariant_of-world
@@ -13,7 +17,10 @@ pub invariant_of-world-in-Err : goal.invariant_of-world-in-Err
 invariant_of-world-in-Err c =
     let m = c.forget_code.new.m in bare_sound m.sources.items m.modules.items m.heap m.codes.items m.printed.items (map frozen_of m.frozen.items) m.traces c.forget_code.ensures.sources c.forget_code.ensures.codes (ap (map frozen_of) c.forget_code.ensures.frozen)
 
-pub returns-in-Ok : goal.returns-in-Ok
-returns-in-Ok c =
+pub returns-in-Ok-clause-told : goal.returns-in-Ok-clause-told
+returns-in-Ok-clause-told c =
     load_told (world_of c.world.inside.machine) (world_of c.load.new.m) (chars c.args.path.now) c.args.budget c.in-Ok.ended c.world.invariant c.in-Ok.ensures
     ∙ ap (source_module (chars c.args.path.now) c.args.budget) c.world.view_is
+
+pub returns-in-Ok-clause-steps : goal.returns-in-Ok-clause-steps
+returns-in-Ok-clause-steps c = subst (λ (t : Told core_kinds). t.0.steps ≤ c.args.budget) c.in-Ok.ensures (module_within core (chars c.args.path.now) c.args.budget (world_of c.world.inside.machine))

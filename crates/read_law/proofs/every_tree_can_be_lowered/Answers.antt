@@ -1,5 +1,5 @@
 use Rattle.read_law.proofs.Forms.{block_is}
-use Rattle.read_law.proofs.every_tree_has_a_meaning.Goals as goal
+use Rattle.read_law.proofs.every_tree_can_be_lowered.Goals as goal
 
 pub returns : goal.returns
 returns c = block_is
