@@ -1,7 +1,7 @@
 pub mod Beside
-pub mod Phases
 pub mod Objects
+pub mod HookCalls
+pub mod Phases
 pub mod Items
 pub mod Ended
 pub mod Rows
-pub mod Frames

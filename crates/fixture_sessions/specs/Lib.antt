@@ -1,5 +1,3 @@
 pub use Rattle.report_rules.specs as report_rules
-pub mod BuiltIn
 pub mod FixtureSession
 pub mod FixtureRows
-pub mod FixtureFrames

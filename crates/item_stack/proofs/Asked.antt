@@ -1,9 +1,9 @@
--- The demands of an item whose row binds nothing.
-use Rattle.std.proofs.Common.{◌≡◌, ℕ, List, [], ◌∷◌, refl, sym, ap, ◌∙◌, Option, None}
-use Rattle.fixture_instances.specs.Items.{item_for_session, def_scope_node, requests_in}
+-- The demands of an item.
+use Rattle.std.proofs.Common.{◌≡◌, ℕ, List, [], ◌∷◌, refl, sym, ap, ◌∙◌, Option}
+use Rattle.fixture_instances.specs.Items.{item_for_session}
+use Rattle.fixture_instances.specs.declared.items.ItemRef.{ItemRef}
 use Rattle.fixture_table.specs.Tables.{TableValue}
 use Rattle.item_stack.proofs.Same.{holding, state_same}
-use Rattle.item_stack.specs.Plain.{plain_item}
 use Rattle.item_stack.specs.States.{item_state}
 use Rattle.item_stack.specs.declared.holding.ItemStack.{ItemStack}
 use Rattle.session_rules.specs.Demand.{Answer, Given, Refused, Reply, demand}
@@ -11,27 +11,8 @@ use Rattle.session_rules.specs.Session.{demand_closure, demand_next, with_grant}
 use Rattle.session_rules.specs.Teardown.{SessionState, Step, session_step}
 use Rattle.session_rules.specs.World.{Item, Language, Rules}
 use Rattle.setup_stack.proofs.Passing.{demand_alike, demand_over}
-use Rattle.setup_stack.specs.Asking.{IsReady}
 use Rattle.setup_stack.specs.Passing.{AreAsked, over, over_step}
 use Rattle.setup_stack.specs.Views.{stack_state}
-
--- the instance of its class is not looked at
-pub plain_asked : {V : Type 0} (table : TableValue) (node : ℕ) (own : Option V) → AreAsked (item_for_session table (plain_item {V = V} node None)) (item_for_session table (plain_item node own))
-unfolding def_scope_node requests_in
-plain_asked table node own = record { node = refl; requests = λ d. refl; parameter = λ d. refl; place = λ d. refl }
-
-pub plain_ready : {L : Language} (rules : Rules L) (table : TableValue) (node : ℕ) (own : Option L.Value) (many depth d : ℕ) → IsReady rules (item_for_session table (plain_item {V = L.Value} node None)) many depth d → IsReady rules (item_for_session table (plain_item node own)) many depth d
-unfolding def_scope_node requests_in
-plain_ready rules table node own many depth d r = r
-
-pub asked_through : (one other third : Item) → AreAsked one other → AreAsked other third → AreAsked one third
-asked_through one other third a b =
-    record {
-      node = a.node ∙ b.node;
-      requests = λ d. a.requests d ∙ b.requests d;
-      parameter = λ d. a.parameter d ∙ b.parameter d;
-      place = λ d. a.place d ∙ b.place d;
-    }
 
 module _ {L : Language} (rules : Rules L) where
   -- demands of a closure pass over what they don't look at
@@ -39,7 +20,7 @@ module _ {L : Language} (rules : Rules L) where
   next_over h item ds law (Given i) t = law (with_grant i t)
   next_over h item ds law (Refused es) t = refl
 
-  closure_over : (h : SessionState L) (item : Item) (ds : List ℕ) (t : SessionState L) → demand_closure rules item ds (over h t) ≡ over_step h (demand_closure rules item ds t)
+  pub closure_over : (h : SessionState L) (item : Item) (ds : List ℕ) (t : SessionState L) → demand_closure rules item ds (over h t) ≡ over_step h (demand_closure rules item ds t)
   closure_over h item [] t = refl
   closure_over h item (d ∷ ds) t =
       ap (λ (r : Reply L). demand_next (demand_closure rules item ds) r.answer r.state) (demand_over rules h item rules.depth d t)
@@ -56,16 +37,16 @@ module _ {L : Language} (rules : Rules L) where
       ∙ next_alike one other ds (closure_alike one other same ds) (demand rules other rules.depth d t).answer (demand rules other rules.depth d t).state
 
   -- what the demands of a closure leave, in the state with the request
-  pub closure_left : (item : Item) (table : TableValue) (node : ℕ) (ds : List ℕ) (w w2 : L.World) (s s2 : ItemStack L.Value L.Thrown L.Rest) (raised : List L.Thrown)
-      → AreAsked item (item_for_session table (plain_item {V = L.Value} node None))
-      → s2.request ≡ s.request
-      → session_step raised (stack_state rules w2 s2.stack) ≡ demand_closure rules (item_for_session table (plain_item node s.stack.own)) ds (stack_state rules w s.stack)
+  pub closure_left : (item : Item) (table : TableValue) (at : ItemRef L.Value) (ds : List ℕ) (w w2 : L.World) (s s2 : ItemStack L.Value L.Thrown L.Rest) (raised : List L.Thrown)
+      → AreAsked item (item_for_session table at)
+      → at.own ≡ s.stack.own → s2.request ≡ s.request
+      → session_step raised (stack_state rules w2 s2.stack) ≡ demand_closure rules (item_for_session table at) ds (stack_state rules w (record s.stack { own = at.own }))
       → session_step raised (item_state rules w2 s2) ≡ demand_closure rules item ds (item_state rules w s)
-  closure_left item table node ds w w2 s s2 raised a same e =
-      let other = item_for_session table (plain_item node s.stack.own) in
+  closure_left item table at ds w w2 s s2 raised a own same e =
+      let other = item_for_session table at in
       ap (λ (u : SessionState L). session_step raised u) (state_same rules w2 s2)
       ∙ (ap (λ (r : Option L.Value). over_step (holding w r) (session_step raised (stack_state rules w2 s2.stack))) same
-      ∙ (ap (λ (x : Step L). over_step (holding w s.request) x) e
+      ∙ (ap (λ (x : Step L). over_step (holding w s.request) x) (e ∙ ap (λ (o : Option L.Value). demand_closure rules other ds (stack_state rules w (record s.stack { own = o }))) own)
       ∙ (sym (closure_over (holding w s.request) other ds (stack_state rules w s.stack))
       ∙ (ap (λ (u : SessionState L). demand_closure rules other ds u) (sym (state_same rules w s))
-      ∙ sym (closure_alike item other (asked_through item (item_for_session table (plain_item {V = L.Value} node None)) other a (plain_asked table node s.stack.own)) ds (item_state rules w s))))))
+      ∙ sym (closure_alike item other a ds (item_state rules w s))))))

@@ -1,6 +1,6 @@
 // The demands of an item's set-up.
 
-ghost use Rattle.std.specs.Prelude.{◌≡◌, ◌<◌, None, Option, IfOk, length};
+ghost use Rattle.std.specs.Prelude.{◌≡◌, ◌<◌, IfOk, length};
 ghost use Rattle.fixture_instances.specs.Items.{item_for_session};
 ghost use Rattle.fixture_table.specs.Tree.{IsTree};
 ghost use Rattle.item_stack.specs.Plain.{plain_item};
@@ -31,26 +31,26 @@ pub fn plain_item<V>(alloc: Global, node: u32, own: Option<V>) -> ItemRef<V>
     }
 }
 
-/// Demands the definitions of a closure in order, up to the first fault, whose exceptions are given.
+/// Demands the definitions of a closure in order for an item, up to the first fault, whose exceptions are given.
 pub fn demand_all<W: Executor>(
     alloc: Global,
     held: &mut ItemStack<W::Value, W::Thrown, W::Rest>,
     world: &mut W,
     setting: &W::Setting,
     table: &Table,
-    node: u32,
+    at: &ItemRef<W::Value>,
     defs: &[DefId],
 ) -> Result<Seq<W::Thrown>, OutOfMemory>
-    requires known { (own : Option W.Value) → W.knows setting.now table.now (plain_item node own) }
+    requires known { W.knows setting.now table.now at.now }
+    requires own { at.now.own ≡ held.old.stack.own }
     requires scopes { HasScopes (W.rules setting.now) table.now }
     requires tree { IsTree table.now.nodes }
-    requires node { node < length table.now.nodes }
-    requires ready { AreReady (W.rules setting.now) (item_for_session table.now (plain_item {V = W.Value} node None)) (length table.now.defs) (W.rules setting.now).depth defs.now }
-    ensures { IfOk result (λ raised. (item : Item) → AreAsked item (item_for_session table.now (plain_item {V = W.Value} node None)) → session_step raised (item_state (W.rules setting.now) world.new held.new) ≡ demand_closure (W.rules setting.now) item defs.now (item_state (W.rules setting.now) world.old held.old)) }
+    requires node { at.now.node < length table.now.nodes }
+    requires ready { AreReady (W.rules setting.now) (item_for_session table.now at.now) (length table.now.defs) (W.rules setting.now).depth defs.now }
+    ensures { IfOk result (λ raised. (item : Item) → AreAsked item (item_for_session table.now at.now) → session_step raised (item_state (W.rules setting.now) world.new held.new) ≡ demand_closure (W.rules setting.now) item defs.now (item_state (W.rules setting.now) world.old held.old)) }
 {
-    let at = plain_item(alloc, node, held.stack.own);
     let raised = held
         .stack
-        .demand_all(alloc, world, setting, table, &at, defs)?;
+        .demand_all(alloc, world, setting, table, at, defs)?;
     Ok(raised)
 }

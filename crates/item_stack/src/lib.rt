@@ -2,15 +2,16 @@
 //!
 //! # What it is for
 //!
-//! A session with the built-in hooks alone is a loop over its items. Here is what the loop does with fixtures, over any `Executor` and for
-//! items whose rows bind nothing: [`ItemStack`] has the fixtures that are set up (`setup_stack`) and the `request` of the
-//! test at hand. What an item's test does is not known here.
+//! A session is a loop over its items. Here is what the loop does with fixtures, over any `Executor`:
+//! [`ItemStack`] has the fixtures that are set up (`setup_stack`) and the `request` of the test at hand. What an item's test does is not
+//! known here.
 //!
 //! # What is proved
 //!
 //! With a world the stack makes a session's state (`item_state`).
 //!
-//! - [`plain_item`]: an item whose row binds nothing (`plain_item`). [`demand_all`]: demands the definitions of a closure in order, up to the first fault (`demand_closure`).
+//! - [`demand_all`]: demands the definitions of a closure in order for an item, with what its row binds and the parameters that it gives,
+//!   up to the first fault (`demand_closure`). [`plain_item`]: an item whose row binds nothing (`plain_item`), where only its node matters.
 //! - [`values_given`]: the values of a test's arguments (`values_given`).
 //! - [`leave`]: calls the finalizers of the test's own `request`, and takes down what isn't for the next item (`left_for`); [`all_down`]
 //!   takes down all that lives, where no item is at hand (`down_all`).

@@ -19,9 +19,10 @@ use Rattle.run_items.specs.report_rules.Collected.{Collection, ConftestFault, Re
 use Rattle.run_items.specs.report_rules.Headline.{Headline, IsSound}
 use Rattle.run_items.specs.report_rules.Report as rules
 use Rattle.run_items.specs.runtest_rules.Language.{python}
+use Rattle.run_items.specs.source_meaning.py_world.Resuming.{is_out}
 use Rattle.run_items.specs.test_suite.declared.suite.Suite.{Suite}
 use Rattle.pytest_core.specs.Profile.{profile, refused_text}
-use Rattle.pytest_core.specs.Report.{IsTreeReport}
+use Rattle.pytest_core.specs.Report.{IsTreeReport, OfKept}
 use Rattle.pytest_core.proofs.Kept.{kept_files}
 use Rattle.pytest_core.proofs.NoWorkers.{only_none}
 use Rattle.pytest_core.proofs.Said.{built_by}
@@ -79,6 +80,6 @@ some_answer words tree =
     (report.0, (kept.0, kept.1, report.1))
 
 -- WHAT THE REPORT TELLS
-pub tells : IsSound HoldsSource profile → (words : List (List ℕ)) (tree : List File) (answer : PrintedAnswer) → IsTreeReport words tree answer → Headline HoldsSource profile [] words answer
+pub tells : IsSound HoldsSource is_out profile → (words : List (List ℕ)) (tree : List File) (answer : PrintedAnswer) → IsTreeReport words tree answer → OfKept (Headline HoldsSource is_out profile [] words) tree answer
 tells sound words tree answer (files, is, said) =
-    headline HoldsSource profile sound words [] files answer (subst (λ t. rules.IsReportBy HoldsSource profile t words files answer) (none_shared said.0 files answer words said.1) said.1)
+    (files, is, headline HoldsSource is_out profile sound words [] files answer (subst (λ t. rules.IsReportBy HoldsSource profile t words files answer) (none_shared said.0 files answer words said.1) said.1))

@@ -4,12 +4,16 @@ ghost use Rattle.std.specs.Prelude.{◌≡◌, List, ℕ, []};
 ghost use Rattle.edge_io.specs.Files.{File};
 ghost use Rattle.collect_tree.specs.file_source.Sources.{HoldsSource};
 ghost use Rattle.pytest_core.specs.Profile.{profile};
-ghost use Rattle.pytest_core.specs.Report.{IsTreeReport};
+ghost use Rattle.pytest_core.specs.Report.{IsTreeReport, OfKept};
 ghost use Rattle.run_items.specs.report_rules.Answer.{PrintedAnswer};
 ghost use Rattle.run_items.specs.report_rules.Headline.{Headline};
+ghost use Rattle.run_items.specs.source_meaning.py_world.Resuming.{is_out};
 
 use collect_tree::what_is_collected_fits;
 use edge_io::one_list_of_kept_files;
+use session_frames::{
+    collection_leaves_no_frame_out, hooks_have_the_built_ins, sources_keep_their_frames,
+};
 
 /// A law: the words and the tree's files have one report.
 pub fn one_report()
@@ -23,11 +27,16 @@ pub fn has_report()
     ensures { (words : List (List ℕ)) (tree : List File) → (a : PrintedAnswer) × IsTreeReport words tree a }
 {}
 
-/// A law, the headline: the report of words over a tree is a text that the words ask for, a refusal, that of a conftest that failed, or
-/// the report of what was collected. There, the selected items are reported, each once, in the stated order; the journal of each session
-/// is lawful; and where the rules keep a count of the frozen frames, none is left out. No groups are shared among workers.
+/// A law, the headline: the report of words over a tree, by its kept files, is a text that the words ask for, a refusal, that of a
+/// conftest that failed, or the report of what collection selects of these files. There, the selected items are distinct and reported
+/// each once, in the stated order; in each hook call around one the built-in is called once, unless another raised before it; the journal
+/// of each session is lawful; behind each session no body stands at its `yield`, and each that stood there went on once. No groups are
+/// shared among workers.
 pub fn what_a_report_tells()
-    ensures { (words : List (List ℕ)) (tree : List File) (answer : PrintedAnswer) → IsTreeReport words tree answer → Headline HoldsSource profile [] words answer }
+    ensures { (words : List (List ℕ)) (tree : List File) (answer : PrintedAnswer) → IsTreeReport words tree answer → OfKept (Headline HoldsSource is_out profile [] words) tree answer }
 {
     what_is_collected_fits();
+    sources_keep_their_frames();
+    collection_leaves_no_frame_out();
+    hooks_have_the_built_ins();
 }

@@ -13,11 +13,15 @@
 //!   `collect_tree`, what fixtures and tests do by the rules of `runtest_rules`, and the names of fixtures), over the tree's kept files in
 //!   the order of their paths.
 //! - [`one_report`], [`has_report`], laws: words and files have one report and no other. So the clause above names it.
-//! - [`what_a_report_tells`], a law, is the headline. A report is a text that the words ask for, a refusal, that of a conftest that failed,
-//!   or the report of what was collected. There, the selected items are reported, each once, in the stated order, all or up to where
-//!   `--maxfail` was reached; with `--collect-only` all, and where a file could not be collected none; each session's journal is lawful
-//!   (`Lawful`: what is set up goes down once, those that rest on it first); and where the rules keep a count of the frozen frames
-//!   (`Tidy`), none is left out.
+//! - [`what_a_report_tells`], a law, is the headline, by the kept files of the tree. A report is a text that the words ask for, a refusal
+//!   (of words that are read wrong, of what isn't built, of files that pass a limit, or collection's), that of a conftest that failed in
+//!   the collection, or the report of what collection selects of the files. There, the selected items are distinct, and reported each
+//!   once, in the stated order, all or up to the one with which `--maxfail` was reached; with `--collect-only` all, and where a file could
+//!   not be collected none. In each hook call around an item the built-in implementation is called once, or another raised before it: so
+//!   the test of an item whose set-up raised nothing runs once. Each session's journal is lawful (`Lawful`: what is set up goes down once, those
+//!   that rest on it first). A fixture that yields adds a frozen frame, one that goes on or is given up is taken, and nothing else changes
+//!   which are out (`KeepsFrames`); behind each session none is out; and no frame goes on that isn't out (`go_on_once`), so that each that
+//!   was suspended goes on once. There is no premise.
 //! - `tree`, `read`, `untouched`, `sink`: `TreeFault` comes only where the tree's count of faults rose in this call and the words ask for
 //!   a run (`AskForRun`: for no help or version, and they are not refused), and nothing was written then, whatever the tree is;
 //!   `SinkFault` comes only where the sink's count rose.

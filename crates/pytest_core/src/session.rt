@@ -11,8 +11,7 @@ ghost use Rattle.selection.specs.Unbuilt.{asks_for_unbuilt};
 use crate::gathered::ReportList;
 use crate::one_group::OneGroup;
 use cli_words::Options;
-use collect_tree::{FoundSuite, RunSetting, RunWorld};
-use item_stack::ItemStack;
+use collect_tree::{FoundSuite, RunSetting};
 use report_parts::ItemReport;
 use report_text::OutOfMemory;
 use run_items::{Plan, Stand, World, run};
@@ -27,44 +26,9 @@ pub struct RunAnswer {
     pub stopped: bool,
 }
 
-ghost use Rattle.item_stack.specs.States.{IsNew};
-ghost use Rattle.run_items.specs.Stands.{IsPlan, IsPlannedItem};
+ghost use Rattle.run_items.specs.Stands.{IsNewStand, IsPlan, IsPlannedItem};
 ghost use Rattle.runtest_loop.specs.Fed.{AreKnown, numbers_at, numbers_in_range};
 ghost use Rattle.item_stack.specs.fixture_instances.Resting.{AreSpent};
-
-/// A world in which no fixture is set up.
-fn stand_in(alloc: Global, world: World) -> Result<Stand, OutOfMemory>
-    ensures empty { IfOk result (λ stand. IsNew stand.stack) }
-    ensures world { IfOk result (λ stand. stand.world ≡ world) }
-{
-    match ItemStack::new(alloc) {
-        Ok(stack) => Ok(Stand {
-            world: RunWorld { alloc, world },
-            stack,
-        }),
-        Err(fault) => {
-            drop(world);
-            Err(fault)
-        }
-    }
-}
-
-/// Ends a stand in which no fixture stands at its `yield`.
-fn close(stand: Stand)
-    requires spent { AreSpent stand.stack.stack.live.live }
-{
-    let Stand { world, stack } = stand;
-    let ItemStack {
-        stack,
-        request: _request,
-    } = stack;
-    stack.close();
-    let RunWorld {
-        alloc: _alloc,
-        world,
-    } = world;
-    drop(world);
-}
 
 /// What the run of found items depends on: their suite, its table and the limit of steps.
 fn plan_of(options: &Options, found: FoundSuite) -> Plan
@@ -101,7 +65,7 @@ fn run_in(
     groups: &[Seq<u32>],
 ) -> Result<RunAnswer, OutOfMemory>
     requires plan { IsPlan plan.now }
-    requires empty { IsNew stand.old.stack }
+    requires empty { IsNewStand stand.old }
     requires known { AreKnown (IsPlannedItem plan.now) plan.now.run.suite.items }
     requires in_range { numbers_in_range (length plan.now.run.suite.items) groups.now }
     requires one { IsOneGroup groups.now }
@@ -136,7 +100,7 @@ fn run_whole(
     groups: &[Seq<u32>],
 ) -> Result<RunAnswer, OutOfMemory>
     requires plan { IsPlan plan }
-    requires empty { IsNew stand.stack }
+    requires empty { IsNewStand stand }
     requires known { AreKnown (IsPlannedItem plan) plan.run.suite.items }
     requires in_range { numbers_in_range (length plan.run.suite.items) groups.now }
     requires one { IsOneGroup groups.now }
@@ -145,7 +109,7 @@ fn run_whole(
 {
     let mut stand = stand;
     let answer = run_in(alloc, &mut stand, &plan, options, groups);
-    close(stand);
+    stand.close();
     drop(plan);
     answer
 }
@@ -164,7 +128,7 @@ fn run_group(
     requires few { length (numbers_at groups.now 0) ≤ most_items }
     ensures { IfOk result (λ answer. RunsFirst (plan_by options.now found) options.now groups.now world answer) }
 {
-    match stand_in(alloc, world) {
+    match Stand::new(alloc, world) {
         Ok(stand) => run_whole(alloc, stand, plan_of(options, found), options, groups),
         Err(fault) => {
             drop(found);

@@ -10,18 +10,18 @@ use Rattle.edge_io.specs.Files.{File, TreeLimit, tree_limit}
 use Rattle.report_parts.specs.Outcomes.{not_empty}
 use Rattle.report_rules.proofs.Alone.{as_one_thread}
 use Rattle.report_rules.proofs.Placed.{are_placed}
-use Rattle.report_rules.proofs.Journals.{all_lawful, all_tidy}
+use Rattle.report_rules.proofs.Journals.{all_lawful, all_none, same_sessions}
 use Rattle.report_rules.proofs.Workers.{are_reported}
 use Rattle.report_rules.specs.Alone.{AreAsOneThread}
 use Rattle.report_rules.specs.Answer.{PrintedAnswer, info_answer, limit_text, refusal}
 use Rattle.report_rules.specs.Collected.{Collected, Collection, ConftestFault, Profile, Refused, Whole, report_language}
-use Rattle.report_rules.specs.Fits.{IsFit}
 use Rattle.report_rules.specs.Groups.{groups}
-use Rattle.report_rules.specs.Headline.{Headline, Informs, IsSound, Raises, Refuses, Reports}
+use Rattle.report_rules.specs.Headline.{AreAccepted, AreReadAs, Declines, Exceeds, Headline, Informs, IsSound, Misreads, Raises, Refuses, Reports}
 use Rattle.report_rules.specs.Report.{AreSources, IsReportBy, IsTaken, SaysOfCollection, SaysOfFiles, SaysOfOptions, SaysOfWords, single_thread, files_for, rows_reported, runs, workers_of}
 use Rattle.report_rules.specs.Placed.{ArePlaced}
 use Rattle.report_rules.specs.Rows.{ReportRow, report_row, session_rows}
 use Rattle.report_rules.specs.Shares.{by_group, tasks_from, worked}
+use Rattle.session_rules.proofs.BuiltIns.{one_turn}
 use Rattle.session_types.proofs.Lists.{eqb_is}
 use Rattle.session_rules.specs.World.{Language, Rules}
 use Rattle.share_files.specs.Deal.{Share}
@@ -54,46 +54,55 @@ module _ {L : Language} {T : Type 0} (rules : Rules L) (options : Options) (c : 
   pub workers_placed : IsTaken options c taken → ArePlaced c taken (rows_reported rules options c taken)
   workers_placed t = chosen_rows (λ (rs : List (ReportRow L)). ArePlaced c taken rs) (λ share. are_placed rules c taken) t
 
-module _ {World Value Thrown Rest Source Table : Type 0} (holds : List ℕ → Source → Type 0) (profile : Profile (report_language World Value Thrown Rest) Source Table) (sound : IsSound holds profile) where
-  of_whole : (options : Options) (words taken : List (List ℕ)) (answer : PrintedAnswer) (x : Collection (report_language World Value Thrown Rest) Table) → options_of words ≡ Ok options → ((c : Collected (report_language World Value Thrown Rest) Table) → x ≡ Whole c → IsFit (profile.rules options c.table) c.selected) → SaysOfCollection holds profile options taken x answer → Headline holds profile taken words answer
-  of_whole options words taken answer (Refused text) e fit s = Refuses text s.1
-  of_whole options words taken answer (ConftestFault path told) e fit s = Raises path told s.1
-  of_whole options words taken answer (Whole c) e fit s =
+module _ {World Value Thrown Rest Source Table : Type 0} (holds : List ℕ → Source → Type 0) (is_out : Rest → World → Bool) (profile : Profile (report_language World Value Thrown Rest) Source Table) (sound : IsSound holds is_out profile) where
+  abbrev Told : List (List ℕ) → List (List ℕ) → List File → PrintedAnswer → Type 0
+  Told taken words files answer = Headline holds is_out profile taken words files answer
+
+  of_whole : (options : Options) (words taken : List (List ℕ)) (files : List File) (answer : PrintedAnswer) (sources : List (List ℕ × Source)) (x : Collection (report_language World Value Thrown Rest) Table) → AreReadAs holds is_out profile words files options sources → profile.collect options sources ≡ x
+      → SaysOfCollection holds profile options taken x answer → Told taken words files answer
+  of_whole options words taken files answer sources (Refused text) read e s = Refuses options sources text read e s.1
+  of_whole options words taken files answer sources (ConftestFault path told) read e s = Raises options sources path told read e s.1
+  of_whole options words taken files answer sources (Whole c) read e s =
       let rules = profile.rules options c.table in
-      let f = fit c refl in
-      Reports options c e (record {
+      let f = sound.fits options sources c e in
+      let keep = sound.frames options c.table in
+      Reports options sources c read e (record {
         is = s.1;
         shared = s.0;
+        distinct = f.distinct;
         once = are_reported rules options c taken s.0;
+        called = λ chosen m phase next t. one_turn rules phase chosen.item next (sound.built_ins options sources c e chosen m phase) t;
         lawful = all_lawful rules options c taken f s.0;
-        tidy = λ out t. all_tidy rules out t options c taken f s.0;
+        frames = keep;
+        none_out = all_none rules is_out keep options c taken (sound.none_out options sources c e) f s.0;
+        go_on_once = λ others alike. same_sessions rules is_out keep options c taken others alike;
         placed = λ some. workers_placed rules options c taken some s.0;
         alone = λ some. workers_alone rules options c taken some s.0;
       })
 
-  of_limit : (options : Options) (words taken : List (List ℕ)) (files : List File) (answer : PrintedAnswer) (limit : Option TreeLimit) → options_of words ≡ Ok options
-      → MatchOption limit ((sources : List (List ℕ × Source)) × AreSources holds profile files sources × SaysOfCollection holds profile options taken (profile.collect options sources) answer) (λ l. (taken ≡ []) × (answer ≡ refusal (limit_text l)))
-      → Headline holds profile taken words answer
-  of_limit options words taken files answer (Some limit) e s = Refuses (limit_text limit) s.1
-  of_limit options words taken files answer None e s = of_whole options words taken answer (profile.collect options s.0) e (λ c q. sound options s.0 c q) s.2
+  of_limit : (options : Options) (words taken : List (List ℕ)) (files : List File) (answer : PrintedAnswer) (limit : Option TreeLimit) → AreAccepted holds is_out profile words options → tree_limit (files_for holds profile options.generated files) ≡ limit
+      → MatchOption limit ((sources : List (List ℕ × Source)) × AreSources holds profile (files_for holds profile options.generated files) sources × SaysOfCollection holds profile options taken (profile.collect options sources) answer) (λ l. (taken ≡ []) × (answer ≡ refusal (limit_text l)))
+      → Told taken words files answer
+  of_limit options words taken files answer (Some limit) a e s = Exceeds options limit a e s.1
+  of_limit options words taken files answer None a e s = of_whole options words taken files answer s.0 (profile.collect options s.0) (record { asked = a; within = e; are = s.1 }) refl s.2
 
-  of_wrong : (options : Options) (words taken : List (List ℕ)) (files : List File) (answer : PrintedAnswer) (wrong : Option (List ℕ)) → options_of words ≡ Ok options
-      → MatchOption wrong (SaysOfFiles holds profile options taken files answer) (λ text. (taken ≡ []) × (answer ≡ refusal text))
-      → Headline holds profile taken words answer
-  of_wrong options words taken files answer (Some text) e s = Refuses text s.1
-  of_wrong options words taken files answer None e s = of_limit options words taken files answer (tree_limit files) e s
+  of_wrong : (options : Options) (words taken : List (List ℕ)) (files : List File) (answer : PrintedAnswer) (wrong : Option (List ℕ)) → info_of words ≡ None → options_of words ≡ Ok options → profile.refused options ≡ wrong
+      → MatchOption wrong (SaysOfFiles holds profile options taken (files_for holds profile options.generated files) answer) (λ text. (taken ≡ []) × (answer ≡ refusal text))
+      → Told taken words files answer
+  of_wrong options words taken files answer (Some text) i e w s = Declines options text i e w s.1
+  of_wrong options words taken files answer None i e w s = of_limit options words taken files answer (tree_limit (files_for holds profile options.generated files)) (record { no_info = i; read = e; accepted = w }) refl s
 
-  of_words : (words taken : List (List ℕ)) (files : List File) (answer : PrintedAnswer) (r : Result Options UsageFault) → options_of words ≡ r
+  of_words : (words taken : List (List ℕ)) (files : List File) (answer : PrintedAnswer) (r : Result Options UsageFault) → info_of words ≡ None → options_of words ≡ r
       → MatchResult r (λ options. SaysOfOptions holds profile options taken files answer) (λ fault. (taken ≡ []) × (answer ≡ refusal (usage_text fault)))
-      → Headline holds profile taken words answer
-  of_words words taken files answer (Ok options) e s = of_wrong options words taken (files_for holds profile options.generated files) answer (profile.refused options) e s
-  of_words words taken files answer (Err fault) e s = Refuses (usage_text fault) s.1
+      → Told taken words files answer
+  of_words words taken files answer (Ok options) i e s = of_wrong options words taken files answer (profile.refused options) i e refl s
+  of_words words taken files answer (Err fault) i e s = Misreads fault i e s.1
 
   of_info : (words taken : List (List ℕ)) (files : List File) (answer : PrintedAnswer) (asked : Option Info) → info_of words ≡ asked
       → MatchOption asked (SaysOfWords holds profile taken words files answer) (λ info. (taken ≡ []) × (answer ≡ info_answer info))
-      → Headline holds profile taken words answer
+      → Told taken words files answer
   of_info words taken files answer (Some info) e s = Informs info e s.1
-  of_info words taken files answer None e s = of_words words taken files answer (options_of words) refl s
+  of_info words taken files answer None e s = of_words words taken files answer (options_of words) e refl s
 
-  pub headline : (words taken : List (List ℕ)) (files : List File) (answer : PrintedAnswer) → IsReportBy holds profile taken words files answer → Headline holds profile taken words answer
+  pub headline : (words taken : List (List ℕ)) (files : List File) (answer : PrintedAnswer) → IsReportBy holds profile taken words files answer → Told taken words files answer
   headline words taken files answer s = of_info words taken files answer (info_of words) refl s

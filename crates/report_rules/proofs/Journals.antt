@@ -7,16 +7,17 @@ use Rattle.report_rules.proofs.Lists.{map_append, map_map}
 use Rattle.report_rules.specs.Collected.{SelectedItem, Collected}
 use Rattle.report_rules.specs.Fits.{IsFit, chosen_item}
 use Rattle.report_rules.specs.Groups.{files_in, group_at, groups, is_in, items_of, other_than}
-use Rattle.report_rules.specs.Report.{IsTaken, single_thread, maxfail_of, runs, sessions, workers_of}
+use Rattle.report_rules.specs.Report.{IsTaken, single_thread, maxfail_of, runs, sessions, shares, workers_of}
 use Rattle.report_rules.specs.Rows.{Task, task_item, ran, task}
 use Rattle.report_rules.specs.Shares.{group_place, tasks_from, tasks_of}
-use Rattle.session_rules.proofs.Frames.{none_out}
+use Rattle.session_rules.proofs.Frames.{same_behind}
 use Rattle.session_types.proofs.Lists.{In-append, In-filter, eqb_is}
 use Rattle.session_rules.proofs.Sessions.{lawful_session}
+use Rattle.session_rules.proofs.Twins.{same_session}
 use Rattle.session_types.specs.Members.{IsMember}
 use Rattle.session_rules.specs.Events.{Lawful}
 use Rattle.session_rules.specs.Fits.{Distinct, HasFixtureClosure}
-use Rattle.session_rules.specs.Frames.{Tidy}
+use Rattle.session_rules.specs.Frames.{AreAlikeWhereOut, KeepsFrames, Resumptions, SameFrames, with_resumptions}
 use Rattle.session_rules.specs.Teardown.{SessionState}
 use Rattle.session_rules.specs.World.{Item, Language, Rules}
 use Rattle.share_files.specs.Deal.{Every, RisesFrom, Share}
@@ -121,7 +122,7 @@ chosen_group cs low (g ∷ gs) r c m =
       | inr b ↦ (let p = chosen_group cs (g + 1) gs r.1 c b in let le = p.1 in let le0 = r.0 in (p.0, omega (arith, le, le0), p.2, p.3))
     ]
 
-by_distinct : (cs : List SelectedItem) (low : ℕ) (l : List ℕ) → RisesFrom low l → Distinct (items cs) → Distinct (items (chosen_by cs l))
+pub by_distinct : (cs : List SelectedItem) (low : ℕ) (l : List ℕ) → RisesFrom low l → Distinct (items cs) → Distinct (items (chosen_by cs l))
 by_distinct cs low [] r s = tt
 by_distinct cs low (g ∷ gs) r s =
     append_distinct (group_at (groups cs) g) (chosen_by cs gs) (group_distinct cs (files_in cs) g s) (by_distinct cs (g + 1) gs r.1 s)
@@ -180,5 +181,26 @@ module _ {L : Language} {T : Type 0} (rules : Rules L) (options : Options) (c : 
 pub all_lawful : {L : Language} {T : Type 0} (rules : Rules L) (options : Options) (c : Collected L T) (taken : List (List ℕ)) → IsFit rules c.selected → IsTaken options c taken → Every (λ (s : SessionState L). Lawful s.events) (sessions rules options c taken)
 all_lawful {L} rules options c taken fit t = sessions_law rules options c (λ (s : SessionState L). Lawful s.events) (λ tasks m. lawful_session rules (maxfail_of options c) (map task_item tasks) c.world m.fits m.distinct) taken fit t
 
-pub all_tidy : {L : Language} {T : Type 0} (rules : Rules L) (out : L.World → ℕ) → Tidy rules out → (options : Options) (c : Collected L T) (taken : List (List ℕ)) → IsFit rules c.selected → IsTaken options c taken → Every (λ (s : SessionState L). out s.world ≡ out c.world) (sessions rules options c taken)
-all_tidy {L} rules out tidy options c taken fit t = sessions_law rules options c (λ (s : SessionState L). out s.world ≡ out c.world) (λ tasks m. none_out rules out tidy (maxfail_of options c) (map task_item tasks) c.world m.fits) taken fit t
+pub all_same : {L : Language} {T : Type 0} (rules : Rules L) (is_out : L.Rest → L.World → Bool) → KeepsFrames rules is_out → (options : Options) (c : Collected L T) (taken : List (List ℕ)) → IsFit rules c.selected → IsTaken options c taken → Every (λ (s : SessionState L). SameFrames is_out c.world s.world) (sessions rules options c taken)
+all_same {L} rules is_out keep options c taken fit t = sessions_law rules options c (λ (s : SessionState L). SameFrames is_out c.world s.world) (λ tasks m. same_behind rules is_out keep (maxfail_of options c) (map task_item tasks) c.world m.fits) taken fit t
+
+-- where none was out, none is
+every_none : {L : Language} (is_out : L.Rest → L.World → Bool) (w : L.World) → ((r : L.Rest) → is_out r w ≡ false) → (ss : List (SessionState L)) → Every (λ (s : SessionState L). SameFrames is_out w s.world) ss → Every (λ (s : SessionState L). (r : L.Rest) → is_out r s.world ≡ false) ss
+every_none is_out w none [] h = tt
+every_none is_out w none (s ∷ ss) h = ((λ r. h.0 r ∙ none r), every_none is_out w none ss h.1)
+
+pub all_none : {L : Language} {T : Type 0} (rules : Rules L) (is_out : L.Rest → L.World → Bool) → KeepsFrames rules is_out → (options : Options) (c : Collected L T) (taken : List (List ℕ)) → ((r : L.Rest) → is_out r c.world ≡ false) → IsFit rules c.selected → IsTaken options c taken
+    → Every (λ (s : SessionState L). (r : L.Rest) → is_out r s.world ≡ false) (sessions rules options c taken)
+all_none rules is_out keep options c taken none fit t = every_none is_out c.world none (sessions rules options c taken) (all_same rules is_out keep options c taken fit t)
+
+-- whatever the rules would do else with a frame
+same_runs : {L : Language} (rules : Rules L) (is_out : L.Rest → L.World → Bool) → KeepsFrames rules is_out → (x : Resumptions L) → AreAlikeWhereOut rules is_out x → (w : L.World) (maxfail : ℕ) (lists : List (List Task))
+    → map (ran (with_resumptions x rules) w maxfail) lists ≡ map (ran rules w maxfail) lists
+same_runs rules is_out keep x alike w maxfail [] = refl
+same_runs {L} rules is_out keep x alike w maxfail (ts ∷ more) =
+    ap (λ (s : SessionState L). s ∷ map (ran (with_resumptions x rules) w maxfail) more) (same_session rules is_out keep x alike maxfail (map task_item ts) w)
+    ∙ ap (λ (ss : List (SessionState L)). ran rules w maxfail ts ∷ ss) (same_runs rules is_out keep x alike w maxfail more)
+
+pub same_sessions : {L : Language} {T : Type 0} (rules : Rules L) (is_out : L.Rest → L.World → Bool) → KeepsFrames rules is_out → (options : Options) (c : Collected L T) (taken : List (List ℕ)) (x : Resumptions L) → AreAlikeWhereOut rules is_out x
+    → sessions (with_resumptions x rules) options c taken ≡ sessions rules options c taken
+same_sessions rules is_out keep options c taken x alike = same_runs rules is_out keep x alike c.world (maxfail_of options c) (shares options c taken)

@@ -1,6 +1,6 @@
 -- The rows of a session.
 use Rattle.std.proofs.Common.{◌≡◌, ℕ, ◌+◌, Bool, true, false, List, [], ◌∷◌, ◌++◌, map, inl, inr, refl, sym, ap, ◌∙◌, subst, arith, MatchBool}
-use Rattle.report_rules.specs.Once.{AreRows, row_task}
+use Rattle.report_rules.specs.Once.{AreRows, row_bads, row_task}
 use Rattle.report_rules.specs.Rows.{Arrival, ReportRow, Task, arrivals_of, by_item, is_last, task_item, ran, report_row, session_rows, with_ends}
 use Rattle.session_rules.proofs.Reports.{bads_append, session_reports}
 use Rattle.session_rules.specs.Reports.{IsTestProtocol, Reported, bads}
@@ -64,34 +64,36 @@ pub all_tasks : {L : Language} (rules : Rules L) (world : L.World) (tasks : List
 all_tasks rules world tasks = all_rows 0 tasks (session_rows rules world 0 tasks) (are_rows rules world 0 tasks)
 
 -- what ran is a part from the front on
-pub record Front {L : Language} (tasks : List Task) (rows : List (ReportRow L)) (reached : Bool) : Type 0 where
-  pub rest : List Task
-  pub prefix : tasks ≡ map row_task rows ++ rest
-  pub whole : reached ≡ false → rest ≡ []
+pub front_tasks : {L : Language} (maxfail bad : ℕ) (tasks : List Task) (rows : List (ReportRow L)) → AreRows maxfail bad tasks rows → (rest : List Task) × (tasks ≡ map row_task rows ++ rest)
+front_tasks {L} maxfail bad [] rows r = ([], ap (λ (l : List (ReportRow L)). map row_task l ++ []) (sym r))
+front_tasks maxfail bad (t ∷ ts) [] r = absurd r
+front_tasks {L} maxfail bad (t ∷ ts) (x ∷ xs) r =
+    let n = bad + bads x.ends in
+    let p : (rest : List Task) × (ts ≡ map row_task xs ++ rest) =
+    (elim (reaches maxfail n) as (λ b. MatchBool b (xs ≡ []) (AreRows maxfail n ts xs) → (rest : List Task) × (ts ≡ map row_task xs ++ rest)) [
+      | true ↦ λ e. (ts, ap (λ (l : List (ReportRow L)). map row_task l ++ ts) (sym e))
+      | false ↦ λ q. front_tasks maxfail n ts xs q
+    ]) r.2 in
+    (p.0, ap (λ (u : Task). u ∷ ts) (sym r.0) ∙ ap (λ (l : List Task). x.task ∷ l) p.1)
 
-front_law : {L : Language} (maxfail bad : ℕ) (arrivals : List Arrival) (tasks : List Task) (ends : List (PhaseEnd L)) → Reported maxfail bad (map task_item tasks) ends → Front tasks (with_ends arrivals tasks (by_item ends)) (reaches maxfail (bad + bads ends))
-front_law maxfail bad arrivals [] ends r = record { rest = []; prefix = refl; whole = λ e. refl }
-front_law {L} maxfail bad arrivals (t ∷ ts) ends r =
+-- the failures and errors of the rows are those of the session
+counted_rows : {L : Language} (maxfail bad : ℕ) (arrivals : List Arrival) (tasks : List Task) (ends : List (PhaseEnd L)) → Reported maxfail bad (map task_item tasks) ends → row_bads (with_ends arrivals tasks (by_item ends)) ≡ bads ends
+counted_rows {L} maxfail bad arrivals [] ends r = ap (λ (l : List (PhaseEnd L)). bads l) (sym r)
+counted_rows {L} maxfail bad arrivals (t ∷ ts) ends r =
     let mine = r.0 in let more = r.1 in
     let cut : by_item ends ≡ mine ∷ by_item more = ap (λ (l : List (PhaseEnd L)). by_item l) r.2 ∙ item_cut t.chosen.item.node mine more r.3 in
     let n = bad + bads mine in
-    let sum : n + bads more ≡ bad + bads ends = (let a = ap (λ (l : List (PhaseEnd L)). bads l) r.2 in let b = bads_append mine more in omega (arith, a, b)) in
-    let whole : Front (t ∷ ts) (report_row t mine (arrivals ++ arrivals_of t.chosen mine) ∷ with_ends (arrivals ++ arrivals_of t.chosen mine) ts (by_item more)) (reaches maxfail (n + bads more)) =
-    (elim (reaches maxfail n) as (λ b. reaches maxfail n ≡ b → MatchBool b (more ≡ []) (Reported maxfail n (map task_item ts) more) → Front (t ∷ ts) (report_row t mine (arrivals ++ arrivals_of t.chosen mine) ∷ with_ends (arrivals ++ arrivals_of t.chosen mine) ts (by_item more)) (reaches maxfail (n + bads more))) [
-      | true ↦ λ e q. record {
-        rest = ts;
-        prefix = ap (λ (l : List (ReportRow L)). t ∷ map row_task l ++ ts) (sym (behind (arrivals ++ arrivals_of t.chosen mine) ts more q));
-        whole = λ z. (let same : n + bads more ≡ n = (let a = ap (λ (l : List (PhaseEnd L)). bads l) q in omega (arith, a)) in
-            let w : true ≡ false = sym e ∙ (ap (λ (m : ℕ). reaches maxfail m) (sym same) ∙ z) in cc);
-      }
-      | false ↦ λ e q. (let f = front_law maxfail n (arrivals ++ arrivals_of t.chosen mine) ts more q in record { rest = f.rest; prefix = ap (λ (l : List Task). t ∷ l) f.prefix; whole = f.whole })
-    ]) refl r.4 in
-    subst (λ (l : List (List (PhaseEnd L))). Front (t ∷ ts) (with_ends arrivals (t ∷ ts) l) (reaches maxfail (bad + bads ends))) (sym cut)
-    (subst (λ (m : ℕ). Front (t ∷ ts) (report_row t mine (arrivals ++ arrivals_of t.chosen mine) ∷ with_ends (arrivals ++ arrivals_of t.chosen mine) ts (by_item more)) (reaches maxfail m)) sum whole)
+    let next = arrivals ++ arrivals_of t.chosen mine in
+    let sum : bads mine + bads more ≡ bads ends = (let a = ap (λ (l : List (PhaseEnd L)). bads l) r.2 in let b = bads_append mine more in omega (arith, a, b)) in
+    let rest : row_bads (with_ends next ts (by_item more)) ≡ bads more =
+    (elim (reaches maxfail n) as (λ b. MatchBool b (more ≡ []) (Reported maxfail n (map task_item ts) more) → row_bads (with_ends next ts (by_item more)) ≡ bads more) [
+      | true ↦ λ e. ap (λ (l : List (ReportRow L)). row_bads l) (behind next ts more e) ∙ ap (λ (l : List (PhaseEnd L)). bads l) (sym e)
+      | false ↦ λ q. counted_rows maxfail n next ts more q
+    ]) r.4 in
+    ap (λ (l : List (List (PhaseEnd L))). row_bads (with_ends arrivals (t ∷ ts) l)) cut ∙ (ap (λ (m : ℕ). bads mine + m) rest ∙ sum)
 
-pub front : {L : Language} (rules : Rules L) (world : L.World) (maxfail : ℕ) (tasks : List Task) → Front tasks (session_rows rules world maxfail tasks) (reaches maxfail (ran rules world maxfail tasks).bad)
-front {L} rules world maxfail tasks =
+pub stops : {L : Language} (rules : Rules L) (world : L.World) (maxfail : ℕ) (tasks : List Task) → reaches maxfail (ran rules world maxfail tasks).bad ≡ reaches maxfail (row_bads (session_rows rules world maxfail tasks))
+stops rules world maxfail tasks =
     let s = ran rules world maxfail tasks in
     let r = session_reports rules maxfail (map task_item tasks) world in
-    let e : 0 + bads s.ends ≡ s.bad = (let c = r.counted in omega (arith, c)) in
-    subst (λ (m : ℕ). Front tasks (session_rows rules world maxfail tasks) (reaches maxfail m)) e (front_law maxfail 0 [] tasks s.ends r.reported)
+    ap (λ (m : ℕ). reaches maxfail m) (r.counted ∙ sym (counted_rows maxfail 0 [] tasks s.ends r.reported))

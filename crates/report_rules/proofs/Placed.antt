@@ -6,7 +6,7 @@ use Rattle.cli_words.specs.declared.options.Options.{Options}
 use Rattle.report_parts.specs.Outcomes.{not_empty}
 use Rattle.report_parts.specs.declared.report.Place.{Place}
 use Rattle.report_rules.proofs.Alone.{In-task}
-use Rattle.report_rules.proofs.Once.{all_tasks, front}
+use Rattle.report_rules.proofs.Once.{all_tasks, are_rows, front_tasks}
 use Rattle.report_rules.specs.Alone.{taken_by}
 use Rattle.report_rules.specs.Collected.{Collected, Profile, SelectedItem, report_language}
 use Rattle.report_rules.specs.Groups.{group_at, groups}
@@ -118,7 +118,7 @@ module _ {World Value Thrown Rest Source Table : Type 0} (holds : List ℕ → S
   choose_none : (collect failed one : Bool) → one ≡ true → Bare (cond collect (map (λ t. report_row t [] []) (single_thread c)) (cond failed [] (cond one (session_rows (profile.rules options c.table) c.world options.maxfail (single_thread c)) (by_group 0 (length (groups c.selected)) (worked (profile.rules options c.table) c.world (tasks_from (groups c.selected) 0 taken))))))
   choose_none true failed one e = of_alone c.selected (map (λ t. report_row t [] []) (single_thread c)) [] (sym (append-nil (map row_task (map (λ t. report_row t [] []) (single_thread c))) ∙ unrun_tasks (report_language World Value Thrown Rest) (single_thread c)))
   choose_none false true one e = refl
-  choose_none false false true e = (let f = front (profile.rules options c.table) c.world options.maxfail (single_thread c) in of_alone c.selected (session_rows (profile.rules options c.table) c.world options.maxfail (single_thread c)) f.rest f.prefix)
+  choose_none false false true e = (let rs = session_rows (profile.rules options c.table) c.world options.maxfail (single_thread c) in let f = front_tasks options.maxfail 0 (single_thread c) rs (are_rows (profile.rules options c.table) c.world options.maxfail (single_thread c)) in of_alone c.selected rs f.0 f.1)
   choose_none false false false e = cc
 
   pub no_place : workers_of options c ≡ 0 → places_told holds profile options c taken ≡ []

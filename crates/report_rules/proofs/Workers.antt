@@ -6,14 +6,14 @@ use Rattle.cli_words.specs.declared.options.Options.{Options}
 use Rattle.report_parts.specs.Outcomes.{not_empty}
 use Rattle.report_parts.specs.declared.report.Place.{Place}
 use Rattle.report_rules.proofs.Lists.{filter_all, filter_app, filter_none, map_append, map_filter, map_map, map_same, repeat, repeat_add, repeat_one}
-use Rattle.report_rules.proofs.Once.{all_tasks, front}
+use Rattle.report_rules.proofs.Once.{all_tasks, are_rows, stops}
 use Rattle.report_rules.specs.Collected.{SelectedItem, Collected}
 use Rattle.report_rules.specs.Groups.{group_at, groups}
-use Rattle.report_rules.specs.Once.{AreReported, IsPrefix, reported, row_chosen, row_task}
+use Rattle.report_rules.specs.Once.{AreReported, AreRows, reported, row_bads, row_chosen, row_task}
 use Rattle.report_rules.specs.Report.{IsTaken, single_thread, rows_reported, runs, reached_maxfail, workers_of}
 use Rattle.report_rules.specs.Rows.{ReportRow, Task, ran, report_row, session_rows, task}
 use Rattle.report_rules.specs.Shares.{by_group, in_group, has_group, group_place, tasks_from, tasks_of, worked}
-use Rattle.session_rules.specs.Session.{has_stopped}
+use Rattle.session_rules.specs.Session.{has_stopped, reaches}
 use Rattle.session_rules.specs.World.{Language, Rules}
 use Rattle.share_files.specs.Deal.{Share, times, times_in}
 
@@ -99,30 +99,22 @@ workers_reported {L} rules world gs n taken share =
     ∙ (all_own gs h 0 taken ∙ (ap (λ (m : ℕ). repeat m (group_at gs h)) (share.once.each h low lt0) ∙ repeat_one (group_at gs h))))))
     ∙ gather_all gs
 
-unrun : (L : Language) (tasks : List Task) → reported {L = L} (map (λ t. report_row t [] []) tasks) ≡ map chosen_of tasks
-unrun L [] = refl
-unrun L (t ∷ ts) = ap (λ (l : List SelectedItem). t.chosen ∷ l) (unrun L ts)
-
 module _ {L : Language} {T : Type 0} (rules : Rules L) (options : Options) (c : Collected L T) (taken : List (List ℕ)) where
-  alone_front : runs options c ≡ true → eqb (workers_of options c) 0 ≡ true → IsPrefix c.selected (reported (session_rows rules c.world options.maxfail (single_thread c))) (reached_maxfail rules options c)
-  alone_front e f =
-      let rs = session_rows rules c.world options.maxfail (single_thread c) in
-      let p = front rules c.world options.maxfail (single_thread c) in
+  abbrev Rows : List (ReportRow L) → Type 0
+  Rows rs = AreRows options.maxfail 0 (single_thread c) rs × (reached_maxfail rules options c ≡ reaches options.maxfail (row_bads rs))
+
+  alone_rows : runs options c ≡ true → eqb (workers_of options c) 0 ≡ true → Rows (session_rows rules c.world options.maxfail (single_thread c))
+  alone_rows e f =
       let stop : reached_maxfail rules options c ≡ has_stopped options.maxfail (ran rules c.world options.maxfail (single_thread c)) = ap₂ (λ (a b : Bool). (a && b) && has_stopped options.maxfail (ran rules c.world options.maxfail (single_thread c))) e f in
-      record {
-        rest = map chosen_of p.rest;
-        prefix = sym (chosen_tasks None c.selected) ∙ (ap (λ (l : List Task). map chosen_of l) p.prefix
-            ∙ (map_append chosen_of (map row_task rs) p.rest ∙ ap (λ (l : List SelectedItem). l ++ map chosen_of p.rest) (map_map chosen_of row_task rs)));
-        whole = λ z. ap (λ (l : List Task). map chosen_of l) (p.whole (sym stop ∙ z));
-      }
+      (are_rows rules c.world options.maxfail (single_thread c), stop ∙ stops rules c.world options.maxfail (single_thread c))
 
   choose : (collect failed one : Bool) → options.collect_only ≡ collect → not_empty c.errors ≡ failed → eqb (workers_of options c) 0 ≡ one
       → MatchBool one (taken ≡ []) (Share (length (groups c.selected)) (workers_of options c) taken)
       → (let rs = cond collect (map (λ t. report_row t [] []) (single_thread c)) (cond failed [] (cond one (session_rows rules c.world options.maxfail (single_thread c)) (by_group 0 (length (groups c.selected)) (worked rules c.world (tasks_from (groups c.selected) 0 taken))))) in
-      MatchBool collect (reported rs ≡ c.selected) (MatchBool failed (rs ≡ []) (MatchBool one (IsPrefix c.selected (reported rs) (reached_maxfail rules options c)) (reported rs ≡ flat_map (λ g. g) (groups c.selected)))))
-  choose true failed one e f g t = unrun L (single_thread c) ∙ chosen_tasks None c.selected
+      MatchBool collect (rs ≡ map (λ t. report_row t [] []) (single_thread c)) (MatchBool failed (rs ≡ []) (MatchBool one (Rows rs) (reported rs ≡ flat_map (λ g. g) (groups c.selected)))))
+  choose true failed one e f g t = refl
   choose false true one e f g t = refl
-  choose false false true e f g t = (let r : runs options c ≡ true = rw (e, f) refl in alone_front r g)
+  choose false false true e f g t = (let r : runs options c ≡ true = rw (e, f) refl in alone_rows r g)
   choose false false false e f g t = workers_reported rules c.world (groups c.selected) (workers_of options c) taken t
 
   pub are_reported : IsTaken options c taken → AreReported rules options c (rows_reported rules options c taken)

@@ -1,4 +1,4 @@
-ghost use Rattle.std.specs.Prelude.{◌≡◌, ◌⊎◌, ◌<◌, ℕ, List, [], true, flat_map, length};
+ghost use Rattle.std.specs.Prelude.{◌≡◌, ◌⊎◌, ◌<◌, ℕ, Bool, List, [], true, flat_map, length};
 ghost use Rattle.std.specs.List.{list_any};
 ghost use Rattle.cli_words.specs.declared.options.Options.{Options};
 ghost use Rattle.edge_io.specs.Files.{File};
@@ -16,7 +16,7 @@ ghost use Rattle.report_rules.specs.Placed.{ArePlaced};
 ghost use Rattle.report_rules.specs.Shares.{by_group, tasks_from, worked};
 ghost use Rattle.session_types.specs.Members.{IsMember};
 ghost use Rattle.session_rules.specs.Events.{Lawful};
-ghost use Rattle.session_rules.specs.Frames.{Tidy};
+ghost use Rattle.session_rules.specs.Frames.{KeepsFrames, SameFrames};
 ghost use Rattle.session_rules.specs.World.{Rules};
 ghost use Rattle.session_rules.specs.Reports.{IsTestProtocol};
 ghost use Rattle.session_types.specs.declared.scope.Scope.{Scope};
@@ -38,13 +38,14 @@ pub trait Tests {
     ghost holds: { List ℕ → Self.Source → Type 0 };
 }
 
-/// The headline. Words ask for a text, words and files are refused, or a conftest raised, or it is the report of what was collected: the items that
-/// collection selects, each once, in the stated order; the journal of each session is lawful; no frozen frame is left out; with
-/// workers each report has the place that the assignment gives it, and each worker's rows are those of one thread on the items of
-/// its groups.
+/// The headline. Words ask for a text, words or files are refused, collection refuses them, a conftest raised, or it is the report of what
+/// collection selects of the files: these items are distinct, and reported each once, in the stated order; each is called once, unless a
+/// hook raised before it; the journal of each session is lawful; behind each no frozen frame is out, and each frame goes on once; with
+/// workers each report has the place that the assignment gives it, and each worker's rows are those of one thread on the items of its
+/// groups.
 pub fn what_a_report_tells<W: Tests>()
-    ensures { (profile : Profile (report_language W W.Value W.Thrown W.Rest) W.Source W.Table) → IsSound W.holds profile → (taken words : List (List ℕ)) (files : List File) (answer : PrintedAnswer)
-        → IsReportBy W.holds profile taken words files answer → Headline W.holds profile taken words answer }
+    ensures { (is_out : W.Rest → W → Bool) (profile : Profile (report_language W W.Value W.Thrown W.Rest) W.Source W.Table) → IsSound W.holds is_out profile → (taken words : List (List ℕ)) (files : List File) (answer : PrintedAnswer)
+        → IsReportBy W.holds profile taken words files answer → Headline W.holds is_out profile taken words files answer }
 {}
 
 /// Where each file has a tree or a fault, all words and files have a report.
@@ -96,10 +97,10 @@ pub fn every_journal_is_lawful<W: Tests>()
         → IsFit rules c.selected → IsTaken options c taken → Every (λ s. Lawful s.events) (sessions rules options c taken) }
 {}
 
-/// At the end of each session of a run no frozen frame is out that wasn't out where collection ended.
+/// At the end of each session of a run exactly those frozen frames are out that were where collection ended.
 pub fn no_frame_is_left_out<W: Tests>()
-    ensures { (rules : Rules (report_language W W.Value W.Thrown W.Rest)) (out : W → ℕ) → Tidy rules out → (options : Options) (c : Collected (report_language W W.Value W.Thrown W.Rest) W.Table) (taken : List (List ℕ))
-        → IsFit rules c.selected → IsTaken options c taken → Every (λ s. out s.world ≡ out c.world) (sessions rules options c taken) }
+    ensures { (rules : Rules (report_language W W.Value W.Thrown W.Rest)) (is_out : W.Rest → W → Bool) → KeepsFrames rules is_out → (options : Options) (c : Collected (report_language W W.Value W.Thrown W.Rest) W.Table) (taken : List (List ℕ))
+        → IsFit rules c.selected → IsTaken options c taken → Every (λ s. SameFrames is_out c.world s.world) (sessions rules options c taken) }
 {}
 
 /// Of the rows that a run with workers reports, those of a worker are the rows of one thread on the items of its groups.

@@ -10,11 +10,14 @@
 //!
 //! Each as the contract of a public function with an empty body:
 //!
-//! - `what_a_report_tells`: a report is the text that words ask for, a refusal of words or files, that of a conftest that raised,
-//!   or the report of what was collected (`Headline`): the items that collection selects are reported, each once, in the stated
-//!   order; each session's journal is lawful; where each act of the rules keeps the frozen frames (`Tidy`), none is left out; with
-//!   workers each report has the place that the assignment gives it, and each worker's rows are those of one thread on the items of
-//!   its groups. Premise: what is collected fits its table (`IsSound`).
+//! - `what_a_report_tells`: a report is the text that words ask for, a refusal of words or files, what collection says of a refusal or
+//!   of a conftest that raised, or the report of what collection selects of the files (`Headline`, by the files): the selected items are
+//!   distinct, and reported each once, in the stated order, all of them or up to the one with which maxfail was reached; in each hook
+//!   call around one the built-in implementation is called once, or another raised before it; each session's journal is lawful; behind
+//!   each session no frozen frame is out, and each goes on once; with workers each report has the place that the assignment gives it,
+//!   and each worker's rows are those of one thread on the items of its groups. Premise (`IsSound`), which a suite cannot fail, since it
+//!   is on the language: what is collected fits its table, the hooks of what is selected have the runner's own implementations, each act
+//!   of the rules tells which frames are out behind it, and collection leaves none out.
 //! - `every_run_has_a_report`: where each file has a tree or a fault, all words and files have one. `reports_are_one`: where no
 //!   file has two, by the groups that workers took it is one; `one_thread_has_one_report`: without workers it is one.
 //! - `groups_part_the_items` (`items`, `files`, `filled`, `one_file`, `one_group`): the groups of workers are the files, each item

@@ -1,18 +1,21 @@
 -- What the functions of sources do is what the rules of a plan say.
-use Rattle.std.proofs.Common.{◌≡◌, ℕ, Bool, List, [], ◌∷◌, ◌++◌, refl, sym, ap, ◌∙◌, Option, None, Some, option_to_list}
+use Rattle.std.proofs.Common.{◌≡◌, ℕ, ◌==◌, Bool, true, false, cond, List, [], ◌∷◌, ◌++◌, map, refl, sym, ap, ◌∙◌, subst, Option, None, Some, option_to_list}
+use Rattle.std.proofs.lemmas.List.{append-nil}
 use Rattle.fixture_calls.specs.Asking.{test_request}
 use Rattle.fixture_calls.specs.Calls.{test_called}
 use Rattle.fixture_calls.specs.declared.failure.Failure.{Failure}
-use Rattle.runtest_reports.specs.fixture_sessions.FixtureSession.{fixture_set_up, object_stands, set_up_behind}
 use Rattle.fixture_world.specs.Items.{closure_of, item_in_session}
+use Rattle.hook_order.specs.declared.implementation.Impl.{Impl}
+use Rattle.hook_phases.specs.Steps.{IsKnownWhere, behind_implement, item_where}
 use Rattle.item_stack.specs.Leaving.{IsNextItem, chain_for}
 use Rattle.py_values.specs.declared.value.Value.{Value}
 use Rattle.report_parts.specs.Outcomes.{is_raised}
 use Rattle.report_parts.specs.declared.outcome.Phase.{Phase as ShownPhase}
 use Rattle.report_parts.specs.declared.outcome.Phase.TheVariants as shown
 use Rattle.runtest_reports.specs.report_rules.Collected.{CapturedEnd, ends_badly}
-use Rattle.run_items.specs.Stands.{IsPlannedItem, node_of, plan_rules, planned, stand_state}
+use Rattle.run_items.specs.Stands.{IsPlannedItem, node_of, object_noted, plan_rules, planned, stand_state}
 use Rattle.run_items.specs.declared.plan.Plan.{Plan}
+use Rattle.run_items.specs.declared.stand.ItemObject.{ItemObject as StandObject}
 use Rattle.run_items.specs.declared.stand.Stand.{Stand}
 use Rattle.runtest_reports.specs.Kept.{session_phase}
 use Rattle.runtest_reports.specs.Stages.{IsKnownItem, session_item}
@@ -20,17 +23,38 @@ use Rattle.fixture_world.specs.runtest_rules.Failures.{fixture_fault, skipped, w
 use Rattle.fixture_world.specs.runtest_rules.Language.{python}
 use Rattle.fixture_world.specs.runtest_rules.Objects.{instance_of_item, item_object}
 use Rattle.fixture_world.specs.runtest_rules.Phases.{phase_ended, phase_of}
-use Rattle.fixture_world.specs.runtest_rules.Rules.{hook_answer, world_answer}
-use Rattle.session_rules.specs.Session.{chain_of, with_new_instance, set_up_by, set_up_item, telling, pyfunc_call, test_with}
+use Rattle.fixture_world.specs.runtest_rules.Rules.{hook_answer, hook_end_of, implemented_for}
+use Rattle.session_rules.specs.Hooks.{HookAnswer}
+use Rattle.session_rules.specs.Session.{answered, chain_of, gathered, object_made, one_raised, with_new_instance, set_up_by, set_up_item, telling, test_with}
 use Rattle.session_rules.specs.Session as session
-use Rattle.session_rules.specs.Teardown.{SessionState, Step, emit, in_world, session_step}
-use Rattle.session_rules.specs.World.{Language, Rules, Teardown}
+use Rattle.session_rules.specs.Teardown.{ItemObject, SessionState, Step, emit, in_world, session_step}
+use Rattle.session_rules.specs.World.{Language, Teardown, WorldAnswer}
 use Rattle.session_rules.specs.World as world
 use Rattle.session_types.specs.declared.journal.Event.{Event}
 use Rattle.item_stack.specs.setup_stack.declared.stack.SetupStack.{SetupStack}
 use Rattle.fixture_calls.specs.source_meaning.Meaning.{SourceWorld}
 use Rattle.test_suite.specs.Suites.{item_with_node}
 use Rattle.test_suite.specs.declared.item.Item.{Item}
+
+-- the objects with one more
+pub object_more : (os : List StandObject) (o : StandObject) → map object_noted (os ++ o ∷ []) ≡ map object_noted os ++ object_noted o ∷ []
+object_more [] o = refl
+object_more (x ∷ os) o = ap (λ (l : List (ItemObject python)). object_noted x ∷ l) (object_more os o)
+
+-- an implementation that skips gives no value
+none_gathered : (f : Option Failure) → gathered (one_raised {L = python} (hook_answer f)) ≡ []
+none_gathered (Some f) = refl
+none_gathered None = refl
+
+nothing_gathered : (i : Item) (which : Impl) (w : SourceWorld) → gathered (one_raised {L = python} (implemented_for i which w).answer) ≡ []
+nothing_gathered i which w =
+    elim (which.registered == 0) as (λ b. gathered (one_raised {L = python} (cond b (hook_end_of (skipped i w)) (hook_end_of (None, w))).answer) ≡ []) [
+      | true ↦ none_gathered (skipped i w).0
+      | false ↦ refl
+    ]
+
+behind_same : (s : SessionState python) (x : WorldAnswer python (HookAnswer Value Failure)) → gathered (one_raised {L = python} x.answer) ≡ [] → in_world x.world s ≡ behind_implement x s
+behind_same s x none = ap (λ (values : List Value). record s { world = x.world; values = values }) (sym (append-nil s.values) ∙ ap (λ (l : List Value). s.values ++ l) (sym none))
 
 module _ (plan : Plan) (item : Item) (p : IsPlannedItem plan item) where
   -- THE OBJECTS
@@ -39,9 +63,11 @@ module _ (plan : Plan) (item : Item) (p : IsPlannedItem plan item) where
   opened_same s own w e =
       ap (λ (x : Option Value × SourceWorld). record s { world = x.1; instance = x.0 }) (e ∙ ap (λ (i : Item). instance_of_item i s.world) (sym p.found))
 
-  pub object_same : (s : SessionState python) (v : Value) (w : SourceWorld) → (v, w) ≡ item_object item s.world → in_world w s ≡ object_stands (plan_rules plan) (item_in_session plan.table item).node s
-  object_same s v w e =
-      ap (λ (x : Value × SourceWorld). in_world x.1 s) (e ∙ ap (λ (i : Item). item_object i s.world) (sym p.found))
+  pub object_same : (s : SessionState python) (v : Value) (w : SourceWorld) (objects : List (ItemObject python)) → (v, w) ≡ item_object item s.world → objects ≡ s.objects ++ record { node = item.node; object = v } ∷ []
+      → record s { world = w; objects = objects } ≡ object_made item.node ((plan_rules plan).make_item item.node s.world) s
+  object_same s v w objects e more =
+      ap (λ (l : List (ItemObject python)). record s { world = w; objects = l }) more
+      ∙ ap (λ (x : Value × SourceWorld). record s { world = x.1; objects = s.objects ++ record { node = item.node; object = x.0 } ∷ [] }) (e ∙ ap (λ (i : Item). item_object i s.world) (sym p.found))
 
   -- THE SET-UP
 
@@ -50,20 +76,16 @@ module _ (plan : Plan) (item : Item) (p : IsPlannedItem plan item) where
       ap (λ (x : Failure × SourceWorld). session_step (x.0 ∷ []) (in_world x.1 s)) (e ∙ ap (λ (i : Item). fixture_fault i s.world) (sym p.found))
       ∙ ap (λ (o : Option (List ℕ)). set_up_by (plan_rules plan) (item_in_session plan.table item) o s) (sym none)
 
-  pub skip_same : (s : SessionState python) (f : Option Failure) (w : SourceWorld) → (f, w) ≡ skipped item s.world
-      → set_up_behind (plan_rules plan) (item_in_session plan.table item) s (world_answer (hook_answer f, w)) ≡ fixture_set_up (plan_rules plan) (item_in_session plan.table item) s
-  skip_same s f w e =
-      ap (λ (x : Option Failure × SourceWorld). set_up_behind (plan_rules plan) (item_in_session plan.table item) s (world_answer (hook_answer x.0, x.1))) (e ∙ ap (λ (i : Item). skipped i s.world) (sym p.found))
+  -- THE IMPLEMENTATIONS BESIDE THOSE OF THE PHASES
 
-  -- an item that is skipped, and one that isn't
-  pub skipped_same : (s : SessionState python) (o : Option Failure) (f : Failure) (w : SourceWorld) → (o, w) ≡ skipped item s.world → o ≡ Some f → session_step (f ∷ []) (in_world w s) ≡ fixture_set_up (plan_rules plan) (item_in_session plan.table item) s
-  skipped_same s o f w e q =
-      ap (λ (x : Option Failure). set_up_behind (plan_rules plan) (item_in_session plan.table item) s (world_answer (hook_answer x, w))) (sym q) ∙ skip_same s o w e
+  pub implement_same : (which : Impl) (w w2 : SourceWorld) (a : HookAnswer Value Failure) → answered {L = python} a w2 ≡ implemented_for item which w → answered {L = python} a w2 ≡ implemented_for (item_with_node plan.run.suite item.node) which w
+  implement_same which w w2 a e = e ∙ ap (λ (i : Item). implemented_for i which w) (sym p.found)
 
-  pub unskipped_same : (s t : SessionState python) (raised : List Failure) (o : Option Failure) (w : SourceWorld) → (o, w) ≡ skipped item s.world → o ≡ None → session_step raised t ≡ set_up_item (plan_rules plan) (item_in_session plan.table item) (in_world w s)
-      → session_step raised t ≡ fixture_set_up (plan_rules plan) (item_in_session plan.table item) s
-  unskipped_same s t raised o w e q r =
-      r ∙ (ap (λ (x : Option Failure). set_up_behind (plan_rules plan) (item_in_session plan.table item) s (world_answer (hook_answer x, w))) (sym q) ∙ skip_same s o w e)
+  pub gathered_same : (which : Impl) (s : SessionState python) (w2 : SourceWorld) (a : HookAnswer Value Failure) → answered {L = python} a w2 ≡ implemented_for item which s.world
+      → in_world w2 s ≡ behind_implement (implemented_for (item_with_node plan.run.suite item.node) which s.world) s
+  gathered_same which s w2 a e =
+      behind_same s (answered a w2) (subst (λ (x : WorldAnswer python (HookAnswer Value Failure)). gathered (one_raised {L = python} x.answer) ≡ []) (sym e) (nothing_gathered item which s.world))
+      ∙ ap (λ (x : WorldAnswer python (HookAnswer Value Failure)). behind_implement x s) (implement_same which s.world w2 a e)
 
   -- THE CALL
 
@@ -105,18 +127,27 @@ noted_same s k e f same more q =
     ∙ (ap (λ (es : List Event). record (stand_state s) { events = es }) more
     ∙ ap (λ (x : Event). emit x (stand_state s)) q)
 
--- the events around a call
-pub call_same : {L : Language} (rules : Rules L) (item : world.Item) (b e : Event) (s t u v : SessionState L) (raised : List L.Thrown) → t ≡ emit b s → session_step raised u ≡ pyfunc_call rules item t → v ≡ emit e u
-    → session_step raised v ≡ session.emitted e (pyfunc_call rules item (emit b s))
-call_same {L} rules item b e s t u v raised h k l =
-    ap (λ (x : SessionState L). session_step raised x) l ∙ ap (λ (r : Step L). session.emitted e r) (k ∙ ap (λ (x : SessionState L). pyfunc_call rules item x) h)
+-- the events around a hook call
+pub call_same : {L : Language} (act : SessionState L → Step L) (b e : Event) (s t u v : SessionState L) (raised : List L.Thrown) → t ≡ emit b s → session_step raised u ≡ act t → v ≡ emit e u
+    → session_step raised v ≡ session.emitted e (act (emit b s))
+call_same {L} act b e s t u v raised h k l =
+    ap (λ (x : SessionState L). session_step raised x) l ∙ ap (λ (r : Step L). session.emitted e r) (k ∙ ap act h)
 
 -- THE NEXT ITEM
 
-pub next_stands : (plan : Plan) (next : Option Item) → IsKnownItem (IsPlannedItem plan) next → IsNextItem plan.table (node_of next)
+pub next_stands : (plan : Plan) (next : Option Item) → IsKnownWhere (IsPlannedItem plan) next → IsNextItem plan.table (node_of next)
 next_stands plan None k = tt
 next_stands plan (Some item) k = k.node
 
-pub next_chain : (plan : Plan) (next : Option Item) → chain_for plan.table (node_of next) ≡ chain_of (session_item (planned plan) next)
+pub next_chain : (plan : Plan) (next : Option Item) → chain_for plan.table (node_of next) ≡ chain_of (item_where (item_in_session plan.table) next)
 next_chain plan None = refl
 next_chain plan (Some item) = refl
+
+-- a stage and its hooks know of items alike
+pub known_where : (plan : Plan) (next : Option Item) → IsKnownItem (IsPlannedItem plan) next → IsKnownWhere (IsPlannedItem plan) next
+known_where plan None k = k
+known_where plan (Some item) k = k
+
+pub next_item_same : (plan : Plan) (next : Option Item) → item_where (item_in_session plan.table) next ≡ session_item (planned plan) next
+next_item_same plan None = refl
+next_item_same plan (Some item) = refl

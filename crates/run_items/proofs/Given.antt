@@ -1,18 +1,19 @@
 -- What a run of a plan gives.
-use Rattle.std.proofs.Common.{◌≡◌, ℕ, List, [], ◌∷◌, inl, inr, map, refl, sym, ap₂, subst, Option, None, Some, option_to_list, option_map}
+use Rattle.std.proofs.Common.{◌≡◌, ℕ, Bool, List, [], ◌∷◌, inl, inr, map, refl, sym, ap, ap₂, ◌∙◌, subst, arith, Option, None, Some, option_to_list, option_map}
 use Rattle.std.specs.Prelude.{slice_get}
 use Rattle.cli_words.specs.declared.options.Options.{Options}
 use Rattle.fixture_calls.specs.declared.failure.Failure.{Failure}
 use Rattle.item_stack.specs.fixture_instances.Resting.{AreSpent}
 use Rattle.item_stack.specs.fixture_instances.declared.ends.CachedResult.{CachedResult}
-use Rattle.runtest_reports.specs.fixture_sessions.BuiltIn.{HasBuiltInHooks, built_in_impls}
-use Rattle.item_stack.specs.States.{IsNew, instance_kept}
+use Rattle.hook_order.specs.HookOrder.{InHookOrder}
+use Rattle.item_stack.specs.States.{instance_kept}
 use Rattle.py_values.specs.declared.value.Value.{Value}
 use Rattle.report_parts.specs.declared.report.ItemReport.{ItemReport}
 use Rattle.runtest_reports.specs.report_rules.Collected.{SelectedItem}
 use Rattle.run_items.specs.Runs.{RunsPlan}
-use Rattle.run_items.specs.Stands.{IsPlannedItem, plan_fixture, plan_rules, planned, stand_state}
+use Rattle.run_items.specs.Stands.{IsNewStand, IsPlannedItem, object_noted, plan_fixture, plan_rules, planned, stand_state}
 use Rattle.run_items.specs.declared.plan.Plan.{Plan}
+use Rattle.run_items.specs.declared.stand.ItemObject.{ItemObject}
 use Rattle.run_items.specs.declared.stand.Stand.{Stand}
 use Rattle.runtest_loop.specs.Course.{chosen_at, chosen_in}
 use Rattle.runtest_loop.specs.Fed.{AreKnown}
@@ -31,9 +32,11 @@ use Rattle.fixture_calls.specs.source_meaning.Meaning.{SourceWorld}
 use Rattle.test_suite.specs.declared.item.Item.{Item}
 
 -- where nothing is set up, a session begins
-pub starts : (s : Stand) → IsNew s.stack → stand_state s ≡ initial_state s.world
+pub starts : (s : Stand) → IsNewStand s → stand_state s ≡ initial_state s.world
 starts s n =
-    ap₂ (λ (k : SetupStack Value Failure ℕ) (r : Option Value). stand_state (record s { stack = record { stack = k; request = r } })) n.stack n.request
+    ap₂ (λ (k : SetupStack Value Failure ℕ) (r : Option Value). stand_state (record s { stack = record { stack = k; request = r } })) n.stack.stack n.stack.request
+    ∙ (ap (λ (os : List ItemObject). record (initial_state {L = python} s.world) { objects = map object_noted os; values = s.values; left = s.left }) n.objects
+    ∙ ap₂ (λ (values : List Value) (left : Bool). record (initial_state {L = python} s.world) { values = values; left = left }) n.values n.left)
 
 -- where none lives, none is frozen
 none_spent : (L : Language) (is : List (Instance (CachedResult L.Value L.Thrown L.Rest))) → map (instance_kept L) is ≡ [] → AreSpent is
@@ -43,13 +46,11 @@ none_spent L (i ∷ is) e = cc
 pub all_spent : (s : Stand) → (stand_state s).live ≡ [] → AreSpent s.stack.stack.live.live
 all_spent s e = none_spent python s.stack.stack.live.live e
 
-hooks_same : (phase : Phase) → hooks_of phase ≡ built_in_impls phase
-hooks_same SetUp = refl
-hooks_same Call = refl
-hooks_same Teardown = refl
-
-pub built_in : (plan : Plan) → HasBuiltInHooks (plan_rules plan)
-built_in plan = record { hooks = λ phase n. hooks_same phase; unread = λ n arguments w. refl }
+-- the built-in hooks run in this order
+pub in_order : (phase : Phase) → InHookOrder (hooks_of phase)
+in_order SetUp = grind arith
+in_order Call = grind arith
+in_order Teardown = grind arith
 
 module _ (plan : Plan) (items : List Item) (known : AreKnown (IsPlannedItem plan) items) where
   one_fits : (n : ℕ) (o : Option Item) → slice_get items n ≡ o → (c : SelectedItem) → IsMember c (option_to_list (option_map (planned plan) o)) → HasFixtureClosure (plan_rules plan) c.item
@@ -69,7 +70,7 @@ module _ (plan : Plan) (items : List Item) (known : AreKnown (IsPlannedItem plan
       → Runs (plan_rules plan) (plan_fixture plan) options (chosen_in (planned plan) items numbers) first told end (stand_state stand)
       → RunsPlan plan options (chosen_in (planned plan) items numbers) first told end stand
   unfolding Runs RunsPlan
-  runs_plan options numbers first told end stand r = λ d. (let i = r (built_in plan) d in (i, i.lawful (λ c m. all_fit numbers c m)))
+  runs_plan options numbers first told end stand r = λ d. (let i = r d in (i, i.lawful (λ c m. all_fit numbers c m)))
 
   -- the items that were lent are those of the plan
   pub lent_run : (lent : List Item) → lent ≡ items → (options : Options) (numbers : List ℕ) (first : SourceWorld) (told : List ItemReport) (end : RunEnd) (stand : Stand)

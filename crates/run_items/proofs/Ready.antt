@@ -1,8 +1,8 @@
 -- The closure of an item of a plan is ready to be demanded.
-use Rattle.std.proofs.Common.{◌≡◌, ℕ, ◌<◌, List, length, refl, sym, subst, Option, None, Some}
-use Rattle.item_stack.specs.fixture_instances.Items as demanded
-use Rattle.fixture_world.specs.Items.{closure_of, item_in_session}
-use Rattle.item_stack.specs.Plain.{plain_item}
+use Rattle.std.proofs.Common.{◌≡◌, ℕ, ◌<◌, List, length, refl, sym, subst, Option, Some}
+use Rattle.item_stack.specs.fixture_instances.Items.{def_scope_node, item_for_session, requests_in}
+use Rattle.item_stack.specs.fixture_instances.declared.items.ItemRef.{ItemRef}
+use Rattle.fixture_world.specs.Items.{closure_of, demanding, item_in_session}
 use Rattle.py_values.specs.declared.value.Value.{Value}
 use Rattle.run_items.specs.Stands.{IsPlan, IsPlannedItem, plan_rules}
 use Rattle.run_items.specs.declared.plan.Plan.{Plan}
@@ -12,18 +12,24 @@ use Rattle.item_stack.specs.setup_stack.Asking.{AreReady}
 use Rattle.item_stack.specs.setup_stack.Passing.{AreAsked}
 use Rattle.test_suite.specs.declared.item.Item.{Item}
 
-pub plan_ready : (plan : Plan) (item : Item) → IsPlan plan → IsPlannedItem plan item → (ds : List ℕ) → closure_of item.closure ≡ Some ds
-    → AreReady (plan_rules plan) (demanded.item_for_session plan.table (plain_item {V = Value} item.node None)) (length plan.table.defs) (plan_rules plan).depth ds
-plan_ready plan item p k ds e =
+-- an item of a plan as its set-up sees it, with an instance of its class
+abbrev pub demanding_with : Option Value → Item → ItemRef Value
+demanding_with own item = record (demanding item) { own = own }
+
+pub plan_ready : (plan : Plan) (item : Item) (own : Option Value) → IsPlan plan → IsPlannedItem plan item → (ds : List ℕ) → closure_of item.closure ≡ Some ds
+    → AreReady (plan_rules plan) (item_for_session plan.table (demanding_with own item)) (length plan.table.defs) (plan_rules plan).depth ds
+unfolding def_scope_node requests_in
+plan_ready plan item own p k ds e =
     λ d m.
     let rules = plan_rules plan in
-    let plain = demanded.item_for_session plan.table (plain_item {V = Value} item.node None) in
+    let asked = item_for_session plan.table (demanding_with own item) in
     let c : IsValidClosure rules (item_in_session plan.table item) ds = subst (λ (o : Option (List ℕ)). FitsClosure rules (item_in_session plan.table item) o) e k.fits in
-    let same : IsValidClosure rules plain ds = record { known = c.known; whole = c.whole; scopes = c.scopes; acyclic = c.acyclic } in (
+    let same : IsValidClosure rules asked ds = record { known = c.known; whole = c.whole; scopes = c.scopes; acyclic = c.acyclic } in (
       subst (λ (n : ℕ). d < n) (sym p.many) (c.known d m),
-      closure_settled rules plain ds same d m,
+      closure_settled rules asked ds same d m,
     )
 
--- a demand can't tell an item of a plan from one whose row binds nothing
-pub asked_plain : (plan : Plan) (item : Item) → AreAsked (item_in_session plan.table item) (demanded.item_for_session plan.table (plain_item {V = Value} item.node None))
-asked_plain plan item = record { node = refl; requests = λ d. refl; parameter = λ d. refl; place = λ d. refl }
+-- a demand does not look at the instance of the class
+pub plan_asked : (plan : Plan) (item : Item) (own : Option Value) → AreAsked (item_in_session plan.table item) (item_for_session plan.table (demanding_with own item))
+unfolding def_scope_node requests_in
+plan_asked plan item own = record { node = refl; requests = λ d. refl; parameter = λ d. refl; place = λ d. refl }

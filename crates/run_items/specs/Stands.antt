@@ -1,16 +1,18 @@
 -- Where a session over sources runs: a world, and what is set up in it.
-use Rattle.std.specs.Prelude.{◌≡◌, ℕ, ◌<◌, [], Option, Some, None, length}
+use Rattle.std.specs.Prelude.{◌≡◌, ℕ, ◌<◌, false, [], Option, Some, None, length, map}
 use Rattle.fixture_table.specs.Tree.{IsTree}
 use Rattle.fixture_world.specs.Items.{item_in_session, selected_item}
-use Rattle.item_stack.specs.States.{item_state}
+use Rattle.item_stack.specs.States.{IsNew, item_state}
 use Rattle.runtest_reports.specs.report_rules.Collected.{FixtureTexts, SelectedItem}
 use Rattle.run_items.specs.Texts.{fixture_texts}
 use Rattle.run_items.specs.declared.plan.Plan.{Plan}
+use Rattle.run_items.specs.declared.stand.ItemObject.{ItemObject}
 use Rattle.run_items.specs.declared.stand.Stand.{Stand}
 use Rattle.fixture_world.specs.runtest_rules.Language.{python}
 use Rattle.fixture_world.specs.runtest_rules.Rules.{rules_within}
 use Rattle.session_rules.specs.Fits.{HasFixtureClosure}
 use Rattle.session_rules.specs.Teardown.{SessionState}
+use Rattle.session_rules.specs.Teardown as session
 use Rattle.session_rules.specs.World.{Rules}
 use Rattle.item_stack.specs.setup_stack.Scopes.{HasScopes}
 use Rattle.test_suite.specs.Suites.{item_with_node}
@@ -23,9 +25,25 @@ plan_rules plan = rules_within plan.run.limit plan.run.suite
 abbrev pub plan_fixture : Plan → ℕ → FixtureTexts
 plan_fixture plan d = fixture_texts plan.run.suite d
 
+-- the object that hooks get for the item of a node
+abbrev pub object_noted : ItemObject → session.ItemObject python
+object_noted o = record { node = o.node; object = o.object }
+
 -- THE STATE of the session that runs there; the rules aren't looked at
 abbrev pub stand_state : Stand → SessionState python
-stand_state stand = item_state (rules_within 0 (record { items = []; fixtures = []; outer = 0 })) stand.world stand.stack
+stand_state stand =
+    record (item_state (rules_within 0 (record { items = []; fixtures = []; outer = 0 })) stand.world stand.stack) {
+      objects = map object_noted stand.objects;
+      values = stand.values;
+      left = stand.left;
+    }
+
+-- nothing is set up, and no item is at hand
+pub record IsNewStand (stand : Stand) : Type 0 where
+  pub stack : IsNew stand.stack
+  pub objects : stand.objects ≡ []
+  pub values : stand.values ≡ []
+  pub left : stand.left ≡ false
 
 -- an item of a plan, as a session and a report know it; the number of its file isn't looked at on one thread
 abbrev pub planned : Plan → Item → SelectedItem

@@ -1,15 +1,18 @@
 // What is done in the world of a run, by the rules of sources.
 
-ghost use Rattle.std.specs.Prelude.{◌≡◌, IfOk};
+ghost use Rattle.std.specs.Prelude.{◌≡◌, [], IfOk, codes};
 ghost use Rattle.fixture_calls.specs.Asking.{test_request};
 ghost use Rattle.fixture_calls.specs.Calls.{test_called};
+ghost use Rattle.fixture_calls.specs.Failing.{as_failure, made_at};
+ghost use Rattle.fixture_calls.specs.Yields.{fixture_abandoned};
+ghost use Rattle.py_values.specs.declared.class.ExcClass.TheVariants as class;
 ghost use Rattle.runtest_reports.specs.report_rules.Collected.{ends_badly};
 ghost use Rattle.fixture_world.specs.runtest_rules.Failures as failures;
 ghost use Rattle.fixture_world.specs.runtest_rules.Objects as objects;
 ghost use Rattle.fixture_world.specs.runtest_rules.Phases as phases;
 ghost use Rattle.session_rules.specs.World.{Teardown};
 
-use fixture_calls::Failure;
+use fixture_calls::{Failure, Frozen};
 use fixture_world::{Ending, RunWorld};
 use py_values::value::Value;
 use report_parts::Phase;
@@ -116,4 +119,27 @@ pub(crate) fn fails_in_teardown(
 {
     let error = fixture_world::fails_in_teardown(world.alloc, &world.world, item, raised)?;
     Ok(error)
+}
+
+/// Gives up what remains of a wrapper. Takes no memory.
+pub(crate) fn abandon(world: &mut RunWorld, rest: Frozen)
+    ensures { world.new ≡ fixture_abandoned rest world.old }
+{
+    fixture_calls::abandon(&mut world.world, rest);
+}
+
+/// The exception of a wrapper that ended without yielding.
+pub(crate) fn wrapper_did_not_yield(world: &mut RunWorld) -> Result<Failure, OutOfMemory>
+    ensures { IfOk result (λ failure. (failure, world.new) ≡ as_failure (made_at [] class.RuntimeError (codes "hook wrapper did not yield") world.old)) }
+{
+    let failure = fixture_world::wrapper_did_not_yield(world.alloc, &mut world.world)?;
+    Ok(failure)
+}
+
+/// The exception of a wrapper that yields again.
+pub(crate) fn wrapper_yielded_again(world: &mut RunWorld) -> Result<Failure, OutOfMemory>
+    ensures { IfOk result (λ failure. (failure, world.new) ≡ as_failure (made_at [] class.RuntimeError (codes "hook wrapper yielded twice") world.old)) }
+{
+    let failure = fixture_world::wrapper_yielded_again(world.alloc, &mut world.world)?;
+    Ok(failure)
 }

@@ -4,10 +4,11 @@ ghost use Rattle.std.specs.Prelude.{◌≡◌, [], IfOk, None, OnOk, Some};
 ghost use Rattle.std.specs.Option.{option_to_list};
 ghost use Rattle.runtest_reports.specs.fixture_sessions.FixtureSession.{fixture_call};
 ghost use Rattle.fixture_world.specs.Items.{item_in_session};
-ghost use Rattle.run_items.specs.Stands.{IsPlannedItem, plan_rules, stand_state};
+ghost use Rattle.run_items.specs.Stands.{IsPlan, IsPlannedItem, plan_rules, stand_state};
 ghost use Rattle.session_rules.specs.Demand.{numbers_of};
-ghost use Rattle.session_rules.specs.Session.{pyfunc_call, test_with};
+ghost use Rattle.session_rules.specs.Session.{in_hooks, pyfunc_call, test_with};
 ghost use Rattle.session_rules.specs.Teardown.{emit, session_step};
+ghost use Rattle.session_rules.specs.World.{Call};
 ghost use Rattle.session_types.specs.declared.journal.Event.TheVariants.{CallBegins, CallEnds};
 
 use crate::acts::{ask_test, call_test, memory, wrong_arguments};
@@ -15,6 +16,7 @@ use crate::plan::Plan;
 use crate::raised::at_most_one;
 use crate::stand::Stand;
 use fixture_calls::Failure;
+use hook_phases::HookPhase;
 use item_stack::{plain_item, values_given};
 use py_values::value::Value;
 use seq::{OutOfMemory, Seq};
@@ -72,7 +74,11 @@ fn call_where(
 }
 
 /// Calls a test with the values that its set-up was given.
-fn call_asked(stand: &mut Stand, plan: &Plan, item: &Item) -> Result<Seq<Failure>, OutOfMemory>
+pub(crate) fn call_asked(
+    stand: &mut Stand,
+    plan: &Plan,
+    item: &Item,
+) -> Result<Seq<Failure>, OutOfMemory>
     requires item { IsPlannedItem plan.now item.now }
     ensures { IfOk result (λ raised. session_step raised (stand_state stand.new) ≡ pyfunc_call (plan_rules plan.now) (item_in_session plan.now.table item.now) (stand_state stand.old)) }
 {
@@ -104,13 +110,25 @@ fn end_call(stand: &mut Stand, node: u32) -> Result<(), OutOfMemory>
     Ok(())
 }
 
-/// Calls an item's test with the values that it was given.
+/// The hook call around an item's test.
+fn call_hooked(stand: &mut Stand, plan: &Plan, item: &Item) -> Result<Seq<Failure>, OutOfMemory>
+    requires plan { IsPlan plan.now }
+    requires item { IsPlannedItem plan.now item.now }
+    ensures { IfOk result (λ raised. session_step raised (stand_state stand.new) ≡ in_hooks (plan_rules plan.now) Call (item_in_session plan.now.table item.now) None (pyfunc_call (plan_rules plan.now) (item_in_session plan.now.table item.now)) (stand_state stand.old)) }
+{
+    let alloc = memory(&stand.world);
+    let raised = hook_phases::in_hooks(alloc, stand, plan, HookPhase::Call, item, None)?;
+    Ok(raised)
+}
+
+/// Calls an item's test, with its hooks, with the values that it was given.
 pub(crate) fn call(stand: &mut Stand, plan: &Plan, item: &Item) -> Result<Seq<Failure>, OutOfMemory>
+    requires plan { IsPlan plan.now }
     requires item { IsPlannedItem plan.now item.now }
     ensures { IfOk result (λ raised. session_step raised (stand_state stand.new) ≡ fixture_call (plan_rules plan.now) (item_in_session plan.now.table item.now) (stand_state stand.old)) }
 {
     begin_call(stand, item.node)?;
-    let raised = call_asked(stand, plan, item)?;
+    let raised = call_hooked(stand, plan, item)?;
     match end_call(stand, item.node) {
         Ok(()) => Ok(raised),
         Err(fault) => {

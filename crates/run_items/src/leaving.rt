@@ -2,8 +2,11 @@
 
 ghost use Rattle.std.specs.Prelude.{◌≡◌, [], IfOk, option_map};
 ghost use Rattle.runtest_reports.specs.fixture_sessions.FixtureSession.{fixture_leave};
+ghost use Rattle.fixture_world.specs.Items.{item_in_session};
+ghost use Rattle.hook_phases.specs.Steps.{IsKnownWhere, item_where};
 ghost use Rattle.run_items.specs.Stands.{IsPlan, IsPlannedItem, node_of, plan_rules, planned, stand_state};
 ghost use Rattle.runtest_reports.specs.Stages.{IsKnownItem, session_item};
+ghost use Rattle.session_rules.specs.Session.{leave};
 ghost use Rattle.session_rules.specs.Teardown.{down_all, session_step};
 
 use crate::acts::memory;
@@ -29,11 +32,12 @@ pub(crate) fn leave(
     next: Option<&Item>,
 ) -> Result<Seq<Failure>, OutOfMemory>
     requires plan { IsPlan plan.now }
-    requires next { IsKnownItem (IsPlannedItem plan.now) (option_map (λ item. item.now) next) }
-    ensures { IfOk result (λ raised. session_step raised (stand_state stand.new) ≡ fixture_leave (plan_rules plan.now) (session_item (planned plan.now) (option_map (λ item. item.now) next.entry)) (stand_state stand.old)) }
+    requires next { IsKnownWhere (IsPlannedItem plan.now) (option_map (λ item. item.now) next) }
+    ensures { IfOk result (λ raised. session_step raised (stand_state stand.new) ≡ leave (plan_rules plan.now) (item_where (item_in_session plan.now.table) (option_map (λ item. item.now) next.entry)) (stand_state stand.old)) }
 {
     let alloc = memory(&stand.world);
     let node = node_of(next);
+    stand.left = true;
     let raised = item_stack::leave(
         alloc,
         &mut stand.stack,
@@ -42,6 +46,23 @@ pub(crate) fn leave(
         &plan.table,
         node,
     )?;
+    Ok(raised)
+}
+
+/// Leaves an item, with its hooks.
+pub(crate) fn tear_down(
+    stand: &mut Stand,
+    plan: &Plan,
+    item: &Item,
+    next: Option<&Item>,
+) -> Result<Seq<Failure>, OutOfMemory>
+    requires plan { IsPlan plan.now }
+    requires item { IsPlannedItem plan.now item.now }
+    requires next { IsKnownItem (IsPlannedItem plan.now) (option_map (λ item. item.now) next) }
+    ensures { IfOk result (λ raised. session_step raised (stand_state stand.new) ≡ fixture_leave (plan_rules plan.now) (item_in_session plan.now.table item.now) (session_item (planned plan.now) (option_map (λ item. item.now) next.entry)) (stand_state stand.old)) }
+{
+    let alloc = memory(&stand.world);
+    let raised = hook_phases::leave(alloc, stand, plan, item, next)?;
     Ok(raised)
 }
 

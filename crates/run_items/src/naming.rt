@@ -1,8 +1,9 @@
-// The names of fixtures, as a report has them.
+// The names of fixtures and the ids of their parameters, as a report has them.
 
-ghost use Rattle.std.specs.Prelude.{◌≡◌, ℕ, ◌++◌, ◌∷◌, IfOk, List, OnOk, encode_utf8_all};
+ghost use Rattle.std.specs.Prelude.{◌≡◌, ℕ, ◌++◌, ◌∷◌, IfOk, List, OnOk, encode_utf8_all, option_map};
 ghost use Rattle.run_items.specs.Texts.{fixture_texts, texts_of};
 ghost use Rattle.fixture_calls.specs.Arguments.{names_request};
+ghost use Rattle.fixture_world.specs.Items.{id_in};
 ghost use Rattle.test_suite.specs.Suites.{fixture_at};
 
 use py_text::PyText;
@@ -10,7 +11,7 @@ use report_parts::{Text, push_chars};
 use seq::{OutOfMemory, Seq};
 use session_types::{DefId, Scope};
 use std::alloc::Global;
-use test_suite::Suite;
+use test_suite::{FixtureParam, Suite};
 
 /// The scope of a definition.
 pub(crate) fn fixture_scope(suite: &Suite, def: DefId) -> Scope
@@ -89,4 +90,16 @@ pub(crate) fn argument_names(
         Some(fixture) => texts_of(alloc, fixture.arguments.items()),
         None => Ok(Seq::new(alloc)),
     }
+}
+
+/// The id of the parameter that stands there for a definition.
+pub(crate) fn param_id<'a>(params: &'a [FixtureParam], def: DefId) -> Option<&'a str>
+    ensures { option_map (λ id. id.now) result ≡ id_in params.now def }
+{
+    for param in params {
+        if def.number() == param.def.number() {
+            return Some(param.id.text());
+        }
+    }
+    None
 }

@@ -7,11 +7,13 @@ ghost use Rattle.run_items.specs.Stands.{IsPlan, IsPlannedItem, plan_rules, stan
 ghost use Rattle.session_rules.specs.Session.{demand_closure, set_up_item};
 ghost use Rattle.session_rules.specs.Teardown.{session_step};
 
-use crate::acts::{fixture_fault, memory, skip};
+use crate::acts::{fixture_fault, memory};
 use crate::plan::Plan;
 use crate::raised::one;
 use crate::stand::Stand;
 use fixture_calls::Failure;
+use fixture_world::demanding;
+use hook_phases::{HookPhase, in_hooks};
 use item_stack::demand_all;
 use seq::{OutOfMemory, Seq};
 use session_types::DefId;
@@ -30,13 +32,14 @@ fn demand(
     ensures { IfOk result (λ raised. session_step raised (stand_state stand.new) ≡ demand_closure (plan_rules plan.now) (item_in_session plan.now.table item.now) defs.now (stand_state stand.old)) }
 {
     let alloc = memory(&stand.world);
+    let at = demanding(alloc, item, stand.stack.stack.own)?;
     let raised = demand_all(
         alloc,
         &mut stand.stack,
         &mut stand.world,
         &plan.run,
         &plan.table,
-        item.node,
+        &at,
         defs,
     )?;
     Ok(raised)
@@ -53,7 +56,12 @@ fn fault(stand: &mut Stand, plan: &Plan, item: &Item) -> Result<Seq<Failure>, Ou
     Ok(raised)
 }
 
-fn demand_or_fault(stand: &mut Stand, plan: &Plan, item: &Item) -> Result<Seq<Failure>, OutOfMemory>
+/// Demands an item's closure, or raises its fault.
+pub(crate) fn demand_or_fault(
+    stand: &mut Stand,
+    plan: &Plan,
+    item: &Item,
+) -> Result<Seq<Failure>, OutOfMemory>
     requires plan { IsPlan plan.now }
     requires item { IsPlannedItem plan.now item.now }
     ensures { IfOk result (λ raised. session_step raised (stand_state stand.new) ≡ set_up_item (plan_rules plan.now) (item_in_session plan.now.table item.now) (stand_state stand.old)) }
@@ -70,7 +78,7 @@ fn demand_or_fault(stand: &mut Stand, plan: &Plan, item: &Item) -> Result<Seq<Fa
     }
 }
 
-/// Skips an item, or demands its closure, or raises its fault.
+/// Sets an item up, with its hooks: skips it, or demands its closure, or raises its fault.
 pub(crate) fn set_up(
     stand: &mut Stand,
     plan: &Plan,
@@ -80,15 +88,7 @@ pub(crate) fn set_up(
     requires item { IsPlannedItem plan.now item.now }
     ensures { IfOk result (λ raised. session_step raised (stand_state stand.new) ≡ fixture_set_up (plan_rules plan.now) (item_in_session plan.now.table item.now) (stand_state stand.old)) }
 {
-    let skipped = skip(&mut stand.world, item)?;
-    match skipped {
-        Some(failure) => {
-            let raised = one(memory(&stand.world), failure)?;
-            Ok(raised)
-        }
-        None => {
-            let raised = demand_or_fault(stand, plan, item)?;
-            Ok(raised)
-        }
-    }
+    let alloc = memory(&stand.world);
+    let raised = in_hooks(alloc, stand, plan, HookPhase::SetUp, item, None)?;
+    Ok(raised)
 }

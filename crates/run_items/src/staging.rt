@@ -6,7 +6,7 @@ ghost use Rattle.runtest_reports.specs.Kept.{reported_ending, session_phase};
 ghost use Rattle.session_rules.specs.Session.{telling};
 ghost use Rattle.session_rules.specs.Teardown.{in_world, session_step};
 
-use crate::naming::{argument_names, fixture_name, fixture_scope};
+use crate::naming::{argument_names, fixture_name, fixture_scope, param_id};
 use crate::plan::Plan;
 use crate::stand::Stand;
 use crate::{calling, ending, leaving, opening, setting_up};
@@ -49,11 +49,6 @@ impl Stage for Stand {
         Ok(())
     }
 
-    fn make_object(&mut self, plan: &Plan, item: &Item) -> Result<(), OutOfMemory> {
-        opening::make_object(self, plan, item)?;
-        Ok(())
-    }
-
     fn set_up(&mut self, plan: &Plan, item: &Item) -> Result<Seq<Failure>, OutOfMemory> {
         let raised = setting_up::set_up(self, plan, item)?;
         Ok(raised)
@@ -64,8 +59,13 @@ impl Stage for Stand {
         Ok(raised)
     }
 
-    fn leave(&mut self, plan: &Plan, next: Option<&Item>) -> Result<Seq<Failure>, OutOfMemory> {
-        let raised = leaving::leave(self, plan, next)?;
+    fn leave(
+        &mut self,
+        plan: &Plan,
+        item: &Item,
+        next: Option<&Item>,
+    ) -> Result<Seq<Failure>, OutOfMemory> {
+        let raised = leaving::tear_down(self, plan, item, next)?;
         Ok(raised)
     }
 
@@ -119,8 +119,8 @@ impl Stage for Stand {
         }
     }
 
-    fn parameter<'a>(_plan: &'a Plan, _item: &'a Item, _def: DefId) -> Option<&'a str> {
-        None
+    fn parameter<'a>(_plan: &'a Plan, item: &'a Item, def: DefId) -> Option<&'a str> {
+        param_id(item.params.items(), def)
     }
 
     fn scope(plan: &Plan, def: DefId) -> Scope {

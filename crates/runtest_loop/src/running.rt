@@ -1,20 +1,21 @@
 // The run of the items that a feed gives.
 
-ghost use Rattle.std.specs.Prelude.{◌≡◌, ◌<◌, ◌≤◌, ◌+◌, ◌++◌, [], List, IfErr, IfOk, OnOk, length, option_copied, option_to_list, false, true};
+ghost use Rattle.std.specs.Prelude.{◌≡◌, ℕ, ◌<◌, ◌≤◌, ◌+◌, ◌++◌, [], List, IfErr, IfOk, OnOk, length, option_copied, option_to_list, false, true};
 ghost use Rattle.runtest_reports.specs.fixture_sessions.FixtureSession as loop;
-ghost use Rattle.runtest_loop.specs.Course.{arrivals_with, chosen_in, reports_left, run_left, told_item};
+ghost use Rattle.runtest_loop.specs.Course.{IsToldItem, chosen_in, reports_left, run_left};
 ghost use Rattle.runtest_loop.specs.Fed.{AreKnown, IsNumbered, numbers_fed, numbers_in_range, unfed};
+ghost use Rattle.runtest_loop.specs.Item.{IsCalledItem};
 ghost use Rattle.runtest_loop.specs.Run.{Runs, is_stopped};
 ghost use Rattle.report_parts.specs.declared.report.ItemReport.{ItemReport};
 ghost use Rattle.runtest_loop.specs.RunFaults.{IsBlamed};
-ghost use Rattle.runtest_reports.specs.Kept.{arrived_all};
-ghost use Rattle.runtest_reports.specs.report_rules.Rows.{Arrival};
+ghost use Rattle.runtest_reports.specs.report_rules.Collected.{report_language};
 ghost use Rattle.runtest_reports.specs.Stages.{IsKnownItem, session_item};
 ghost use Rattle.session_rules.specs.Session.{reaches, initial_state};
+ghost use Rattle.session_rules.specs.Teardown.{SessionState};
 ghost use Rattle.share_files.specs.Deal.{Every};
 
 use crate::fed::{next_number, value_at};
-use crate::item::{reaches, run_item};
+use crate::item::{CalledItem, behind_call, call_item, reaches};
 use crate::receiver::Receiver;
 use crate::run_end::{RunEnd, RunFault};
 use cli_words::Options;
@@ -31,7 +32,7 @@ struct CountedReport {
     bad: u32,
 }
 
-/// Runs an item, behind which this one comes, and reports it.
+/// Tears an item down whose call has ended, behind which this one comes, and reports it.
 fn tell_item<S: Stage>(
     alloc: Global,
     stage: &mut S,
@@ -40,22 +41,19 @@ fn tell_item<S: Stage>(
     arrived: &mut Seq<FixtureLines>,
     item: &S::Item,
     next: Option<&S::Item>,
-    has_object: bool,
-    bad: u32,
+    called: CalledItem,
 ) -> Result<CountedReport, OutOfMemory>
     requires here { S.stands setting.now stage.old }
     requires known { S.known setting.now item.now }
     requires next { IsKnownItem (S.known setting.now) (option_copied next) }
-    requires few { bad ≤ 400000 }
-    ensures report { IfOk result (λ t. (arrivals : List Arrival) → arrived.old ≡ arrived_all (S.rules setting.now).scope (S.fixture setting.now) options.now.setup_show arrivals
-        → (t.report ≡ told_item (S.rules setting.now) (S.fixture setting.now) options.now arrivals (S.selected setting.now item.now) (loop.fixture_item (S.rules setting.now) options.now.maxfail has_object (S.selected setting.now item.now).item (session_item (S.selected setting.now) (option_copied next.entry)) bad (S.state stage.old)))
-        × (arrived.new ≡ arrived_all (S.rules setting.now).scope (S.fixture setting.now) options.now.setup_show (arrivals_with (S.rules setting.now) (S.fixture setting.now) options.now arrivals (S.selected setting.now item.now) (loop.fixture_item (S.rules setting.now) options.now.maxfail has_object (S.selected setting.now item.now).item (session_item (S.selected setting.now) (option_copied next.entry)) bad (S.state stage.old))))) }
-    ensures bad { IfOk result (λ t. t.bad ≡ (loop.fixture_item (S.rules setting.now) options.now.maxfail has_object (S.selected setting.now item.now).item (session_item (S.selected setting.now) (option_copied next.entry)) bad (S.state stage.old)).bad) }
-    ensures state { OnOk result (S.state stage.new ≡ (loop.fixture_item (S.rules setting.now) options.now.maxfail has_object (S.selected setting.now item.now).item (session_item (S.selected setting.now) (option_copied next.entry)) bad (S.state stage.old)).state) }
-    ensures more { IfOk result (λ t. t.bad ≤ bad + 3) }
+    requires few { called.bad ≤ 400002 }
+    ensures told { IfOk result (λ t. (bad : ℕ) (before : SessionState (report_language S.World S.Value S.Thrown S.Rest)) → IsCalledItem (S.rules setting.now) (S.fixture setting.now) options.now.setup_show (S.selected setting.now item.now) bad before called (S.state stage.old)
+        → IsToldItem (S.rules setting.now) (S.fixture setting.now) options.now (S.selected setting.now item.now) (loop.fixture_item (S.rules setting.now) options.now.maxfail (S.selected setting.now item.now).item (session_item (S.selected setting.now) (option_copied next.entry)) bad before) arrived.old t.report arrived.new t.bad (S.state stage.new)) }
+    ensures more { IfOk result (λ t. t.bad ≤ called.bad + 1) }
     ensures here { OnOk result (S.stands setting.now stage.new) }
 {
-    let kept = run_item(
+    let CalledItem { set_up, call, bad } = called;
+    let kept = behind_call(
         alloc,
         stage,
         setting,
@@ -63,7 +61,8 @@ fn tell_item<S: Stage>(
         options.maxfail,
         item,
         next,
-        has_object,
+        set_up,
+        call,
         bad,
     )?;
     let bad = kept.bad;
@@ -99,20 +98,22 @@ fn run_all<S: Stage, F: Feed, P: Receiver>(
     requires in_range { numbers_in_range (length items.now) groups.now }
     requires few { unfed groups.now (F.given feed.old) ≤ 131072 }
     requires fresh { F.given feed.old ≡ [] }
-    ensures reports { IfOk result (λ end. P.taken to.new ≡ P.taken to.old ++ reports_left (S.rules setting.now) (S.fixture setting.now) options.now [] false (chosen_in (S.selected setting.now) items.now (numbers_fed groups.now (F.given feed.new))) 0 (S.state stage.old)) }
-    ensures state { IfOk result (λ end. S.state stage.new ≡ (run_left (S.rules setting.now) (S.fixture setting.now) options.now false (chosen_in (S.selected setting.now) items.now (numbers_fed groups.now (F.given feed.new))) 0 (S.state stage.old)).state) }
-    ensures stopped { IfOk result (λ end. is_stopped end ≡ reaches options.now.maxfail (run_left (S.rules setting.now) (S.fixture setting.now) options.now false (chosen_in (S.selected setting.now) items.now (numbers_fed groups.now (F.given feed.new))) 0 (S.state stage.old)).bad) }
+    ensures reports { IfOk result (λ end. P.taken to.new ≡ P.taken to.old ++ reports_left (S.rules setting.now) (S.fixture setting.now) options.now [] (chosen_in (S.selected setting.now) items.now (numbers_fed groups.now (F.given feed.new))) 0 (S.state stage.old)) }
+    ensures state { IfOk result (λ end. S.state stage.new ≡ (run_left (S.rules setting.now) (S.fixture setting.now) options.now (chosen_in (S.selected setting.now) items.now (numbers_fed groups.now (F.given feed.new))) 0 (S.state stage.old)).state) }
+    ensures stopped { IfOk result (λ end. is_stopped end ≡ reaches options.now.maxfail (run_left (S.rules setting.now) (S.fixture setting.now) options.now (chosen_in (S.selected setting.now) items.now (numbers_fed groups.now (F.given feed.new))) 0 (S.state stage.old)).bad) }
+    ensures feed { (F.origin feed.new ≡ F.origin feed.old) × (F.limit feed.new ≡ F.limit feed.old) }
     ensures done { IfOk result (λ end. is_stopped end ≡ false → F.ended feed.new ≡ true) }
     ensures blamed { IfErr result (λ fault. IsBlamed (P.faults to.old) (P.faults to.new) fault) }
     ensures here { OnOk result (S.stands setting.now stage.new) }
 {
     let mut arrived = Seq::new(alloc);
     let mut bad = 0u32;
-    let mut has_object = false;
     let (first, others) = next_number(groups, feed, &[], items.len());
     let mut current = first;
     let mut rest = others;
     'items: while let Some(number) = current {
+        let item = value_at(items, number);
+        let called = call_item(alloc, stage, setting, options.setup_show, item, bad)?;
         let (next, behind) = next_number(groups, feed, rest, items.len());
         let told = tell_item(
             alloc,
@@ -120,10 +121,9 @@ fn run_all<S: Stage, F: Feed, P: Receiver>(
             setting,
             options,
             &mut arrived,
-            value_at(items, number),
+            item,
             item_if(items, next),
-            has_object,
-            bad,
+            called,
         )?;
         let more = told.bad;
         to.report(told.report)?;
@@ -131,7 +131,6 @@ fn run_all<S: Stage, F: Feed, P: Receiver>(
             return Ok(RunEnd::Stopped);
         }
         bad = more;
-        has_object = true;
         current = next;
         rest = behind;
     }
@@ -164,6 +163,8 @@ pub fn run<S: Stage, F: Feed, P: Receiver>(
     requires fresh { F.given feed.old ≡ [] }
     ensures run { IfOk result (λ end. (reports : List ItemReport) × (P.taken to.new ≡ P.taken to.old ++ reports)
         × Runs (S.rules setting.now) (S.fixture setting.now) options.now (chosen_in (S.selected setting.now) items.now (numbers_fed groups.now (F.given feed.new))) (S.state stage.old).world reports end (S.state stage.new)) }
+    ensures feed { (F.origin feed.new ≡ F.origin feed.old) × (F.limit feed.new ≡ F.limit feed.old) }
+    ensures whole { IfOk result (λ end. options.now.maxfail ≡ 0 → is_stopped end ≡ false) }
     ensures done { IfOk result (λ end. is_stopped end ≡ false → F.ended feed.new ≡ true) }
     ensures blamed { IfErr result (λ fault. IsBlamed (P.faults to.old) (P.faults to.new) fault) }
     ensures empty { OnOk result ((S.state stage.new).live ≡ []) }

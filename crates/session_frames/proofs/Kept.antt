@@ -1,138 +1,128 @@
 -- What fixtures and tests of sources do keeps the frames that are out.
-use Rattle.std.proofs.Common.{◌≡◌, ℕ, true, List, [], Option, None, inl, inr, ◌⊎◌, refl, sym, subst, ◌∙◌, map}
+use Rattle.std.proofs.Common.{◌≡◌, ℕ, true, false, cond, List, [], Option, None, refl, ◌∙◌}
+use Rattle.std.specs.Prelude.{◌==◌}
 use Rattle.cli_words.specs.declared.options.Options.{Options}
-use Rattle.runtest_rules.specs.collect_marks.Names.{marks_in}
-use Rattle.runtest_rules.specs.collect_marks.Says.{skipped_by}
 use Rattle.core_rules.specs.Keeps.{IsKeptBehind, IsKeptIn}
 use Rattle.runtest_rules.specs.fixture_calls.Arguments.{asks_request, positional}
 use Rattle.runtest_rules.specs.fixture_calls.Asking.{finalizers_taken, fixture_request, scope_text, test_request}
 use Rattle.runtest_rules.specs.fixture_calls.Calls.{finalizer_called, test_called}
 use Rattle.runtest_rules.specs.fixture_calls.Yields.{did_not_yield, fixture_abandoned, fixture_begun, fixture_resumed, own_if, yielded_again}
 use Rattle.runtest_rules.specs.fixture_calls.declared.failure.Failure.{Failure}
-use Rattle.fixture_sessions.proofs.Frames.{none_left}
-use Rattle.fixture_sessions.proofs.Rows.{world_same}
-use Rattle.fixture_sessions.specs.BuiltIn.{HasBuiltInHooks, built_in_impls}
-use Rattle.fixture_sessions.specs.FixtureFrames.{AddsNone, KeepsFrames, Spends, StandsAt}
+use Rattle.hook_order.specs.declared.implementation.Impl.{Impl}
 use Rattle.py_values.specs.declared.value.Value.{Value}
 use Rattle.py_values.specs.declared.value.Value.TheVariants as val
 use Rattle.runtest_rules.specs.py_world.Resuming.{Sent, SentValue, abandon_of, is_out}
-use Rattle.fixture_sessions.specs.report_rules.Rows.{Task, task_item, ran}
-use Rattle.runtest_rules.specs.Failures.{fixture_fault, skipped, wrong_arguments}
+use Rattle.runtest_rules.specs.Failures.{fixture_fault, skip_reason, skipped, wrong_arguments}
 use Rattle.runtest_rules.specs.Language.{python}
 use Rattle.runtest_rules.specs.Objects.{instance_of_item, item_object}
 use Rattle.runtest_rules.specs.Phases.{phase_ended}
-use Rattle.runtest_rules.specs.Rules.{body_end_of, hooks_of, rules}
-use Rattle.session_rules.specs.Fits.{Distinct}
-use Rattle.session_rules.specs.World.{Call, Phase, SetUp, Teardown}
+use Rattle.runtest_rules.specs.Rules.{body_outcome, hook_end_of, implemented_for, param_value, rules}
+use Rattle.session_rules.specs.Frames.{BeginsFrame, KeepsFrames, ResumesFrame, SameFrames, TakesFrame}
+use Rattle.session_rules.specs.World.{Phase}
 use Rattle.core_rules.specs.source_meaning.Meaning.{SourceWorld, source_begin, source_call, source_resume}
 use Rattle.runtest_rules.specs.test_suite.Suites.{fixture_at, item_with_node}
 use Rattle.runtest_rules.specs.test_suite.declared.fixture.Fixture.{Fixture}
+use Rattle.runtest_rules.specs.test_suite.declared.item.BoundArgument.{BoundArgument}
 use Rattle.runtest_rules.specs.test_suite.declared.item.Item.{Item}
 use Rattle.runtest_rules.specs.test_suite.declared.suite.Suite.{Suite}
-use Rattle.session_frames.proofs.Worlds.{body_frames, call_frames, instance_frames, none_added, one_less, request_frames, skip_frames}
+use Rattle.session_frames.proofs.Worlds.{body_begun_frames, body_resumed_frames, call_frames, instance_frames, request_frames, same_frames, skip_frames, taken}
 
 -- what the runner makes
-made_instance : (i : Item) (w : SourceWorld) → AddsNone is_out w (instance_of_item i w).1
+made_instance : (i : Item) (w : SourceWorld) → SameFrames is_out w (instance_of_item i w).1
 unfolding instance_of_item
-made_instance i w = none_added w (instance_of_item i w).1 (instance_frames i.test.class w)
+made_instance i w = same_frames w (instance_of_item i w).1 (instance_frames i.test.class w)
 
-made_object : (i : Item) (w : SourceWorld) → AddsNone is_out w (item_object i w).1
+made_object : (i : Item) (w : SourceWorld) → SameFrames is_out w (item_object i w).1
 unfolding item_object
-made_object i w = none_added w (item_object i w).1 refl
+made_object i w = same_frames w (item_object i w).1 refl
 
-asked : (f : Fixture) (w : SourceWorld) → AddsNone is_out w (fixture_request f w).1
+asked : (f : Fixture) (param : Option Value) (w : SourceWorld) → SameFrames is_out w (fixture_request f param w).1
 unfolding fixture_request
-asked f w = none_added w (fixture_request f w).1 (request_frames (asks_request f.arguments) _ (scope_text f.scope) w)
+asked f param w = same_frames w (fixture_request f param w).1 (request_frames (asks_request f.arguments) _ (scope_text f.scope) param w)
 
-test_asked : (i : Item) (w : SourceWorld) → AddsNone is_out w (test_request i w).1
+test_asked : (i : Item) (w : SourceWorld) → SameFrames is_out w (test_request i w).1
 unfolding test_request
-test_asked i w = none_added w (test_request i w).1 (request_frames (asks_request i.arguments) None _ w)
+test_asked i w = same_frames w (test_request i w).1 (request_frames (asks_request i.arguments) None _ None w)
 
-not_yielded : (f : Fixture) (w : SourceWorld) → AddsNone is_out w (did_not_yield f w).1
+not_yielded : (f : Fixture) (w : SourceWorld) → SameFrames is_out w (did_not_yield f w).1
 unfolding did_not_yield
-not_yielded f w = none_added w (did_not_yield f w).1 refl
+not_yielded f w = same_frames w (did_not_yield f w).1 refl
 
-again : (f : Fixture) (w : SourceWorld) → AddsNone is_out w (yielded_again f w).1
+again : (f : Fixture) (w : SourceWorld) → SameFrames is_out w (yielded_again f w).1
 unfolding yielded_again
-again f w = none_added w (yielded_again f w).1 refl
+again f w = same_frames w (yielded_again f w).1 refl
 
-closed : (request : Value) (w : SourceWorld) → AddsNone is_out w (finalizers_taken request w).1
+closed : (request : Value) (w : SourceWorld) → SameFrames is_out w (finalizers_taken request w).1
 unfolding finalizers_taken
-closed request w = none_added w (finalizers_taken request w).1 refl
+closed request w = same_frames w (finalizers_taken request w).1 refl
 
-faulty : (i : Item) (w : SourceWorld) → AddsNone is_out w (fixture_fault i w).1
+faulty : (i : Item) (w : SourceWorld) → SameFrames is_out w (fixture_fault i w).1
 unfolding fixture_fault
-faulty i w = none_added w (fixture_fault i w).1 refl
+faulty i w = same_frames w (fixture_fault i w).1 refl
 
-wrong : (i : Item) (w : SourceWorld) → AddsNone is_out w (wrong_arguments i w).1
+wrong : (i : Item) (w : SourceWorld) → SameFrames is_out w (wrong_arguments i w).1
 unfolding wrong_arguments
-wrong i w = none_added w (wrong_arguments i w).1 refl
+wrong i w = same_frames w (wrong_arguments i w).1 refl
 
-skips : (i : Item) (w : SourceWorld) → AddsNone is_out w (skipped i w).1
+skips : (i : Item) (w : SourceWorld) → SameFrames is_out w (skipped i w).1
 unfolding skipped
-skips i w = none_added w (skipped i w).1 (skip_frames i (skipped_by w.heap (marks_in w.heap i.marks)) w)
+skips i w = same_frames w (skipped i w).1 (skip_frames i (skip_reason i w.heap) w)
 
-ended : (phase : Phase) (i : Item) (raised : List Failure) (w : SourceWorld) → AddsNone is_out w (phase_ended phase i raised w).1
+ended : (phase : Phase) (i : Item) (raised : List Failure) (w : SourceWorld) → SameFrames is_out w (phase_ended phase i raised w).1
 unfolding phase_ended
-ended phase i raised w = none_added w (phase_ended phase i raised w).1 refl
+ended phase i raised w = same_frames w (phase_ended phase i raised w).1 refl
 
-gone : (n : ℕ) (w : SourceWorld) → Spends is_out n w (fixture_abandoned n w)
+gone : (n : ℕ) (w : SourceWorld) → TakesFrame is_out n w (fixture_abandoned n w)
 unfolding fixture_abandoned
-gone n w = λ r o. one_less w.frozen n r o
+gone n w = taken w (fixture_abandoned n w) n refl
 
-hooks_same : (phase : Phase) → hooks_of phase ≡ built_in_impls phase
-hooks_same SetUp = refl
-hooks_same Call = refl
-hooks_same Teardown = refl
-
-built_in : (options : Options) (suite : Suite) → HasBuiltInHooks (rules options suite)
-built_in options suite = record { hooks = λ phase n. hooks_same phase; unread = λ n arguments w. refl }
+nothing_done : (i : Item) (which : Impl) (w : SourceWorld) → SameFrames is_out w (implemented_for i which w).world
+nothing_done i which w =
+    elim (which.registered == 0) as (λ b. SameFrames is_out w (cond b (hook_end_of (skipped i w)) (hook_end_of (None, w))).world) [
+      | true ↦ skips i w
+      | false ↦ λ r. refl
+    ]
 
 -- what source code does
 module _ (calls : (w : SourceWorld) (f : Value) (args : List Value) (budget : ℕ) → IsKeptIn w (source_call f args budget w).1)
     (begins : (w : SourceWorld) (f : Value) (args : List Value) (budget : ℕ) → IsKeptBehind w w.frozen (source_begin f args budget w))
     (resumes : (w : SourceWorld) (n : ℕ) (sent : Sent) (budget : ℕ) → IsKeptBehind w (abandon_of n w).frozen (source_resume n sent budget w)) where
-  tested : (limit : ℕ) (i : Item) (own : Option Value) (values : List Value) (request : Option Value) (w : SourceWorld) → AddsNone is_out w (test_called limit i own values request w).1
+  tested : (limit : ℕ) (i : Item) (own : Option Value) (values : List Value) (request : Option Value) (w : SourceWorld) → SameFrames is_out w (test_called limit i own values request w).1
   unfolding test_called
   tested limit i own values request w =
-      let called = source_call i.test.function (positional own i.arguments request values) limit w in
-      none_added w (test_called limit i own values request w).1
-      (call_frames limit called.0.out called.1 ∙ (calls w i.test.function (positional own i.arguments request values) limit).frozen)
+      let called = source_call i.test.function (positional own i.bound i.arguments request values) limit w in
+      same_frames w (test_called limit i own values request w).1
+      (call_frames limit called.0.out called.1 ∙ (calls w i.test.function (positional own i.bound i.arguments request values) limit).frozen)
 
-  finalized : (limit : ℕ) (f : Value) (w : SourceWorld) → AddsNone is_out w (finalizer_called limit f w).1
+  finalized : (limit : ℕ) (f : Value) (w : SourceWorld) → SameFrames is_out w (finalizer_called limit f w).1
   unfolding finalizer_called
   finalized limit f w =
       let called = source_call f [] limit w in
-      none_added w (finalizer_called limit f w).1 (call_frames limit called.0.out called.1 ∙ (calls w f [] limit).frozen)
+      same_frames w (finalizer_called limit f w).1 (call_frames limit called.0.out called.1 ∙ (calls w f [] limit).frozen)
 
-  begun : (limit : ℕ) (f : Fixture) (own : Option Value) (values : List Value) (request : Option Value) (w : SourceWorld) (r : ℕ)
-      → is_out r (fixture_begun limit f own values request w).1 ≡ true → (is_out r w ≡ true) ⊎ StandsAt {L = python} r (body_end_of (fixture_begun limit f own values request w).0)
+  begun : (limit : ℕ) (f : Fixture) (bound : List BoundArgument) (own : Option Value) (values : List Value) (request : Option Value) (w : SourceWorld) → BeginsFrame {L = python} is_out w (body_outcome (fixture_begun limit f bound own values request w))
   unfolding fixture_begun
-  begun limit f own values request w r o =
-      let args = positional (own_if f.in_class own) f.arguments request values in
+  begun limit f bound own values request w =
+      let args = positional (own_if f.in_class own) bound f.arguments request values in
       let t = source_begin f.function args limit w in
-      body_frames limit t.0.out t.1 w.frozen (begins w f.function args limit).frames r o
+      body_begun_frames limit t.0.out w t.1 (begins w f.function args limit).frames
 
-  went_on : (limit n : ℕ) (w : SourceWorld) (r : ℕ)
-      → is_out r (fixture_resumed limit n w).1 ≡ true → ((is_out r w ≡ true) × (n ≡ r → ⊥)) ⊎ StandsAt {L = python} r (body_end_of (fixture_resumed limit n w).0)
+  went_on : (limit n : ℕ) (w : SourceWorld) → is_out n w ≡ true → ResumesFrame {L = python} is_out n w (body_outcome (fixture_resumed limit n w))
   unfolding fixture_resumed
-  went_on limit n w r o =
+  went_on limit n w out =
       let t = source_resume n (SentValue val.None) limit w in
-      elim (body_frames limit t.0.out t.1 (abandon_of n w).frozen (resumes w n (SentValue val.None) limit).frames r o) [
-        | inl a ↦ inl (one_less w.frozen n r a)
-        | inr s ↦ inr s
-      ]
+      body_resumed_frames limit t.0.out n w t.1 out (resumes w n (SentValue val.None) limit).frames
 
   pub keeps : (options : Options) (suite : Suite) → KeepsFrames (rules options suite) is_out
   keeps options suite =
       record {
         make_instance = λ n w. made_instance (item_with_node suite n) w;
         make_item = λ n w. made_object (item_with_node suite n) w;
-        ask = λ n d param w. asked (fixture_at suite d) w;
-        begin = λ n d param own values request w r o. begun options.step_limit (fixture_at suite d) own values request w r o;
+        ask = λ n d param w. asked (fixture_at suite d) (param_value (item_with_node suite n).params d) w;
+        begin = λ n d param own values request w. begun options.step_limit (fixture_at suite d) (item_with_node suite n).bound own values request w;
         did_not_yield = λ d w. not_yielded (fixture_at suite d) w;
-        resume = λ rest w r o. went_on options.step_limit rest w r o;
-        abandon = λ rest w. gone rest w;
+        resume = λ rest w out. went_on options.step_limit rest w out;
+        abandon = λ rest w out. gone rest w;
         yielded_again = λ d w. again (fixture_at suite d) w;
         close = λ request w. closed request w;
         finalize = λ f w. finalized options.step_limit f w;
@@ -140,13 +130,10 @@ module _ (calls : (w : SourceWorld) (f : Value) (args : List Value) (budget : �
         ask_test = λ n w. test_asked (item_with_node suite n) w;
         test = λ n own values request w. tested options.step_limit (item_with_node suite n) own values request w;
         wrong_arguments = λ n w. wrong (item_with_node suite n) w;
-        skip = λ n w. skips (item_with_node suite n) w;
+        implement = λ phase n arguments which w. nothing_done (item_with_node suite n) which w;
+        open_wrapper = λ phase n arguments which w r. refl;
+        wrapper_did_not_yield = λ which w r. refl;
+        resume_wrapper = λ phase n rest sent w out. gone rest w;
+        wrapper_yielded_again = λ which w r. refl;
         end_phase = λ phase n raised w. ended phase (item_with_node suite n) raised w;
       }
-
--- and so behind a session none is left
-pub none_is_left : ((options : Options) (suite : Suite) → KeepsFrames (rules options suite) is_out)
-    → (options : Options) (suite : Suite) (w : SourceWorld) (maxfail : ℕ) (tasks : List Task) → Distinct (map task_item tasks) → AddsNone is_out w (ran (rules options suite) w maxfail tasks).world
-none_is_left keep options suite w maxfail tasks distinct =
-    subst (λ (v : SourceWorld). AddsNone is_out w v) (sym (world_same (rules options suite) (built_in options suite) w maxfail tasks distinct))
-    (none_left (rules options suite) is_out (keep options suite) w maxfail (map task_item tasks))

@@ -1,2 +1,4 @@
 pub mod Worlds
 pub mod Kept
+pub mod Collected
+pub mod BuiltIns

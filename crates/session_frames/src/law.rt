@@ -1,26 +1,33 @@
-ghost use Rattle.std.specs.Prelude.{ℕ, List, map};
+ghost use Rattle.std.specs.Prelude.{◌≡◌, ℕ, List, false};
 ghost use Rattle.cli_words.specs.declared.options.Options.{Options};
-ghost use Rattle.fixture_sessions.specs.FixtureFrames.{AddsNone, KeepsFrames};
+ghost use Rattle.collect_tree.specs.Collection.{collect};
+ghost use Rattle.collect_tree.specs.py_load.Reading.{ReadFile};
 ghost use Rattle.runtest_rules.specs.py_world.Resuming.{is_out};
-ghost use Rattle.fixture_sessions.specs.report_rules.Rows.{Task, task_item, ran};
+ghost use Rattle.runtest_rules.specs.Language.{python};
 ghost use Rattle.runtest_rules.specs.Rules.{rules};
-ghost use Rattle.session_rules.specs.Fits.{Distinct};
-ghost use Rattle.core_rules.specs.source_meaning.Meaning.{SourceWorld};
+ghost use Rattle.runtest_rules.specs.report_rules.Collected.{Collected, Whole};
 ghost use Rattle.runtest_rules.specs.test_suite.declared.suite.Suite.{Suite};
+ghost use Rattle.session_rules.specs.BuiltIns.{HaveBuiltIns};
+ghost use Rattle.session_rules.specs.Frames.{KeepsFrames};
+ghost use Rattle.session_rules.specs.World.{Item};
 
 use core_rules::source_code_keeps_its_world;
 
-/// A law: what fixtures and tests of sources do keeps the frames that stand at a `yield`.
+/// A law: what fixtures and tests of sources do tells which frames stand at a `yield` behind it.
 pub fn sources_keep_their_frames()
     ensures { (options : Options) (suite : Suite) → KeepsFrames (rules options suite) is_out }
 {
     source_code_keeps_its_world();
 }
 
-/// A law: behind a session over sources no frame stands at its `yield` that didn't before.
-pub fn no_frame_is_left()
-    ensures { (options : Options) (suite : Suite) (w : SourceWorld) (maxfail : ℕ) (tasks : List Task) → Distinct (map task_item tasks)
-        → AddsNone is_out w (ran (rules options suite) w maxfail tasks).world }
+/// A law: behind a collection no frame stands at a `yield`.
+pub fn collection_leaves_no_frame_out()
+    ensures { (options : Options) (sources : List ReadFile) (c : Collected python Suite) → collect options sources ≡ Whole c → (n : ℕ) → is_out n c.world ≡ false }
 {
-    sources_keep_their_frames();
+    source_code_keeps_its_world();
 }
+
+/// A law: the hooks of each item have the runner's own implementations.
+pub fn hooks_have_the_built_ins()
+    ensures { (options : Options) (suite : Suite) (item : Item) → HaveBuiltIns (rules options suite) item }
+{}

@@ -1,18 +1,20 @@
-//! The law that a session over sources leaves no fixture standing at its `yield`.
+//! Laws of sessions over sources: which bodies stand at their `yield`, and that the runner's own hooks are there.
 //!
 //! # What it is for
 //!
-//! A body that stops at a `yield` is a frame of the world, out until it goes on or is given up. Here stands that what fixtures and tests
-//! of sources do keeps these frames, and so that none of a session's is left.
+//! A body that stops at a `yield` is a frozen frame of the world, out until it goes on or is given up. Here stands what collection and what
+//! fixtures and tests of sources do to these frames. With `session_rules` it follows that behind a session none is out, and that each goes on
+//! once; the headline of `pytest_core` tells it.
 //!
 //! # What is proved
 //!
 //! As the contract of a public function with an empty body:
 //!
-//! - [`sources_keep_their_frames`]: under the rules of a suite (`runtest_rules`) a fixture's function that yields adds its own frame, one
-//!   that goes on or is given up is spent, and nothing else adds any (`KeepsFrames` of `fixture_sessions`).
-//! - [`no_frame_is_left`]: behind the session of one thread over items of which no two have one node, no frame is out that wasn't out
-//!   before it, whatever is raised and wherever `--maxfail` ends it.
+//! - [`sources_keep_their_frames`]: under the rules of a suite (`runtest_rules`) a fixture's function that yields adds its own frame, which
+//!   was not out before; one that goes on or is given up is taken; and nothing else changes which are out (`KeepsFrames` of `session_rules`,
+//!   with `is_out` of a world of sources: whether the frame of a number is out).
+//! - [`collection_leaves_no_frame_out`]: in the world that collection leaves no frame is out.
+//! - [`hooks_have_the_built_ins`]: under these rules the hooks of each item have the runner's own implementations, each once (`HaveBuiltIns`).
 //!
 //! # What tests alone show
 //!
@@ -25,4 +27,6 @@
 
 mod law;
 
-pub use law::{no_frame_is_left, sources_keep_their_frames};
+pub use law::{
+    collection_leaves_no_frame_out, hooks_have_the_built_ins, sources_keep_their_frames,
+};

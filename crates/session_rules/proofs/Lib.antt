@@ -11,7 +11,9 @@ pub mod Frames
 pub mod Sessions
 pub mod Requests
 pub mod Small
-pub mod Counting
 pub mod Rows
 pub mod Unlawful
 pub mod HookCalls
+pub mod BuiltIns
+pub mod Twins
+pub mod Framed

@@ -6,6 +6,7 @@ pub mod World
 pub mod Teardown
 pub mod Demand
 pub mod Session
+pub mod BuiltIns
 pub mod Reports
 pub mod Fits
 pub mod Frames

@@ -1,4 +1,4 @@
-ghost use Rattle.std.specs.Prelude.{◌≡◌, ℕ, ◌<◌, Bool, List, [], true, reverse};
+ghost use Rattle.std.specs.Prelude.{◌≡◌, ℕ, ◌<◌, Bool, List, [], Option, true, reverse};
 ghost use Rattle.hook_order.specs.declared.implementation.Impl.{Impl};
 ghost use Rattle.hook_order.specs.declared.answers.Inner.{Inner};
 ghost use Rattle.hook_order.specs.HookCall.{CallsEach, FindsFirst, HookCall};
@@ -6,13 +6,14 @@ ghost use Rattle.session_rules.specs.Hooks.{HookRunner, first_call, hook_call};
 ghost use Rattle.session_rules.specs.HookFollows.{Agrees, RunnerFollows, HookView, itself};
 ghost use Rattle.session_rules.specs.Request.{RequestFinalizers, new_request, added_all, closed};
 ghost use Rattle.session_types.specs.Members.{IsMember};
+ghost use Rattle.session_rules.specs.BuiltIns.{BuiltInTurn, HasBuiltIns};
 ghost use Rattle.session_rules.specs.Events.{Lawful};
 ghost use Rattle.session_rules.specs.World.{Frame, Item, Phase, Exceptions, Rules, language};
 ghost use Rattle.session_rules.specs.Teardown.{SessionState};
 ghost use Rattle.session_rules.specs.Demand.{Refused, demand};
 ghost use Rattle.session_rules.specs.Session.{HookPlace, hook_runner, session, initial_state};
 ghost use Rattle.session_rules.specs.Reports.{IsSessionReport};
-ghost use Rattle.session_rules.specs.Frames.{Tidy};
+ghost use Rattle.session_rules.specs.Frames.{AreAlikeWhereOut, KeepsFrames, Resumptions, SameFrames, with_resumptions};
 ghost use Rattle.session_rules.specs.Fits.{HasFixtureClosure, Distinct, IsWellScoped, IsValidClosure};
 
 use hook_order::Runner;
@@ -44,9 +45,23 @@ pub fn every_item_is_reported_once<W: Acts>()
     ensures { (rules : Rules (language W W.Value W.Thrown W.Rest W.Told W.is_bad)) (maxfail : ℕ) (items : List Item) (world : W) → IsSessionReport maxfail items (session rules maxfail items (initial_state world)) }
 {}
 
-/// No frozen frame is out at the end of a session that wasn't out at its start, whatever is raised.
+/// At the end of a session exactly those frozen frames are out that were at its start, whatever is raised.
 pub fn no_frame_is_left_out<W: Acts>()
-    ensures { (rules : Rules (language W W.Value W.Thrown W.Rest W.Told W.is_bad)) (out : W → ℕ) → Tidy rules out → (maxfail : ℕ) (items : List Item) (world : W) → ((item : Item) → IsMember item items → HasFixtureClosure rules item) → out (session rules maxfail items (initial_state world)).world ≡ out world }
+    ensures { (rules : Rules (language W W.Value W.Thrown W.Rest W.Told W.is_bad)) (is_out : W.Rest → W → Bool) → KeepsFrames rules is_out → (maxfail : ℕ) (items : List Item) (world : W) → ((item : Item) → IsMember item items → HasFixtureClosure rules item) → SameFrames is_out world (session rules maxfail items (initial_state world)).world }
+{}
+
+/// No frozen frame that isn't out goes on or is given up, and one that is out is given up only where it stands at a further `yield`: a
+/// session is the same, whatever else the rules would do with a frame. So each frame goes on once: behind it, it is out no more.
+pub fn frames_go_on_once<W: Acts>()
+    ensures { (rules : Rules (language W W.Value W.Thrown W.Rest W.Told W.is_bad)) (is_out : W.Rest → W → Bool) → KeepsFrames rules is_out → (others : Resumptions (language W W.Value W.Thrown W.Rest W.Told W.is_bad)) → AreAlikeWhereOut rules is_out others
+        → (maxfail : ℕ) (items : List Item) (world : W) → session (with_resumptions others rules) maxfail items (initial_state world) ≡ session rules maxfail items (initial_state world) }
+{}
+
+/// In the hook call of a phase whose implementations have the runner's own (`HasBuiltIns`), the built-in one is called once, or another
+/// raised before it.
+pub fn the_built_in_has_one_turn<W: Acts>()
+    ensures { (rules : Rules (language W W.Value W.Thrown W.Rest W.Told W.is_bad)) (phase : Phase) (item : Item) (next : Option ℕ) → HasBuiltIns phase (rules.hooks phase item.node)
+        → (s : SessionState (language W W.Value W.Thrown W.Rest W.Told W.is_bad)) → BuiltInTurn rules phase item next s }
 {}
 
 /// A demand that is refused says why.

@@ -1,6 +1,5 @@
-ghost use Rattle.std.specs.Prelude.{◌≡◌, ⊤, Contains};
+ghost use Rattle.std.specs.Prelude.{⊤};
 ghost use Rattle.hook_order.specs.Answers.{HandsOnWant};
-ghost use Rattle.hook_order.specs.Frames.{TakesFrame};
 
 use hook_order::{Impl, Inner, Opened, Ran, Runner, call_all, call_first, order};
 use std::alloc::{AllocError, Global};
@@ -22,11 +21,12 @@ enum Act {
     WantsMemoryBehind,
 }
 
-/// It logs its calls; the number of a list is 1000.
+/// It logs its calls, and counts the wrappers that stand at their `yield`: one that goes on where none stands is logged so; the number
+/// of a list is 1000.
 #[derive(Drop)]
 struct Fake {
     acts: Vec<Act>,
-    out: Vec<u32>,
+    out: u32,
     log: String,
 }
 
@@ -38,23 +38,21 @@ impl Fake {
             .unwrap_or(Act::GivesNone)
     }
 
-    fn note(&mut self, what: &str, code: u32)
-        ensures { self.new.out ≡ self.old.out }
-    {
+    fn note(&mut self, what: &str, code: u32) {
         let _ = write!(self.log, "{what} {code}; ");
     }
-}
 
-fn take_out(out: &mut Vec<u32>, frozen: u32)
-    requires { Contains out.old.items frozen }
-    ensures { TakesFrame frozen out.old.items out.new.items }
-{
-    let mut at = out.len();
-    while at > 0 {
-        at -= 1;
-        if out[at] == frozen {
-            let _frame = out.remove(at);
-            return;
+    fn stand(&mut self, code: u32) {
+        match self.out.checked_add(1) {
+            Some(out) => self.out = out,
+            None => self.note("too many stand", code),
+        }
+    }
+
+    fn leave(&mut self, code: u32) {
+        match self.out.checked_sub(1) {
+            Some(out) => self.out = out,
+            None => self.note("none stands", code),
         }
     }
 }
@@ -66,7 +64,7 @@ impl Runner for Fake {
 
     type Frozen = u32;
 
-    ghost frames = { λ s. s.out.items };
+    ghost runs = { λ _. ⊤ };
 
     ghost calls = { λ _ _ _ _. ⊤ };
 
@@ -89,19 +87,17 @@ impl Runner for Fake {
         match self.act(which.code) {
             Act::RaisesBefore(exception) => Opened::Raised(exception),
             Act::WantsMemoryBefore => Opened::OutOfMemory,
-            _ => match self.out.push(which.code) {
-                Ok(()) => Opened::Yielded(which.code),
-                Err(_) => Opened::OutOfMemory,
-            },
+            _ => {
+                self.stand(which.code);
+                Opened::Yielded(which.code)
+            }
         }
     }
 
     fn resume(&mut self, frozen: u32, inner: Inner<u32, u32>) -> Ran<u32, u32>
-        requires { Contains self.old.out.items frozen }
-        ensures frames { TakesFrame frozen self.old.out.items self.new.out.items }
         ensures want { HandsOnWant inner result }
     {
-        take_out(&mut self.out, frozen);
+        self.leave(frozen);
         let seen = match &inner {
             Inner::List => "resume with list",
             Inner::Gave(_) => "resume with value",
@@ -209,7 +205,7 @@ fn implementations_run_in_the_documented_order(rt: HostRuntime) {
 fn scene(alloc: Global, acts: &[(bool, Act)]) -> Result<(Fake, Vec<Impl>), AllocError> {
     let mut fake = Fake {
         acts: Vec::new(alloc),
-        out: Vec::new(alloc),
+        out: 0,
         log: String::new(alloc),
     };
     let mut impls = Vec::new(alloc);
@@ -248,7 +244,7 @@ fn told(
         Calls::All => all_told(alloc, fake, impls)?,
         Calls::First => first_told(alloc, fake, impls)?,
     };
-    write!(told, " {}", fake.out.len())?;
+    write!(told, " {}", fake.out)?;
     Ok(told)
 }
 

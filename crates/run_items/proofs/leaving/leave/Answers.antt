@@ -1,6 +1,10 @@
 use Rattle.std.proofs.Common.{ℕ, ◌∙◌, ap, subst, sym, List, Option}
 use Rattle.std.specs.Prelude.{option_map}
+use Rattle.fixture_world.specs.Items.{item_in_session}
+use Rattle.hook_phases.specs.Steps.{item_where}
+use Rattle.item_stack.proofs.Course.{left_in_course}
 use Rattle.item_stack.specs.Leaving.{IsNextItem, chain_for, left_for}
+use Rattle.item_stack.specs.States.{item_state}
 use Rattle.run_items.proofs.Doings.{next_chain, next_stands}
 use Rattle.run_items.specs.Stands.{plan_rules, stand_state}
 use Rattle.run_items.proofs.leaving.leave.Goals as goal
@@ -15,5 +19,9 @@ leave-requires-clause-next c =
 pub returns : goal.returns
 returns c =
     let plan = c.args.plan.now in
-    c.in_ok-raised.ensures
-    ∙ ap (λ (chain : List ℕ). left_for (plan_rules plan) chain (stand_state c.args.stand.now)) (ap (λ (o : Option ℕ). chain_for plan.table o) c.node_of-node.ensures ∙ next_chain plan (option_map (λ item. item.now) c.args.next))
+    let rules = plan_rules plan in
+    let stand = c.args.stand.now in
+    let next = option_map (λ item. item.now) c.args.next in
+    left_in_course rules (item_where (item_in_session plan.table) next) (stand_state stand) c.in_ok-raised.raised (item_state rules stand.world stand.stack) (item_state rules c.leave.new.world c.leave.new.held)
+    (c.in_ok-raised.ensures
+    ∙ ap (λ (chain : List ℕ). left_for rules chain (item_state rules stand.world stand.stack)) (ap (λ (o : Option ℕ). chain_for plan.table o) c.node_of-node.ensures ∙ next_chain plan next))

@@ -1,6 +1,8 @@
-use Rattle.run_items.proofs.Doings.{opened_same}
-use Rattle.run_items.specs.Stands.{stand_state}
+use Rattle.std.proofs.Common.{◌∙◌, ap}
+use Rattle.fixture_world.specs.runtest_rules.Language.{python}
+use Rattle.runtest_reports.specs.fixture_sessions.FixtureSession.{with_own_object}
+use Rattle.session_rules.specs.Teardown.{SessionState}
 use Rattle.run_items.proofs.opening.open.Goals as goal
 
 pub returns : goal.returns
-returns c = opened_same c.args.plan.now c.args.item.now c.requires.item (stand_state c.args.stand.now) c.in_ok-own.own c.make_instance.new.world c.in_ok-own.ensures
+returns c = c.in_ok-keep_own.ensures ∙ ap (λ (s : SessionState python). with_own_object c.args.item.now.node s) c.in_ok-make_own.ensures

@@ -14,6 +14,8 @@ items-init g c =
           c.new-arrived.result c.new-arrived.ensures c.requires.fresh d.gave d.numbers;
       none = d.none;
       here = c.requires.here;
+      origin = c.next_number-first.ensures.origin;
+      most = c.next_number-first.ensures.limit;
       limit = omega (arith, same, limit);
       in_range = c.next_number-first.ensures.in_range;
       few = omega (arith, falls, few);
@@ -27,23 +29,26 @@ items-preserved g c =
     let fixture = g.S.Stage.fixture c.args.setting.now in
     let options = c.args.options.now in
     let selected = g.S.Stage.selected c.args.setting.now in
+    let told = c.in_ok-told.ensures.told c.items.bad (g.S.Stage.state c.items.stage) c.in_ok-called.ensures.called in
     let d = c.next_number-next.ensures.drawn in
-    let few = c.items.invariant.few in let falls = c.next_number-next.ensures.falls in let more = c.in_ok-told.ensures.more in
+    let few = c.items.invariant.few in let falls = c.next_number-next.ensures.falls in let more = c.in_ok-told.ensures.more in let called = c.in_ok-called.ensures.more in
     let many : length (option_to_list c.items.current ++ c.items.rest.now) ≡ 1 + length c.items.rest.now = ap (λ (o : Option ℕ). length (option_to_list o ++ c.items.rest.now)) c.in-Some.is ∙ omega arith in
     let same = c.next_number-next.ensures.limit in let limit = c.items.invariant.limit in let was = c.items.invariant.faults in let rises = c.in_ok-report.ensures.falls in
     let going = sym c.reaches.ensures ∙ c.if-reaches.false in
     record {
       course = course_turn rules fixture options selected c.args.items.now c.args.groups.now
           (g.F.Feed.given c.items.feed) d.more (g.F.Feed.given c.next_number-next.new.feed) (g.F.Feed.ended c.items.feed) (g.F.Feed.ended c.next_number-next.new.feed) (g.P.Receiver.taken c.args.to.now) (g.P.Receiver.taken c.items.to) (g.S.Stage.state c.args.stage.now)
-          c.items.arrived c.items.has_object c.in-Some.number c.items.rest.now c.items.bad (g.S.Stage.state c.items.stage)
-          (subst (λ (o : Option ℕ). Course rules fixture options selected c.args.items.now c.args.groups.now (g.F.Feed.given c.items.feed) (g.F.Feed.ended c.items.feed) (g.P.Receiver.taken c.args.to.now) (g.P.Receiver.taken c.items.to) (g.S.Stage.state c.args.stage.now) c.items.arrived c.items.has_object (option_to_list o ++ c.items.rest.now) c.items.bad (g.S.Stage.state c.items.stage)) c.in-Some.is c.items.invariant.course)
-          d.gave c.next_number-next.result.0 c.next_number-next.result.1.now d.numbers d.none d.stays c.value_at.result.now c.value_at.ensures (option_copied c.item_if.result) c.item_if.ensures
-          c.in_ok-told.told.report (g.P.Receiver.taken c.report.new.self) c.tell_item.new.arrived c.in_ok-told.told.bad (g.S.Stage.state c.tell_item.new.stage) c.in_ok-told.ensures.report c.in_ok-report.ensures.taken c.in_ok-told.ensures.bad c.in_ok-told.ensures.state going;
+          c.items.arrived c.in-Some.number c.items.rest.now c.items.bad (g.S.Stage.state c.items.stage)
+          (subst (λ (o : Option ℕ). Course rules fixture options selected c.args.items.now c.args.groups.now (g.F.Feed.given c.items.feed) (g.F.Feed.ended c.items.feed) (g.P.Receiver.taken c.args.to.now) (g.P.Receiver.taken c.items.to) (g.S.Stage.state c.args.stage.now) c.items.arrived (option_to_list o ++ c.items.rest.now) c.items.bad (g.S.Stage.state c.items.stage)) c.in-Some.is c.items.invariant.course)
+          d.gave c.next_number-next.result.0 c.next_number-next.result.1.now d.numbers d.none d.stays c.value_at-item.result.now c.value_at-item.ensures (option_copied c.item_if.result) c.item_if.ensures
+          c.in_ok-told.told.report (g.P.Receiver.taken c.report.new.self) c.tell_item.new.arrived c.in_ok-told.told.bad (g.S.Stage.state c.tell_item.new.stage) told.report c.in_ok-report.ensures.taken told.bad told.state going;
       none = d.none;
       here = c.in_ok-told.ensures.here;
+      origin = c.next_number-next.ensures.origin ∙ c.items.invariant.origin;
+      most = c.next_number-next.ensures.limit ∙ c.items.invariant.most;
       limit = omega (arith, same, limit);
       in_range = c.next_number-next.ensures.in_range;
-      few = omega (arith, few, falls, more, many);
+      few = omega (arith, few, falls, more, called, many);
       going = going;
       faults = omega (arith, was, rises);
     }
@@ -54,13 +59,14 @@ returns-then-reaches-clause-reports g c =
     let fixture = g.S.Stage.fixture c.args.setting.now in
     let options = c.args.options.now in
     let selected = g.S.Stage.selected c.args.setting.now in
+    let told = c.in_ok-told.ensures.told c.items.bad (g.S.Stage.state c.items.stage) c.in_ok-called.ensures.called in
     let d = c.next_number-next.ensures.drawn in
     (course_stop rules fixture options selected c.args.items.now c.args.groups.now
     (g.F.Feed.given c.items.feed) d.more (g.F.Feed.given c.next_number-next.new.feed) (g.F.Feed.ended c.items.feed) (g.F.Feed.ended c.next_number-next.new.feed) (g.P.Receiver.taken c.args.to.now) (g.P.Receiver.taken c.items.to) (g.S.Stage.state c.args.stage.now)
-    c.items.arrived c.items.has_object c.in-Some.number c.items.rest.now c.items.bad (g.S.Stage.state c.items.stage)
-    (subst (λ (o : Option ℕ). Course rules fixture options selected c.args.items.now c.args.groups.now (g.F.Feed.given c.items.feed) (g.F.Feed.ended c.items.feed) (g.P.Receiver.taken c.args.to.now) (g.P.Receiver.taken c.items.to) (g.S.Stage.state c.args.stage.now) c.items.arrived c.items.has_object (option_to_list o ++ c.items.rest.now) c.items.bad (g.S.Stage.state c.items.stage)) c.in-Some.is c.items.invariant.course)
-    d.gave c.next_number-next.result.0 c.next_number-next.result.1.now d.numbers d.none d.stays c.value_at.result.now c.value_at.ensures (option_copied c.item_if.result) c.item_if.ensures
-    c.in_ok-told.told.report (g.P.Receiver.taken c.report.new.self) c.tell_item.new.arrived c.in_ok-told.told.bad (g.S.Stage.state c.tell_item.new.stage) c.in_ok-told.ensures.report c.in_ok-report.ensures.taken c.in_ok-told.ensures.bad c.in_ok-told.ensures.state (sym c.reaches.ensures ∙ c.if-reaches.true)).reports
+    c.items.arrived c.in-Some.number c.items.rest.now c.items.bad (g.S.Stage.state c.items.stage)
+    (subst (λ (o : Option ℕ). Course rules fixture options selected c.args.items.now c.args.groups.now (g.F.Feed.given c.items.feed) (g.F.Feed.ended c.items.feed) (g.P.Receiver.taken c.args.to.now) (g.P.Receiver.taken c.items.to) (g.S.Stage.state c.args.stage.now) c.items.arrived (option_to_list o ++ c.items.rest.now) c.items.bad (g.S.Stage.state c.items.stage)) c.in-Some.is c.items.invariant.course)
+    d.gave c.next_number-next.result.0 c.next_number-next.result.1.now d.numbers d.none d.stays c.value_at-item.result.now c.value_at-item.ensures (option_copied c.item_if.result) c.item_if.ensures
+    c.in_ok-told.told.report (g.P.Receiver.taken c.report.new.self) c.tell_item.new.arrived c.in_ok-told.told.bad (g.S.Stage.state c.tell_item.new.stage) told.report c.in_ok-report.ensures.taken told.bad told.state (sym c.reaches.ensures ∙ c.if-reaches.true)).reports
 
 pub returns-then-reaches-clause-state : goal.returns-then-reaches-clause-state
 returns-then-reaches-clause-state g c =
@@ -68,13 +74,14 @@ returns-then-reaches-clause-state g c =
     let fixture = g.S.Stage.fixture c.args.setting.now in
     let options = c.args.options.now in
     let selected = g.S.Stage.selected c.args.setting.now in
+    let told = c.in_ok-told.ensures.told c.items.bad (g.S.Stage.state c.items.stage) c.in_ok-called.ensures.called in
     let d = c.next_number-next.ensures.drawn in
     (course_stop rules fixture options selected c.args.items.now c.args.groups.now
     (g.F.Feed.given c.items.feed) d.more (g.F.Feed.given c.next_number-next.new.feed) (g.F.Feed.ended c.items.feed) (g.F.Feed.ended c.next_number-next.new.feed) (g.P.Receiver.taken c.args.to.now) (g.P.Receiver.taken c.items.to) (g.S.Stage.state c.args.stage.now)
-    c.items.arrived c.items.has_object c.in-Some.number c.items.rest.now c.items.bad (g.S.Stage.state c.items.stage)
-    (subst (λ (o : Option ℕ). Course rules fixture options selected c.args.items.now c.args.groups.now (g.F.Feed.given c.items.feed) (g.F.Feed.ended c.items.feed) (g.P.Receiver.taken c.args.to.now) (g.P.Receiver.taken c.items.to) (g.S.Stage.state c.args.stage.now) c.items.arrived c.items.has_object (option_to_list o ++ c.items.rest.now) c.items.bad (g.S.Stage.state c.items.stage)) c.in-Some.is c.items.invariant.course)
-    d.gave c.next_number-next.result.0 c.next_number-next.result.1.now d.numbers d.none d.stays c.value_at.result.now c.value_at.ensures (option_copied c.item_if.result) c.item_if.ensures
-    c.in_ok-told.told.report (g.P.Receiver.taken c.report.new.self) c.tell_item.new.arrived c.in_ok-told.told.bad (g.S.Stage.state c.tell_item.new.stage) c.in_ok-told.ensures.report c.in_ok-report.ensures.taken c.in_ok-told.ensures.bad c.in_ok-told.ensures.state (sym c.reaches.ensures ∙ c.if-reaches.true)).state
+    c.items.arrived c.in-Some.number c.items.rest.now c.items.bad (g.S.Stage.state c.items.stage)
+    (subst (λ (o : Option ℕ). Course rules fixture options selected c.args.items.now c.args.groups.now (g.F.Feed.given c.items.feed) (g.F.Feed.ended c.items.feed) (g.P.Receiver.taken c.args.to.now) (g.P.Receiver.taken c.items.to) (g.S.Stage.state c.args.stage.now) c.items.arrived (option_to_list o ++ c.items.rest.now) c.items.bad (g.S.Stage.state c.items.stage)) c.in-Some.is c.items.invariant.course)
+    d.gave c.next_number-next.result.0 c.next_number-next.result.1.now d.numbers d.none d.stays c.value_at-item.result.now c.value_at-item.ensures (option_copied c.item_if.result) c.item_if.ensures
+    c.in_ok-told.told.report (g.P.Receiver.taken c.report.new.self) c.tell_item.new.arrived c.in_ok-told.told.bad (g.S.Stage.state c.tell_item.new.stage) told.report c.in_ok-report.ensures.taken told.bad told.state (sym c.reaches.ensures ∙ c.if-reaches.true)).state
 
 pub returns-then-reaches-clause-stopped : goal.returns-then-reaches-clause-stopped
 returns-then-reaches-clause-stopped g c =
@@ -82,31 +89,32 @@ returns-then-reaches-clause-stopped g c =
     let fixture = g.S.Stage.fixture c.args.setting.now in
     let options = c.args.options.now in
     let selected = g.S.Stage.selected c.args.setting.now in
+    let told = c.in_ok-told.ensures.told c.items.bad (g.S.Stage.state c.items.stage) c.in_ok-called.ensures.called in
     let d = c.next_number-next.ensures.drawn in
     sym (ap (λ (m : ℕ). reaches options.maxfail m) (sym (course_stop rules fixture options selected c.args.items.now c.args.groups.now
     (g.F.Feed.given c.items.feed) d.more (g.F.Feed.given c.next_number-next.new.feed) (g.F.Feed.ended c.items.feed) (g.F.Feed.ended c.next_number-next.new.feed) (g.P.Receiver.taken c.args.to.now) (g.P.Receiver.taken c.items.to) (g.S.Stage.state c.args.stage.now)
-    c.items.arrived c.items.has_object c.in-Some.number c.items.rest.now c.items.bad (g.S.Stage.state c.items.stage)
-    (subst (λ (o : Option ℕ). Course rules fixture options selected c.args.items.now c.args.groups.now (g.F.Feed.given c.items.feed) (g.F.Feed.ended c.items.feed) (g.P.Receiver.taken c.args.to.now) (g.P.Receiver.taken c.items.to) (g.S.Stage.state c.args.stage.now) c.items.arrived c.items.has_object (option_to_list o ++ c.items.rest.now) c.items.bad (g.S.Stage.state c.items.stage)) c.in-Some.is c.items.invariant.course)
-    d.gave c.next_number-next.result.0 c.next_number-next.result.1.now d.numbers d.none d.stays c.value_at.result.now c.value_at.ensures (option_copied c.item_if.result) c.item_if.ensures
-    c.in_ok-told.told.report (g.P.Receiver.taken c.report.new.self) c.tell_item.new.arrived c.in_ok-told.told.bad (g.S.Stage.state c.tell_item.new.stage) c.in_ok-told.ensures.report c.in_ok-report.ensures.taken c.in_ok-told.ensures.bad c.in_ok-told.ensures.state (sym c.reaches.ensures ∙ c.if-reaches.true)).bads) ∙ (sym c.reaches.ensures ∙ c.if-reaches.true))
+    c.items.arrived c.in-Some.number c.items.rest.now c.items.bad (g.S.Stage.state c.items.stage)
+    (subst (λ (o : Option ℕ). Course rules fixture options selected c.args.items.now c.args.groups.now (g.F.Feed.given c.items.feed) (g.F.Feed.ended c.items.feed) (g.P.Receiver.taken c.args.to.now) (g.P.Receiver.taken c.items.to) (g.S.Stage.state c.args.stage.now) c.items.arrived (option_to_list o ++ c.items.rest.now) c.items.bad (g.S.Stage.state c.items.stage)) c.in-Some.is c.items.invariant.course)
+    d.gave c.next_number-next.result.0 c.next_number-next.result.1.now d.numbers d.none d.stays c.value_at-item.result.now c.value_at-item.ensures (option_copied c.item_if.result) c.item_if.ensures
+    c.in_ok-told.told.report (g.P.Receiver.taken c.report.new.self) c.tell_item.new.arrived c.in_ok-told.told.bad (g.S.Stage.state c.tell_item.new.stage) told.report c.in_ok-report.ensures.taken told.bad told.state (sym c.reaches.ensures ∙ c.if-reaches.true)).bads) ∙ (sym c.reaches.ensures ∙ c.if-reaches.true))
 
 pub returns-clause-reports : goal.returns-clause-reports
 returns-clause-reports g c =
     (course_done (g.S.Stage.rules c.args.setting.now) (g.S.Stage.fixture c.args.setting.now) c.args.options.now (g.S.Stage.selected c.args.setting.now) c.args.items.now c.args.groups.now
-    (g.F.Feed.given c.items.feed) (g.F.Feed.ended c.items.feed) (g.P.Receiver.taken c.args.to.now) (g.P.Receiver.taken c.items.to) (g.S.Stage.state c.args.stage.now) c.items.arrived c.items.has_object c.items.bad (g.S.Stage.state c.items.stage)
-    (subst (λ (l : List ℕ). Course (g.S.Stage.rules c.args.setting.now) (g.S.Stage.fixture c.args.setting.now) c.args.options.now (g.S.Stage.selected c.args.setting.now) c.args.items.now c.args.groups.now (g.F.Feed.given c.items.feed) (g.F.Feed.ended c.items.feed) (g.P.Receiver.taken c.args.to.now) (g.P.Receiver.taken c.items.to) (g.S.Stage.state c.args.stage.now) c.items.arrived c.items.has_object l c.items.bad (g.S.Stage.state c.items.stage))
+    (g.F.Feed.given c.items.feed) (g.F.Feed.ended c.items.feed) (g.P.Receiver.taken c.args.to.now) (g.P.Receiver.taken c.items.to) (g.S.Stage.state c.args.stage.now) c.items.arrived c.items.bad (g.S.Stage.state c.items.stage)
+    (subst (λ (l : List ℕ). Course (g.S.Stage.rules c.args.setting.now) (g.S.Stage.fixture c.args.setting.now) c.args.options.now (g.S.Stage.selected c.args.setting.now) c.args.items.now c.args.groups.now (g.F.Feed.given c.items.feed) (g.F.Feed.ended c.items.feed) (g.P.Receiver.taken c.args.to.now) (g.P.Receiver.taken c.items.to) (g.S.Stage.state c.args.stage.now) c.items.arrived l c.items.bad (g.S.Stage.state c.items.stage))
     (ap (λ (o : Option ℕ). option_to_list o ++ c.items.rest.now) c.in_default.is ∙ (c.items.invariant.none c.in_default.is).0) c.items.invariant.course)).reports
 
 pub returns-clause-state : goal.returns-clause-state
 returns-clause-state g c =
     (course_done (g.S.Stage.rules c.args.setting.now) (g.S.Stage.fixture c.args.setting.now) c.args.options.now (g.S.Stage.selected c.args.setting.now) c.args.items.now c.args.groups.now
-    (g.F.Feed.given c.items.feed) (g.F.Feed.ended c.items.feed) (g.P.Receiver.taken c.args.to.now) (g.P.Receiver.taken c.items.to) (g.S.Stage.state c.args.stage.now) c.items.arrived c.items.has_object c.items.bad (g.S.Stage.state c.items.stage)
-    (subst (λ (l : List ℕ). Course (g.S.Stage.rules c.args.setting.now) (g.S.Stage.fixture c.args.setting.now) c.args.options.now (g.S.Stage.selected c.args.setting.now) c.args.items.now c.args.groups.now (g.F.Feed.given c.items.feed) (g.F.Feed.ended c.items.feed) (g.P.Receiver.taken c.args.to.now) (g.P.Receiver.taken c.items.to) (g.S.Stage.state c.args.stage.now) c.items.arrived c.items.has_object l c.items.bad (g.S.Stage.state c.items.stage))
+    (g.F.Feed.given c.items.feed) (g.F.Feed.ended c.items.feed) (g.P.Receiver.taken c.args.to.now) (g.P.Receiver.taken c.items.to) (g.S.Stage.state c.args.stage.now) c.items.arrived c.items.bad (g.S.Stage.state c.items.stage)
+    (subst (λ (l : List ℕ). Course (g.S.Stage.rules c.args.setting.now) (g.S.Stage.fixture c.args.setting.now) c.args.options.now (g.S.Stage.selected c.args.setting.now) c.args.items.now c.args.groups.now (g.F.Feed.given c.items.feed) (g.F.Feed.ended c.items.feed) (g.P.Receiver.taken c.args.to.now) (g.P.Receiver.taken c.items.to) (g.S.Stage.state c.args.stage.now) c.items.arrived l c.items.bad (g.S.Stage.state c.items.stage))
     (ap (λ (o : Option ℕ). option_to_list o ++ c.items.rest.now) c.in_default.is ∙ (c.items.invariant.none c.in_default.is).0) c.items.invariant.course)).state
 
 pub returns-clause-stopped : goal.returns-clause-stopped
 returns-clause-stopped g c =
     sym (ap (λ (m : ℕ). reaches c.args.options.now.maxfail m) (sym (course_done (g.S.Stage.rules c.args.setting.now) (g.S.Stage.fixture c.args.setting.now) c.args.options.now (g.S.Stage.selected c.args.setting.now) c.args.items.now c.args.groups.now
-    (g.F.Feed.given c.items.feed) (g.F.Feed.ended c.items.feed) (g.P.Receiver.taken c.args.to.now) (g.P.Receiver.taken c.items.to) (g.S.Stage.state c.args.stage.now) c.items.arrived c.items.has_object c.items.bad (g.S.Stage.state c.items.stage)
-    (subst (λ (l : List ℕ). Course (g.S.Stage.rules c.args.setting.now) (g.S.Stage.fixture c.args.setting.now) c.args.options.now (g.S.Stage.selected c.args.setting.now) c.args.items.now c.args.groups.now (g.F.Feed.given c.items.feed) (g.F.Feed.ended c.items.feed) (g.P.Receiver.taken c.args.to.now) (g.P.Receiver.taken c.items.to) (g.S.Stage.state c.args.stage.now) c.items.arrived c.items.has_object l c.items.bad (g.S.Stage.state c.items.stage))
+    (g.F.Feed.given c.items.feed) (g.F.Feed.ended c.items.feed) (g.P.Receiver.taken c.args.to.now) (g.P.Receiver.taken c.items.to) (g.S.Stage.state c.args.stage.now) c.items.arrived c.items.bad (g.S.Stage.state c.items.stage)
+    (subst (λ (l : List ℕ). Course (g.S.Stage.rules c.args.setting.now) (g.S.Stage.fixture c.args.setting.now) c.args.options.now (g.S.Stage.selected c.args.setting.now) c.args.items.now c.args.groups.now (g.F.Feed.given c.items.feed) (g.F.Feed.ended c.items.feed) (g.P.Receiver.taken c.args.to.now) (g.P.Receiver.taken c.items.to) (g.S.Stage.state c.args.stage.now) c.items.arrived l c.items.bad (g.S.Stage.state c.items.stage))
     (ap (λ (o : Option ℕ). option_to_list o ++ c.items.rest.now) c.in_default.is ∙ (c.items.invariant.none c.in_default.is).0) c.items.invariant.course)).bads) ∙ c.items.invariant.going)

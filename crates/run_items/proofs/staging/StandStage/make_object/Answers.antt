@@ -1,7 +1,0 @@
-use Rattle.run_items.proofs.staging.StandStage.make_object.Goals as goal
-
-pub returns-clause-state : goal.returns-clause-state
-returns-clause-state c = c.in_ok-make_object.ensures
-
-pub returns-clause-here : goal.returns-clause-here
-returns-clause-here c = c.requires.here

@@ -1,0 +1,185 @@
+// The stage of a session over sources, as its hooks see it.
+
+ghost use Rattle.std.specs.Prelude.{◌≡◌, IfOk, OnOk};
+ghost use Rattle.fixture_world.specs.Items.{item_in_session};
+ghost use Rattle.fixture_world.specs.runtest_rules.Language.{python};
+ghost use Rattle.hook_phases.specs.Phases.{phase_of};
+ghost use Rattle.hook_phases.specs.Views.{wrapper_end};
+ghost use Rattle.run_items.specs.Stands.{IsPlan, IsPlannedItem, plan_rules, stand_state};
+ghost use Rattle.runtest_reports.specs.report_rules.Collected.{ends_badly};
+ghost use Rattle.session_rules.specs.Hooks.{SentValue};
+ghost use Rattle.session_rules.specs.Teardown.{in_world};
+
+use crate::acts::{abandon, memory, wrapper_did_not_yield, wrapper_yielded_again};
+use crate::hooking;
+use crate::opening::make_ready;
+use crate::plan::Plan;
+use crate::stand::Stand;
+use fixture_calls::{Failure, Frozen, World};
+use fixture_world::{Ending, is_same_exception, not_none};
+use hook_order::Impl;
+use hook_phases::{HookPhase, HookStage, ImplementEnd, WrapperEnd};
+use py_values::value::Value;
+use seq::{OutOfMemory, Seq};
+use test_suite::Item;
+
+impl HookStage for Stand {
+    type World = World;
+
+    type Value = Value;
+
+    type Thrown = Failure;
+
+    type Rest = Frozen;
+
+    type Told = Ending;
+
+    type Setting = Plan;
+
+    type Item = Item;
+
+    ghost is_bad = { ends_badly };
+
+    ghost rules = { plan_rules };
+
+    ghost state = { stand_state };
+
+    ghost session_item = { λ plan item. item_in_session plan.table item };
+
+    ghost stands = { λ plan stand. IsPlan plan };
+
+    ghost known = { IsPlannedItem };
+
+    fn hooks(
+        &self,
+        _plan: &Plan,
+        phase: HookPhase,
+        _item: &Item,
+    ) -> Result<Seq<Impl>, OutOfMemory> {
+        let hooks = hooking::hooks_of(memory(&self.world), phase)?;
+        Ok(hooks)
+    }
+
+    fn make_ready(
+        &mut self,
+        plan: &Plan,
+        item: &Item,
+        next: Option<&Item>,
+    ) -> Result<(), OutOfMemory> {
+        make_ready(self, plan, item, next)?;
+        Ok(())
+    }
+
+    fn built(
+        &mut self,
+        plan: &Plan,
+        phase: HookPhase,
+        item: &Item,
+        next: Option<&Item>,
+    ) -> Result<Seq<Failure>, OutOfMemory> {
+        let raised = hooking::built(self, plan, phase, item, next)?;
+        Ok(raised)
+    }
+
+    fn begin_teardown(&mut self, _plan: &Plan) {
+        self.left = false;
+    }
+
+    fn has_left(&self) -> bool {
+        self.left
+    }
+
+    fn implement(
+        &mut self,
+        _plan: &Plan,
+        _phase: HookPhase,
+        item: &Item,
+        _next: Option<&Item>,
+        which: &Impl,
+    ) -> Result<ImplementEnd<Value, Failure>, OutOfMemory> {
+        let end = hooking::implement(&mut self.world, item, which)?;
+        Ok(end)
+    }
+
+    fn open_wrapper(
+        &mut self,
+        _plan: &Plan,
+        _phase: HookPhase,
+        _item: &Item,
+        _next: Option<&Item>,
+        _which: &Impl,
+    ) -> Result<WrapperEnd<Value, Failure, Frozen>, OutOfMemory> {
+        Ok(WrapperEnd::Returned(Value::None))
+    }
+
+    fn wrapper_did_not_yield(
+        &mut self,
+        _plan: &Plan,
+        _which: &Impl,
+    ) -> Result<Failure, OutOfMemory> {
+        let failure = wrapper_did_not_yield(&mut self.world)?;
+        Ok(failure)
+    }
+
+    fn resume_with_values(
+        &mut self,
+        _plan: &Plan,
+        _phase: HookPhase,
+        _item: &Item,
+        rest: Frozen,
+    ) -> Result<WrapperEnd<Value, Failure, Frozen>, OutOfMemory> {
+        abandon(&mut self.world, rest);
+        Ok(WrapperEnd::Returned(Value::None))
+    }
+
+    fn resume_with_value(
+        &mut self,
+        _plan: &Plan,
+        _phase: HookPhase,
+        _item: &Item,
+        rest: Frozen,
+        _value: Option<Value>,
+    ) -> Result<WrapperEnd<Value, Failure, Frozen>, OutOfMemory>
+        requires here { IsPlan _plan.now }
+        requires known { IsPlannedItem _plan.now _item.now }
+        ensures how { IfOk result (λ end. wrapper_end python end ≡ ((plan_rules _plan.now).resume_wrapper (phase_of _phase) (item_in_session _plan.now.table _item.now).node rest (SentValue _value) (stand_state self.old).world).how) }
+        ensures state { OnOk result (stand_state self.new ≡ in_world ((plan_rules _plan.now).resume_wrapper (phase_of _phase) (item_in_session _plan.now.table _item.now).node rest (SentValue _value) (stand_state self.old).world).world (stand_state self.old)) }
+        ensures here { IsPlan _plan.now }
+    {
+        abandon(&mut self.world, rest);
+        Ok(WrapperEnd::Returned(Value::None))
+    }
+
+    fn resume_with_exception(
+        &mut self,
+        _plan: &Plan,
+        _phase: HookPhase,
+        _item: &Item,
+        rest: Frozen,
+        _thrown: &Failure,
+    ) -> Result<WrapperEnd<Value, Failure, Frozen>, OutOfMemory> {
+        abandon(&mut self.world, rest);
+        Ok(WrapperEnd::Returned(Value::None))
+    }
+
+    fn abandon(&mut self, _plan: &Plan, rest: Frozen) {
+        abandon(&mut self.world, rest);
+    }
+
+    fn wrapper_yielded_again(
+        &mut self,
+        _plan: &Plan,
+        _which: &Impl,
+    ) -> Result<Failure, OutOfMemory> {
+        let failure = wrapper_yielded_again(&mut self.world)?;
+        Ok(failure)
+    }
+
+    fn unless_none(_plan: &Plan, value: Value) -> Option<Value> {
+        not_none(value)
+    }
+
+    fn is_same_object(_plan: &Plan, one: &Failure, other: &Failure) -> bool {
+        is_same_exception(one, other)
+    }
+}

@@ -1,0 +1,102 @@
+-- Behind a collection no frame is out: loads leave the frames as they were, and the first world has none.
+use Rattle.std.proofs.Common.{◌≡◌, ℕ, Bool, true, false, map, List, [], ◌∷◌, Option, None, Some, Ok, Err, refl, sym, ap, ◌∙◌}
+use Rattle.std.specs.Prelude.{chars, if◌then◌else◌}
+use Rattle.cli_words.specs.declared.options.Options.{Options}
+use Rattle.collect_tree.specs.Collection.{collect, collected_with, conftest_files, named_paths, nodes_selected, of_files, of_words, paths_at, read_path, selected_or_refused, with_conftests}
+use Rattle.collect_tree.specs.Walk.{walk_of}
+use Rattle.collect_tree.specs.collect_items.Items.{found_suite}
+use Rattle.collect_tree.specs.collect_items.Nodes.{item_places, nodes_by_place}
+use Rattle.collect_tree.specs.py_load.Prepared.{with_reads}
+use Rattle.collect_words.specs.Files.{conftests, test_files, walked}
+use Rattle.collect_words.specs.Words.{named_words}
+use Rattle.tracebacks.specs.py_machine.Worlds.{empty}
+use Rattle.collect_tree.specs.Loads.{LoadResults, ended_before, test_loads}
+use Rattle.collect_tree.specs.collect_items.declared.found.FoundSuite.{FoundSuite}
+use Rattle.collect_tree.specs.py_load.InTurn.{ConftestsEnd, FileEnd, conftest_loads, file_load, go_on, module_before}
+use Rattle.collect_tree.specs.py_load.Loading.{load_unless}
+use Rattle.collect_tree.specs.py_load.Reading.{ReadFile}
+use Rattle.core_rules.specs.Keeps.{IsKeptIn}
+use Rattle.core_rules.specs.source_meaning.Meaning.{SourceWorld, source_module}
+use Rattle.runtest_rules.specs.Language.{python}
+use Rattle.runtest_rules.specs.py_world.Resuming.{is_out}
+use Rattle.runtest_rules.specs.report_rules.Collected.{Collected, Collection, ConftestFault, Refused, Whole}
+use Rattle.runtest_rules.specs.test_suite.declared.suite.Suite.{Suite}
+use Rattle.session_frames.proofs.Worlds.{out_in}
+
+-- what a collection leaves, where it is whole
+abbrev LeavesNone : Collection python Suite → Type 0
+LeavesNone (Refused text) = Unit {0}
+LeavesNone (ConftestFault path told) = Unit {0}
+LeavesNone (Whole c) = c.world.frozen ≡ []
+
+of_whole : (x : Collection python Suite) (c : Collected python Suite) → x ≡ Whole c → LeavesNone x → c.world.frozen ≡ []
+of_whole (Refused text) c e h = cc
+of_whole (ConftestFault path told) c e h = cc
+of_whole (Whole d) c e h = (let q : d ≡ c = cc in ap (λ (x : Collected python Suite). x.world.frozen) (sym q) ∙ h)
+
+module _ (loads : (w : SourceWorld) (path : List ℕ) (budget : ℕ) → IsKeptIn w (source_module path budget w).1) where
+  unless_same : (fault : _) (path : List ℕ) (limit : ℕ) (w : SourceWorld) → (load_unless fault path limit w).1.frozen ≡ w.frozen
+  unless_same (Some fault) path limit w = refl
+  unless_same None path limit w = (loads w path limit).frozen
+
+  load_same : (limit : ℕ) (path : List ℕ) (w : SourceWorld) → (file_load limit path w).1.frozen ≡ w.frozen
+  load_same limit path w = unless_same _ (chars path) limit w
+
+  before_same : (v : _) (rest : ConftestsEnd × SourceWorld) → (module_before v rest).1.frozen ≡ rest.1.frozen
+  before_same v (Ok modules, w) = refl
+  before_same v (Err file, w) = refl
+
+  on_same : (path : List ℕ) (end : FileEnd) (rest : ConftestsEnd × SourceWorld) (w : SourceWorld) → rest.1.frozen ≡ w.frozen → (go_on path end rest w).1.frozen ≡ w.frozen
+  on_same path (Ok v, printed) rest w e = before_same v rest ∙ e
+  on_same path (Err error, printed) rest w e = refl
+
+  conftests_same : (limit : ℕ) (paths : List (List ℕ)) (w : SourceWorld) → (conftest_loads limit paths w).1.frozen ≡ w.frozen
+  conftests_same limit [] w = refl
+  conftests_same limit (path ∷ paths) w =
+      let x = file_load limit path w in
+      on_same path x.0 (conftest_loads limit paths x.1) x.1 (conftests_same limit paths x.1) ∙ load_same limit path w
+
+  ended_same : (limit : ℕ) (path : List ℕ) (place : ℕ) (end : FileEnd) (w : SourceWorld) (rest : LoadResults) → (ended_before limit path place end w rest).world.frozen ≡ rest.world.frozen
+  ended_same limit path place (Ok v, printed) w rest = refl
+  ended_same limit path place (Err error, printed) w rest = refl
+
+  one_more : (limit : ℕ) (walk : List (List ℕ)) (place : ℕ) (places : List ℕ) (path : List ℕ) (w : SourceWorld) (x : FileEnd × SourceWorld) → x.1.frozen ≡ w.frozen → ((v : SourceWorld) → (test_loads limit walk places v).world.frozen ≡ v.frozen)
+      → (ended_before limit path place x.0 x.1 (test_loads limit walk places x.1)).world.frozen ≡ w.frozen
+  one_more limit walk place places path w x e law = ended_same limit path place x.0 x.1 (test_loads limit walk places x.1) ∙ (law x.1 ∙ e)
+
+  tests_same : (limit : ℕ) (walk : List (List ℕ)) (places : List ℕ) (w : SourceWorld) → (test_loads limit walk places w).world.frozen ≡ w.frozen
+  tests_same limit walk [] w = refl
+  tests_same limit walk (place ∷ places) w = one_more limit walk place places _ w _ (load_same limit _ w) (tests_same limit walk places)
+
+  module _ (options : Options) where
+    built_or : (b : Bool) (text : List ℕ) (c : Collected python Suite) → c.world.frozen ≡ [] → LeavesNone (if b then Refused text else Whole c)
+    built_or true text c e = tt
+    built_or false text c e = e
+
+    ended : (above : _) (found : FoundSuite) (places : List ℕ) (loaded : LoadResults) (r : _) → loaded.world.frozen ≡ [] → LeavesNone (selected_or_refused options above found places loaded r)
+    ended above found places loaded (Err fault) e = tt
+    ended above found places loaded (Ok numbers) e = built_or _ _ (collected_with options found places numbers loaded) e
+
+    behind_conftests : (walk : List (List ℕ)) (words : _) (files : List ℕ) (x : ConftestsEnd × SourceWorld) → x.1.frozen ≡ [] → LeavesNone (with_conftests options walk words files x)
+    behind_conftests walk words files (Err (path, error, printed), w) e = tt
+    behind_conftests walk words files (Ok modules, w) e =
+        let loaded = test_loads options.step_limit walk files w in
+        let above = conftest_files (conftests walk files) modules in
+        ended above (found_suite loaded.world.heap walk above loaded.files) (item_places loaded.world.heap walk loaded.files) loaded
+        (nodes_selected options walk (nodes_by_place loaded.world.heap walk loaded.files) words) (tests_same options.step_limit walk files w ∙ e)
+
+    from_world : (walk : List (List ℕ)) (words : _) (files : List ℕ) (w : SourceWorld) → w.frozen ≡ [] → LeavesNone (of_files options walk words files w)
+    from_world walk words files w e =
+        let paths = paths_at walk (conftests walk files) in
+        behind_conftests walk words files (conftest_loads options.step_limit paths w) (conftests_same options.step_limit paths w ∙ e)
+
+    read : (sources : List ReadFile) (walk : List (List ℕ)) (r : _) → LeavesNone (of_words options sources walk r)
+    read sources walk (Err fault) = tt
+    read sources walk (Ok words) = from_world walk words (test_files walk (walked walk options.ignore) words) (with_reads (named_paths walk words) sources empty) refl
+
+    leaves_none : (sources : List ReadFile) → LeavesNone (collect options sources)
+    unfolding collect
+    leaves_none sources = (let walk = walk_of (map read_path sources) in read sources walk (named_words walk options.paths))
+
+  pub none_out : (options : Options) (sources : List ReadFile) (c : Collected python Suite) → collect options sources ≡ Whole c → (n : ℕ) → is_out n c.world ≡ false
+  none_out options sources c e n = ap (λ fs. out_in fs n) (of_whole (collect options sources) c e (leaves_none options sources))
