@@ -1,5 +1,5 @@
 -- THE ITEMS of the tests, each with what its set-up demands.
-use Rattle.std.specs.Prelude.{ℕ, ◌+◌, List, [], ◌∷◌, None, chars, encode_utf8_all, length, map}
+use Rattle.std.specs.Prelude.{ℕ, ◌+◌, List, [], ◌∷◌, None, false, chars, encode_utf8_all, length, map}
 use Rattle.collect_fixtures.specs.Closures.{item_asks, item_closure}
 use Rattle.collect_fixtures.specs.Tables.{all_names, table_of}
 use Rattle.collect_names.specs.Ids.{item_id, item_name, item_title}
@@ -38,12 +38,16 @@ module _ (heap : List Obj) (walk : List (List ℕ)) where
     title = encode_utf8_all (item_title t.test None);
     file = path_at walk t.place;
     name = item_name t.test None;
+    id = None;
     test = t.test;
     defined = defined_at (function_at (object_in heap t.test.function));
     marks = t.marks;
     node = node;
     arguments = t.arguments;
     asked = item_asks f.table f.names node t;
+    bound = [];
+    params = [];
+    empty = false;
     closure = item_closure f.table f.names f.definitions node t;
   }
 

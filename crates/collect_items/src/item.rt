@@ -79,12 +79,16 @@ fn item(
         title: title(alloc, &test.test)?,
         file: Text::from_str(alloc, path)?,
         name: item_name(alloc, &test.test, None)?,
+        id: None,
         test: copied_test(alloc, &test.test)?,
         defined: def_of_test(alloc, heap, &test.test)?,
         marks: copied_values(alloc, test.marks.items())?,
         node,
         arguments,
         asked,
+        bound: Seq::new(alloc),
+        params: Seq::new(alloc),
+        empty: false,
         closure,
     })
 }

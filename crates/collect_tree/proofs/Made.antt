@@ -144,25 +144,25 @@ module _ (rules : session.Rules python) (found : FoundSuite) (m : IsMade found) 
       subst (λ (s : Scope). rank s ≤ rank (rules.scope d)) (scope_of e)
       (subst (λ (s : Scope). rank (def_at found.table.defs e).scope ≤ rank s) (scope_of d) l)
 
-  whole_fits : (i : Item) (node : ℕ) (t : FoundTest) (ds : List ℕ) → i.node ≡ node → item_closure found.table m.names m.definitions node t ≡ closure.Whole ds
-      → IsValidClosure rules (item_in_session found.table i) ds
+  whole_fits : (node : ℕ) (t : FoundTest) (ds : List ℕ) → item_closure found.table m.names m.definitions node t ≡ closure.Whole ds
+      → IsValidClosure rules (item_in_session found.table (item m.heap m.walk (fixtures_with found.table m.names m.definitions) node t)) ds
   unfolding requests_in
-  whole_fits i node t ds n e =
-      let at = subst (λ (k : ℕ). item_closure found.table m.names m.definitions k t ≡ closure.Whole ds) (sym n) e in
-      let c = item_whole found.table m.names m.definitions i.node t ds at in
-      let s = settled found.table.nodes found.table.defs i.node [] (all_numbers m.names t.uses) (all_numbers m.names (but_request t.arguments)) ds c in
+  whole_fits node t ds e =
+      let c = item_whole found.table m.names m.definitions node t ds e in
+      let s = settled found.table.nodes found.table.defs node [] (all_numbers m.names t.uses) (all_numbers m.names (but_request t.arguments)) ds c in
       record {
-        known = λ d there. subst (λ (k : ℕ). d < k) count (closure_low found.table.nodes found.table.defs i.node [] (all_numbers m.names t.uses) (all_numbers m.names (but_request t.arguments)) ds c d there);
+        known = λ d there. subst (λ (k : ℕ). d < k) count (closure_low found.table.nodes found.table.defs node [] (all_numbers m.names t.uses) (all_numbers m.names (but_request t.arguments)) ds c d there);
         whole = λ d e there asked. among-In e ds (s.within d e (In-among d ds there) (In-among e _ asked));
         scopes = λ d e there asked. ranked d e (s.broader d e (In-among d ds there) (In-among e _ asked));
         acyclic = λ d there r. s.apart d (In-among d ds there) (reached_in _ d d r);
       }
 
-  closure_fits : (i : Item) (node : ℕ) (t : FoundTest) (c : ItemClosure) → i.node ≡ node → item_closure found.table m.names m.definitions node t ≡ c → FitsClosure rules (item_in_session found.table i) (closure_of c)
-  closure_fits i node t (closure.Whole ds) n e = whole_fits i node t ds n e
-  closure_fits i node t (closure.Fault text) n e = tt
+  closure_fits : (node : ℕ) (t : FoundTest) (c : ItemClosure) → item_closure found.table m.names m.definitions node t ≡ c
+      → FitsClosure rules (item_in_session found.table (item m.heap m.walk (fixtures_with found.table m.names m.definitions) node t)) (closure_of c)
+  closure_fits node t (closure.Whole ds) e = whole_fits node t ds e
+  closure_fits node t (closure.Fault text) e = tt
 
   pub fits_made : (node : ℕ) (i : Item) → IsItem m.heap m.walk (fixtures_with found.table m.names m.definitions) node i → HasFixtureClosure rules (item_in_session found.table i)
   fits_made node i h =
       subst (λ (x : Item). HasFixtureClosure rules (item_in_session found.table x)) (sym h.is)
-      (closure_fits (item m.heap m.walk (fixtures_with found.table m.names m.definitions) node h.test) node h.test (item_closure found.table m.names m.definitions node h.test) refl refl)
+      (closure_fits node h.test (item_closure found.table m.names m.definitions node h.test) refl)

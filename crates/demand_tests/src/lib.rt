@@ -20,8 +20,8 @@
 //! - In each of them every fixture that was set up, or failed to, is undone once, the latest first, behind all that asked for it. A short
 //!   reading of the journal says so (`all_is_undone`), which knows nothing of the stack, and refuses journals in which something is undone too
 //!   early, twice, in part or never.
-//! - Whole journals: scopes, a kept failure, another parameter, definitions that are demanded one by one and in one call, and frames that
-//!   are given up.
+//! - Whole journals: scopes, a kept failure, another parameter (also where a teardown raises then) and the same, definitions that are
+//!   demanded one by one and in one call, and frames that are given up.
 //! - With ample memory the calls succeed.
 //!
 //! # What neither shows

@@ -160,27 +160,70 @@ const REPLACED: [LogEntry; 18] = [
     LogEntry::Finalized(0),
 ];
 
-/// Whether they leave it, all is undone, and nothing is raised.
-fn is_replaced(alloc: Global) -> Result<bool, OutOfMemory> {
+/// What they leave where what rests on it raises as it goes down: all of them go down, and for the other item nothing comes up.
+const NOT_REPLACED: [LogEntry; 9] = [
+    LogEntry::Begun(0),
+    LogEntry::Begun(1),
+    LogEntry::Called(2),
+    LogEntry::Closed(1),
+    LogEntry::Resumed(1),
+    LogEntry::Finalized(1),
+    LogEntry::Closed(0),
+    LogEntry::Resumed(0),
+    LogEntry::Finalized(0),
+];
+
+/// What they leave where both items have one parameter.
+const KEPT: [LogEntry; 10] = [
+    LogEntry::Begun(0),
+    LogEntry::Begun(1),
+    LogEntry::Called(2),
+    LogEntry::Called(3),
+    LogEntry::Closed(1),
+    LogEntry::Resumed(1),
+    LogEntry::Finalized(1),
+    LogEntry::Closed(0),
+    LogEntry::Resumed(0),
+    LogEntry::Finalized(0),
+];
+
+/// Whether they leave this where the other item has this parameter and what rests on it goes this way, all is undone, and these exceptions
+/// are told.
+fn is_replaced(
+    alloc: Global,
+    number: u32,
+    way: Way,
+    lines: &[LogEntry],
+    raised: &[Cause],
+) -> Result<bool, OutOfMemory> {
     let rows = [
         row_of(Scope::Session, &[], Way::YieldsOnce),
-        row_of(Scope::Module, &[0], Way::YieldsOnce),
+        row_of(Scope::Module, &[0], way),
     ];
     let one = with_parameter(alloc, 2, 0)?;
-    let other = with_parameter(alloc, 3, 1)?;
+    let other = with_parameter(alloc, 3, number)?;
     let mut made = bench_of(alloc, &rows)?;
     let done = both(&mut made, &one, &other, asks_for(&[1]));
     let world = end(made);
-    let raised = done?;
-    let is_undone = all_is_undone(alloc, &rows, &REPLACED)?;
-    Ok(is_undone && world.lines.items() == &REPLACED[..] && raised.is_empty())
+    let told = done?;
+    let is_undone = all_is_undone(alloc, &rows, lines)?;
+    Ok(is_undone && world.lines.items() == lines && told.items() == raised)
+}
+
+/// The same for another parameter, for one whose teardown raises, and for the same.
+fn are_replaced(alloc: Global) -> Result<bool, OutOfMemory> {
+    let raised = [Cause::InTeardown(1)];
+    let another = is_replaced(alloc, 1, Way::YieldsOnce, &REPLACED, &[])?;
+    let raising = is_replaced(alloc, 1, Way::RaisesBehind, &NOT_REPLACED, &raised)?;
+    let same = is_replaced(alloc, 0, Way::YieldsOnce, &KEPT, &[])?;
+    Ok(another && raising && same)
 }
 
 /// pytest's fixture guide, "Automatic grouping of tests by fixture instances": where the parameter changes, the old one goes down, and
-/// before it what depends on it; then the new one comes up.
+/// before it what depends on it; then the new one comes up, unless one of these teardowns raised. With the same parameter it stays.
 #[test]
 fn another_parameter_replaces(rt: HostRuntime) {
-    assert!(rt; matches!(is_replaced(rt.alloc()), Ok(true)));
+    assert!(rt; matches!(are_replaced(rt.alloc()), Ok(true)));
 }
 
 /// Whether sixty are set up, the deepest first, and given up, the deepest first too.

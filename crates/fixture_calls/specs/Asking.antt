@@ -23,18 +23,18 @@ scope_text Function = codes "function"
 abbrev pub as_request : Value × SourceWorld → Option Value × SourceWorld
 as_request made = (Some made.0, made.1)
 
--- a new `request`, without parameter and open, where one is taken
-abbrev pub request_if : Bool → Option (List ℕ) → List ℕ → SourceWorld → Option Value × SourceWorld
-request_if true name scope w = as_request (in_heap (added_object (open_request name scope None) w.heap) w)
-request_if false name scope w = (None, w)
+-- a new `request`, open, where one is taken
+abbrev pub request_if : Bool → Option (List ℕ) → List ℕ → Option Value → SourceWorld → Option Value × SourceWorld
+request_if true name scope param w = as_request (in_heap (added_object (open_request name scope param) w.heap) w)
+request_if false name scope param w = (None, w)
 
--- THE `request` of a fixture, where its function takes one: it has the fixture's name and scope
-unfoldable pub fixture_request : Fixture → SourceWorld → Option Value × SourceWorld
-fixture_request f w = request_if (asks_request f.arguments) (Some f.name) (scope_text f.scope) w
+-- THE `request` of a fixture, where its function takes one: it has the fixture's name and scope, and the parameter, where there is one
+unfoldable pub fixture_request : Fixture → Option Value → SourceWorld → Option Value × SourceWorld
+fixture_request f param w = request_if (asks_request f.arguments) (Some f.name) (scope_text f.scope) param w
 
--- THE `request` of a test, where it takes one: it has no name, and function scope
+-- THE `request` of a test, where it takes one: it has no name and no parameter, and function scope
 unfoldable pub test_request : Item → SourceWorld → Option Value × SourceWorld
-test_request i w = request_if (asks_request i.arguments) None (codes "function") w
+test_request i w = request_if (asks_request i.arguments) None (codes "function") None w
 
 -- a request that takes no finalizers, and has none
 abbrev pub spent_request : RequestObj → RequestObj

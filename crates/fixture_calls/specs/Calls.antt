@@ -20,9 +20,9 @@ call_failure limit (out.Exhausted trace) w = some_failure (exhausted limit trace
 abbrev pub ended_call : ℕ → Ended × SourceWorld → Option Failure × SourceWorld
 ended_call limit e = call_failure limit e.0.out e.1
 
--- THE CALL of a test, with the instance of its class, these values and this request
+-- THE CALL of a test, with the instance of its class, what its row binds, these values and this request
 unfoldable pub test_called : ℕ → Item → Option Value → List Value → Option Value → SourceWorld → Option Failure × SourceWorld
-test_called limit i own values request w = ended_call limit (source_call i.test.function (positional own i.arguments request values) limit w)
+test_called limit i own values request w = ended_call limit (source_call i.test.function (positional own i.bound i.arguments request values) limit w)
 
 -- THE CALL of a finalizer
 unfoldable pub finalizer_called : ℕ → Value → SourceWorld → Option Failure × SourceWorld

@@ -9,6 +9,7 @@ use Rattle.py_world.specs.declared.ended.Outcome.TheVariants as out
 use Rattle.py_machine.specs.source_meaning.Meaning.{SourceWorld, source_begin, source_resume}
 use Rattle.py_machine.specs.source_meaning.Requests.{source_kinds}
 use Rattle.test_suite.specs.declared.fixture.Fixture.{Fixture}
+use Rattle.test_suite.specs.declared.item.BoundArgument.{BoundArgument}
 use Rattle.fixture_calls.specs.Arguments.{positional}
 use Rattle.fixture_calls.specs.Failing.{as_failure, exhausted, made_for}
 use Rattle.fixture_calls.specs.declared.failure.Failure.{Failure}
@@ -37,9 +38,10 @@ body_ended limit t = body_end limit t.0.out t.1
 abbrev pub own_if : Bool → Option Value → Option Value
 own_if in_class own = if in_class then own else None
 
--- A FIXTURE'S FUNCTION is called within the step limit, with the instance, these values and this request; one that yields stops there
-unfoldable pub fixture_begun : ℕ → Fixture → Option Value → List Value → Option Value → SourceWorld → FixtureEnd × SourceWorld
-fixture_begun limit f own values request w = body_ended limit (source_begin f.function (positional (own_if f.in_class own) f.arguments request values) limit w)
+-- A FIXTURE'S FUNCTION is called within the step limit, with what the row of the item binds, the instance, these values and this request;
+-- one that yields stops there
+unfoldable pub fixture_begun : ℕ → Fixture → List BoundArgument → Option Value → List Value → Option Value → SourceWorld → FixtureEnd × SourceWorld
+fixture_begun limit f bound own values request w = body_ended limit (source_begin f.function (positional (own_if f.in_class own) bound f.arguments request values) limit w)
 
 -- WHAT REMAINS behind a `yield` goes on within the step limit, with the sent value None
 unfoldable pub fixture_resumed : ℕ → ℕ → SourceWorld → FixtureEnd × SourceWorld

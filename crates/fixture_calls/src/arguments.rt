@@ -8,6 +8,7 @@ ghost use Rattle.fixture_calls.specs.Arguments as arguments;
 use py_text::{OutOfMemory, PyText};
 use py_values::value::Value;
 use std::alloc::Global;
+use test_suite::BoundArgument;
 
 fn is_spelled(letters: &[char], name: &PyText) -> bool
     ensures { result ≡ name_eq letters.now name.now }
@@ -30,6 +31,18 @@ pub(crate) fn asks_request(names: &[PyText]) -> bool
     names.iter().any(|name| names_request(name))
 }
 
+/// The value that a row binds to a name.
+fn bound_to(bound: &[BoundArgument], name: &PyText) -> Option<Value>
+    ensures { result ≡ arguments.bound_to bound.now name.now }
+{
+    for one in bound {
+        if is_spelled(one.name.chars(), name) {
+            return Some(one.value);
+        }
+    }
+    None
+}
+
 fn push_if(args: &mut Vec<Value>, one: Option<Value>) -> Result<(), OutOfMemory>
     ensures { OnOk result (args.new.items ≡ args.old.items ++ option_to_list one) }
 {
@@ -50,33 +63,52 @@ fn push_value<'v>(args: &mut Vec<Value>, values: &'v [Value]) -> Result<&'v [Val
     Ok(&values[1..])
 }
 
+/// A bound value goes behind the others, or else the next of the values. The rest of the values.
+fn push_bound<'v>(
+    args: &mut Vec<Value>,
+    bound: Option<Value>,
+    values: &'v [Value],
+) -> Result<&'v [Value], OutOfMemory>
+    ensures { IfOk result (λ rest. (others : List Value → List Value) → args.new.items ++ others rest.now ≡ args.old.items ++ arguments.bound_then bound others values.now) }
+{
+    match bound {
+        Some(value) => {
+            args.push(value)?;
+            Ok(values)
+        }
+        None => push_value(args, values),
+    }
+}
+
 /// What one argument gets. The rest of the values.
 fn push_argument<'v>(
     args: &mut Vec<Value>,
+    bound: &[BoundArgument],
     name: &PyText,
     request: Option<Value>,
     values: &'v [Value],
 ) -> Result<&'v [Value], OutOfMemory>
-    ensures { IfOk result (λ rest. (names : List (List ℕ)) → args.new.items ++ arguments.in_order names request rest.now ≡ args.old.items ++ arguments.in_order (name.now ∷ names) request values.now) }
+    ensures { IfOk result (λ rest. (names : List (List ℕ)) → args.new.items ++ arguments.in_order bound.now names request rest.now ≡ args.old.items ++ arguments.in_order bound.now (name.now ∷ names) request values.now) }
 {
     if names_request(name) {
         push_if(args, request)?;
         return Ok(values);
     }
-    push_value(args, values)
+    push_bound(args, bound_to(bound, name), values)
 }
 
 fn push_in_order(
     args: &mut Vec<Value>,
+    bound: &[BoundArgument],
     names: &[PyText],
     request: Option<Value>,
     values: &[Value],
 ) -> Result<(), OutOfMemory>
-    ensures { OnOk result (args.new.items ≡ args.old.items ++ arguments.in_order names.now request values.now) }
+    ensures { OnOk result (args.new.items ≡ args.old.items ++ arguments.in_order bound.now names.now request values.now) }
 {
     let mut rest = values;
     for name in names {
-        rest = push_argument(args, name, request, rest)?;
+        rest = push_argument(args, bound, name, request, rest)?;
     }
     Ok(())
 }
@@ -85,14 +117,15 @@ fn push_in_order(
 pub(crate) fn positional(
     alloc: Global,
     own: Option<Value>,
+    bound: &[BoundArgument],
     names: &[PyText],
     request: Option<Value>,
     values: &[Value],
 ) -> Result<Vec<Value>, OutOfMemory>
-    ensures { IfOk result (λ args. args.items ≡ arguments.positional own names.now request values.now) }
+    ensures { IfOk result (λ args. args.items ≡ arguments.positional own bound.now names.now request values.now) }
 {
     let mut args = Vec::new(alloc);
     push_if(&mut args, own)?;
-    push_in_order(&mut args, names, request, values)?;
+    push_in_order(&mut args, bound, names, request, values)?;
     Ok(args)
 }

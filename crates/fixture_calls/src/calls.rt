@@ -29,8 +29,8 @@ fn call_failure(
     }
 }
 
-/// Calls an item's test within a limit of steps, with the instance of its class where it has one, then with this request and these values
-/// in the order of its arguments: why it failed, if it did. Behind want of memory the world is spent.
+/// Calls an item's test within a limit of steps, with the instance of its class where it has one, then with this request, what its row
+/// binds and these values in the order of its arguments: why it failed, if it did. Behind want of memory the world is spent.
 #[tactic(auto, unfolding(crate::specs::Calls::test_called))]
 pub fn call_test(
     alloc: Global,
@@ -43,7 +43,8 @@ pub fn call_test(
 ) -> Result<Option<Failure>, OutOfMemory>
     ensures { IfOk result (λ f. (f, world.new) ≡ calls.test_called limit item.now own values.now request world.old) }
 {
-    let args = positional(alloc, own, item.arguments.items(), request, values)?;
+    let bound = item.bound.items();
+    let args = positional(alloc, own, bound, item.arguments.items(), request, values)?;
     let ended = call(world, item.test.function, &args, limit)?;
     call_failure(alloc, world, limit, ended.out)
 }

@@ -10,12 +10,13 @@
 //!
 //! Each function is the definition of its name, by an equation on what it gives and on the world behind it:
 //!
-//! - [`ask`], [`ask_test`]: a new `request` with the fixture's name and scope, where its function takes one (`fixture_request`); that of a
-//!   test (`test_request`). [`close`]: it takes no further finalizers, and gives those that it had, latest first (`finalizers_taken`).
+//! - [`ask`], [`ask_test`]: a new `request` with the fixture's name, scope and parameter, where its function takes one
+//!   (`fixture_request`); that of a test (`test_request`). [`close`]: it takes no further finalizers, and gives those that it had, latest
+//!   first (`finalizers_taken`).
 //! - [`begin`]: the function of a fixture is called within the step limit, with the instance of the item's class where it stands in a class,
-//!   then with its `request` and the values in the order of its arguments; it returns, or raises, or stands at its `yield`
-//!   (`fixture_begun`). [`resume`]: what remains goes on, with the sent value None (`fixture_resumed`); [`abandon`]: it is given up
-//!   (`fixture_abandoned`). An exhausted one has raised `StepLimit`.
+//!   then with its `request`, what the row of the item binds and the values in the order of its arguments; it returns, or raises, or stands
+//!   at its `yield` (`fixture_begun`). [`resume`]: what remains goes on, with the sent value None (`fixture_resumed`); [`abandon`]: it is
+//!   given up (`fixture_abandoned`). An exhausted one has raised `StepLimit`.
 //! - [`did_not_yield`], [`yielded_again`]: the exceptions of a fixture that yields never, or again (`did_not_yield`, `yielded_again`).
 //! - [`call_test`]: the call of a test (`test_called`); [`call_finalizer`]: that of a finalizer (`finalizer_called`).
 //! - [`copied`]: the same failure.

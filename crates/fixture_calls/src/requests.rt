@@ -16,17 +16,15 @@ use session_types::Scope;
 use std::alloc::Global;
 use test_suite::{Fixture, Item};
 
-fn new_request(world: &mut World, name: Option<PyText>, scope: PyText) -> Result<Value, OutOfMemory>
-    ensures { IfOk result (λ v. (v, world.new) ≡ failing.in_heap (given.added_object (given.open_request name scope None) world.old.heap) world.old) }
+fn new_request(
+    world: &mut World,
+    name: Option<PyText>,
+    scope: PyText,
+    param: Option<Value>,
+) -> Result<Value, OutOfMemory>
+    ensures { IfOk result (λ v. (v, world.new) ≡ failing.in_heap (given.added_object (given.open_request name scope param) world.old.heap) world.old) }
 {
-    make(
-        world,
-        &New::Request {
-            name,
-            scope,
-            param: None,
-        },
-    )
+    make(world, &New::Request { name, scope, param })
 }
 
 fn scope_name(scope: Scope) -> &'static str
@@ -48,25 +46,26 @@ fn scope_text(alloc: Global, scope: Scope) -> Result<PyText, OutOfMemory>
     Ok(PyText::from_vec(text))
 }
 
-/// The `request` of a fixture, where its function takes one (pytest's reference, `FixtureRequest`). Behind want of memory the world is
-/// spent.
+/// The `request` of a fixture, where its function takes one (pytest's reference, `FixtureRequest`): it has this parameter. Behind want of
+/// memory the world is spent.
 #[tactic(auto, unfolding(crate::specs::Asking::fixture_request))]
 pub fn ask(
     alloc: Global,
     world: &mut World,
     fixture: &Fixture,
+    param: Option<Value>,
 ) -> Result<Option<Value>, OutOfMemory>
-    ensures { IfOk result (λ request. (request, world.new) ≡ asking.fixture_request fixture.now world.old) }
+    ensures { IfOk result (λ request. (request, world.new) ≡ asking.fixture_request fixture.now param world.old) }
 {
     if !asks_request(fixture.arguments.items()) {
         return Ok(None);
     }
     let name = PyText::from_chars(alloc, fixture.name.chars())?;
     let scope = scope_text(alloc, fixture.scope)?;
-    Ok(Some(new_request(world, Some(name), scope)?))
+    Ok(Some(new_request(world, Some(name), scope, param)?))
 }
 
-/// The `request` of a test, where it takes one. Behind want of memory the world is spent.
+/// The `request` of a test, where it takes one: it has no parameter. Behind want of memory the world is spent.
 #[tactic(auto, unfolding(crate::specs::Asking::test_request))]
 pub fn ask_test(alloc: Global, world: &mut World, item: &Item) -> Result<Option<Value>, OutOfMemory>
     ensures { IfOk result (λ request. (request, world.new) ≡ asking.test_request item.now world.old) }
@@ -75,7 +74,7 @@ pub fn ask_test(alloc: Global, world: &mut World, item: &Item) -> Result<Option<
         return Ok(None);
     }
     let scope = scope_text(alloc, Scope::Function)?;
-    Ok(Some(new_request(world, None, scope)?))
+    Ok(Some(new_request(world, None, scope, None)?))
 }
 
 /// The finalizers of a closed request, latest first, which are taken.

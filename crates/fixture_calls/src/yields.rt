@@ -15,7 +15,7 @@ use py_values::end::push_ascii;
 use py_values::value::Value;
 use py_world::{Outcome, Trace};
 use std::alloc::Global;
-use test_suite::Fixture;
+use test_suite::{BoundArgument, Fixture};
 
 /// How a fixture's function ended, or what remained of it.
 pub enum FixtureEnd {
@@ -73,22 +73,30 @@ fn own_if(in_class: bool, own: Option<Value>) -> Option<Value>
     if in_class { own } else { None }
 }
 
-/// Calls a fixture's function within a limit of steps, with this instance where it stands in a class, then with this request and these
-/// values in the order of its arguments; one that yields stops there. Behind want of memory the world is spent.
+/// Calls a fixture's function within a limit of steps, with this instance where it stands in a class, then with this request, what the row
+/// of the item binds and these values in the order of its arguments; one that yields stops there. Behind want of memory the world is spent.
 #[tactic(auto, unfolding(crate::specs::Yields::fixture_begun))]
 pub fn begin(
     alloc: Global,
     world: &mut World,
     fixture: &Fixture,
+    bound: &[BoundArgument],
     own: Option<Value>,
     values: &[Value],
     request: Option<Value>,
     limit: u64,
 ) -> Result<FixtureEnd, OutOfMemory>
-    ensures { IfOk result (λ e. (e, world.new) ≡ yields.fixture_begun limit fixture.now own values.now request world.old) }
+    ensures { IfOk result (λ e. (e, world.new) ≡ yields.fixture_begun limit fixture.now bound.now own values.now request world.old) }
 {
     let own = own_if(fixture.in_class, own);
-    let args = positional(alloc, own, fixture.arguments.items(), request, values)?;
+    let args = positional(
+        alloc,
+        own,
+        bound,
+        fixture.arguments.items(),
+        request,
+        values,
+    )?;
     let Begun { out, steps: _ } = py_machine::begin(world, fixture.function, &args, limit)?;
     body_end(alloc, world, limit, out)
 }

@@ -10,7 +10,7 @@ ghost use Rattle.runtest_rules.specs.Rules.{body_end_of, rules_within};
 ghost use Rattle.fixture_calls.specs.Yields as yields;
 ghost use Rattle.test_suite.specs.Suites.{fixture_at, no_fixture};
 
-use crate::setting::{RunSetting, fixture_of, nameless};
+use crate::setting::{RunSetting, bound_at, fixture_of, nameless, param_at};
 use fixture_calls::{Failure, FixtureEnd, Frozen, World};
 use fixture_instances::{BodyEnd, Executor, ItemRef};
 use fixture_table::Table;
@@ -110,11 +110,12 @@ impl Executor for RunWorld {
         &mut self,
         setting: &RunSetting,
         _table: &Table,
-        _item: &ItemRef<Value>,
+        item: &ItemRef<Value>,
         def: DefId,
     ) -> Result<Option<Value>, OutOfMemory> {
         let fixture = fixture_of(setting, def);
-        let request = fixture_calls::ask(self.alloc, &mut self.world, fixture)?;
+        let param = param_at(setting, item.node, def);
+        let request = fixture_calls::ask(self.alloc, &mut self.world, fixture, param)?;
         Ok(request)
     }
 
@@ -122,7 +123,7 @@ impl Executor for RunWorld {
         &mut self,
         setting: &RunSetting,
         _table: &Table,
-        _item: &ItemRef<Value>,
+        item: &ItemRef<Value>,
         def: DefId,
         own: Option<Value>,
         values: &[Value],
@@ -130,14 +131,16 @@ impl Executor for RunWorld {
     ) -> Result<BodyEnd<Value, Failure, Frozen>, OutOfMemory>
         requires known { length _table.now.defs ≡ length setting.now.suite.fixtures }
         requires def { def < length _table.now.defs }
-        ensures how { IfOk result (λ end. views.body_end (rules_within setting.now.limit setting.now.suite) end ≡ ((rules_within setting.now.limit setting.now.suite).begin _item.now.node def (parameter_in _item.now.params def) own values.now request self.old).how) }
-        ensures world { OnOk result (self.new ≡ ((rules_within setting.now.limit setting.now.suite).begin _item.now.node def (parameter_in _item.now.params def) own values.now request self.old).world) }
+        ensures how { IfOk result (λ end. views.body_end (rules_within setting.now.limit setting.now.suite) end ≡ ((rules_within setting.now.limit setting.now.suite).begin item.now.node def (parameter_in item.now.params def) own values.now request self.old).how) }
+        ensures world { OnOk result (self.new ≡ ((rules_within setting.now.limit setting.now.suite).begin item.now.node def (parameter_in item.now.params def) own values.now request self.old).world) }
     {
         let fixture = fixture_of(setting, def);
+        let bound = bound_at(setting, item.node);
         let end = fixture_calls::begin(
             self.alloc,
             &mut self.world,
             fixture,
+            bound,
             own,
             values,
             request,

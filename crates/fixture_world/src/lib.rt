@@ -8,7 +8,10 @@
 //! # What is proved
 //!
 //! Each act of the `Executor` is that of the rules of sources for the setting's suite within its step limit (`rules_within` of
-//! `runtest_rules`): the same answer, and the same world behind it. The functions that do it are those of `fixture_calls`.
+//! `runtest_rules`): the same answer, and the same world behind it. The functions that do it are those of `fixture_calls`. What the row of
+//! the item at hand binds and gives to fixtures is the suite's.
+//!
+//! [`demanding`] is an item as its set-up sees it (`demanding`), with the instance of its class that is given.
 //!
 //! # What tests alone show
 //!
@@ -20,12 +23,14 @@
 #![tactic(auto)]
 
 pub use runtest_rules::{
-    Ending, end_phase, fails_in_teardown, fixture_fault, make_instance, make_item, skip,
-    wrong_arguments,
+    Ending, end_phase, fails_in_teardown, fixture_fault, is_same_exception, make_instance,
+    make_item, not_none, skip, wrapper_did_not_yield, wrapper_yielded_again, wrong_arguments,
 };
 
 mod executing;
+mod item_refs;
 mod setting;
 
 pub use executing::RunWorld;
+pub use item_refs::demanding;
 pub use setting::RunSetting;

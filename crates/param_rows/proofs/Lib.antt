@@ -6,4 +6,4 @@ mod Zipped
 mod Short
 mod Groups
 mod Shuffled
-mod Regrouped
+pub mod Regrouped

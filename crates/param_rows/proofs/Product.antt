@@ -21,27 +21,27 @@ map-flat_map : {A B C : Type 0} (f : B → C) (g : A → List B) (xs : List A) �
 map-flat_map f g [] = refl
 map-flat_map f g (x ∷ xs) = map-append f (g x) (flat_map g xs) ∙ ap (λ ys. map f (g x) ++ ys) (map-flat_map f g xs)
 
-row_of-cons : (named : Bool) (choice : ParameterSet) (choices : List ParameterSet) → chosen_row named (choice ∷ choices) ≡ with_choice named choice (chosen_row named choices)
+row_of-cons : {V : Type 0} (named : Bool) (choice : ParameterSet V) (choices : List (ParameterSet V)) → chosen_row named (choice ∷ choices) ≡ with_choice named choice (chosen_row named choices)
 row_of-cons true choice choices = refl
 row_of-cons false choice choices = refl
 
-with_each : (named : Bool) (choice : ParameterSet) (chosen : List (List ParameterSet)) → map (chosen_row named) (map (λ choices. choice ∷ choices) chosen) ≡ map (with_choice named choice) (map (chosen_row named) chosen)
+with_each : {V : Type 0} (named : Bool) (choice : ParameterSet V) (chosen : List (List (ParameterSet V))) → map (chosen_row named) (map (λ choices. choice ∷ choices) chosen) ≡ map (with_choice named choice) (map (chosen_row named) chosen)
 with_each named choice [] = refl
 with_each named choice (choices ∷ chosen) =
     ap (λ row. row ∷ map (chosen_row named) (map (λ cs. choice ∷ cs) chosen)) (row_of-cons named choice choices)
     ∙ ap (λ rows. with_choice named choice (chosen_row named choices) ∷ rows) (with_each named choice chosen)
 
-with_all : (named : Bool) (xs : List ParameterSet) (chosen : List (List ParameterSet)) → flat_map (λ choice. map (chosen_row named) (map (λ choices. choice ∷ choices) chosen)) xs ≡ flat_map (λ choice. map (with_choice named choice) (map (chosen_row named) chosen)) xs
+with_all : {V : Type 0} (named : Bool) (xs : List (ParameterSet V)) (chosen : List (List (ParameterSet V))) → flat_map (λ choice. map (chosen_row named) (map (λ choices. choice ∷ choices) chosen)) xs ≡ flat_map (λ choice. map (with_choice named choice) (map (chosen_row named) chosen)) xs
 with_all named [] chosen = refl
 with_all named (choice ∷ xs) chosen =
     ap (λ rows. rows ++ flat_map (λ x. map (chosen_row named) (map (λ choices. x ∷ choices) chosen)) xs) (with_each named choice chosen)
     ∙ ap (λ rows. map (with_choice named choice) (map (chosen_row named) chosen) ++ rows) (with_all named xs chosen)
 
-pub rows_in-cons : (named : Bool) (xs : List ParameterSet) (lists : List (List ParameterSet)) → rows_in named (xs ∷ lists) ≡ flat_map (λ choice. map (with_choice named choice) (rows_in named lists)) xs
+pub rows_in-cons : {V : Type 0} (named : Bool) (xs : List (ParameterSet V)) (lists : List (List (ParameterSet V))) → rows_in named (xs ∷ lists) ≡ flat_map (λ choice. map (with_choice named choice) (rows_in named lists)) xs
 rows_in-cons named xs lists = map-flat_map (chosen_row named) (λ choice. map (λ choices. choice ∷ choices) (product lists)) xs ∙ with_all named xs (product lists)
 
 -- the rows with one list of values more
-pub rows_in_more : {A : Type 0} (named : Bool) (f : A → List ParameterSet) (xs : List A) (i j : ℕ) (x : A) (behind : List (List ParameterSet)) (old new : List ParamRow) → j < length xs → i ≡ j + 1 → x ≡ get_or xs j x → old ≡ rows_in named (map f (drop i xs) ++ behind) → new ≡ flat_map (λ choice. map (with_choice named choice) old) (f x) → new ≡ rows_in named (map f (drop j xs) ++ behind)
+pub rows_in_more : {A V : Type 0} (named : Bool) (f : A → List (ParameterSet V)) (xs : List A) (i j : ℕ) (x : A) (behind : List (List (ParameterSet V))) (old new : List (ParamRow V)) → j < length xs → i ≡ j + 1 → x ≡ get_or xs j x → old ≡ rows_in named (map f (drop i xs) ++ behind) → new ≡ flat_map (λ choice. map (with_choice named choice) old) (f x) → new ≡ rows_in named (map f (drop j xs) ++ behind)
 rows_in_more named f xs i j x behind old new lt next at so_far step =
     let left : drop j xs ≡ x ∷ drop i xs = drop_more xs j x lt ∙ (rw (next, ← at) refl) in
     step ∙ ap (λ rows. flat_map (λ choice. map (with_choice named choice) rows) (f x)) so_far
@@ -73,7 +73,7 @@ capped a r c = elim (cases_lt c a) [
 ]
 
 -- one list of values more
-pub times_more : {A : Type 0} (f : A → List ParameterSet) (xs : List A) (i : ℕ) (x : A) (total more all : ℕ) → i < length xs → x ≡ get_or xs i x → more ≡ min (total * length (f x)) 65537 → min (total * length (product (map f (drop i xs)))) 65537 ≡ all → min (more * length (product (map f (drop (i + 1) xs)))) 65537 ≡ all
+pub times_more : {A V : Type 0} (f : A → List (ParameterSet V)) (xs : List A) (i : ℕ) (x : A) (total more all : ℕ) → i < length xs → x ≡ get_or xs i x → more ≡ min (total * length (f x)) 65537 → min (total * length (product (map f (drop i xs)))) 65537 ≡ all → min (more * length (product (map f (drop (i + 1) xs)))) 65537 ≡ all
 times_more f xs i x total more all lt at is so_far =
     let rest : ℕ = length (product (map f (drop (i + 1) xs))) in
     let left : drop i xs ≡ x ∷ drop (i + 1) xs = drop_more xs i x lt ∙ (rw (← at) refl) in
@@ -100,10 +100,10 @@ product_bounds (xs ∷ lists) h =
     positive a zero h = absurd (omega arith)
     positive a (suc b) h = omega arith
 
-pub length-fixture_choices : (fixture : ℕ × Vec Id Global) → length (fixture_choices fixture) ≡ length fixture.1.items
-length-fixture_choices fixture = length-map (enumerate_from 0 fixture.1.items) (param_choice fixture.0) ∙ length-enumerate_from 0 fixture.1.items
+pub length-fixture_choices : (V : Type 0) (fixture : ℕ × Vec Id Global) → length (fixture_choices {V = V} fixture) ≡ length fixture.1.items
+length-fixture_choices V fixture = length-map (enumerate_from 0 fixture.1.items) (param_choice {V = V} fixture.0) ∙ length-enumerate_from 0 fixture.1.items
 
-pub length-mark_choices : (mark : ParamMark) → length (mark_choices mark) ≡ length mark.sets
+pub length-mark_choices : {V : Type 0} (mark : ParamMark V) → length (mark_choices mark) ≡ length mark.sets
 length-mark_choices mark = length-map mark.sets (set_choice mark.names)
 
 read_more : {A : Type 0} (xs : List A) (i : ℕ) (x : A) → i < length xs → x ≡ get_or xs i x → take (i + 1) xs ≡ take i xs ++ x ∷ []
@@ -116,7 +116,7 @@ pushed_more f xs i x start old new lt at so_far is =
     ∙ ap (λ ys. start ++ ys) (sym (map-append f (take i xs) (x ∷ [])) ∙ ap (λ ys. map f ys) (sym (read_more xs i x lt at)))
 
 -- what a loop appends for each element
-pub each_more : {A : Type 0} (g : ParameterSet → List ParamRow) (f : A → ParameterSet) (xs : List A) (i : ℕ) (x : A) (old new : List ParamRow) → i < length xs → x ≡ get_or xs i x → old ≡ flat_map g (map f (take i xs)) → new ≡ old ++ g (f x) → new ≡ flat_map g (map f (take (i + 1) xs))
+pub each_more : {A V : Type 0} (g : ParameterSet V → List (ParamRow V)) (f : A → ParameterSet V) (xs : List A) (i : ℕ) (x : A) (old new : List (ParamRow V)) → i < length xs → x ≡ get_or xs i x → old ≡ flat_map g (map f (take i xs)) → new ≡ old ++ g (f x) → new ≡ flat_map g (map f (take (i + 1) xs))
 each_more g f xs i x old new lt at so_far is =
     is ∙ ap (λ ys. ys ++ g (f x)) so_far
     ∙ sym (ap (λ ys. flat_map g (map f ys)) (read_more xs i x lt at)
@@ -124,7 +124,7 @@ each_more g f xs i x old new lt at so_far is =
     ∙ flat_map-append g (map f (take i xs)) (f x ∷ [])
     ∙ ap (λ ys. flat_map g (map f (take i xs)) ++ ys) (append-nil (g (f x))))
 
-pub each_all : {A : Type 0} (g : ParameterSet → List ParamRow) (f : A → ParameterSet) (xs : List A) (i : ℕ) (all : List ParamRow) → length xs ≤ i → all ≡ flat_map g (map f (take i xs)) → all ≡ flat_map g (map f xs)
+pub each_all : {A V : Type 0} (g : ParameterSet V → List (ParamRow V)) (f : A → ParameterSet V) (xs : List A) (i : ℕ) (all : List (ParamRow V)) → length xs ≤ i → all ≡ flat_map g (map f (take i xs)) → all ≡ flat_map g (map f xs)
 each_all g f xs i all le so_far = so_far ∙ ap (λ ys. flat_map g (map f ys)) (take_all i xs le)
 
 -- a numbered element
@@ -134,7 +134,7 @@ numbered_at ids i id lt at = sym (get_or-enumerate_from 0 ids i (i, id) lt ∙ s
     same : (a b : ℕ) (x y : Id) → a ≡ b → x ≡ y → ◌≡◌ {A = ℕ × Id} (a, x) (b, y)
     same a b x y e f = rw (e, f) refl
 
-pub rows_in_last : {A : Type 0} (named : Bool) (f : A → List ParameterSet) (xs : List A) (i j : ℕ) (x : A) (old new : List ParamRow) → j < length xs → i ≡ j + 1 → x ≡ get_or xs j x → old ≡ rows_in named (map f (drop i xs)) → new ≡ flat_map (λ choice. map (with_choice named choice) old) (f x) → new ≡ rows_in named (map f (drop j xs))
+pub rows_in_last : {A V : Type 0} (named : Bool) (f : A → List (ParameterSet V)) (xs : List A) (i j : ℕ) (x : A) (old new : List (ParamRow V)) → j < length xs → i ≡ j + 1 → x ≡ get_or xs j x → old ≡ rows_in named (map f (drop i xs)) → new ≡ flat_map (λ choice. map (with_choice named choice) old) (f x) → new ≡ rows_in named (map f (drop j xs))
 rows_in_last named f xs i j x old new lt next at so_far step =
     rows_in_more named f xs i j x [] old new lt next at (so_far ∙ ap (λ ys. rows_in named ys) (sym (append-nil (map f (drop i xs))))) step
     ∙ ap (λ ys. rows_in named ys) (append-nil (map f (drop j xs)))

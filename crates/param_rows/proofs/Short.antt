@@ -9,12 +9,12 @@ use Rattle.param_rows.specs.Rows.{ParameterSet, product, choice_lists, fixture_c
 use Rattle.param_rows.specs.declared.param.ParamMark.{ParamMark}
 use Rattle.param_rows.proofs.Product.{product_bounds}
 
-all_front : {A : Type 0} (P : List ParameterSet → Type 0) (f : A → List ParameterSet) (xs : List A) (rest : List (List ParameterSet)) → All P (map f xs ++ rest) → All (λ x. P (f x)) xs
+all_front : {A V : Type 0} (P : List (ParameterSet V) → Type 0) (f : A → List (ParameterSet V)) (xs : List A) (rest : List (List (ParameterSet V))) → All P (map f xs ++ rest) → All (λ x. P (f x)) xs
 all_front P f [] rest h = All-nil (λ x. P (f x))
 all_front P f (x ∷ xs) rest h = All-cons (λ y. P (f y)) x xs (All-head P (f x) (map f xs ++ rest) h) (all_front P f xs rest (All-tail P (f x) (map f xs ++ rest) h))
 
 -- where there are rows, and not too many, no fixture has too many parameters
-pub short_lists : (fixtures : List (ℕ × Vec Id Global)) (marks : List ParamMark) → 0 < length (product (choice_lists fixtures marks)) → length (product (choice_lists fixtures marks)) ≤ 65536 → All (λ fixture. length (fixture_choices fixture) ≤ 65536) fixtures
+pub short_lists : {V : Type 0} (fixtures : List (ℕ × Vec Id Global)) (marks : List (ParamMark V)) → 0 < length (product (choice_lists fixtures marks)) → length (product (choice_lists fixtures marks)) ≤ 65536 → All (λ fixture. length (fixture_choices {V = V} fixture) ≤ 65536) fixtures
 short_lists fixtures marks some small =
     all_front (λ xs. length xs ≤ 65536) fixture_choices fixtures (map mark_choices marks)
     (All-weaker (λ xs. length xs ≤ length (product (choice_lists fixtures marks))) (λ xs. length xs ≤ 65536) (λ xs le. omega (arith, le, small)) (choice_lists fixtures marks) (product_bounds (choice_lists fixtures marks) some))

@@ -15,7 +15,7 @@ abbrev pub among : ℕ → List ℕ → Bool
 among name names = list_any (λ one. one == name) names
 
 -- the first set that has another number of values than there are names
-abbrev pub width_fault : ParamMark → Option RowFault
+abbrev pub width_fault : {V : Type 0} → ParamMark V → Option RowFault
 width_fault mark = option_map (λ set. Width (length mark.names) (length set.values)) (find (λ set. not (length set.values == length mark.names)) mark.sets)
 
 -- the first name that stands before it
@@ -28,13 +28,13 @@ abbrev pub first_unknown : List ℕ → List ℕ → Option ℕ
 first_unknown known names = find (λ name. not (among name known)) names
 
 -- within a mark: width, then a name that stands before, then a name that nobody asks for
-abbrev pub mark_fault : List ℕ → List ℕ → ParamMark → Option RowFault
+abbrev pub mark_fault : {V : Type 0} → List ℕ → List ℕ → ParamMark V → Option RowFault
 mark_fault known earlier mark =
     option_or (width_fault mark)
     (option_or (option_map (λ name. Duplicate name) (first_repeated earlier mark.names)) (option_map (λ name. NoArgument name) (first_unknown known mark.names)))
 
 -- mark by mark, behind the names of the earlier ones
-abbrev pub marks_fault : List ℕ → List ℕ → List ParamMark → Option RowFault
+abbrev pub marks_fault : {V : Type 0} → List ℕ → List ℕ → List (ParamMark V) → Option RowFault
 marks_fault known earlier [] = None
 marks_fault known earlier (mark ∷ marks) = option_or (mark_fault known earlier mark) (marks_fault known (earlier ++ mark.names) marks)
 
@@ -42,5 +42,5 @@ abbrev pub size_fault : ℕ → Option RowFault
 size_fault many = if nat_lt most_rows many then Some TooMany else None
 
 -- the faults of the marks, and then that there are too many rows
-abbrev pub first_fault : List (ℕ × Vec Id Global) → List ParamMark → List ℕ → Option RowFault
+abbrev pub first_fault : {V : Type 0} → List (ℕ × Vec Id Global) → List (ParamMark V) → List ℕ → Option RowFault
 first_fault fixtures marks known = option_or (marks_fault known [] marks) (size_fault (length (rows_of fixtures marks)))

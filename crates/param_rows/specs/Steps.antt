@@ -4,7 +4,7 @@ use Rattle.param_rows.specs.declared.param.ParamRow.{ParamRow}
 use Rattle.param_rows.specs.Rows.{ParameterSet, dash_joined, chosen_row, product}
 
 -- the row with a value chosen before it
-abbrev pub with_choice : Bool → ParameterSet → ParamRow → ParamRow
+abbrev pub with_choice : {V : Type 0} → Bool → ParameterSet V → ParamRow V → ParamRow V
 with_choice named choice row = record {
   bound = choice.bound ++ row.bound;
   fixture_params = choice.fixture_params ++ row.fixture_params;
@@ -13,5 +13,5 @@ with_choice named choice row = record {
 }
 
 -- the rows of lists of values
-abbrev pub rows_in : Bool → List (List ParameterSet) → List ParamRow
+abbrev pub rows_in : {V : Type 0} → Bool → List (List (ParameterSet V)) → List (ParamRow V)
 rows_in named lists = map (chosen_row named) (product lists)

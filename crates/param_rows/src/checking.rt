@@ -14,7 +14,7 @@ fn among(names: &[u32], name: u32) -> bool
 }
 
 /// The first set with another number of values than the mark has names.
-fn width_fault(mark: &ParamMark) -> Option<RowFault>
+fn width_fault<V>(mark: &ParamMark<V>) -> Option<RowFault>
     ensures { result ≡ width_fault mark.now }
 {
     let wanted = mark.names.items().len();
@@ -54,7 +54,7 @@ fn first_unknown(known: &[u32], names: &[u32]) -> Option<u32>
 }
 
 /// Refuses a mark with a fault; else its names are appended to the earlier ones.
-fn check_mark(earlier: &mut Vec<u32>, mark: &ParamMark, known: &[u32]) -> Result<(), RowFault>
+fn check_mark<V>(earlier: &mut Vec<u32>, mark: &ParamMark<V>, known: &[u32]) -> Result<(), RowFault>
     ensures ok { OnOk result (mark_fault known.now earlier.old.items mark.now ≡ None) }
     ensures names { OnOk result (earlier.new.items ≡ earlier.old.items ++ mark.now.names) }
     ensures err { IfErr result (λ fault. fault ≡ NoMemory ⊎ mark_fault known.now earlier.old.items mark.now ≡ Some fault) }
@@ -72,7 +72,7 @@ fn check_mark(earlier: &mut Vec<u32>, mark: &ParamMark, known: &[u32]) -> Result
 }
 
 /// Refuses the marks where one has a fault.
-pub fn check_marks(alloc: Global, marks: &[ParamMark], known: &[u32]) -> Result<(), RowFault>
+pub fn check_marks<V>(alloc: Global, marks: &[ParamMark<V>], known: &[u32]) -> Result<(), RowFault>
     ensures ok { OnOk result (marks_fault known.now [] marks.now ≡ None) }
     ensures err { IfErr result (λ fault. fault ≡ NoMemory ⊎ marks_fault known.now [] marks.now ≡ Some fault) }
 {

@@ -15,9 +15,9 @@ fn times(total: usize, more: usize) -> usize
     total.saturating_mul(more).min(MOST_ROWS + 1)
 }
 
-fn times_fixtures(total: usize, fixtures: &[(u32, Vec<PyId>)]) -> usize
+fn times_fixtures<V>(total: usize, fixtures: &[(u32, Vec<PyId>)]) -> usize
     requires { total ≤ suc most_rows }
-    ensures { result ≡ min (total * length (product (map fixture_choices fixtures.now))) (suc most_rows) }
+    ensures { result ≡ min (total * length (product (map (fixture_choices {V = V}) fixtures.now))) (suc most_rows) }
 {
     let mut total = total;
     for (_, ids) in fixtures {
@@ -26,7 +26,7 @@ fn times_fixtures(total: usize, fixtures: &[(u32, Vec<PyId>)]) -> usize
     total
 }
 
-fn times_marks(total: usize, marks: &[ParamMark]) -> usize
+fn times_marks<V>(total: usize, marks: &[ParamMark<V>]) -> usize
     requires { total ≤ suc most_rows }
     ensures { result ≡ min (total * length (product (map mark_choices marks.now))) (suc most_rows) }
 {
@@ -38,8 +38,8 @@ fn times_marks(total: usize, marks: &[ParamMark]) -> usize
 }
 
 /// How many rows there are, or one more than the limit where there are more.
-pub fn count(fixtures: &[(u32, Vec<PyId>)], marks: &[ParamMark]) -> usize
+pub fn count<V>(fixtures: &[(u32, Vec<PyId>)], marks: &[ParamMark<V>]) -> usize
     ensures { result ≡ min (length (product (choice_lists fixtures.now marks.now))) (suc most_rows) }
 {
-    times_marks(times_fixtures(1, fixtures), marks)
+    times_marks(times_fixtures::<V>(1, fixtures), marks)
 }

@@ -5,8 +5,8 @@ ghost use Rattle.param_rows.specs.Rows.{dash_joined, set_choice, param_choice};
 ghost use Rattle.param_rows.specs.Steps.{with_choice};
 
 use crate::id::PyId;
-use crate::param::{Pairs, ParamNumbers, ParamRow, ParamSet};
-use seq::OutOfMemory;
+use crate::param::{Pairs, ParamRow, ParamSet};
+use seq::{OutOfMemory, Seq};
 use std::alloc::Global;
 
 /// Two ids with `-` between them.
@@ -52,16 +52,16 @@ fn set_id_before(
     }
 }
 
-fn numbers_before(alloc: Global, one: &[u32], other: &[u32]) -> Result<ParamNumbers, OutOfMemory>
+fn marks_before<V: Copy>(alloc: Global, one: &[V], other: &[V]) -> Result<Seq<V>, OutOfMemory>
     ensures { IfOk result (λ new. new ≡ one.now ++ other.now) }
 {
-    let mut numbers = Vec::from_slice(alloc, one)?;
-    numbers.extend_from_slice(other)?;
-    Ok(ParamNumbers::from_vec(numbers))
+    let mut marks = Vec::from_slice(alloc, one)?;
+    marks.extend_from_slice(other)?;
+    Ok(Seq::from_vec(marks))
 }
 
 /// The names with their values.
-fn bound(alloc: Global, names: &[u32], values: &[u32]) -> Result<Vec<(u32, u32)>, OutOfMemory>
+fn bound<V: Copy>(alloc: Global, names: &[u32], values: &[V]) -> Result<Vec<(u32, V)>, OutOfMemory>
     ensures { IfOk result (λ pairs. pairs.items ≡ zip names.now values.now) }
 {
     let mut pairs = Vec::new(alloc);
@@ -72,17 +72,17 @@ fn bound(alloc: Global, names: &[u32], values: &[u32]) -> Result<Vec<(u32, u32)>
 }
 
 /// The names with their values, before the pairs that follow.
-fn bound_before(
+fn bound_before<V: Copy>(
     alloc: Global,
     names: &[u32],
-    values: &[u32],
-    rest: &[(u32, u32)],
-) -> Result<Pairs, OutOfMemory>
+    values: &[V],
+    rest: &[(u32, V)],
+) -> Result<Seq<(u32, V)>, OutOfMemory>
     ensures { IfOk result (λ new. new ≡ zip names.now values.now ++ rest.now) }
 {
     let mut pairs = bound(alloc, names, values)?;
     pairs.extend_from_slice(rest)?;
-    Ok(Pairs::from_vec(pairs))
+    Ok(Seq::from_vec(pairs))
 }
 
 fn pair_before(alloc: Global, pair: (u32, u32), rest: &[(u32, u32)]) -> Result<Pairs, OutOfMemory>
@@ -104,12 +104,12 @@ pub struct RowMaker {
 
 impl RowMaker {
     /// A row with a set of a mark before it.
-    pub fn with_set(
+    pub fn with_set<V: Copy>(
         &self,
         names: &[u32],
-        set: &ParamSet,
-        row: &ParamRow,
-    ) -> Result<ParamRow, OutOfMemory>
+        set: &ParamSet<V>,
+        row: &ParamRow<V>,
+    ) -> Result<ParamRow<V>, OutOfMemory>
         ensures { IfOk result (λ new. new ≡ with_choice self.now.named (set_choice names.now set.now) row.now) }
     {
         let id = if self.named {
@@ -121,17 +121,17 @@ impl RowMaker {
             bound: bound_before(self.alloc, names, set.values.items(), row.bound.items())?,
             fixture_params: row.fixture_params.copied(self.alloc)?,
             id,
-            marks: numbers_before(self.alloc, set.marks.items(), row.marks.items())?,
+            marks: marks_before(self.alloc, set.marks.items(), row.marks.items())?,
         })
     }
 
     /// A row with a parameter of a fixture before it.
-    pub fn with_param(
+    pub fn with_param<V: Copy>(
         &self,
         param: (u32, u32),
         id: &PyId,
-        row: &ParamRow,
-    ) -> Result<ParamRow, OutOfMemory>
+        row: &ParamRow<V>,
+    ) -> Result<ParamRow<V>, OutOfMemory>
         ensures { IfOk result (λ new. new ≡ with_choice self.now.named (param_choice param.0 (param.1, id.now)) row.now) }
     {
         let id = if self.named {

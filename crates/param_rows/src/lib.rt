@@ -2,9 +2,9 @@
 //!
 //! # What it is for
 //!
-//! Names, values, marks, fixtures, files and classes are numbers that collection fills in (pytest's how-to guide, "How to
-//! parametrize fixtures and test functions"; its fixture guide, "Parametrizing fixtures" and "Automatic grouping of tests by
-//! fixture instances").
+//! Names, fixtures, files and classes are numbers that collection fills in, values and marks are of any one type (pytest's how-to
+//! guide, "How to parametrize fixtures and test functions"; its fixture guide, "Parametrizing fixtures" and "Automatic grouping of
+//! tests by fixture instances").
 //!
 //! # What is proved
 //!

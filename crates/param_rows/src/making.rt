@@ -11,18 +11,18 @@ use crate::counting::{MOST_ROWS, count};
 use crate::fault::RowFault;
 use crate::id::PyId;
 use crate::joining::RowMaker;
-use crate::param::{Pairs, ParamMark, ParamNumbers, ParamRow, ParamSet};
-use seq::OutOfMemory;
+use crate::param::{Pairs, ParamMark, ParamRow, ParamSet};
+use seq::{OutOfMemory, Seq};
 use std::alloc::Global;
 
 impl RowMaker {
     /// Appends the rows with one set before them.
-    fn push_set(
+    fn push_set<V: Copy>(
         &self,
-        rows: &mut Vec<ParamRow>,
+        rows: &mut Vec<ParamRow<V>>,
         names: &[u32],
-        set: &ParamSet,
-        rest: &[ParamRow],
+        set: &ParamSet<V>,
+        rest: &[ParamRow<V>],
     ) -> Result<(), OutOfMemory>
         ensures { OnOk result (rows.new.items ≡ rows.old.items ++ map (with_choice self.now.named (set_choice names.now set.now)) rest.now) }
     {
@@ -33,12 +33,12 @@ impl RowMaker {
     }
 
     /// Appends the rows with one parameter before them.
-    fn push_param(
+    fn push_param<V: Copy>(
         &self,
-        rows: &mut Vec<ParamRow>,
+        rows: &mut Vec<ParamRow<V>>,
         param: (u32, u32),
         id: &PyId,
-        rest: &[ParamRow],
+        rest: &[ParamRow<V>],
     ) -> Result<(), OutOfMemory>
         ensures { OnOk result (rows.new.items ≡ rows.old.items ++ map (with_choice self.now.named (param_choice param.0 (param.1, id.now))) rest.now) }
     {
@@ -49,7 +49,11 @@ impl RowMaker {
     }
 
     /// The rows with each set of a mark before them.
-    fn with_mark(&self, mark: &ParamMark, rest: &[ParamRow]) -> Result<Vec<ParamRow>, OutOfMemory>
+    fn with_mark<V: Copy>(
+        &self,
+        mark: &ParamMark<V>,
+        rest: &[ParamRow<V>],
+    ) -> Result<Vec<ParamRow<V>>, OutOfMemory>
         ensures { IfOk result (λ rows. rows.items ≡ flat_map (λ choice. map (with_choice self.now.named choice) rest.now) (mark_choices mark.now)) }
     {
         let mut rows = Vec::new(self.alloc);
@@ -60,12 +64,12 @@ impl RowMaker {
     }
 
     /// The rows with each parameter of a fixture before them.
-    fn with_fixture(
+    fn with_fixture<V: Copy>(
         &self,
         fixture: u32,
         ids: &[PyId],
-        rest: &[ParamRow],
-    ) -> Result<Vec<ParamRow>, OutOfMemory>
+        rest: &[ParamRow<V>],
+    ) -> Result<Vec<ParamRow<V>>, OutOfMemory>
         requires { length ids.now ≤ most_rows }
         ensures { IfOk result (λ rows. rows.items ≡ flat_map (λ choice. map (with_choice self.now.named choice) rest.now) (map (param_choice fixture) (enumerate_from 0 ids.now))) }
     {
@@ -77,20 +81,23 @@ impl RowMaker {
     }
 
     /// The one row of no lists.
-    fn no_choice(&self) -> Result<Vec<ParamRow>, OutOfMemory>
+    fn no_choice<V: Copy>(&self) -> Result<Vec<ParamRow<V>>, OutOfMemory>
         ensures { IfOk result (λ rows. rows.items ≡ rows_in self.now.named []) }
     {
         let mut rows = Vec::new(self.alloc);
         rows.push(ParamRow {
-            bound: Pairs::from_vec(Vec::new(self.alloc)),
-            fixture_params: Pairs::from_vec(Vec::new(self.alloc)),
+            bound: Seq::new(self.alloc),
+            fixture_params: Pairs::new(self.alloc),
             id: None,
-            marks: ParamNumbers::from_vec(Vec::new(self.alloc)),
+            marks: Seq::new(self.alloc),
         })?;
         Ok(rows)
     }
 
-    fn rows_of_marks(&self, marks: &[ParamMark]) -> Result<Vec<ParamRow>, OutOfMemory>
+    fn rows_of_marks<V: Copy>(
+        &self,
+        marks: &[ParamMark<V>],
+    ) -> Result<Vec<ParamRow<V>>, OutOfMemory>
         ensures { IfOk result (λ rows. rows.items ≡ rows_in self.now.named (map mark_choices marks.now)) }
     {
         let mut rows = self.no_choice()?;
@@ -102,12 +109,12 @@ impl RowMaker {
         Ok(rows)
     }
 
-    fn rows_of(
+    fn rows_of<V: Copy>(
         &self,
         fixtures: &[(u32, Vec<PyId>)],
-        marks: &[ParamMark],
-    ) -> Result<Vec<ParamRow>, OutOfMemory>
-        requires { All (λ fixture. length (fixture_choices fixture) ≤ most_rows) fixtures.now }
+        marks: &[ParamMark<V>],
+    ) -> Result<Vec<ParamRow<V>>, OutOfMemory>
+        requires { All (λ fixture. length (fixture_choices {V = V} fixture) ≤ most_rows) fixtures.now }
         ensures { IfOk result (λ rows. rows.items ≡ rows_in self.now.named (choice_lists fixtures.now marks.now)) }
     {
         let mut rows = self.rows_of_marks(marks)?;
@@ -121,14 +128,14 @@ impl RowMaker {
     }
 }
 
-fn all_named(sets: &[ParamSet]) -> bool
+fn all_named<V>(sets: &[ParamSet<V>]) -> bool
     ensures { result ≡ list_all (λ set. is_some set.id) sets.now }
 {
     sets.iter().all(|set| set.id.is_some())
 }
 
 /// Whether each set has an id.
-fn is_named(marks: &[ParamMark]) -> bool
+fn is_named<V>(marks: &[ParamMark<V>]) -> bool
     ensures { result ≡ is_named marks.now }
 {
     marks.iter().all(|mark| all_named(mark.sets.items()))
@@ -136,12 +143,12 @@ fn is_named(marks: &[ParamMark]) -> bool
 
 /// The rows of a test with these parametrised fixtures, in closure order with the ids of their parameters, and these marks, the
 /// nearest first. `known` are the names that are asked for.
-pub fn rows(
+pub fn rows<V: Copy>(
     alloc: Global,
     fixtures: &[(u32, Vec<PyId>)],
-    marks: &[ParamMark],
+    marks: &[ParamMark<V>],
     known: &[u32],
-) -> Result<Vec<ParamRow>, RowFault>
+) -> Result<Vec<ParamRow<V>>, RowFault>
     ensures sound { OnOk result (first_fault fixtures.now marks.now known.now ≡ None) }
     ensures rows { IfOk result (λ rows. rows.items ≡ rows_of fixtures.now marks.now) }
     ensures fault { IfErr result (λ fault. fault ≡ NoMemory ⊎ first_fault fixtures.now marks.now known.now ≡ Some fault) }

@@ -7,34 +7,34 @@ pub type ParamNumbers = Seq<u32>;
 /// A list of pairs of numbers.
 pub type Pairs = Seq<(u32, u32)>;
 
-/// One set of values of a `parametrize` mark (pytest's reference, `pytest.param`).
+/// One set of values of a `parametrize` mark (pytest's reference, `pytest.param`). Values and marks are of any one type, or numbers.
 #[derive(Drop)]
-pub struct ParamSet {
-    /// The numbers of its values, one for each name of the mark.
-    pub values: ParamNumbers,
+pub struct ParamSet<V = u32> {
+    /// Its values, one for each name of the mark.
+    pub values: Seq<V>,
     /// None where it isn't made yet.
     pub id: Option<PyId>,
-    pub marks: ParamNumbers,
+    pub marks: Seq<V>,
 }
 
 /// A list of sets.
-pub type ParamSets = Seq<ParamSet>;
+pub type ParamSets<V = u32> = Seq<ParamSet<V>>;
 
 /// A `parametrize` mark (pytest's reference, `pytest.mark.parametrize`).
 #[derive(Drop)]
-pub struct ParamMark {
+pub struct ParamMark<V = u32> {
     pub names: ParamNumbers,
-    pub sets: ParamSets,
+    pub sets: ParamSets<V>,
 }
 
 /// One row of a test.
 #[derive(Drop)]
-pub struct ParamRow {
-    /// Names that marks bind, with the numbers of their values.
-    pub bound: Pairs,
+pub struct ParamRow<V = u32> {
+    /// Names that marks bind, with their values.
+    pub bound: Seq<(u32, V)>,
     /// Fixtures, with the number of the parameter from 0.
     pub fixture_params: Pairs,
     /// The ids side by side. None where a test has no parameters, or ids aren't all made yet.
     pub id: Option<PyId>,
-    pub marks: ParamNumbers,
+    pub marks: Seq<V>,
 }

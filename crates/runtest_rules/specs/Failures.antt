@@ -1,5 +1,5 @@
 -- Why a phase of an item did not pass.
-use Rattle.std.specs.Prelude.{ℕ, List, [], ◌++◌, Option, Some, None, codes}
+use Rattle.std.specs.Prelude.{ℕ, List, [], ◌++◌, Option, Some, None, codes, if◌then◌else◌}
 use Rattle.collect_marks.specs.Names.{marks_in}
 use Rattle.collect_marks.specs.Says.{skipped_by}
 use Rattle.py_values.specs.declared.class.ExcClass.TheVariants as class
@@ -29,9 +29,14 @@ abbrev pub skip_made : Item → Option (List ℕ) → SourceWorld → Option Fai
 skip_made i (Some reason) w = some_failure (as_failure (made_for i.defined class.Skipped reason w))
 skip_made i None w = (None, w)
 
--- A SKIP: where the marks of an item say so, `Skipped` is raised with their reason (pytest's "Skipping test functions")
+-- why an item is skipped, where it is: one of an empty list of rows without a reason, another for that of its marks
+abbrev pub skip_reason : Item → List Obj → Option (List ℕ)
+skip_reason i heap = if i.empty then Some [] else skipped_by heap (marks_in heap i.marks)
+
+-- A SKIP: where an item stands for an empty list of rows or its marks say so, `Skipped` is raised with the reason (pytest's reference,
+-- `pytest.mark.parametrize`; "Skipping test functions")
 unfoldable pub skipped : Item → SourceWorld → Option Failure × SourceWorld
-skipped i w = skip_made i (skipped_by w.heap (marks_in w.heap i.marks)) w
+skipped i w = skip_made i (skip_reason i w.heap) w
 
 -- the text of the fault of an item's fixtures
 abbrev pub fault_text_of : ItemClosure → List ℕ

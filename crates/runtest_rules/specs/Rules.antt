@@ -18,6 +18,7 @@ use Rattle.fixture_calls.specs.declared.failure.Failure.{Failure}
 use Rattle.fixture_calls.specs.declared.yields.FixtureEnd.{FixtureEnd}
 use Rattle.fixture_calls.specs.declared.yields.FixtureEnd.TheVariants as end
 use Rattle.test_suite.specs.Suites.{fixture_at, item_with_node}
+use Rattle.test_suite.specs.declared.item.FixtureParam.{FixtureParam}
 use Rattle.test_suite.specs.declared.item.Item.{Item}
 use Rattle.test_suite.specs.declared.suite.Suite.{Suite}
 use Rattle.runtest_rules.specs.Failures.{fixture_fault, skipped, wrong_arguments}
@@ -99,6 +100,11 @@ is_same_value val.None v = false
 is_same_value (val.Bool b) v = false
 is_same_value (val.Int n) v = false
 
+-- the parameter that stands there for a definition
+abbrev pub param_value : List FixtureParam → ℕ → Option Value
+param_value [] d = None
+param_value (p ∷ ps) d = if d == p.def then Some p.value else param_value ps d
+
 -- THE RULES within a limit of steps, of items by their nodes, and of fixtures by the numbers of their definitions
 abbrev pub rules_within : ℕ → Suite → Rules python
 rules_within limit suite =
@@ -108,8 +114,8 @@ rules_within limit suite =
       yields = λ d. (fixture_at suite d).yields;
       make_instance = λ n w. world_answer (instance_of_item (item_with_node suite n) w);
       make_item = λ n w. world_answer (item_object (item_with_node suite n) w);
-      ask = λ n d param w. request_answer (fixture_request (fixture_at suite d) w);
-      begin = λ n d param own values request w. body_outcome (fixture_begun limit (fixture_at suite d) own values request w);
+      ask = λ n d param w. request_answer (fixture_request (fixture_at suite d) (param_value (item_with_node suite n).params d) w);
+      begin = λ n d param own values request w. body_outcome (fixture_begun limit (fixture_at suite d) (item_with_node suite n).bound own values request w);
       did_not_yield = λ d w. new_exception (did_not_yield (fixture_at suite d) w);
       resume = λ rest w. body_outcome (fixture_resumed limit rest w);
       abandon = λ rest w. fixture_abandoned rest w;

@@ -8,6 +8,7 @@ use fixture_calls::{Failure, exception_for};
 use py_text::{OutOfMemory, PyText};
 use py_values::class::ExcClass;
 use py_values::end::push_ascii;
+use py_values::heap::Heap;
 use std::alloc::Global;
 use test_suite::{Item, ItemClosure};
 use tracebacks::{World, heap};
@@ -29,13 +30,23 @@ fn skip_with(
     }
 }
 
-/// The skip of an item, where its marks say so: `Skipped` with their reason (pytest's "Skipping test functions"). Behind want of memory
-/// the world is spent.
+/// Why an item is skipped, where it is.
+fn skip_reason(alloc: Global, heap: &Heap, item: &Item) -> Result<Option<PyText>, OutOfMemory>
+    ensures { IfOk result (λ r. r ≡ failures.skip_reason item.now heap.now) }
+{
+    if item.empty {
+        return Ok(Some(PyText::from_vec(Vec::new(alloc))));
+    }
+    skipped_by(alloc, heap, item.marks.items())
+}
+
+/// The skip of an item, where it stands for an empty list of rows or its marks say so: `Skipped` with the reason (pytest's "Skipping test
+/// functions"). Behind want of memory the world is spent.
 #[tactic(auto, unfolding(crate::specs::Failures::skipped))]
 pub fn skip(alloc: Global, world: &mut World, item: &Item) -> Result<Option<Failure>, OutOfMemory>
     ensures { IfOk result (λ f. (f, world.new) ≡ failures.skipped item.now world.old) }
 {
-    let reason = skipped_by(alloc, heap(world), item.marks.items())?;
+    let reason = skip_reason(alloc, heap(world), item)?;
     skip_with(alloc, world, item, reason)
 }
 

@@ -5,8 +5,8 @@
 //! The rules of a session (`session_rules`) ask of a language what its fixtures and tests do. Here are those of the language of sources
 //! for a suite that was collected (`rules`): fixtures with their scopes and arguments, yield fixtures, `request` with its finalizers
 //! (`fixture_calls` has what each of them does), and the phases of an item (pytest's reference, "Test running (runtest) hooks"), with a
-//! function for each. Fixtures and tests without parameters are spoken of, and no hooks of sources. A session over these rules is defined
-//! by `session_rules`, its report by `report_rules`.
+//! function for each. No hooks of sources are spoken of. A session over these rules is defined by `session_rules`, its report by
+//! `report_rules`.
 //!
 //! # What is proved
 //!
@@ -14,12 +14,14 @@
 //!
 //! - [`make_instance`]: a new instance of the item's class, where that is a class of the sources and no class of exceptions
 //!   (`instance_of_item`); [`make_item`]: the object that hooks get (`item_object`).
-//! - [`skip`]: `Skipped` with the reason of the marks, where they skip the item (`skipped`); [`fixture_fault`]: `Failed` with the text of
+//! - [`skip`]: `Skipped`, where the item stands for an empty list of rows or its marks skip it (`skipped`); [`fixture_fault`]: `Failed` with the text of
 //!   the fault of its fixtures (`fixture_fault`); [`wrong_arguments`]: `TypeError` (`wrong_arguments`). All have the place of the test's
 //!   `def`.
 //! - [`end_phase`]: how a phase has ended that raised these, by the marks: passed, skipped, expected to fail or raised, with what is told
 //!   of each exception; and what was printed in it, which is taken (`phase_ended`). [`fails_in_teardown`]: whether a teardown that raised
 //!   these is an error.
+//! - [`wrapper_did_not_yield`], [`wrapper_yielded_again`]: the exceptions of a hook wrapper that yields never, or again (`no_wrapper`).
+//!   [`not_none`]: a value, unless it is None. [`is_same_exception`]: whether two failures are of one exception (`is_same_value`).
 //!
 //! Behind want of memory a world is spent: nothing is promised but the answer.
 //!
@@ -36,8 +38,10 @@ mod ending;
 mod failures;
 mod objects;
 mod phases;
+mod wrappers;
 
 pub use ending::Ending;
 pub use failures::{fixture_fault, skip, wrong_arguments};
 pub use objects::{make_instance, make_item};
 pub use phases::{end_phase, fails_in_teardown};
+pub use wrappers::{is_same_exception, not_none, wrapper_did_not_yield, wrapper_yielded_again};

@@ -21,7 +21,7 @@ use std::alloc::Global;
 use test_suite::Item;
 use tracebacks::{World, exception_text, frame_told, heap, take_printed, told};
 
-fn exception_of(failure: &Failure) -> Value
+pub(crate) fn exception_of(failure: &Failure) -> Value
     ensures { result ≡ failing.exception_of failure.now }
 {
     match failure {

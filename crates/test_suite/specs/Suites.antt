@@ -15,12 +15,16 @@ no_item = record {
   title = [];
   file = [];
   name = [];
+  id = None;
   test = record { class = None; name = []; function = val.None };
   defined = frame [] 0 [];
   marks = [];
   node = 0;
   arguments = [];
   asked = [];
+  bound = [];
+  params = [];
+  empty = false;
   closure = Whole [];
 }
 

@@ -4,7 +4,7 @@
 //!
 //! Collection makes a [`Suite`], and the rules of a session read it: what the test and the fixtures of an item are, what its set-up
 //! demands, and how a report calls it. An item is named by its node in the tree of collection; the nodes of items stand last there, so
-//! that its number is its node's place among them.
+//! that its number is its node's place among them. A parametrised test is as many items as it has rows, each with what its row binds.
 //!
 //! # What is proved
 //!
@@ -25,5 +25,5 @@ mod item;
 mod suite;
 
 pub use fixture::Fixture;
-pub use item::{Item, ItemClosure};
+pub use item::{BoundArgument, FixtureParam, Item, ItemClosure};
 pub use suite::Suite;

@@ -5,8 +5,8 @@ use Rattle.param_rows.proofs.Product.{capped, length-product-append}
 use Rattle.param_rows.proofs.counting.count.Goals as goal
 
 pub returns : goal.returns
-returns c =
-    let one = length (product (map fixture_choices c.args.fixtures.now)) in
+returns g c =
+    let one = length (product (map (fixture_choices {V = g.row.V.Denot}) c.args.fixtures.now)) in
     let other = length (product (map mark_choices c.args.marks.now)) in
     c.times_marks.ensures ∙ ap (λ n. min (n * other) 65537) c.times_fixtures.ensures ∙ capped (1 * one) other 65537
-    ∙ ap (λ n. min n 65537) (ap (λ n. n * other) (one-mul one) ∙ sym (length-product-append (map fixture_choices c.args.fixtures.now) (map mark_choices c.args.marks.now)))
+    ∙ ap (λ n. min n 65537) (ap (λ n. n * other) (one-mul one) ∙ sym (length-product-append (map (fixture_choices {V = g.row.V.Denot}) c.args.fixtures.now) (map mark_choices c.args.marks.now)))

@@ -4,7 +4,7 @@ use Rattle.param_rows.proofs.Product.{times_more, length-mark_choices}
 use Rattle.param_rows.proofs.counting.times_marks.Goals as goal
 
 pub loop-mark-preserved : goal.loop-mark-preserved
-loop-mark-preserved c =
+loop-mark-preserved g c =
     let size : length c.items.result.now ≡ length (mark_choices c.mark-item.result) = ap length c.items.ensures ∙ sym (length-mark_choices c.mark-item.result) in
     let more : c.times-total.result ≡ min (c.loop-mark.total * length (mark_choices c.mark-item.result)) 65537 = c.times-total.ensures ∙ ap (λ n. min (c.loop-mark.total * n) 65537) size in (
       omega (arith, more),

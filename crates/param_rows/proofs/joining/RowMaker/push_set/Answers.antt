@@ -5,6 +5,6 @@ use Rattle.param_rows.proofs.Product.{pushed_more}
 use Rattle.param_rows.proofs.joining.RowMaker.push_set.Goals as goal
 
 pub loop-row-preserved : goal.loop-row-preserved
-loop-row-preserved c =
+loop-row-preserved g c =
     pushed_more (with_choice c.args.self.now.named (set_choice c.args.names.now c.args.set.now)) c.args.rest.now c.loop-row.row-index c.row-item.result c.args.rows.now.items c.loop-row.rows.items c.push.new.self.items (omega arith) c.row-item.is c.loop-row.invariant
     (c.in_ok-push.ensures.items ∙ ap (λ row. c.loop-row.rows.items ++ row ∷ []) c.in_ok-with_set.ensures)

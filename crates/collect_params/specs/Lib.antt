@@ -1,0 +1,3 @@
+pub use Rattle.param_rows.specs as param_rows
+pub mod Given
+pub mod Values
