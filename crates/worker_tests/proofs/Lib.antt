@@ -1,0 +1,3 @@
+pub mod Chosen
+pub mod Sessions
+pub mod Phases
