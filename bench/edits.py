@@ -2,10 +2,11 @@
 """Tries the wrong bodies that the gate leaves out.
 
 python3 bench/edits.py CRATE..    tries those of bench/edits/CRATE by `rt must-fail`, beside the crate's own
-python3 bench/edits.py            says of every edit here whether it still fits the text that it changes
+python3 bench/edits.py            says of every edit, here and in the gate, whether it still fits the text that it changes
 
 The gate tries few edits of a crate whose proof takes minutes, since each crate with edits is proved a second time before they are tried.
-The others stand here, in the same form. Each was refused when it was written; one that no longer fits says nothing and is to be mended.
+The others stand here, in the same form. Each was refused when it was written, but for those whose names begin with `untried_`; one that no
+longer fits says nothing and is to be mended.
 """
 import os
 import shutil
@@ -14,11 +15,17 @@ import sys
 
 ROOT = os.path.dirname(os.path.dirname(os.path.abspath(__file__)))
 EDITS = os.path.join(ROOT, "bench", "edits")
+CRATES = os.path.join(ROOT, "crates")
 
 
 def edits_of(crate):
-    """The paths of the crate's edits, in the order of their names."""
-    folder = os.path.join(EDITS, crate)
+    """The paths of the crate's edits here, in the order of their names."""
+    return edits_in(os.path.join(EDITS, crate))
+
+
+def edits_in(folder):
+    if not os.path.isdir(folder):
+        return []
     return [os.path.join(folder, name) for name in sorted(os.listdir(folder)) if name.endswith(".edit")]
 
 
@@ -47,8 +54,8 @@ def misfit(crate, edit):
 def look_at_all():
     """Says of each edit whether it fits; the status is 1 if one does not."""
     wrong, count = 0, 0
-    for crate in sorted(os.listdir(EDITS)):
-        for edit in edits_of(crate):
+    for crate in sorted({*os.listdir(EDITS), *os.listdir(CRATES)}):
+        for edit in edits_of(crate) + edits_in(os.path.join(CRATES, crate, "must-fail")):
             count += 1
             why = misfit(crate, edit)
             if why:

@@ -8,7 +8,7 @@
 //! what isn't given, and must be told, so that a check that passes everything is seen.
 //!
 //! The rows stand in `data/expressions.rows` of `acceptance`, which calls [`read_rows`]: a program of their own would state and link the
-//! whole front end once more. `wip/checks/expressions/rows.py` makes them.
+//! whole front end once more. What is wanted is made by `oracle/rows.py`.
 //!
 //! A line is a row: what is done, a text and what is wanted, with a tab between them. `read` reads the text, in which `␊` is a line end:
 //! it gives the trees of its statements, or its fault with line and column. `repeat` and a number reads the text so many times in a row.
