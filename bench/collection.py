@@ -1,5 +1,5 @@
 #!/usr/bin/env python3
-"""Times the built program on trees of many files and on files of many tests, and says how the time grows.
+"""Times the built program on trees of many files, on files of many tests and on tests of many rows, and says how the time grows.
 
 python3 bench/collection.py [PROGRAM [NAME ..]]    (crates/pytest_run/out/pytest_run, which ./pytest_run builds, where none is named;
                                                     the tables whose titles have one of these names in them, or all)
@@ -50,6 +50,27 @@ def one_file_of_failures(count):
     return {"test_a.py": "".join("def test%d():\n assert 0\n" % k for k in range(count))}
 
 
+def rows_of_numbers(count):
+    return {"test_a.py": "import pytest\n@pytest.mark.parametrize('x',list(range(%d)))\ndef test_a(x):pass\n" % count}
+
+
+def rows_of_equal_ids(count):
+    return {"test_a.py": "import pytest\n@pytest.mark.parametrize('x',[0]*%d)\ndef test_a(x):pass\n" % count}
+
+
+def rows_of_two_lists(count):
+    return {"test_a.py": "import pytest\n@pytest.mark.parametrize('x',list(range(%d)))\n@pytest.mark.parametrize('y',list(range(100)))\ndef test_a(x,y):pass\n" % (count // 100)}
+
+
+def rows_of_one_fixture(count):
+    return {"test_a.py": "import pytest\n@pytest.fixture(scope='session',params=list(range(%d)))\ndef a(request):return request.param\ndef test_a(a):pass\n" % count}
+
+
+def tests_of_fifty_parameters(count):
+    fixture = "import pytest\n@pytest.fixture(scope='session',params=list(range(50)))\ndef a(request):\n yield request.param\n"
+    return {"conftest.py": fixture, "test_a.py": "".join("def test%d(a):pass\n" % k for k in range(count // 50))}
+
+
 def no_words(count, files):
     return []
 
@@ -88,6 +109,11 @@ CASES = [
     ("marked tests of one file, by -m", one_file_of_marks, by_marks, [1000, 5000, 20000, 40000]),
     ("tests of one file, by -k", one_file, half_by_keyword, TESTS),
     ("tests of one file, each named by a word", one_file, each_test, [500, 1000, 2000, 4000]),
+    ("rows of one test", rows_of_numbers, no_words, [1000, 10000, 65000]),
+    ("rows of one test, with equal ids", rows_of_equal_ids, no_words, [1000, 10000, 65000]),
+    ("rows of one test, of two lists", rows_of_two_lists, no_words, [1000, 10000, 65000]),
+    ("rows of one test, by parameters of a session fixture", rows_of_one_fixture, no_words, [1000, 10000, 65000]),
+    ("items of a session fixture with 50 parameters", tests_of_fifty_parameters, no_words, [1000, 10000, 50000]),
     ("failing tests of one file", one_file_of_failures, no_words, [1000, 5000, 20000, 38000]),
 ]
 

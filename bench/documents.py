@@ -13,7 +13,7 @@ import sys
 import tempfile
 
 ROOT = os.path.dirname(os.path.dirname(os.path.abspath(__file__)))
-DOCUMENTS = ["README.md", "docs/FIXTURES.md"]
+DOCUMENTS = ["README.md", "docs/USAGE.md", "docs/FIXTURES.md"]
 
 
 def commands(text):

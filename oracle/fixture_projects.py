@@ -1,4 +1,4 @@
-"""Random projects with fixtures, yields, finalizers and command lines with --setup-show; parameters, hooks and workers are rare (they are refused).
+"""Random projects with fixtures, yields, finalizers, parameters and command lines with --setup-show; hooks and workers are rare (they are refused).
 
 project(seed) -> (words, files): a list of texts, and a dict of paths to bytes.
 by_model_fuzz(seed) -> the same by the model's own generator, with what isn't built left out.
@@ -80,8 +80,41 @@ class Project:
         if "self" in args:
             forms.append("self")
         if "request" in args:
-            forms += ["request", "[request.fixturename, request.scope]"]
+            forms += ["request", "[request.fixturename, request.scope]", "getattr(request, \"param\", 5)"]
         return self.some(forms)
+
+    # ---------------------------------------------------------------- parameters
+
+    def row(self):
+        """One value of a list."""
+        v = self.some(["1", "2", "-7", "True", "None", '"p"', '"q1"', '"a b"', '"x::y"', '"\\n\xe9"', "LOG", "[1]", "(1, 2)", "fin0", "Own", "int", "len", "{}", "%d" % self.fresh()])
+        if not self.chance(0.2):
+            return v
+        more = [v] if not self.rare(0.05) else self.some([[], [v, "8"]])
+        if self.chance(0.5):
+            more.append("id=" + self.some(['"i"', '"i"', '"j1"', '""', '"\u20ac"']))
+        if self.chance(0.5):
+            more.append("marks=" + self.some(["pytest.mark.xfail", "pytest.mark.skip", '[pytest.mark.slow, pytest.mark.xfail(reason="row")]', "[]", 'pytest.mark.usefixtures("c")']))
+        return "pytest.param(%s)" % ", ".join(more)
+
+    def rows(self):
+        return "[%s]" % ", ".join(self.row() for _ in range(self.some([1, 2, 2, 2, 3, 3, 4] if not self.rare(0.06) else [0, 0, 9])))
+
+    def ids(self, word):
+        return [word + self.some(['["m", "n", "m"]', '["r"]', '("m", "m", "m", "m", "m")', "[]", "None"])] if self.chance(0.15) else []
+
+    def parametrize(self, names, free):
+        """A `parametrize` with some of the names; sometimes with one that is taken, or that nobody asks for."""
+        got = [free.pop() for _ in range(self.some([1, 1, 1, 2])) if free]
+        if not got or self.rare(0.02):
+            got.append(self.some(["k", "nope", "request"] + names))
+        if len(got) == 1 and self.chance(0.8):
+            return ["@pytest.mark.parametrize(%s)" % ", ".join(['"%s"' % got[0], self.rows()] + self.ids("ids="))]
+        rows = []
+        for _ in range(self.some([1, 2, 2, 3])):
+            rows.append("(%s,)" % ", ".join(self.some(["1", '"s"', "LOG", "[2]", "None", "%d" % self.fresh()]) for _ in range(len(got) + self.rare(0.02))))
+        shown = self.some(['"%s"' % ", ".join(got), '"%s"' % ",".join(got), "[%s]" % ", ".join('"%s"' % one for one in got)])
+        return ["@pytest.mark.parametrize(%s)" % ", ".join([shown, "[%s]" % ", ".join(rows)] + self.ids("ids="))]
 
     def request_lines(self, test=False):
         out = []
@@ -150,8 +183,10 @@ class Project:
         if self.chance(0.1):
             opts.append('name="%s"' % name)
             bound = self.some(["fx%d" % self.fresh(), "_hidden", "testing", "pytest_no" if self.rare(0.02) else "other"])
-        if self.rare(0.006):
-            opts.append("params=[1, 2]")
+        has_params = self.chance(0.14)
+        if has_params:
+            opts.append("params=%s" % self.rows())
+            opts += self.ids("ids=")
         deco = self.some(["@pytest.fixture", "@pytest.fixture()"]) if not opts else "@pytest.fixture(%s)" % ", ".join(opts)
         args = [self.some(["self"] * 9 + ["this"])] if method else []
         for other in self.r.sample(NAMES, self.some([0, 0, 1, 1, 2, 3])):
@@ -163,7 +198,7 @@ class Project:
             args.append(name)
         if self.rare(0.03):
             args.append(self.some(["nope", "nothing"]))
-        if self.chance(0.4):
+        if self.chance(0.4) or (has_params and self.chance(0.8)):
             args.append("request")
         if method and "self" not in args:
             args = [args[0]] + [x for x in args[1:]]
@@ -175,6 +210,8 @@ class Project:
         body = ['print("up %s")' % name]
         if "request" in clean:
             body += self.request_lines()
+            if has_params and self.chance(0.8):
+                body.append(self.some(["print(request.param)", "LOG.append(request.param)", "print(repr(request.param))", "assert request.param"]))
         if "self" in clean and self.chance(0.4):
             body.append(self.some(["self.mark_%s = %d" % (name, self.fresh()), 'print(hasattr(self, "mark_a"))']))
         got = [x for x in clean if x not in ("self", "request")]
@@ -217,8 +254,6 @@ class Project:
             out.append("@pytest.mark.%s" % self.some(["slow", "fast", "nice"]))
         while self.chance(0.2):
             out.append("@pytest.mark.usefixtures(%s)" % ", ".join('"%s"' % x for x in self.r.sample(NAMES + (["nope", "request"] if self.rare(0.1) else []), self.some([0, 1, 1, 2]))))
-        if self.rare(0.006):
-            out.append('@pytest.mark.parametrize("k", [1])')
         self.r.shuffle(out)
         return out
 
@@ -229,7 +264,13 @@ class Project:
         if self.rare(0.03):
             args.append("nope")
         self.r.shuffle(args)
-        lines = self.marks() + ["def %s(%s):" % (name, ", ".join((["self"] if method else []) + args + (["k=1"] if self.chance(0.04) else [])))]
+        marks = self.marks()
+        free = self.r.sample(NAMES, 2) + ["x", "y"] if self.chance(0.15) else ["x", "y", "z"]
+        while self.chance(0.22):
+            before = list(free)
+            marks.insert(self.some([0, len(marks)]), *self.parametrize(args, free))
+            args += [one for one in before if one not in free + args]
+        lines = marks + ["def %s(%s):" % (name, ", ".join((["self"] if method else []) + args + (["k=1"] if self.chance(0.04) else [])))]
         body = ['print("in %s")' % name] if self.chance(0.8) else []
         if "request" in args:
             body += self.request_lines(True)
@@ -253,7 +294,7 @@ class Project:
     def test_class(self, name):
         lines = []
         if self.chance(0.2):
-            lines.append("@pytest.mark.%s" % self.some(["slow", "usefixtures('c')", "usefixtures('e', 'a')", "skip", "xfail"]))
+            lines.append("@pytest.mark.%s" % self.some(["slow", "usefixtures('c')", "usefixtures('e', 'a')", "skip", "xfail", "parametrize('a', [1, 2])", "parametrize('g', [1], ids=['class'])"]))
         lines.append("class %s:" % name)
         if self.chance(0.15):
             lines.append("    pytestmark = %s" % self.some(["pytest.mark.nice", "[pytest.mark.usefixtures('d')]", "[pytest.mark.usefixtures('b'), pytest.mark.usefixtures('g')]"]))
@@ -285,7 +326,7 @@ class Project:
         if tools and self.chance(0.3):
             lines += [self.some(["from tools import LOG", "from tools import a", "from tools import a as b", "from tools import c", "import tools", "from tools import fin0 as fin1"]), ""]
         if self.chance(0.12):
-            lines += ["pytestmark = %s" % self.some(["pytest.mark.slow", "[pytest.mark.fast, pytest.mark.usefixtures('b')]", "pytest.mark.usefixtures('e', 'f')", "pytest.mark.xfail"]), ""]
+            lines += ["pytestmark = %s" % self.some(["pytest.mark.slow", "[pytest.mark.fast, pytest.mark.usefixtures('b')]", "pytest.mark.usefixtures('e', 'f')", "pytest.mark.xfail", "pytest.mark.parametrize('c', [1, LOG])"]), ""]
         for name in self.r.sample(NAMES, self.some([0, 0, 1, 2, 3])):
             lines += self.fixture(name, "", False, False)
         for k in range(self.some([1, 2, 3])):
@@ -338,14 +379,14 @@ class Project:
         if self.chance(0.05):
             words.append("--collect-only")
         if self.chance(0.12):
-            words += ["-k", self.some(["test_0", "not test_1", "sub or a", "slow", "TestA and not m1", "m0 or m2"])]
+            words += ["-k", self.some(["test_0", "not test_1", "sub or a", "slow", "TestA and not m1", "m0 or m2", "1]", "p or q1", "not 1"])]
         if self.chance(0.08):
             words += ["-m", self.some(["slow", "not slow", "fast or slow", "usefixtures", "not xfail"])]
         if self.chance(0.25):
             tests = sorted(p for p in files if p.endswith(".py") and not p.endswith(("conftest.py", "tools.py")))
             for _ in range(self.some([1, 2, 2, 3])):
                 p = self.some(tests)
-                words.append(self.some([p, p, p + "::" + self.some(["test_0", "test_1", "TestA0", "TestB1::test_m0", "TestA1"]), p.rsplit("/", 1)[0] if "/" in p else ".", "conftest.py"]))
+                words.append(self.some([p, p, p + "::" + self.some(["test_0", "test_1", "test_0[1]", "test_0[p]", "test_1[2-1]", "TestA0", "TestB1::test_m0", "TestA1", "TestA1::test_m0[1]"]), p.rsplit("/", 1)[0] if "/" in p else ".", "conftest.py"]))
         if self.chance(0.05):
             words.append("--ignore=" + self.some(["sub", "test_a.py", "./other/"]))
         if self.rare(0.01):
@@ -360,32 +401,10 @@ def project(seed):
 
 
 class Plain(Gen):
-    """The model's own generator; what it writes of parameters, hooks and workers is taken out again, mostly."""
-
-    def params(self):
-        return ["1"]
-
-    def parametrize(self, args, taken):
-        taken.extend(["x", "y", "z"])
-        return "@pytest.mark.nice"
+    """The model's own generator; what it writes of hooks and workers is taken out again."""
 
     def hook(self, name):
         return [""]
-
-    def fixture(self, *args):
-        keep = self.chance(0.01)
-        lines = super().fixture(*args)
-        if keep:
-            return lines
-        return [line if "params=" not in line else self.without(line) for line in lines if "request.param" not in line]
-
-    @staticmethod
-    def without(line):
-        head, _, tail = line.partition("(")
-        parts = [p for p in tail.rstrip(")").split(", ") if p and not p.startswith(("params=", "ids="))]
-        # The list has commas of its own, so only whole options are kept.
-        parts = [p for p in parts if p.startswith(("scope=", "autouse=", "name="))]
-        return head + ("(%s)" % ", ".join(parts) if parts else "")
 
 
 def by_model_fuzz(seed):

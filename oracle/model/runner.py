@@ -33,7 +33,7 @@ ALL = ["package_scope", "fstrings", "builtin_fixtures", "last_failed", "dist_gro
 
 
 # What the program refuses as not built today; where a part joins the program, its word goes.
-UNBUILT = ("parameters", "hooks", "workers")
+UNBUILT = ("hooks", "workers")
 
 
 def unbuilt_of(words):
@@ -126,13 +126,7 @@ class Run:
 
     def refuse_collected(self):
         """The conditions on what was collected, behind the refusals of collection."""
-        collector, table = self.collector, self.collected.table
-        items = [i for file in collector.file_items for i in collector.file_items[file]]
-        defs = [d for d in table.defs if d.builtin is None]
-        if "parameters" in self.unbuilt and (any(d.params is not None for d in defs)
-                            or any(m.name == "parametrize" for i in items for m in i.marks)
-                            or collector.row_faults):
-            raise NotBuilt()
+        collector = self.collector
         for path in collector.conftests if "hooks" in self.unbuilt else []:
             if any(n.startswith("pytest_") for n, _ in collector.world.names(path)):
                 raise NotBuilt()

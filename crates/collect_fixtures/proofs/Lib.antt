@@ -1,3 +1,4 @@
 pub mod Needs
 pub mod Counts
 pub mod Known
+mod Steps

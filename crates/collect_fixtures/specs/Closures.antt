@@ -1,10 +1,10 @@
 -- WHAT THE SET-UP OF AN ITEM DEMANDS, or the fault of its fixtures (pytest's reference, "Fixture instantiation order").
-use Rattle.std.specs.Prelude.{◌⊎◌, ℕ, List, [], ◌++◌, Option, Some, None, Result, Ok, Err, codes, map, slice_get, if◌then◌else◌}
+use Rattle.std.specs.Prelude.{◌⊎◌, ℕ, List, [], ◌∷◌, ◌++◌, Option, Some, None, Result, Ok, Err, codes, map, slice_get, if◌then◌else◌}
 use Rattle.std.proofs.Common.{inl, inr}
+use Rattle.std.specs.List.{flat_map}
 use Rattle.collection_nodes.specs.Texts.{number_among, text_numbered}
 use Rattle.fixture_definitions.specs.Arguments.{but_request}
 use Rattle.fixture_definitions.specs.declared.found.Definition.{Definition}
-use Rattle.fixture_definitions.specs.declared.found.FoundTest.{FoundTest}
 use Rattle.fixture_table.proofs.Deciding.{closure_or_fault}
 use Rattle.fixture_table.specs.Faults.{IsClosure, IsFault}
 use Rattle.fixture_table.specs.Nearest.{nearest_of}
@@ -14,6 +14,7 @@ use Rattle.fixture_table.specs.declared.fault.FixtureFault.TheVariants.{Unknown,
 use Rattle.py_values.specs.Names.{name_eq}
 use Rattle.session_types.specs.declared.scope.Scope.{Scope}
 use Rattle.session_types.specs.declared.scope.Scope.TheVariants.{Session, Module, Class, Function}
+use Rattle.session_types.specs.Numbers.{among}
 use Rattle.test_suite.specs.Suites.{no_fixture}
 use Rattle.test_suite.specs.declared.fixture.Fixture.{Fixture}
 use Rattle.test_suite.specs.declared.item.ItemClosure.{ItemClosure}
@@ -21,18 +22,27 @@ use Rattle.test_suite.specs.declared.item.ItemClosure.TheVariants.{Whole, Fault}
 use Rattle.collect_fixtures.specs.Tables.{all_numbers}
 
 -- the closure or the fault of an item. There is one of the two, and only one: that is the law `closure_or_fault` of fixture_table
-abbrev pub IsNeeded : TableValue → ℕ → List ℕ → List ℕ → Result (List ℕ) FixtureFault → Type 0
-IsNeeded table item uses args (Ok closure) = IsClosure table.nodes table.defs item [] uses args closure
-IsNeeded table item uses args (Err fault) = IsFault table.nodes table.defs item [] uses args fault
+abbrev pub IsNeeded : TableValue → ℕ → List ℕ → List ℕ → List ℕ → Result (List ℕ) FixtureFault → Type 0
+IsNeeded table item bound uses args (Ok closure) = IsClosure table.nodes table.defs item bound uses args closure
+IsNeeded table item bound uses args (Err fault) = IsFault table.nodes table.defs item bound uses args fault
 
-abbrev pub as_needed : (table : TableValue) (item : ℕ) (uses args : List ℕ)
-    → ((closure : List ℕ) × IsClosure table.nodes table.defs item [] uses args closure) ⊎ ((fault : FixtureFault) × IsFault table.nodes table.defs item [] uses args fault)
-    → (needed : Result (List ℕ) FixtureFault) × IsNeeded table item uses args needed
-as_needed table item uses args (inl closure) = (Ok closure.0, closure.1)
-as_needed table item uses args (inr fault) = (Err fault.0, fault.1)
+abbrev pub as_needed : (table : TableValue) (item : ℕ) (bound uses args : List ℕ)
+    → ((closure : List ℕ) × IsClosure table.nodes table.defs item bound uses args closure) ⊎ ((fault : FixtureFault) × IsFault table.nodes table.defs item bound uses args fault)
+    → (needed : Result (List ℕ) FixtureFault) × IsNeeded table item bound uses args needed
+as_needed table item bound uses args (inl closure) = (Ok closure.0, closure.1)
+as_needed table item bound uses args (inr fault) = (Err fault.0, fault.1)
 
-unfoldable pub needed : TableValue → ℕ → List ℕ → List ℕ → Result (List ℕ) FixtureFault
-needed table item uses args = (as_needed table item uses args (closure_or_fault table.nodes table.defs item [] uses args)).0
+unfoldable pub needed : TableValue → ℕ → List ℕ → List ℕ → List ℕ → Result (List ℕ) FixtureFault
+needed table item bound uses args = (as_needed table item bound uses args (closure_or_fault table.nodes table.defs item bound uses args)).0
+
+-- where there is no fault
+abbrev pub closure_if : Result (List ℕ) FixtureFault → Option (List ℕ)
+closure_if (Ok closure) = Some closure
+closure_if (Err fault) = None
+
+-- what an item at a node needs whose row binds these names, and which uses these and has these arguments
+unfoldable pub item_needs : TableValue → List (List ℕ) → ℕ → List ℕ → List (List ℕ) → List (List ℕ) → Result (List ℕ) FixtureFault
+item_needs table names item bound uses arguments = needed table item bound (all_numbers names uses) (all_numbers names (but_request arguments))
 
 -- TEXTS OF FAULTS
 
@@ -68,12 +78,13 @@ scope_and_name scope name = codes "scope '" ++ (scope_name scope ++ (codes "' fi
 abbrev pub mismatch_text : Fixture → Scope → List ℕ → List ℕ
 mismatch_text fixture inner asked = codes "ScopeMismatch: " ++ (scope_and_name fixture.scope fixture.name ++ (codes " requests " ++ scope_and_name inner asked))
 
-module _ (table : TableValue) (names : List (List ℕ)) (definitions : List Definition) (item : ℕ) where
-  -- what a name stands for that a fixture asks for: its own name is the next definition further out
+module _ (table : TableValue) (names : List (List ℕ)) (definitions : List Definition) (item : ℕ) (bound : List ℕ) where
+  -- what a name stands for that a fixture asks for: its own name is the next definition further out, and a bound name is none
   abbrev pub stands_for : ℕ → ℕ → Option ℕ
   stands_for d name =
-      if name_eq (text_numbered names name) (fixture_numbered definitions d).name then nearest_of table.nodes table.defs name item (Some d)
-      else nearest_of table.nodes table.defs name item None
+      if among name bound then None
+      else (if name_eq (text_numbered names name) (fixture_numbered definitions d).name then nearest_of table.nodes table.defs name item (Some d)
+      else nearest_of table.nodes table.defs name item None)
 
   -- what is told of a fault
   abbrev pub told_fault : FixtureFault → List ℕ
@@ -86,13 +97,16 @@ module _ (table : TableValue) (names : List (List ℕ)) (definitions : List Defi
   closure_told (Ok closure) = Whole closure
   closure_told (Err why) = Fault (told_fault why)
 
-  -- THE CLOSURE of the item with a node, or what is told of its fault
-  unfoldable pub item_closure : FoundTest → ItemClosure
-  item_closure t = closure_told (needed table item (all_numbers names t.uses) (all_numbers names (but_request t.arguments)))
+  -- THE CLOSURE of the item with a node, whose row binds these names, or what is told of its fault
+  unfoldable pub item_closure : List (List ℕ) → List (List ℕ) → ItemClosure
+  item_closure uses arguments = closure_told (item_needs table names item bound uses arguments)
 
--- THE DEFINITIONS that the arguments of the item with a node stand for
+-- THE DEFINITIONS that the arguments of the item with a node stand for, but for those that its row binds
 unfoldable pub asked_for : TableValue → List (List ℕ) → ℕ → List ℕ → Option ℕ
 asked_for table names item name = nearest_of table.nodes table.defs (number_among names name) item None
 
-unfoldable pub item_asks : TableValue → List (List ℕ) → ℕ → FoundTest → List (Option ℕ)
-item_asks table names item t = map (asked_for table names item) (but_request t.arguments)
+abbrev pub asks_for : TableValue → List (List ℕ) → ℕ → List ℕ → List ℕ → List (Option ℕ)
+asks_for table names item bound name = if among (number_among names name) bound then [] else (asked_for table names item name ∷ [])
+
+unfoldable pub item_asks : TableValue → List (List ℕ) → ℕ → List ℕ → List (List ℕ) → List (Option ℕ)
+item_asks table names item bound arguments = flat_map (asks_for table names item bound) (but_request arguments)

@@ -9,8 +9,10 @@
 //!
 //! - [`all_names`], [`table_of`]: the numbers of names, and the table over the nodes and the definitions, the nodes of the tests last
 //!   (`all_names`, `table_of`); where a table is made, its nodes are a tree (`tree`).
-//! - [`item_closure`]: the closure that `fixture_table` defines, or the text of its fault (`item_closure`); by [`item_needs`] it is that of
-//!   `IsClosure` or `IsFault`. [`item_asks`]: the nearest definition of each argument.
+//! - [`item_closure`]: the closure that `fixture_table` defines, where a row binds these names, or the text of its fault (`item_closure`);
+//!   by [`needs_decided`] it is that of `IsClosure` or `IsFault`. [`closure_unless_fault`]: the same without the text (`item_needs`).
+//!   [`item_asks`]: the nearest definition of each argument but those that are bound.
+//! - [`names_bound`], [`asked_numbers`]: the names that a test's `parametrize` marks bind, and the numbers of its arguments.
 //!
 //! # What tests alone show
 //!
@@ -28,5 +30,5 @@
 mod closures;
 mod tables;
 
-pub use closures::{item_asks, item_closure, item_needs};
-pub use tables::{all_names, table_of};
+pub use closures::{closure_unless_fault, item_asks, item_closure, needs_decided};
+pub use tables::{all_names, asked_numbers, names_bound, table_of};

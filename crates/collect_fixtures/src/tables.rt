@@ -9,7 +9,9 @@ ghost use Rattle.collect_fixtures.specs.Tables as tables;
 use collection_nodes::{Mentions, plus};
 use fixture_definitions::{Definition, FoundTest, but_request};
 use fixture_table::{CollectionNode, CollectionTree, FixtureDef, NodeKind, Table};
+use param_rows::ParamSets;
 use py_text::{OutOfMemory, PyText};
+use py_values::value::Value;
 use seq::Seq;
 use std::alloc::Global;
 
@@ -26,13 +28,36 @@ fn mention_definition(
     names.mention_all(alloc, arguments.items())
 }
 
+fn push_names(alloc: Global, names: &mut Seq<PyText>, some: &[PyText]) -> Result<(), OutOfMemory>
+    ensures { OnOk result (names.new ≡ names.old ++ some.now) }
+{
+    for name in some {
+        let copy = PyText::from_chars(alloc, name.chars())?;
+        names.push(copy)?;
+    }
+    Ok(())
+}
+
+/// The names that the `parametrize` marks of a test bind.
+pub fn names_bound(alloc: Global, test: &FoundTest) -> Result<Seq<PyText>, OutOfMemory>
+    ensures { IfOk result (λ names. names ≡ tables.names_bound test.now) }
+{
+    let mut names = Seq::new(alloc);
+    for one in test.parametrized.items() {
+        push_names(alloc, &mut names, one.names.items())?;
+    }
+    Ok(names)
+}
+
 /// Mentions the names of a test.
 fn mention_test(alloc: Global, names: &mut Mentions, one: &FoundTest) -> Result<(), OutOfMemory>
     ensures { OnOk result (names.new ≡ tables.with_test names.old one.now) }
 {
     let arguments = but_request(alloc, one.arguments.items())?;
+    let bound = names_bound(alloc, one)?;
     names.mention_all(alloc, one.uses.items())?;
-    names.mention_all(alloc, arguments.items())
+    names.mention_all(alloc, arguments.items())?;
+    names.mention_all(alloc, bound.items())
 }
 
 fn mention_definitions(
@@ -88,6 +113,20 @@ pub fn asked_numbers(
     names.numbers(alloc, some.items())
 }
 
+/// How many parameters there are.
+fn params_count(params: &Option<ParamSets<Value>>) -> Result<u32, OutOfMemory>
+    ensures { IfOk result (λ count. count ≡ tables.params_count params.now) }
+{
+    let Some(sets) = params else {
+        return Ok(0);
+    };
+    match u32::try_from(sets.len()) {
+        Ok(count) => Ok(count),
+        // No memory holds so many.
+        Err(_) => Err(OutOfMemory),
+    }
+}
+
 /// A definition in the table, with a number.
 fn table_def(
     alloc: Global,
@@ -103,7 +142,7 @@ fn table_def(
         name,
         scope: one.fixture.scope,
         autouse: one.autouse,
-        params: 0,
+        params: params_count(&one.params)?,
         args,
         node: one.node,
         code: number,
@@ -198,35 +237,35 @@ fn tree_of(nodes: Vec<CollectionNode>) -> Result<CollectionTree, OutOfMemory>
     }
 }
 
-/// Pushes the nodes of tests.
-fn push_tests(nodes: &mut Vec<CollectionNode>, tests: &[FoundTest]) -> Result<(), OutOfMemory>
-    ensures { OnOk result (nodes.new.items ≡ nodes.old.items ++ map tables.node_of_test tests.now) }
+/// Pushes the nodes of items with these parents.
+fn push_items(nodes: &mut Vec<CollectionNode>, parents: &[u32]) -> Result<(), OutOfMemory>
+    ensures { OnOk result (nodes.new.items ≡ nodes.old.items ++ map tables.item_node parents.now) }
 {
-    for test in tests {
+    for parent in parents {
         nodes.push(CollectionNode {
             kind: NodeKind::Item,
-            parent: test.parent,
+            parent: *parent,
         })?;
     }
     Ok(())
 }
 
-/// The table of these definitions, with the nodes of these tests behind the others.
+/// The table of these definitions, with the nodes of items with these parents behind the others.
 #[tactic(auto, unfolding(crate::specs::Tables::table_of), using(crate::proofs::Counts::defs_count))]
 pub fn table_of(
     alloc: Global,
     outer: Vec<CollectionNode>,
     names: &Mentions,
     definitions: &[Definition],
-    tests: &[FoundTest],
+    parents: &[u32],
 ) -> Result<Table, OutOfMemory>
-    ensures table { IfOk result (λ table. table ≡ tables.table_of outer.items names.now definitions.now tests.now) }
+    ensures table { IfOk result (λ table. table ≡ tables.table_of outer.items names.now definitions.now parents.now) }
     ensures defs { IfOk result (λ table. length definitions.now ≡ length table.defs) }
-    ensures nodes { IfOk result (λ table. length table.nodes ≡ length outer.items + length tests.now) }
+    ensures nodes { IfOk result (λ table. length table.nodes ≡ length outer.items + length parents.now) }
     ensures tree { IfOk result (λ table. IsTree table.nodes) }
 {
     let mut nodes = outer;
-    push_tests(&mut nodes, tests)?;
+    push_items(&mut nodes, parents)?;
     let count = nodes.len();
     let mut table = Table::new(alloc, tree_of(nodes)?)?;
     match add_all(alloc, &mut table, count, names, definitions) {

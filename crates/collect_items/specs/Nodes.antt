@@ -1,39 +1,44 @@
 -- What words can name of each file.
-use Rattle.std.specs.Prelude.{ℕ, ◌+◌, false, List, [], ◌∷◌, None, encode_utf8_all, is_some, length, map, not, option_map, replicate, slice_set}
+use Rattle.std.specs.Prelude.{ℕ, ◌+◌, ◌||◌, false, List, [], ◌∷◌, encode_utf8_all, is_some, length, map, not, option_map, replicate, slice_set}
 use Rattle.collect_names.specs.declared.found.TestClass.{TestClass}
+use Rattle.collect_rows.specs.declared.items.FoundItem.{FoundItem}
 use Rattle.collect_words.specs.declared.nodes.FileNodes.{FileNodes}
 use Rattle.collect_words.specs.declared.nodes.ItemNames.{ItemNames}
-use Rattle.collection_nodes.specs.declared.placed_file.PlacedFile.{PlacedFile}
-use Rattle.collection_nodes.specs.declared.test_file.TestFile.{TestFile}
-use Rattle.fixture_definitions.specs.Tests.{all_tests, tests_of}
-use Rattle.fixture_definitions.specs.declared.found.FoundTest.{FoundTest}
 use Rattle.py_values.specs.declared.object.Obj.{Obj}
-use Rattle.collect_items.specs.Items.{classes_in, placed_of}
+use Rattle.collect_items.specs.Items.{FoundFile, all_items, classes_in, fault_of_file, items_of_file}
 
 -- the place of the file of each item
-abbrev pub place_of_test : FoundTest → ℕ
-place_of_test t = t.place
+abbrev pub place_of_item : FoundItem → ℕ
+place_of_item i = i.place
 
 abbrev pub class_name : TestClass → List ℕ
 class_name c = encode_utf8_all c.name
 
 -- the names of an item, behind so many others
-abbrev pub names_of : ℕ → FoundTest → ItemNames
-names_of number t = record { number = number; class = option_map class_name t.test.class; function = encode_utf8_all t.test.name; id = None }
+abbrev pub names_of : ℕ → FoundItem → ItemNames
+names_of number i = record {
+  number = number;
+  class = option_map class_name i.test.class;
+  function = encode_utf8_all i.test.name;
+  id = option_map encode_utf8_all i.row.id;
+}
 
-abbrev pub numbered : ℕ → List FoundTest → List ItemNames
+abbrev pub numbered : ℕ → List FoundItem → List ItemNames
 numbered number [] = []
-numbered number (t ∷ ts) = names_of number t ∷ numbered (number + 1) ts
+numbered number (i ∷ is) = names_of number i ∷ numbered (number + 1) is
 
--- what words can name of a file with these tests, whose numbers go from this one on
-abbrev pub nodes_of : List Obj → ℕ → TestFile → List FoundTest → FileNodes
-nodes_of heap first file tests = record { failed = not (is_some file.object); classes = classes_in heap file; items = numbered first tests }
+-- what words can name of a file, whose items are numbered from this one on. Of one that failed, by its load or its rows, nothing is known
+abbrev pub nodes_of : List Obj → ℕ → FoundFile → FileNodes
+nodes_of heap first f = record {
+  failed = not (is_some f.file.object) || is_some (fault_of_file f);
+  classes = classes_in heap f.file;
+  items = numbered first (items_of_file f);
+}
 
 -- the files with their nodes, numbered one behind the other
-abbrev pub all_nodes : List Obj → ℕ → List PlacedFile → List (ℕ × FileNodes)
+abbrev pub all_nodes : List Obj → ℕ → List FoundFile → List (ℕ × FileNodes)
 all_nodes heap first [] = []
-all_nodes heap first (placed ∷ rest) =
-    (placed.file.place, nodes_of heap first placed.file (tests_of heap placed)) ∷ all_nodes heap (first + length (tests_of heap placed)) rest
+all_nodes heap first (f ∷ rest) = (f.file.place, nodes_of heap first f) ∷ all_nodes heap (first + length (items_of_file f)) rest
 
 -- a file that is no test file
 abbrev pub no_nodes : FileNodes
@@ -45,9 +50,9 @@ with_nodes [] nodes = nodes
 with_nodes (file ∷ files) nodes = slice_set (with_nodes files nodes) file.0 file.1
 
 -- THE NODES OF ALL FILES, in the order of the walk: files that were not loaded have none
-unfoldable pub nodes_by_place : List Obj → List (List ℕ) → List TestFile → List FileNodes
-nodes_by_place heap walk files = with_nodes (all_nodes heap 0 (placed_of heap walk files)) (replicate (length walk) no_nodes)
+unfoldable pub nodes_by_place : List Obj → List (List ℕ) → List FoundFile → List FileNodes
+nodes_by_place heap walk files = with_nodes (all_nodes heap 0 files) (replicate (length walk) no_nodes)
 
 -- THE PLACES of the files of all items
-unfoldable pub item_places : List Obj → List (List ℕ) → List TestFile → List ℕ
-item_places heap walk files = map place_of_test (all_tests heap (placed_of heap walk files))
+unfoldable pub item_places : List FoundFile → List ℕ
+item_places files = map place_of_item (all_items files)

@@ -28,7 +28,7 @@ fn is_chosen(
 {
     let path = PyText::from_str(alloc, item.file.text())?;
     let marks = item.marks.items();
-    let keywords = keyword_names(alloc, heap, &path, &item.test, None, marks)?;
+    let keywords = keyword_names(alloc, heap, &path, &item.test, item.id.as_ref(), marks)?;
     let names = mark_names(alloc, heap, marks)?;
     Ok(is_selected(exprs, &keywords, &names))
 }

@@ -9,9 +9,10 @@ use py_text::{OutOfMemory, PyText};
 use py_values::rows::Values;
 use py_values::value::Value;
 use py_world::TraceFrame;
+use report_parts::Text;
 use seq::Seq;
 use std::alloc::Global;
-use test_suite::Fixture;
+use test_suite::{BoundArgument, Fixture, FixtureParam};
 
 fn copied(alloc: Global, text: &PyText) -> Result<PyText, OutOfMemory>
     ensures { IfOk result (λ t. t ≡ text.now) }
@@ -88,6 +89,61 @@ fn copied_fixture(alloc: Global, fixture: &Fixture) -> Result<Fixture, OutOfMemo
         yields: fixture.yields,
         defined: copied_frame(alloc, &fixture.defined)?,
     })
+}
+
+fn copied_bound(alloc: Global, one: &BoundArgument) -> Result<BoundArgument, OutOfMemory>
+    ensures { IfOk result (λ b. b ≡ one.now) }
+{
+    Ok(BoundArgument {
+        name: copied(alloc, &one.name)?,
+        number: one.number,
+        value: one.value,
+    })
+}
+
+/// A copy of what a row binds.
+pub fn all_bound(alloc: Global, bound: &[BoundArgument]) -> Result<Seq<BoundArgument>, OutOfMemory>
+    ensures { IfOk result (λ copies. copies ≡ bound.now) }
+{
+    let mut copies = Seq::new(alloc);
+    for one in bound {
+        let copy = copied_bound(alloc, one)?;
+        copies.push(copy)?;
+    }
+    Ok(copies)
+}
+
+fn copied_param(alloc: Global, one: &FixtureParam) -> Result<FixtureParam, OutOfMemory>
+    ensures { IfOk result (λ p. p ≡ one.now) }
+{
+    Ok(FixtureParam {
+        def: one.def,
+        number: one.number,
+        value: one.value,
+        id: Text::from_str(alloc, one.id.text())?,
+    })
+}
+
+/// A copy of the parameters of fixtures.
+pub fn all_params(alloc: Global, params: &[FixtureParam]) -> Result<Seq<FixtureParam>, OutOfMemory>
+    ensures { IfOk result (λ copies. copies ≡ params.now) }
+{
+    let mut copies = Seq::new(alloc);
+    for one in params {
+        let copy = copied_param(alloc, one)?;
+        copies.push(copy)?;
+    }
+    Ok(copies)
+}
+
+/// A copy of an id, where there is one.
+pub fn copied_id(alloc: Global, id: &Option<PyText>) -> Result<Option<PyText>, OutOfMemory>
+    ensures { IfOk result (λ copy. copy ≡ id.now) }
+{
+    match id {
+        Some(id) => Ok(Some(copied(alloc, id)?)),
+        None => Ok(None),
+    }
 }
 
 /// The fixtures of definitions.

@@ -1,6 +1,6 @@
 // What is found in loaded files.
 
-ghost use Rattle.std.specs.Prelude.{◌≡◌, ◌+◌, ◌≤◌, ◌++◌, ◌∷◌, [], IfOk, OnOk, length, map};
+ghost use Rattle.std.specs.Prelude.{◌≡◌, ◌+◌, ◌≤◌, ◌++◌, ◌∷◌, [], IfOk, OnOk, length, map, replicate};
 ghost use Rattle.fixture_definitions.specs.Tests.{all_tests, tests_of};
 ghost use Rattle.fixture_table.specs.Tree.{IsTree};
 ghost use Rattle.collect_items.specs.Items as items;
@@ -9,11 +9,16 @@ ghost use Rattle.collect_items.specs.Nodes as nodes;
 use crate::copies::fixtures_of;
 use crate::item::items_from;
 use crate::nodes::{by_place, file_nodes};
+use crate::order::keys_of;
 use collect_fixtures::{all_names, table_of};
+use collect_rows::{FileItems, FoundItem, RowsFault, items_of_tests};
 use collect_words::{FileNodes, Walk};
-use collection_nodes::{Mentions, PlacedFile, TestFile, all_folders, outer_nodes, placed_files};
+use collection_nodes::{
+    Mentions, PlacedFile, TestFile, all_folders, outer_nodes, placed_files, plus,
+};
 use fixture_definitions::{Definition, FoundTest, all_definitions, tests_of};
 use fixture_table::{CollectionNode, Table};
+use param_rows::ItemKeys;
 use py_text::OutOfMemory;
 use py_values::heap::Heap;
 use std::alloc::Global;
@@ -32,71 +37,245 @@ pub struct FoundItems {
     pub found: FoundSuite,
     /// The place of the file of each item.
     pub places: Vec<usize>,
+    /// What the order of each item goes by.
+    pub keys: Vec<ItemKeys>,
     /// What words can name of each file, in the order of the walk.
     pub nodes: Vec<FileNodes>,
+    /// The fault of the rows of each test file, where there is one.
+    pub faults: Vec<Option<RowsFault>>,
 }
 
-/// The tests that were found so far, with the nodes of each file beside its place.
+/// What came of the files so far: the items, the nodes of each file beside its place, and the fault of its rows.
 #[derive(Drop)]
-struct FoundTests {
-    tests: Vec<FoundTest>,
+struct ListedFiles {
+    items: Vec<FoundItem>,
     nodes: Vec<(usize, FileNodes)>,
+    faults: Vec<Option<RowsFault>>,
 }
 
-/// Puts a file's tests behind the others.
-fn list_file(
+fn push_tests(
     alloc: Global,
+    all: &mut Vec<FoundTest>,
     heap: &Heap,
-    listed: &mut FoundTests,
     placed: PlacedFile,
 ) -> Result<(), OutOfMemory>
-    ensures tests { OnOk result (listed.new.tests.items ≡ listed.old.tests.items ++ tests_of heap.now placed) }
-    ensures nodes { OnOk result (listed.new.nodes.items ≡ listed.old.nodes.items ++ (placed.file.place, nodes.nodes_of heap.now (length listed.old.tests.items) placed.file (tests_of heap.now placed)) ∷ []) }
+    ensures { OnOk result (all.new.items ≡ all.old.items ++ tests_of heap.now placed) }
 {
     let mut tests = tests_of(alloc, heap, placed)?;
-    let one = file_nodes(alloc, heap, listed.tests.len(), placed.file, &tests)?;
-    listed.nodes.push((placed.file.place, one))?;
-    listed.tests.append(&mut tests)?;
+    all.append(&mut tests)?;
     Ok(())
 }
 
-fn list_files(alloc: Global, heap: &Heap, placed: &[PlacedFile]) -> Result<FoundTests, OutOfMemory>
-    ensures tests { IfOk result (λ f. f.tests.items ≡ all_tests heap.now placed.now) }
-    ensures nodes { IfOk result (λ f. f.nodes.items ≡ nodes.all_nodes heap.now 0 placed.now) }
+/// The tests of files.
+fn list_tests(
+    alloc: Global,
+    heap: &Heap,
+    placed: &[PlacedFile],
+) -> Result<Vec<FoundTest>, OutOfMemory>
+    ensures { IfOk result (λ t. t.items ≡ all_tests heap.now placed.now) }
 {
-    let mut listed = FoundTests {
-        tests: Vec::new(alloc),
-        nodes: Vec::new(alloc),
-    };
+    let mut all = Vec::new(alloc);
     for one in placed {
-        list_file(alloc, heap, &mut listed, *one)?;
+        push_tests(alloc, &mut all, heap, *one)?;
     }
-    Ok(listed)
+    Ok(all)
 }
 
-/// The places of the files of tests.
-fn places_of(alloc: Global, tests: &[FoundTest]) -> Result<Vec<usize>, OutOfMemory>
-    ensures { IfOk result (λ places. places.items ≡ map nodes.place_of_test tests.now) }
+/// The parents of the nodes of tests.
+fn test_parents(alloc: Global, tests: &[FoundTest]) -> Result<Vec<u32>, OutOfMemory>
+    ensures { IfOk result (λ parents. parents.items ≡ map items.parent_of_found tests.now) }
+{
+    let mut parents = Vec::new(alloc);
+    for test in tests {
+        parents.push(test.parent)?;
+    }
+    Ok(parents)
+}
+
+/// The parents of the nodes of items.
+fn item_parents(alloc: Global, found: &[FoundItem]) -> Result<Vec<u32>, OutOfMemory>
+    ensures { IfOk result (λ parents. parents.items ≡ map items.parent_of_item found.now) }
+{
+    let mut parents = Vec::new(alloc);
+    for one in found {
+        parents.push(one.parent)?;
+    }
+    Ok(parents)
+}
+
+/// The places of the files of items.
+fn places_of(alloc: Global, found: &[FoundItem]) -> Result<Vec<usize>, OutOfMemory>
+    ensures { IfOk result (λ places. places.items ≡ map nodes.place_of_item found.now) }
 {
     let mut places = Vec::new(alloc);
-    for test in tests {
-        places.push(test.place)?;
+    for one in found {
+        places.push(one.place)?;
     }
     Ok(places)
 }
 
-/// How many nodes there are.
-fn counted(nodes: &[CollectionNode]) -> Result<u32, OutOfMemory>
-    ensures { IfOk result (λ n. n ≡ length nodes.now) }
+/// How many there are.
+fn counted(count: usize) -> Result<u32, OutOfMemory>
+    ensures { IfOk result (λ n. n ≡ count) }
 {
-    match u32::try_from(nodes.len()) {
+    match u32::try_from(count) {
         Ok(count) => Ok(count),
         // No memory holds so many.
         Err(_) => Err(OutOfMemory),
     }
 }
 
-/// The suite of tests whose nodes stand behind so many others.
+/// Puts what comes of a file behind the others.
+fn list_file(
+    alloc: Global,
+    heap: &Heap,
+    listed: &mut ListedFiles,
+    file: TestFile,
+    came: FileItems,
+) -> Result<(), OutOfMemory>
+    ensures items { OnOk result (listed.new.items.items ≡ listed.old.items.items ++ items.items_kept came) }
+    ensures nodes { OnOk result (listed.new.nodes.items ≡ listed.old.nodes.items ++ (file.place, nodes.nodes_of heap.now (length listed.old.items.items) (record { file = file; items = came })) ∷ []) }
+    ensures faults { OnOk result (listed.new.faults.items ≡ listed.old.faults.items ++ items.fault_kept came ∷ []) }
+{
+    let first = listed.items.len();
+    match came {
+        FileItems::Items(found) => {
+            let one = file_nodes(alloc, heap, first, file, false, found.items())?;
+            listed.nodes.push((file.place, one))?;
+            listed.faults.push(None)?;
+            let mut found = found.into_vec();
+            listed.items.append(&mut found)?;
+            Ok(())
+        }
+        FileItems::Fault(fault) => {
+            let one = file_nodes(alloc, heap, first, file, true, &[])?;
+            listed.nodes.push((file.place, one))?;
+            listed.faults.push(Some(fault))?;
+            Ok(())
+        }
+    }
+}
+
+/// Whether so many nodes from this one on are among the nodes.
+fn is_within(node: u32, many: usize, count: usize) -> bool
+    ensures { result ≡ true → node + many ≤ count }
+{
+    match (node as usize).checked_add(many) {
+        Some(end) => end <= count,
+        None => false,
+    }
+}
+
+ghost use Rattle.std.specs.Prelude.{true};
+
+/// Puts what comes of the tests of a file behind the others; their nodes follow one another from this one on. The node behind them.
+fn list_one(
+    alloc: Global,
+    heap: &Heap,
+    listed: &mut ListedFiles,
+    table: &Table,
+    count: usize,
+    names: &Mentions,
+    definitions: &[Definition],
+    node: u32,
+    placed: PlacedFile,
+) -> Result<u32, OutOfMemory>
+    requires same { length definitions.now ≡ length table.now.defs }
+    requires count { count ≡ length table.now.nodes }
+    ensures items { OnOk result (listed.new.items.items ≡ listed.old.items.items ++ items.items_of_file (items.file_found heap.now (items.fixtures_with table.now names.now definitions.now) node placed)) }
+    ensures nodes { OnOk result (listed.new.nodes.items ≡ listed.old.nodes.items ++ (placed.file.place, nodes.nodes_of heap.now (length listed.old.items.items) (items.file_found heap.now (items.fixtures_with table.now names.now definitions.now) node placed)) ∷ []) }
+    ensures faults { OnOk result (listed.new.faults.items ≡ listed.old.faults.items ++ items.fault_of_file (items.file_found heap.now (items.fixtures_with table.now names.now definitions.now) node placed) ∷ []) }
+    ensures behind { IfOk result (λ n. n ≡ node + length (tests_of heap.now placed)) }
+{
+    let tests = tests_of(alloc, heap, placed)?;
+    let many = counted(tests.len())?;
+    if !is_within(node, tests.len(), count) {
+        // Each test has a node.
+        return Err(OutOfMemory);
+    }
+    let came = items_of_tests(alloc, heap, table, names, definitions, node, &tests)?;
+    list_file(alloc, heap, listed, placed.file, came)?;
+    plus(node, many)
+}
+
+/// What comes of the tests of files, whose nodes follow one another from this one on.
+fn list_files(
+    alloc: Global,
+    heap: &Heap,
+    table: &Table,
+    count: usize,
+    names: &Mentions,
+    definitions: &[Definition],
+    first: u32,
+    placed: &[PlacedFile],
+) -> Result<ListedFiles, OutOfMemory>
+    requires same { length definitions.now ≡ length table.now.defs }
+    requires count { count ≡ length table.now.nodes }
+    ensures items { IfOk result (λ l. l.items.items ≡ items.all_items (items.files_found heap.now (items.fixtures_with table.now names.now definitions.now) first placed.now)) }
+    ensures nodes { IfOk result (λ l. l.nodes.items ≡ nodes.all_nodes heap.now 0 (items.files_found heap.now (items.fixtures_with table.now names.now definitions.now) first placed.now)) }
+    ensures faults { IfOk result (λ l. l.faults.items ≡ map items.fault_of_file (items.files_found heap.now (items.fixtures_with table.now names.now definitions.now) first placed.now)) }
+{
+    let mut listed = ListedFiles {
+        items: Vec::new(alloc),
+        nodes: Vec::new(alloc),
+        faults: Vec::new(alloc),
+    };
+    let mut node = first;
+    for one in placed {
+        let behind = list_one(
+            alloc,
+            heap,
+            &mut listed,
+            table,
+            count,
+            names,
+            definitions,
+            node,
+            *one,
+        )?;
+        node = behind;
+    }
+    Ok(listed)
+}
+
+/// What comes of the tests of files, where each test has a node behind these.
+#[tactic(auto, unfolding(crate::specs::Items::files_behind))]
+fn files_behind(
+    alloc: Global,
+    heap: &Heap,
+    outer: Vec<CollectionNode>,
+    names: &Mentions,
+    definitions: &[Definition],
+    tests: &[FoundTest],
+    placed: &[PlacedFile],
+) -> Result<ListedFiles, OutOfMemory>
+    ensures items { IfOk result (λ l. l.items.items ≡ items.all_items (items.files_behind heap.now outer.items names.now definitions.now tests.now placed.now)) }
+    ensures nodes { IfOk result (λ l. l.nodes.items ≡ nodes.all_nodes heap.now 0 (items.files_behind heap.now outer.items names.now definitions.now tests.now placed.now)) }
+    ensures faults { IfOk result (λ l. l.faults.items ≡ map items.fault_of_file (items.files_behind heap.now outer.items names.now definitions.now tests.now placed.now)) }
+{
+    let first = counted(outer.len())?;
+    let parents = test_parents(alloc, tests)?;
+    let Some(count) = outer.len().checked_add(parents.len()) else {
+        // No memory holds so many nodes.
+        drop(outer);
+        return Err(OutOfMemory);
+    };
+    let table = table_of(alloc, outer, names, definitions, &parents)?;
+    let listed = list_files(
+        alloc,
+        heap,
+        &table,
+        count,
+        names,
+        definitions,
+        first,
+        placed,
+    );
+    drop(table);
+    listed
+}
+
+/// The suite of items whose nodes stand behind so many others.
 fn suite_with(
     alloc: Global,
     heap: &Heap,
@@ -105,14 +284,14 @@ fn suite_with(
     table: &Table,
     names: &Mentions,
     definitions: &[Definition],
-    tests: &[FoundTest],
+    found: &[FoundItem],
 ) -> Result<Suite, OutOfMemory>
     requires same { length definitions.now ≡ length table.now.defs }
-    requires nodes { outer + length tests.now ≤ length table.now.nodes }
-    ensures { IfOk result (λ s. s ≡ items.suite_with heap.now walk.now outer (items.fixtures_with table.now names.now definitions.now) tests.now) }
+    requires nodes { outer + length found.now ≤ length table.now.nodes }
+    ensures { IfOk result (λ s. s ≡ items.suite_with heap.now walk.now outer (items.fixtures_with table.now names.now definitions.now) found.now) }
 {
     let fixtures = fixtures_of(alloc, definitions)?;
-    match items_from(alloc, heap, walk, table, names, definitions, outer, tests) {
+    match items_from(alloc, heap, walk, table, names, definitions, outer, found) {
         Ok(items) => Ok(Suite {
             items,
             fixtures,
@@ -134,15 +313,15 @@ fn suite_over(
     table: Table,
     names: &Mentions,
     definitions: &[Definition],
-    tests: &[FoundTest],
+    found: &[FoundItem],
 ) -> Result<FoundSuite, OutOfMemory>
     requires same { length definitions.now ≡ length table.defs }
-    requires nodes { outer + length tests.now ≤ length table.nodes }
+    requires nodes { outer + length found.now ≤ length table.nodes }
     requires tree { IsTree table.nodes }
-    ensures suite { IfOk result (λ f. f ≡ items.suite_over heap.now walk.now outer tests.now (items.fixtures_with table names.now definitions.now)) }
+    ensures suite { IfOk result (λ f. f ≡ items.suite_over heap.now walk.now outer found.now (items.fixtures_with table names.now definitions.now)) }
     ensures tree { IfOk result (λ f. IsTree f.table.nodes) }
 {
-    match suite_with(alloc, heap, walk, outer, &table, names, definitions, tests) {
+    match suite_with(alloc, heap, walk, outer, &table, names, definitions, found) {
         Ok(suite) => Ok(FoundSuite { suite, table }),
         Err(fault) => {
             drop(table);
@@ -151,51 +330,85 @@ fn suite_over(
     }
 }
 
-/// The suite of these definitions and tests, behind these nodes.
+/// The suite of these items, behind these nodes.
 #[tactic(auto, unfolding(crate::specs::Items::suite_behind))]
 fn suite_behind(
     alloc: Global,
     heap: &Heap,
     walk: &Walk,
     outer: Vec<CollectionNode>,
+    names: &Mentions,
     definitions: &[Definition],
-    tests: &[FoundTest],
+    found: &[FoundItem],
 ) -> Result<FoundSuite, OutOfMemory>
-    ensures suite { IfOk result (λ f. f ≡ items.suite_behind heap.now walk.now outer.items definitions.now tests.now) }
+    ensures suite { IfOk result (λ f. f ≡ items.suite_behind heap.now walk.now outer.items names.now definitions.now found.now) }
     ensures tree { IfOk result (λ f. IsTree f.table.nodes) }
 {
-    let count = counted(&outer)?;
-    let names = all_names(alloc, definitions, tests)?;
-    match table_of(alloc, outer, &names, definitions, tests) {
-        Ok(table) => {
-            let found = suite_over(alloc, heap, walk, count, table, &names, definitions, tests);
-            drop(names);
-            found
-        }
-        Err(fault) => {
-            drop(names);
-            Err(fault)
-        }
-    }
+    let count = counted(outer.len())?;
+    let parents = item_parents(alloc, found)?;
+    let table = table_of(alloc, outer, names, definitions, &parents)?;
+    suite_over(alloc, heap, walk, count, table, names, definitions, found)
 }
 
-/// The suite of test files at their nodes, with the conftests above them.
-fn suite_under(
+/// What is found in files that were listed.
+fn found_listed(
     alloc: Global,
     heap: &Heap,
     walk: &Walk,
-    folders: &Mentions,
-    conftests: &[TestFile],
-    placed: &[PlacedFile],
-    tests: &[FoundTest],
-) -> Result<FoundSuite, OutOfMemory>
-    requires { tests.now ≡ all_tests heap.now placed.now }
-    ensures suite { IfOk result (λ f. f ≡ items.suite_under heap.now walk.now folders.now conftests.now placed.now) }
-    ensures tree { IfOk result (λ f. IsTree f.table.nodes) }
+    outer: Vec<CollectionNode>,
+    names: &Mentions,
+    definitions: &[Definition],
+    listed: ListedFiles,
+) -> Result<FoundItems, OutOfMemory>
+    ensures suite { IfOk result (λ f. f.found ≡ items.suite_behind heap.now walk.now outer.items names.now definitions.now listed.items.items) }
+    ensures places { IfOk result (λ f. f.places.items ≡ map nodes.place_of_item listed.items.items) }
+    ensures keys { IfOk result (λ f. f.keys.items ≡ map (choice.item_keys definitions.now) listed.items.items) }
+    ensures nodes { IfOk result (λ f. f.nodes.items ≡ nodes.with_nodes listed.nodes.items (replicate (length walk.now) nodes.no_nodes)) }
+    ensures faults { IfOk result (λ f. f.faults ≡ listed.faults) }
+    ensures tree { IfOk result (λ f. IsTree f.found.table.nodes) }
 {
-    let definitions = all_definitions(alloc, heap, walk, folders, conftests, placed)?;
-    let outer = outer_nodes(alloc, heap, walk, folders, placed)?;
-    suite_behind(alloc, heap, walk, outer, &definitions, tests)
+    let ListedFiles {
+        items: all,
+        nodes: beside,
+        faults,
+    } = listed;
+    let found = suite_behind(alloc, heap, walk, outer, names, definitions, &all)?;
+    let places = places_of(alloc, &all)?;
+    let keys = keys_of(alloc, definitions, &all)?;
+    let nodes = by_place(alloc, walk.paths().len(), beside)?;
+    Ok(FoundItems {
+        found,
+        places,
+        keys,
+        nodes,
+        faults,
+    })
+}
+
+ghost use Rattle.collect_items.specs.Chosen as choice;
+
+/// What is found in test files with these definitions and tests, behind these nodes.
+#[tactic(auto, unfolding(crate::specs::Nodes::item_places, crate::specs::Nodes::nodes_by_place))]
+fn found_behind(
+    alloc: Global,
+    heap: &Heap,
+    walk: &Walk,
+    outer: Vec<CollectionNode>,
+    definitions: &[Definition],
+    tests: &[FoundTest],
+    placed: &[PlacedFile],
+) -> Result<FoundItems, OutOfMemory>
+    ensures suite { IfOk result (λ f. f.found ≡ (items.findings_behind heap.now walk.now outer.items definitions.now tests.now placed.now).suite) }
+    ensures places { IfOk result (λ f. f.places.items ≡ nodes.item_places (items.findings_behind heap.now walk.now outer.items definitions.now tests.now placed.now).files) }
+    ensures keys { IfOk result (λ f. f.keys.items ≡ (items.findings_behind heap.now walk.now outer.items definitions.now tests.now placed.now).keys) }
+    ensures nodes { IfOk result (λ f. f.nodes.items ≡ nodes.nodes_by_place heap.now walk.now (items.findings_behind heap.now walk.now outer.items definitions.now tests.now placed.now).files) }
+    ensures faults { IfOk result (λ f. f.faults.items ≡ map items.fault_of_file (items.findings_behind heap.now walk.now outer.items definitions.now tests.now placed.now).files) }
+    ensures tree { IfOk result (λ f. IsTree f.found.table.nodes) }
+{
+    let names = all_names(alloc, definitions, tests)?;
+    let copy = Vec::from_slice(alloc, &outer)?;
+    let listed = files_behind(alloc, heap, copy, &names, definitions, tests, placed)?;
+    found_listed(alloc, heap, walk, outer, &names, definitions, listed)
 }
 
 /// What is found in test files at their nodes.
@@ -207,32 +420,21 @@ fn found_under(
     conftests: &[TestFile],
     placed: &[PlacedFile],
 ) -> Result<FoundItems, OutOfMemory>
-    ensures suite { IfOk result (λ f. f.found ≡ items.suite_under heap.now walk.now folders.now conftests.now placed.now) }
-    ensures places { IfOk result (λ f. f.places.items ≡ map nodes.place_of_test (all_tests heap.now placed.now)) }
-    ensures nodes { IfOk result (λ f. f.nodes.items ≡ nodes.with_nodes (nodes.all_nodes heap.now 0 placed.now) (replicate (length walk.now) nodes.no_nodes)) }
+    ensures suite { IfOk result (λ f. f.found ≡ (items.findings_under heap.now walk.now folders.now conftests.now placed.now).suite) }
+    ensures places { IfOk result (λ f. f.places.items ≡ nodes.item_places (items.findings_under heap.now walk.now folders.now conftests.now placed.now).files) }
+    ensures keys { IfOk result (λ f. f.keys.items ≡ (items.findings_under heap.now walk.now folders.now conftests.now placed.now).keys) }
+    ensures nodes { IfOk result (λ f. f.nodes.items ≡ nodes.nodes_by_place heap.now walk.now (items.findings_under heap.now walk.now folders.now conftests.now placed.now).files) }
+    ensures faults { IfOk result (λ f. f.faults.items ≡ map items.fault_of_file (items.findings_under heap.now walk.now folders.now conftests.now placed.now).files) }
     ensures tree { IfOk result (λ f. IsTree f.found.table.nodes) }
 {
-    let FoundTests { tests, nodes } = list_files(alloc, heap, placed)?;
-    let nodes = by_place(alloc, walk.paths().len(), nodes)?;
-    let places = places_of(alloc, &tests)?;
-    match suite_under(alloc, heap, walk, folders, conftests, placed, &tests) {
-        Ok(found) => Ok(FoundItems {
-            found,
-            places,
-            nodes,
-        }),
-        Err(fault) => {
-            drop(places);
-            drop(nodes);
-            Err(fault)
-        }
-    }
+    let tests = list_tests(alloc, heap, placed)?;
+    let definitions = all_definitions(alloc, heap, walk, folders, conftests, placed)?;
+    let outer = outer_nodes(alloc, heap, walk, folders, placed)?;
+    found_behind(alloc, heap, walk, outer, &definitions, &tests, placed)
 }
 
-ghost use Rattle.std.specs.Prelude.{replicate};
-
 /// What is found in test files and the conftests above them, with the objects as they are behind all loads.
-#[tactic(auto, unfolding(crate::specs::Items::found_suite, crate::specs::Nodes::item_places, crate::specs::Nodes::nodes_by_place))]
+#[tactic(auto, unfolding(crate::specs::Items::findings))]
 pub fn found_items(
     alloc: Global,
     heap: &Heap,
@@ -240,9 +442,11 @@ pub fn found_items(
     conftests: &[TestFile],
     files: &[TestFile],
 ) -> Result<FoundItems, OutOfMemory>
-    ensures suite { IfOk result (λ f. f.found ≡ items.found_suite heap.now walk.now conftests.now files.now) }
-    ensures places { IfOk result (λ f. f.places.items ≡ nodes.item_places heap.now walk.now files.now) }
-    ensures nodes { IfOk result (λ f. f.nodes.items ≡ nodes.nodes_by_place heap.now walk.now files.now) }
+    ensures suite { IfOk result (λ f. f.found ≡ (items.findings heap.now walk.now conftests.now files.now).suite) }
+    ensures places { IfOk result (λ f. f.places.items ≡ nodes.item_places (items.findings heap.now walk.now conftests.now files.now).files) }
+    ensures keys { IfOk result (λ f. f.keys.items ≡ (items.findings heap.now walk.now conftests.now files.now).keys) }
+    ensures nodes { IfOk result (λ f. f.nodes.items ≡ nodes.nodes_by_place heap.now walk.now (items.findings heap.now walk.now conftests.now files.now).files) }
+    ensures faults { IfOk result (λ f. f.faults.items ≡ map items.fault_of_file (items.findings heap.now walk.now conftests.now files.now).files) }
     ensures tree { IfOk result (λ f. IsTree f.found.table.nodes) }
 {
     let folders = all_folders(alloc, walk, files)?;

@@ -1,28 +1,30 @@
 // Items.
 
-ghost use Rattle.std.specs.Prelude.{◌≡◌, ◌+◌, ◌≤◌, ◌<◌, ◌++◌, IfOk, OnOk, None, chars, encode_utf8_all, length, map};
+ghost use Rattle.std.specs.Prelude.{◌≡◌, ◌+◌, ◌≤◌, ◌<◌, ◌++◌, IfOk, OnOk, chars, encode_utf8_all, length, map};
 ghost use Rattle.collect_names.specs.Ids.{item_id, item_title};
 ghost use Rattle.collect_names.specs.Objects as objects;
 ghost use Rattle.collect_words.specs.Walks.{path_at};
 ghost use Rattle.fixture_definitions.specs.Arguments.{defined_at};
 ghost use Rattle.collect_items.specs.Items as items;
 
-use crate::copies::{copied_test, copied_texts, copied_values};
+use crate::copies::{all_bound, all_params, copied_id, copied_test, copied_texts, copied_values};
 use collect_fixtures::{item_asks, item_closure};
 use collect_names::found::TestFunction;
 use collect_names::ids::{item_id, item_name, item_title};
 use collect_names::objects::{function_at, object_in};
+use collect_rows::FoundItem;
 use collect_words::Walk;
 use collection_nodes::{Mentions, TestFile, classes_of, path_text};
-use fixture_definitions::{Definition, FoundTest, defined_at};
+use fixture_definitions::{Definition, defined_at};
 use fixture_table::Table;
 use py_text::{OutOfMemory, PyText};
 use py_values::heap::Heap;
 use py_world::TraceFrame;
 use report_parts::{Text, push_chars};
 use seq::Seq;
+use session_types::DefId;
 use std::alloc::Global;
-use test_suite::Item;
+use test_suite::{BoundArgument, Item};
 
 /// A text in UTF-8.
 pub fn encoded(alloc: Global, letters: &[char]) -> Result<Text, OutOfMemory>
@@ -33,18 +35,23 @@ pub fn encoded(alloc: Global, letters: &[char]) -> Result<Text, OutOfMemory>
     Ok(Text::from_string(text))
 }
 
-fn node_id(alloc: Global, path: &str, test: &TestFunction) -> Result<Text, OutOfMemory>
-    ensures { IfOk result (λ t. t ≡ encode_utf8_all (item_id (chars path.now) test.now None)) }
+fn node_id(
+    alloc: Global,
+    path: &str,
+    test: &TestFunction,
+    id: Option<&PyText>,
+) -> Result<Text, OutOfMemory>
+    ensures { IfOk result (λ t. t ≡ encode_utf8_all (item_id (chars path.now) test.now (option_copied id.entry))) }
 {
     let path = PyText::from_str(alloc, path)?;
-    let id = item_id(alloc, &path, test, None)?;
+    let id = item_id(alloc, &path, test, id)?;
     encoded(alloc, id.chars())
 }
 
-fn title(alloc: Global, test: &TestFunction) -> Result<Text, OutOfMemory>
-    ensures { IfOk result (λ t. t ≡ encode_utf8_all (item_title test.now None)) }
+fn title(alloc: Global, test: &TestFunction, id: Option<&PyText>) -> Result<Text, OutOfMemory>
+    ensures { IfOk result (λ t. t ≡ encode_utf8_all (item_title test.now (option_copied id.entry))) }
 {
-    let title = item_title(alloc, test, None)?;
+    let title = item_title(alloc, test, id)?;
     encoded(alloc, title.chars())
 }
 
@@ -55,7 +62,40 @@ fn def_of_test(alloc: Global, heap: &Heap, test: &TestFunction) -> Result<TraceF
     defined_at(alloc, function_at(object_in(heap, test.function)))
 }
 
-/// The item of a test with a node.
+/// The names that a row binds, by number.
+fn row_binds(alloc: Global, bound: &[BoundArgument]) -> Result<Seq<u32>, OutOfMemory>
+    ensures { IfOk result (λ numbers. numbers ≡ map items.bound_number bound.now) }
+{
+    let mut numbers = Seq::new(alloc);
+    for one in bound {
+        numbers.push(one.number)?;
+    }
+    Ok(numbers)
+}
+
+/// What the arguments of an item stand for, whose row binds these names.
+fn row_asks(
+    alloc: Global,
+    table: &Table,
+    names: &Mentions,
+    node: u32,
+    empty: bool,
+    bound: &[u32],
+    arguments: &[PyText],
+) -> Result<Seq<Option<DefId>>, OutOfMemory>
+    requires { node < length table.now.nodes }
+    ensures { IfOk result (λ asked. asked ≡ asks table.now names.now node (if empty then [] else bound.now) arguments.now) }
+{
+    if empty {
+        return item_asks(alloc, table, names, node, &[], arguments);
+    }
+    item_asks(alloc, table, names, node, bound, arguments)
+}
+
+ghost use Rattle.std.specs.Prelude.{[], if◌then◌else◌, option_copied};
+ghost use Rattle.collect_fixtures.specs.Closures.{item_asks as asks};
+
+/// The item of a test's row with a node.
 fn item(
     alloc: Global,
     heap: &Heap,
@@ -64,31 +104,54 @@ fn item(
     names: &Mentions,
     definitions: &[Definition],
     node: u32,
-    test: &FoundTest,
+    found: &FoundItem,
 ) -> Result<Item, OutOfMemory>
     requires same { length definitions.now ≡ length table.now.defs }
     requires item { node < length table.now.nodes }
-    ensures { IfOk result (λ i. i ≡ items.item heap.now walk.now (items.fixtures_with table.now names.now definitions.now) node test.now) }
+    ensures { IfOk result (λ i. i ≡ items.item heap.now walk.now (items.fixtures_with table.now names.now definitions.now) node found.now) }
 {
-    let path = path_text(walk, test.place);
-    let asked = item_asks(alloc, table, names, node, test)?;
-    let closure = item_closure(alloc, table, names, definitions, node, test)?;
-    let arguments = copied_texts(alloc, test.arguments.items())?;
+    let path = path_text(walk, found.place);
+    let row = &found.row;
+    let binds = row_binds(alloc, row.bound.items())?;
+    let asked = row_asks(
+        alloc,
+        table,
+        names,
+        node,
+        row.empty,
+        binds.items(),
+        found.arguments.items(),
+    )?;
+    let closure = item_closure(
+        alloc,
+        table,
+        names,
+        definitions,
+        node,
+        binds.items(),
+        found.uses.items(),
+        found.arguments.items(),
+    )?;
+    let arguments = copied_texts(alloc, found.arguments.items())?;
+    let bound = all_bound(alloc, row.bound.items())?;
+    let params = all_params(alloc, row.params.items())?;
+    let id = copied_id(alloc, &row.id)?;
+    let title = title(alloc, &found.test, row.id.as_ref())?;
     Ok(Item {
-        node_id: node_id(alloc, path, &test.test)?,
-        title: title(alloc, &test.test)?,
+        node_id: node_id(alloc, path, &found.test, row.id.as_ref())?,
+        title,
         file: Text::from_str(alloc, path)?,
-        name: item_name(alloc, &test.test, None)?,
-        id: None,
-        test: copied_test(alloc, &test.test)?,
-        defined: def_of_test(alloc, heap, &test.test)?,
-        marks: copied_values(alloc, test.marks.items())?,
+        name: item_name(alloc, &found.test, row.id.as_ref())?,
+        id,
+        test: copied_test(alloc, &found.test)?,
+        defined: def_of_test(alloc, heap, &found.test)?,
+        marks: copied_values(alloc, found.marks.items())?,
         node,
         arguments,
         asked,
-        bound: Seq::new(alloc),
-        params: Seq::new(alloc),
-        empty: false,
+        bound,
+        params,
+        empty: row.empty,
         closure,
     })
 }
@@ -113,19 +176,19 @@ fn push_item(
     names: &Mentions,
     definitions: &[Definition],
     node: u32,
-    test: &FoundTest,
+    one: &FoundItem,
 ) -> Result<(), OutOfMemory>
     requires same { length definitions.now ≡ length table.now.defs }
     requires item { node < length table.now.nodes }
-    ensures { OnOk result (found.new ≡ found.old ++ items.item heap.now walk.now (items.fixtures_with table.now names.now definitions.now) node test.now ∷ []) }
+    ensures { OnOk result (found.new ≡ found.old ++ items.item heap.now walk.now (items.fixtures_with table.now names.now definitions.now) node one.now ∷ []) }
 {
-    let one = item(alloc, heap, walk, table, names, definitions, node, test)?;
-    found.push(one)
+    let made = item(alloc, heap, walk, table, names, definitions, node, one)?;
+    found.push(made)
 }
 
 ghost use Rattle.std.specs.Prelude.{◌∷◌, []};
 
-/// The items of tests whose nodes follow one another from this one on.
+/// Items whose nodes follow one another from this one on.
 pub fn items_from(
     alloc: Global,
     heap: &Heap,
@@ -134,15 +197,15 @@ pub fn items_from(
     names: &Mentions,
     definitions: &[Definition],
     first: u32,
-    tests: &[FoundTest],
+    all: &[FoundItem],
 ) -> Result<Seq<Item>, OutOfMemory>
     requires same { length definitions.now ≡ length table.now.defs }
-    requires nodes { first + length tests.now ≤ length table.now.nodes }
-    ensures { IfOk result (λ i. i ≡ items.items_from heap.now walk.now (items.fixtures_with table.now names.now definitions.now) first tests.now) }
+    requires nodes { first + length all.now ≤ length table.now.nodes }
+    ensures { IfOk result (λ i. i ≡ items.items_from heap.now walk.now (items.fixtures_with table.now names.now definitions.now) first all.now) }
 {
     let mut found = Seq::new(alloc);
     let mut node = first;
-    for test in tests {
+    for one in all {
         push_item(
             alloc,
             &mut found,
@@ -152,7 +215,7 @@ pub fn items_from(
             names,
             definitions,
             node,
-            test,
+            one,
         )?;
         let behind = next(node)?;
         node = behind;

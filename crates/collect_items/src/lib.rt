@@ -1,20 +1,22 @@
-//! The items of loaded test files: which tests of their modules are items and what their set-up demands, what words can name of them,
-//! which of them `-k` and `-m` choose, and whether they want what isn't built yet.
+//! The items of loaded test files: which tests of their modules are items with which rows and what their set-up demands, what words can name
+//! of them, in which order they run and which of them `-k` and `-m` choose, and whether conftests want what isn't built yet.
 //!
 //! # What it is for
 //!
 //! Collection asks here once all files are loaded, with the objects as they are then. [`found_items`] gives the suite of all test files,
-//! its items numbered in one list, with the table of its fixtures, and the nodes of each file by which `collect_words` selects; [`chosen`]
-//! keeps of selected items those that the expressions of `-k` and `-m` accept; [`wants_unbuilt_conftest`], [`wants_unbuilt_file`] and
-//! [`wants_unbuilt`] say whether a run has to be refused.
+//! its items numbered in one list, with the table of its fixtures, the nodes of each file by which `collect_words` selects, and the fault of
+//! the rows of each file; [`ordered`] puts selected items in order, and [`chosen`] keeps of them those that the expressions of `-k` and `-m`
+//! accept; [`wants_unbuilt_conftest`] says whether a run has to be refused.
 //!
 //! # What is proved
 //!
-//! - [`found_items`]: the suite (`suite`): the items of the files' tests, file by file, each with its names, its marks, its arguments and
-//!   what its set-up demands, over the table of all definitions, whose nodes are a tree (`tree`); the place of the file of each
-//!   (`places`), and what words can name of each file in the order of the walk (`nodes`).
-//! - [`chosen`]: exactly the filter by the names of items and of their marks (`same`), all of them numbers of items (`within`).
-//! - [`wants_unbuilt_conftest`], [`wants_unbuilt_file`], [`wants_unbuilt`]: exactly their definitions.
+//! - [`found_items`] (`findings`): the suite (`suite`), which has the items of the files' tests, file by file, each test as many items as it
+//!   has rows, with its names, its marks, its arguments, what its row gives and what its set-up demands, over the table of all definitions,
+//!   whose nodes are a tree (`tree`); the place of the file of each (`places`), and what its order goes by (`keys`); what words can name of each
+//!   file in the order of the walk (`nodes`); and the fault of the rows of each file (`faults`).
+//! - [`ordered`]: the numbers in the order that `param_rows` defines (`ordered`). [`chosen`]: exactly the filter by the names of items and of
+//!   their marks (`same`), all of them numbers of items (`within`).
+//! - [`wants_unbuilt_conftest`]: exactly its definition.
 //!
 //! # What tests alone show
 //!
@@ -30,8 +32,12 @@ mod copies;
 mod found;
 mod item;
 mod nodes;
+mod order;
 mod unbuilt;
 
 pub use choice::chosen;
+pub use collect_rows::RowsFault;
 pub use found::{FoundItems, FoundSuite, found_items};
-pub use unbuilt::{wants_unbuilt, wants_unbuilt_conftest, wants_unbuilt_file};
+pub use order::ordered;
+pub use param_rows::ItemKeys;
+pub use unbuilt::wants_unbuilt_conftest;

@@ -5,10 +5,10 @@ ghost use Rattle.collect_items.specs.Nodes as nodes;
 
 use crate::item::{classes_in, encoded};
 use collect_names::found::TestClass;
+use collect_rows::FoundItem;
 use collect_words::{FileNodes, ItemNames};
 use collection_nodes::TestFile;
-use fixture_definitions::FoundTest;
-use py_text::OutOfMemory;
+use py_text::{OutOfMemory, PyText};
 use py_values::heap::Heap;
 use report_parts::Text;
 use seq::Seq;
@@ -23,15 +23,26 @@ fn class_name(alloc: Global, class: &Option<TestClass>) -> Result<Option<Text>, 
     }
 }
 
+fn id_text(alloc: Global, id: &Option<PyText>) -> Result<Option<Text>, OutOfMemory>
+    ensures { IfOk result (λ text. text ≡ option_map encode_utf8_all id.now) }
+{
+    match id {
+        Some(id) => Ok(Some(encoded(alloc, id.chars())?)),
+        None => Ok(None),
+    }
+}
+
+ghost use Rattle.std.specs.Prelude.{encode_utf8_all};
+
 /// The names of an item with this number.
-fn names_of(alloc: Global, number: usize, test: &FoundTest) -> Result<ItemNames, OutOfMemory>
+fn names_of(alloc: Global, number: usize, test: &FoundItem) -> Result<ItemNames, OutOfMemory>
     ensures { IfOk result (λ names. names ≡ nodes.names_of number test.now) }
 {
     Ok(ItemNames {
         number,
         class: class_name(alloc, &test.test.class)?,
         function: encoded(alloc, test.test.name.chars())?,
-        id: None,
+        id: id_text(alloc, &test.row.id)?,
     })
 }
 
@@ -39,7 +50,7 @@ fn push_names(
     alloc: Global,
     names: &mut Seq<ItemNames>,
     number: usize,
-    test: &FoundTest,
+    test: &FoundItem,
 ) -> Result<(), OutOfMemory>
     ensures { OnOk result (names.new ≡ names.old ++ nodes.names_of number test.now ∷ []) }
 {
@@ -58,8 +69,8 @@ fn next(number: usize) -> Result<usize, OutOfMemory>
     }
 }
 
-/// The names of the items of tests that are numbered from this one on.
-fn numbered(alloc: Global, first: usize, tests: &[FoundTest]) -> Result<Seq<ItemNames>, OutOfMemory>
+/// The names of items that are numbered from this one on.
+fn numbered(alloc: Global, first: usize, tests: &[FoundItem]) -> Result<Seq<ItemNames>, OutOfMemory>
     ensures { IfOk result (λ names. names ≡ nodes.numbered first tests.now) }
 {
     let mut names = Seq::new(alloc);
@@ -72,23 +83,27 @@ fn numbered(alloc: Global, first: usize, tests: &[FoundTest]) -> Result<Seq<Item
     Ok(names)
 }
 
-/// What words can name of a file with these tests, whose numbers go from this one on.
+/// What words can name of a file with these items, whose numbers go from this one on; with none where it failed.
 pub fn file_nodes(
     alloc: Global,
     heap: &Heap,
     first: usize,
     file: TestFile,
-    tests: &[FoundTest],
+    faulty: bool,
+    found: &[FoundItem],
 ) -> Result<FileNodes, OutOfMemory>
-    ensures { IfOk result (λ n. n ≡ nodes.nodes_of heap.now first file tests.now) }
+    ensures { IfOk result (λ n. n ≡ record { failed = not (is_some file.object) || faulty; classes = items.classes_in heap.now file; items = nodes.numbered first found.now }) }
 {
     let classes = classes_in(alloc, heap, file)?;
     Ok(FileNodes {
-        failed: file.object.is_none(),
+        failed: file.object.is_none() || faulty,
         classes,
-        items: numbered(alloc, first, tests)?,
+        items: numbered(alloc, first, found)?,
     })
 }
+
+ghost use Rattle.std.specs.Prelude.{◌||◌, is_some, not};
+ghost use Rattle.collect_items.specs.Items as items;
 
 fn no_nodes(alloc: Global) -> FileNodes
     ensures { result ≡ nodes.no_nodes }

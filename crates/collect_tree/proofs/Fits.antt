@@ -3,8 +3,8 @@ use Rattle.std.proofs.Common.{◌≡◌, ◌+◌, ℕ, Bool, true, false, List, 
 use Rattle.std.specs.Prelude.{◌==◌, nat_lt, codes, slice_get, if◌then◌else◌}
 use Rattle.std.specs.List.{filter, flat_map}
 use Rattle.cli_words.specs.declared.options.Options.{Options}
-use Rattle.collect_items.specs.Chosen.{is_chosen}
-use Rattle.collect_items.specs.Items.{found_suite}
+use Rattle.collect_items.specs.Chosen.{is_chosen, ordered}
+use Rattle.collect_items.specs.Items.{Findings, findings}
 use Rattle.collect_items.specs.Nodes.{item_places, nodes_by_place}
 use Rattle.collect_items.specs.declared.found.FoundSuite.{FoundSuite}
 use Rattle.collect_words.specs.Files.{conftests, includes_number, walked}
@@ -35,6 +35,7 @@ use Rattle.collect_tree.specs.Walk.{walk_of}
 use Rattle.collect_tree.proofs.Made as made
 use Rattle.collect_tree.proofs.Made.{IsMade, fits_made, item_made}
 use Rattle.collect_tree.proofs.Once.{Once, or_none, once_each, once_filter}
+use Rattle.collect_tree.proofs.Ordered.{once_ordered}
 
 -- ---- closures
 
@@ -111,19 +112,21 @@ module _ (options : Options) where
   built_or true text c f = tt
   built_or false text c f = f
 
-  ended : (above : List TestFile) (found : FoundSuite) (m : IsMade found) (places : List ℕ) (loaded : LoadResults) (r : Result (List ℕ) WordFault) → OnceIn r
-      → FitsEnd (collection.selected_or_refused options above found places loaded r)
-  ended above found m places loaded (Err fault) o = tt
-  ended above found m places loaded (Ok numbers) o =
-      let ns = filter (λ number. is_chosen options loaded.world.heap (numbered_item found.suite.items number)) numbers in
-      let one : Once ns = once_filter (λ number. is_chosen options loaded.world.heap (numbered_item found.suite.items number)) numbers o in
-      built_or _ (codes "not built") (collection.collected_with options found places numbers loaded)
-      (λ rules depth scopes. record { fits = fits rules found m depth scopes places ns; distinct = distinct found m places ns one })
+  ended : (walk : List (List ℕ)) (above : List TestFile) (f : Findings) (m : IsMade f.suite) (loaded : LoadResults) (r : Result (List ℕ) WordFault) → OnceIn r
+      → FitsEnd (collection.selected_or_refused options walk above f loaded r)
+  ended walk above f m loaded (Err fault) o = tt
+  ended walk above f m loaded (Ok numbers) o =
+      let places = item_places f.files in
+      let order = ordered f.keys numbers in
+      let ns = filter (λ number. is_chosen options loaded.world.heap (numbered_item f.suite.suite.items number)) order in
+      let one : Once ns = once_filter (λ number. is_chosen options loaded.world.heap (numbered_item f.suite.suite.items number)) order (once_ordered f.keys numbers o) in
+      built_or _ (codes "not built") (collection.collected_of options walk f loaded numbers)
+      (λ rules depth scopes. record { fits = fits rules f.suite m depth scopes places ns; distinct = distinct f.suite m places ns one })
 
   loaded_fits : (walk : List (List ℕ)) (words : List NamedWord) (above : List TestFile) (loaded : LoadResults) → FitsEnd (of_loaded options walk words above loaded)
   loaded_fits walk words above loaded =
-      ended above (found_suite loaded.world.heap walk above loaded.files) (made.made loaded.world.heap walk above loaded.files) (item_places loaded.world.heap walk loaded.files) loaded _
-      (once_selected most_items walk (walked walk options.ignore) (nodes_by_place loaded.world.heap walk loaded.files) words)
+      let f = findings loaded.world.heap walk above loaded.files in
+      ended walk above f (made.made loaded.world.heap walk above loaded.files) loaded _ (once_selected most_items walk (walked walk options.ignore) (nodes_by_place loaded.world.heap walk f.files) words)
 
   conftests_fit : (walk : List (List ℕ)) (words : List NamedWord) (files : List ℕ) (x : ConftestsEnd × SourceWorld) → FitsEnd (with_conftests options walk words files x)
   conftests_fit walk words files (Err (path, error, printed), w) = tt

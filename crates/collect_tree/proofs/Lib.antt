@@ -8,3 +8,6 @@ pub mod Runnable
 pub mod Fits
 pub mod Ends
 pub mod Conftests
+pub mod FileErrors
+pub mod Ordered
+pub mod Parts

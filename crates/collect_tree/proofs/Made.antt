@@ -6,8 +6,8 @@ use Rattle.collect_items.proofs.collect_fixtures_lemmas.Counts.{defs_count}
 use Rattle.collect_items.proofs.collect_fixtures_lemmas.Known.{closure_low}
 use Rattle.collect_items.proofs.collect_fixtures_lemmas.Needs.{item_whole}
 use Rattle.collect_items.specs.collect_fixtures.Closures.{item_closure}
-use Rattle.collect_items.specs.collect_fixtures.Tables.{all_names, all_numbers, node_of_test, table_defs, table_of}
-use Rattle.collect_items.specs.Items.{FixtureTable, defined_fixture, fixtures_with, found_suite, item, items_from, placed_of, suite_behind}
+use Rattle.collect_items.specs.collect_fixtures.Tables.{all_names, all_numbers, item_node, table_defs, table_of}
+use Rattle.collect_items.specs.Items.{FixtureTable, all_items, bound_number, defined_fixture, files_behind, findings, fixtures_with, item, items_from, parent_of_item, placed_of, suite_behind}
 use Rattle.collect_items.specs.declared.found.FoundSuite.{FoundSuite}
 use Rattle.collection_nodes.specs.Tree.{all_folders, outer_nodes}
 use Rattle.collection_nodes.specs.declared.test_file.TestFile.{TestFile}
@@ -15,12 +15,12 @@ use Rattle.collect_items.specs.fixture_definitions.Arguments.{but_request}
 use Rattle.collect_items.specs.fixture_definitions.Definitions.{all_definitions}
 use Rattle.collect_items.specs.fixture_definitions.Tests.{all_tests}
 use Rattle.collect_items.specs.fixture_definitions.declared.found.Definition.{Definition}
-use Rattle.collect_items.specs.fixture_definitions.declared.found.FoundTest.{FoundTest}
+use Rattle.collect_items.specs.collect_rows.declared.items.FoundItem.{FoundItem}
 use Rattle.fixture_table.proofs.Settles.{settled}
 use Rattle.fixture_table.specs.Faults as table
 use Rattle.fixture_table.specs.Nearest.{def_at}
 use Rattle.fixture_table.specs.declared.types.CollectionNode.{CollectionNode}
-use Rattle.fixture_world.specs.Items.{closure_of, item_in_session}
+use Rattle.fixture_world.specs.Items.{bound_argument, closure_of, item_in_session}
 use Rattle.py_values.specs.declared.object.Obj.{Obj}
 use Rattle.fixture_world.specs.runtest_rules.Language.{python}
 use Rattle.session_rules.specs.Fits.{Directly, HasFixtureClosure, FitsClosure, Further, IsValidClosure, DependsOn}
@@ -29,8 +29,9 @@ use Rattle.session_types.proofs.Lists.{In-among, among-In}
 use Rattle.session_types.specs.Numbers.{among}
 use Rattle.session_types.specs.Scopes.{rank}
 use Rattle.session_types.specs.declared.scope.Scope.{Scope}
-use Rattle.setup_stack.specs.fixture_instances.Items.{requests_in}
+use Rattle.setup_stack.specs.fixture_instances.Items.{bound_names, requests_in}
 use Rattle.test_suite.specs.Suites.{fixture_at, fixture_or}
+use Rattle.test_suite.specs.declared.item.BoundArgument.{BoundArgument}
 use Rattle.test_suite.specs.declared.item.Item.{Item}
 use Rattle.test_suite.specs.declared.item.ItemClosure.{ItemClosure}
 use Rattle.test_suite.specs.declared.item.ItemClosure.TheVariants as closure
@@ -39,23 +40,24 @@ pub record IsMade (found : FoundSuite) : Type 0 where
   pub heap : List Obj
   pub walk : List (List ℕ)
   pub outer : List CollectionNode
-  pub tests : List FoundTest
+  pub tests : List FoundItem
   pub names : List (List ℕ)
   pub definitions : List Definition
-  pub nodes : found.table.nodes ≡ outer ++ map node_of_test tests
+  pub nodes : found.table.nodes ≡ outer ++ map item_node (map parent_of_item tests)
   pub defs : found.table.defs ≡ table_defs names 0 definitions
   pub items : found.suite.items ≡ items_from heap walk (fixtures_with found.table names definitions) (length outer) tests
   pub fixtures : found.suite.fixtures ≡ map defined_fixture definitions
   pub behind : found.suite.outer ≡ length outer
 
-made_behind : (heap : List Obj) (walk : List (List ℕ)) (outer : List CollectionNode) (definitions : List Definition) (tests : List FoundTest) → IsMade (suite_behind heap walk outer definitions tests)
+made_behind : (heap : List Obj) (walk : List (List ℕ)) (outer : List CollectionNode) (names : List (List ℕ)) (definitions : List Definition) (tests : List FoundItem)
+    → IsMade (suite_behind heap walk outer names definitions tests)
 unfolding suite_behind table_of
-made_behind heap walk outer definitions tests = record {
+made_behind heap walk outer names definitions tests = record {
   heap = heap;
   walk = walk;
   outer = outer;
   tests = tests;
-  names = all_names definitions tests;
+  names = names;
   definitions = definitions;
   nodes = refl;
   defs = refl;
@@ -64,22 +66,25 @@ made_behind heap walk outer definitions tests = record {
   behind = refl;
 }
 
-pub made : (heap : List Obj) (walk : List (List ℕ)) (above files : List TestFile) → IsMade (found_suite heap walk above files)
-unfolding found_suite
+pub made : (heap : List Obj) (walk : List (List ℕ)) (above files : List TestFile) → IsMade (findings heap walk above files).suite
+unfolding findings
 made heap walk above files =
     let folders = all_folders walk files in
     let placed = placed_of heap walk files in
-    made_behind heap walk (outer_nodes heap walk folders placed) (all_definitions heap walk folders above placed) (all_tests heap placed)
+    let outer = outer_nodes heap walk folders placed in
+    let definitions = all_definitions heap walk folders above placed in
+    let names = all_names definitions (all_tests heap placed) in
+    made_behind heap walk outer names definitions (all_items (files_behind heap outer names definitions (all_tests heap placed) placed))
 
 -- an item of a suite, and its place
 pub record IsItem (heap : List Obj) (walk : List (List ℕ)) (f : FixtureTable) (node : ℕ) (i : Item) : Type 0 where
-  pub test : FoundTest
+  pub test : FoundItem
   pub is : i ≡ item heap walk f node test
 
 some_is : (x y : Item) → Some x ≡ Some y → x ≡ y
 some_is x y q = cc
 
-pub item_there : (heap : List Obj) (walk : List (List ℕ)) (f : FixtureTable) (node : ℕ) (tests : List FoundTest) (k : ℕ) (i : Item)
+pub item_there : (heap : List Obj) (walk : List (List ℕ)) (f : FixtureTable) (node : ℕ) (tests : List FoundItem) (k : ℕ) (i : Item)
     → slice_get (items_from heap walk f node tests) k ≡ Some i → IsItem heap walk f (node + k) i
 item_there heap walk f node [] zero i e = absurd (cc e)
 item_there heap walk f node [] (suc k) i e = absurd (cc e)
@@ -90,7 +95,7 @@ item_there heap walk f node (t ∷ ts) (suc k) i e =
     let same : node + 1 + k ≡ node + suc k = omega arith in
     subst (λ (n : ℕ). IsItem heap walk f n i) same (item_there heap walk f (node + 1) ts k i e)
 
-pub item_within : (heap : List Obj) (walk : List (List ℕ)) (f : FixtureTable) (node : ℕ) (tests : List FoundTest) (k : ℕ) (i : Item)
+pub item_within : (heap : List Obj) (walk : List (List ℕ)) (f : FixtureTable) (node : ℕ) (tests : List FoundItem) (k : ℕ) (i : Item)
     → slice_get (items_from heap walk f node tests) k ≡ Some i → k < length tests
 item_within heap walk f node [] zero i e = absurd (cc e)
 item_within heap walk f node [] (suc k) i e = absurd (cc e)
@@ -122,7 +127,10 @@ module _ (found : FoundSuite) (m : IsMade found) where
   node_is n i e = ap (λ (x : Item). x.node) (item_made n i e).is ∙ ap (λ (k : ℕ). k + n) (sym m.behind)
 
   many_nodes : length found.table.nodes ≡ length m.outer + length m.tests
-  many_nodes = ap (λ (ns : List CollectionNode). length ns) m.nodes ∙ (length-append m.outer (map node_of_test m.tests) ∙ ap (λ (k : ℕ). length m.outer + k) (length-map m.tests node_of_test))
+  many_nodes =
+      ap (λ (ns : List CollectionNode). length ns) m.nodes
+      ∙ (length-append m.outer (map item_node (map parent_of_item m.tests))
+      ∙ ap (λ (k : ℕ). length m.outer + k) (length-map (map parent_of_item m.tests) item_node ∙ length-map m.tests parent_of_item))
 
   pub node_there : (n : ℕ) (i : Item) → slice_get found.suite.items n ≡ Some i → i.node < length found.table.nodes
   node_there n i e =
@@ -144,25 +152,36 @@ module _ (rules : session.Rules python) (found : FoundSuite) (m : IsMade found) 
       subst (λ (s : Scope). rank s ≤ rank (rules.scope d)) (scope_of e)
       (subst (λ (s : Scope). rank (def_at found.table.defs e).scope ≤ rank s) (scope_of d) l)
 
-  whole_fits : (node : ℕ) (t : FoundTest) (ds : List ℕ) → item_closure found.table m.names m.definitions node t ≡ closure.Whole ds
-      → IsValidClosure rules (item_in_session found.table (item m.heap m.walk (fixtures_with found.table m.names m.definitions) node t)) ds
+  -- what a row binds, as a demand has it
+  same_bound : (bound : List BoundArgument) → bound_names (map bound_argument bound) ≡ map bound_number bound
+  same_bound [] = refl
+  same_bound (b ∷ bs) = ap (λ (ns : List ℕ). b.number ∷ ns) (same_bound bs)
+
+  abbrev Needs : Item → ℕ → FoundItem → ItemClosure
+  Needs i node t = item_closure found.table m.names m.definitions node (map bound_number i.bound) t.uses t.arguments
+
+  whole_fits : (i : Item) (node : ℕ) (t : FoundItem) (ds : List ℕ) → i.node ≡ node → Needs i node t ≡ closure.Whole ds → IsValidClosure rules (item_in_session found.table i) ds
   unfolding requests_in
-  whole_fits node t ds e =
-      let c = item_whole found.table m.names m.definitions node t ds e in
-      let s = settled found.table.nodes found.table.defs node [] (all_numbers m.names t.uses) (all_numbers m.names (but_request t.arguments)) ds c in
+  whole_fits i node t ds n e =
+      let binds = bound_names (map bound_argument i.bound) in
+      let uses = all_numbers m.names t.uses in
+      let args = all_numbers m.names (but_request t.arguments) in
+      let here = subst (λ (k : ℕ). Needs i k t ≡ closure.Whole ds) (sym n) e in
+      let at = subst (λ (ns : List ℕ). item_closure found.table m.names m.definitions i.node ns t.uses t.arguments ≡ closure.Whole ds) (sym (same_bound i.bound)) here in
+      let c = item_whole found.table m.names m.definitions i.node binds t.uses t.arguments ds at in
+      let s = settled found.table.nodes found.table.defs i.node binds uses args ds c in
       record {
-        known = λ d there. subst (λ (k : ℕ). d < k) count (closure_low found.table.nodes found.table.defs node [] (all_numbers m.names t.uses) (all_numbers m.names (but_request t.arguments)) ds c d there);
+        known = λ d there. subst (λ (k : ℕ). d < k) count (closure_low found.table.nodes found.table.defs i.node binds uses args ds c d there);
         whole = λ d e there asked. among-In e ds (s.within d e (In-among d ds there) (In-among e _ asked));
         scopes = λ d e there asked. ranked d e (s.broader d e (In-among d ds there) (In-among e _ asked));
         acyclic = λ d there r. s.apart d (In-among d ds there) (reached_in _ d d r);
       }
 
-  closure_fits : (node : ℕ) (t : FoundTest) (c : ItemClosure) → item_closure found.table m.names m.definitions node t ≡ c
-      → FitsClosure rules (item_in_session found.table (item m.heap m.walk (fixtures_with found.table m.names m.definitions) node t)) (closure_of c)
-  closure_fits node t (closure.Whole ds) e = whole_fits node t ds e
-  closure_fits node t (closure.Fault text) e = tt
+  closure_fits : (i : Item) (node : ℕ) (t : FoundItem) (c : ItemClosure) → i.node ≡ node → Needs i node t ≡ c → FitsClosure rules (item_in_session found.table i) (closure_of c)
+  closure_fits i node t (closure.Whole ds) n e = whole_fits i node t ds n e
+  closure_fits i node t (closure.Fault text) n e = tt
 
   pub fits_made : (node : ℕ) (i : Item) → IsItem m.heap m.walk (fixtures_with found.table m.names m.definitions) node i → HasFixtureClosure rules (item_in_session found.table i)
   fits_made node i h =
-      subst (λ (x : Item). HasFixtureClosure rules (item_in_session found.table x)) (sym h.is)
-      (closure_fits node h.test (item_closure found.table m.names m.definitions node h.test) refl)
+      let one = item m.heap m.walk (fixtures_with found.table m.names m.definitions) node h.test in
+      subst (λ (x : Item). HasFixtureClosure rules (item_in_session found.table x)) (sym h.is) (closure_fits one node h.test (Needs one node h.test) refl refl)

@@ -2,7 +2,7 @@
 use Rattle.std.proofs.Common.{◌≡◌, ◌+◌, ◌-◌, ℕ, Bool, true, List, Some, None, refl, sym, ap, ◌∙◌, subst, arith}
 use Rattle.std.specs.Prelude.{nat_le, slice_get, if◌then◌else◌}
 use Rattle.std.proofs.lemmas.Bool.{le-leb}
-use Rattle.collect_items.specs.Items.{found_suite}
+use Rattle.collect_items.specs.Items.{findings}
 use Rattle.collect_items.specs.declared.found.FoundSuite.{FoundSuite}
 use Rattle.collection_nodes.specs.declared.test_file.TestFile.{TestFile}
 use Rattle.fixture_table.specs.Tree.{IsTree}
@@ -44,5 +44,5 @@ made_runs found m tree =
     }
 
 -- what is found, where the nodes of its table are a tree
-pub found_runs : (found : FoundSuite) (heap : List Obj) (walk : List (List ℕ)) (above files : List TestFile) → found ≡ found_suite heap walk above files → IsTree found.table.nodes → IsRunnable found
+pub found_runs : (found : FoundSuite) (heap : List Obj) (walk : List (List ℕ)) (above files : List TestFile) → found ≡ (findings heap walk above files).suite → IsTree found.table.nodes → IsRunnable found
 found_runs found heap walk above files same tree = made_runs found (subst IsMade (sym same) (made heap walk above files)) tree

@@ -1,14 +1,14 @@
 -- THE COLLECTION: what the words of a command line collect from the files of a tree (pytest's how-to guide, "Specifying which tests to
 -- run", and its "Conventions for Python test discovery"). The first of these refuses: a word whose path names no file or folder; a
 -- conftest that fails; more items than a session may have; a word whose part behind `::` names nothing of its file; and what isn't built
--- yet of parameters and hooks.
-use Rattle.std.specs.Prelude.{ℕ, ◌+◌, ◌-◌, Bool, ◌||◌, List, [], ◌∷◌, Option, Some, None, Result, Ok, Err, codes, length, map, slice_get, slice_index_or, if◌then◌else◌}
+-- yet of hooks.
+use Rattle.std.specs.Prelude.{ℕ, ◌+◌, ◌-◌, Bool, List, [], ◌∷◌, Option, Some, None, Result, Ok, Err, codes, length, map, slice_get, slice_index_or, if◌then◌else◌}
 use Rattle.std.specs.List.{list_any}
 use Rattle.cli_words.specs.declared.options.Options.{Options}
-use Rattle.collect_items.specs.Chosen.{chosen}
-use Rattle.collect_items.specs.Items.{found_suite}
+use Rattle.collect_items.specs.Chosen.{chosen, ordered}
+use Rattle.collect_items.specs.Items.{Findings, fault_of_file, findings}
 use Rattle.collect_items.specs.Nodes.{item_places, nodes_by_place}
-use Rattle.collect_items.specs.Unbuilt.{wants_unbuilt, wants_unbuilt_conftest, wants_unbuilt_test}
+use Rattle.collect_items.specs.Unbuilt.{wants_unbuilt_conftest}
 use Rattle.collect_items.specs.declared.found.FoundSuite.{FoundSuite}
 use Rattle.collect_words.specs.Files.{conftests, named_files, test_files, walked}
 use Rattle.collect_words.specs.Nodes.{selected}
@@ -26,12 +26,14 @@ use Rattle.tracebacks.specs.py_machine.Worlds.{empty}
 use Rattle.py_values.specs.declared.object.Obj.{Obj}
 use Rattle.py_values.specs.declared.value.Value.{Value}
 use Rattle.report_parts.specs.Limits.{most_items}
+use Rattle.report_parts.specs.declared.report.CollectReport.{CollectReport}
 use Rattle.fixture_world.specs.report_rules.Collected.{Collected, Collection, ConftestFault, Refused, SelectedItem, Whole}
 use Rattle.fixture_world.specs.runtest_rules.Language.{python}
 use Rattle.tracebacks.specs.source_meaning.Meaning.{SourceWorld}
 use Rattle.test_suite.specs.Suites.{no_item}
 use Rattle.test_suite.specs.declared.item.Item.{Item}
 use Rattle.test_suite.specs.declared.suite.Suite.{Suite}
+use Rattle.collect_tree.specs.Errors.{all_errors}
 use Rattle.collect_tree.specs.Loads.{LoadResults, load_told, test_loads}
 use Rattle.collect_tree.specs.Walk.{walk_of}
 
@@ -65,43 +67,47 @@ item_numbered suite number = item_or_none (suite.outer + number) (slice_get suit
 abbrev pub selected_by : FoundSuite → List ℕ → ℕ → SelectedItem
 selected_by found places number = selected_item found.table (slice_index_or places number 0) (item_numbered found.suite number)
 
--- whether anything that was loaded wants what isn't built yet
-unfoldable pub wants_more : List Obj → List TestFile → List TestFile → List Item → Bool
-wants_more heap conftests files items =
-    list_any (wants_unbuilt_conftest heap) conftests || (list_any (wants_unbuilt_test heap) files || list_any (wants_unbuilt heap) items)
+-- whether any conftest wants what isn't built yet
+unfoldable pub wants_more : List Obj → List TestFile → Bool
+wants_more heap conftests = list_any (wants_unbuilt_conftest heap) conftests
 
 -- the paths of the files that words name: their asserts are explained, as those of test files and conftests are
 abbrev pub named_paths : List (List ℕ) → List NamedWord → List (List ℕ)
 named_paths walk words = paths_at walk (named_files words)
 
 module _ (options : Options) where
-  -- of the items that the words name, those that `-k` and `-m` accept, in the order of the words
-  abbrev pub collected_with : FoundSuite → List ℕ → List ℕ → LoadResults → Collected python Suite
-  collected_with found places numbers loaded =
-      let accepted = chosen options loaded.world.heap found.suite.items numbers in
+  -- of the items with these numbers, those that `-k` and `-m` accept, in the same order
+  abbrev pub collected_with : FoundSuite → List ℕ → List ℕ → SourceWorld → List CollectReport → Collected python Suite
+  collected_with found places numbers w errors =
+      let accepted = chosen options w.heap found.suite.items numbers in
       record {
         table = found.suite;
-        world = loaded.world;
+        world = w;
         selected = map (selected_by found places) accepted;
         deselected = length numbers - length accepted;
-        errors = loaded.errors;
+        errors = errors;
       }
 
+  -- what is collected: the items that the words name, those with the same parameters of a broad scope side by side
+  abbrev pub collected_of : List (List ℕ) → Findings → LoadResults → List ℕ → Collected python Suite
+  collected_of walk f loaded numbers =
+      collected_with f.suite (item_places f.files) (ordered f.keys numbers) loaded.world (all_errors walk loaded.world loaded.files loaded.ends (map fault_of_file f.files))
+
   -- the items that the words name, or why they are refused
-  abbrev pub selected_or_refused : List TestFile → FoundSuite → List ℕ → LoadResults → Result (List ℕ) WordFault → End
-  selected_or_refused above found places loaded (Err fault) = Refused (fault_text fault)
-  selected_or_refused above found places loaded (Ok numbers) =
-      if wants_more loaded.world.heap above loaded.files found.suite.items then Refused (codes "not built") else Whole (collected_with found places numbers loaded)
+  abbrev pub selected_or_refused : List (List ℕ) → List TestFile → Findings → LoadResults → Result (List ℕ) WordFault → End
+  selected_or_refused walk above f loaded (Err fault) = Refused (fault_text fault)
+  selected_or_refused walk above f loaded (Ok numbers) = if wants_more loaded.world.heap above then Refused (codes "not built") else Whole (collected_of walk f loaded numbers)
 
   -- the items that the words name, by number
   abbrev pub nodes_selected : List (List ℕ) → List FileNodes → List NamedWord → Result (List ℕ) WordFault
   nodes_selected walk nodes words = selected most_items walk (walked walk options.ignore) nodes words
 
+  abbrev pub of_findings : List (List ℕ) → List NamedWord → List TestFile → LoadResults → Findings → End
+  of_findings walk words above loaded f = selected_or_refused walk above f loaded (nodes_selected walk (nodes_by_place loaded.world.heap walk f.files) words)
+
   -- the items of the loaded files, selected by the words
   abbrev pub of_loaded : List (List ℕ) → List NamedWord → List TestFile → LoadResults → End
-  of_loaded walk words above loaded =
-      selected_or_refused above (found_suite loaded.world.heap walk above loaded.files) (item_places loaded.world.heap walk loaded.files) loaded
-      (nodes_selected walk (nodes_by_place loaded.world.heap walk loaded.files) words)
+  of_loaded walk words above loaded = of_findings walk words above loaded (findings loaded.world.heap walk above loaded.files)
 
   -- conftests, then test files
   abbrev pub with_conftests : List (List ℕ) → List NamedWord → List ℕ → ConftestsEnd × SourceWorld → End

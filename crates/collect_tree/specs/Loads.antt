@@ -18,6 +18,7 @@ use Rattle.tracebacks.specs.source_meaning.Meaning.{SourceWorld}
 use Rattle.tracebacks.specs.Faults.{fault_text}
 use Rattle.tracebacks.specs.Frames.{told}
 use Rattle.tracebacks.specs.Texts.{exception_text, limit_text}
+use Rattle.collect_tree.specs.declared.loads.LoadEnd.{LoadEnd}
 
 -- a source's fault, at its place in the module
 abbrev pub fault_here : List ℕ → SourceFault → SourceWorld → Told
@@ -35,26 +36,31 @@ load_told limit path OutOfMemory w = told w.sources [] (codes "out of memory")
 abbrev pub collect_error : ℕ → List ℕ → LoadError → List ℕ → SourceWorld → CollectReport
 collect_error limit path error printed w = record { file = path; told = load_told limit path error w; captured = utf8_lossy printed }
 
--- test files behind their loads: with their modules, where they have them, the errors of the others, and the world
+-- test files behind their loads: with their modules, where they have them, how each load has ended, and the world
 pub record LoadResults : Type 0 where
   pub files : List TestFile
-  pub errors : List CollectReport
+  pub ends : List LoadEnd
   pub world : SourceWorld
 
 abbrev pub test_file : ℕ → Option Value → TestFile
 test_file place v = record { place = place; object = v }
 
+-- the error of a load, where it has failed, and what was printed in it
+abbrev pub load_end : Option CollectReport → List ℕ → LoadEnd
+load_end error printed = record { error = error; captured = utf8_lossy printed }
+
 -- one more, before the others
-abbrev pub loaded_before : List TestFile → List CollectReport → LoadResults → LoadResults
-loaded_before files errors rest = record { files = files ++ rest.files; errors = errors ++ rest.errors; world = rest.world }
+abbrev pub loaded_before : List TestFile → List LoadEnd → LoadResults → LoadResults
+loaded_before files ends rest = record { files = files ++ rest.files; ends = ends ++ rest.ends; world = rest.world }
 
 abbrev pub ended_before : ℕ → List ℕ → ℕ → FileEnd → SourceWorld → LoadResults → LoadResults
-ended_before limit path place (Ok v, printed) w rest = loaded_before (test_file place (Some v) ∷ []) [] rest
-ended_before limit path place (Err error, printed) w rest = loaded_before (test_file place None ∷ []) (collect_error limit path error printed w ∷ []) rest
+ended_before limit path place (Ok v, printed) w rest = loaded_before (test_file place (Some v) ∷ []) (load_end None printed ∷ []) rest
+ended_before limit path place (Err error, printed) w rest =
+    loaded_before (test_file place None ∷ []) (load_end (Some (collect_error limit path error printed w)) printed ∷ []) rest
 
 -- TEST FILES ARE LOADED IN TURN, by their places in the walk
 abbrev pub test_loads : ℕ → List (List ℕ) → List ℕ → SourceWorld → LoadResults
-test_loads limit walk [] w = record { files = []; errors = []; world = w }
+test_loads limit walk [] w = record { files = []; ends = []; world = w }
 test_loads limit walk (place ∷ places) w =
     let path = path_at walk place in
     let x = file_load limit path w in

@@ -1,5 +1,7 @@
 -- What the code's answers tell of a collection.
 use Rattle.std.specs.Prelude.{◌≡◌, ℕ, ◌+◌, ◌<◌, ◌≤◌, List, Option, Some, None, Result, Ok, Err, All, codes, length, map}
+use Rattle.collect_items.specs.Items.{Findings, fault_of_file}
+use Rattle.collect_items.specs.Nodes.{item_places}
 use Rattle.collect_words.specs.Words.{fault_text}
 use Rattle.collect_words.specs.declared.fault.WordFault.{WordFault}
 use Rattle.collect_words.specs.declared.fault.WordFault.TheVariants as word
@@ -12,13 +14,14 @@ use Rattle.collect_tree.specs.Collection.{End, selected_by}
 use Rattle.collect_tree.specs.Loads.{LoadResults, loaded_before}
 use Rattle.collect_tree.specs.Runnable.{IsRunnable}
 use Rattle.collect_tree.specs.declared.collected.Collected.{Collected}
+use Rattle.collect_tree.specs.declared.collection.FoundParts.{FoundParts}
 use Rattle.collect_tree.specs.declared.fault.CollectFault.{CollectFault}
 use Rattle.collect_tree.specs.declared.fault.CollectFault.TheVariants.{NotBuilt, NotFound, TooManyItems, Conftest, OutOfMemory}
 use Rattle.collect_tree.specs.declared.loads.LoadedTests.{LoadedTests}
 
 -- loaded test files, in the world behind the loads
 abbrev pub loaded_told : LoadedTests → SourceWorld → LoadResults
-loaded_told loaded w = record { files = loaded.files.items; errors = loaded.errors.items; world = w }
+loaded_told loaded w = record { files = loaded.files.items; ends = loaded.ends.items; world = w }
 
 abbrev pub collected_told : Collected → SourceWorld → Collection python Suite
 collected_told c w = record {
@@ -28,6 +31,13 @@ collected_told c w = record {
   deselected = c.deselected;
   errors = c.errors.items;
 }
+
+-- parts of what is found
+pub record HasParts (parts : FoundParts) (f : Findings) : Type 0 where
+  pub suite : parts.found ≡ f.suite
+  pub places : parts.places.items ≡ item_places f.files
+  pub keys : parts.keys.items ≡ f.keys
+  pub faults : parts.faults.items ≡ map fault_of_file f.files
 
 -- the refusal of words
 abbrev pub collect_fault : WordFault → CollectFault
@@ -53,7 +63,7 @@ pub record IsWithin (c : Collected) : Type 0 where
 
 -- loads behind those that are done
 abbrev pub after_loads : LoadedTests → LoadResults → LoadResults
-after_loads done rest = loaded_before done.files.items done.errors.items rest
+after_loads done rest = loaded_before done.files.items done.ends.items rest
 
 -- one more load is done
 abbrev pub LoadsOne : LoadedTests → LoadedTests → (LoadResults → LoadResults) → Type 0

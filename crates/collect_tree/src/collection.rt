@@ -13,12 +13,13 @@ ghost use Rattle.collect_tree.specs.Told.{IsWithin, collection_end, loaded_told}
 ghost use Rattle.collect_tree.specs.Walk.{walk_of};
 
 use crate::collected::Collected;
+use crate::errors::all_errors;
 use crate::fault::{CollectFault, word_fault};
 use crate::loads::{LoadedTests, load_tests, load_told};
 use crate::unbuilt::wants_more;
 use crate::walk::{paths_at, walk_of_files};
 use cli_words::Options;
-use collect_items::{FoundItems, FoundSuite, chosen, found_items};
+use collect_items::{FoundItems, FoundSuite, ItemKeys, RowsFault, chosen, found_items, ordered};
 use collect_words::{
     NamedWord, Walk, conftests, named_files, named_words, selected, test_files, walked,
 };
@@ -62,24 +63,23 @@ fn limited(errors: &[CollectReport]) -> Result<(), OutOfMemory>
 ghost use Rattle.std.specs.Prelude.{OnOk, length, ◌≤◌, ◌+◌, ◌-◌};
 ghost use Rattle.report_parts.specs.Limits.{most_items};
 
-/// What is collected of the items that the words name.
+/// What is collected of the items with these numbers.
 fn accepted(
     alloc: Global,
     world: &World,
     options: &Options,
     exprs: &Exprs,
-    loaded: LoadedTests,
     found: FoundSuite,
     places: Vec<usize>,
     numbers: &[usize],
+    errors: Vec<CollectReport>,
 ) -> Result<Collected, OutOfMemory>
     requires exprs { AreExprs options.now exprs.now }
     requires few { length numbers.now ≤ most_items }
     requires runnable { IsRunnable found }
-    ensures told { IfOk result (λ c. collected_told c world.now ≡ collection.collected_with options.now found places.items numbers.now (loaded_told loaded world.now)) }
+    ensures told { IfOk result (λ c. collected_told c world.now ≡ collection.collected_with options.now found places.items numbers.now world.now errors.items) }
     ensures within { IfOk result IsWithin }
 {
-    let LoadedTests { errors, .. } = loaded;
     limited(&errors)?;
     let items = found.suite.items.items();
     let selected = chosen(alloc, options, exprs, heap(world), items, numbers)?;
@@ -95,29 +95,75 @@ fn accepted(
 
 ghost use Rattle.collect_tree.specs.Told.{collected_told};
 
+/// What is found in loaded files, but for what words can name of it.
+#[derive(Drop)]
+struct FoundParts {
+    found: FoundSuite,
+    places: Vec<usize>,
+    keys: Vec<ItemKeys>,
+    faults: Vec<Option<RowsFault>>,
+}
+
+/// What is collected of the items that the words name.
+#[tactic(auto, using(crate::proofs::Ordered::few_ordered))]
+fn in_order(
+    alloc: Global,
+    world: &World,
+    options: &Options,
+    exprs: &Exprs,
+    walk: &Walk,
+    above: &[TestFile],
+    loaded: LoadedTests,
+    parts: FoundParts,
+    numbers: &[usize],
+) -> Result<Collected, OutOfMemory>
+    requires exprs { AreExprs options.now exprs.now }
+    requires few { length numbers.now ≤ most_items }
+    requires runnable { IsRunnable parts.found }
+    requires parts { HasParts parts (findings world.now.heap walk.now above.now loaded.files.items) }
+    ensures told { IfOk result (λ c. collected_told c world.now ≡ collection.collected_of options.now walk.now (findings world.now.heap walk.now above.now loaded.files.items) (loaded_told loaded world.now) numbers.now) }
+    ensures within { IfOk result IsWithin }
+{
+    let FoundParts {
+        found,
+        places,
+        keys,
+        faults,
+    } = parts;
+    let LoadedTests { files, ends } = loaded;
+    let order = ordered(alloc, &keys, numbers)?;
+    let errors = all_errors(alloc, world, walk, &files, ends, &faults)?;
+    accepted(alloc, world, options, exprs, found, places, &order, errors)
+}
+
+ghost use Rattle.collect_items.specs.Items.{findings};
+ghost use Rattle.collect_tree.specs.Told.{HasParts};
+
 /// What is collected of the items that the words name, unless what isn't built yet is wanted.
 fn ended(
     alloc: Global,
     world: &World,
     options: &Options,
     exprs: &Exprs,
+    walk: &Walk,
     above: &[TestFile],
     loaded: LoadedTests,
-    found: FoundSuite,
-    places: Vec<usize>,
+    parts: FoundParts,
     numbers: &[usize],
 ) -> Result<Collected, CollectFault>
     requires exprs { AreExprs options.now exprs.now }
     requires few { length numbers.now ≤ most_items }
-    requires runnable { IsRunnable found }
-    ensures told { IfSome (collection_end result world.now) (λ e. e ≡ collection.selected_or_refused options.now above.now found places.items (loaded_told loaded world.now) (Meant numbers.now)) }
+    requires runnable { IsRunnable parts.found }
+    requires parts { HasParts parts (findings world.now.heap walk.now above.now loaded.files.items) }
+    ensures told { IfSome (collection_end result world.now) (λ e. e ≡ collection.selected_or_refused options.now walk.now above.now (findings world.now.heap walk.now above.now loaded.files.items) (loaded_told loaded world.now) (Meant numbers.now)) }
     ensures within { IfOk result IsWithin }
 {
-    let items = found.suite.items.items();
-    if wants_more(alloc, heap(world), above, &loaded.files, items)? {
+    if wants_more(heap(world), above)? {
         return Err(CollectFault::NotBuilt);
     }
-    let collected = accepted(alloc, world, options, exprs, loaded, found, places, numbers)?;
+    let collected = in_order(
+        alloc, world, options, exprs, walk, above, loaded, parts, numbers,
+    )?;
     Ok(collected)
 }
 
@@ -172,23 +218,30 @@ fn of_loaded(
     let FoundItems {
         found,
         places,
+        keys,
         nodes,
+        faults,
     } = found_items(alloc, heap(world), walk, above, &loaded.files)?;
+    let parts = FoundParts {
+        found,
+        places,
+        keys,
+        faults,
+    };
     match named_items(alloc, walk, options, words, &nodes) {
         Ok(numbers) => ended(
             alloc,
             world,
             options,
             exprs,
+            walk,
             above,
             loaded,
-            found,
-            places,
+            parts,
             numbers.items(),
         ),
         Err(fault) => {
-            drop(found);
-            drop(places);
+            drop(parts);
             drop(loaded);
             Err(fault)
         }

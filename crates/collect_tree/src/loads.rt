@@ -80,44 +80,54 @@ fn collect_error(
     })
 }
 
+/// How the load of a test file has ended.
+#[derive(Drop)]
+pub struct LoadEnd {
+    /// The error that it is, where it has failed.
+    pub error: Option<CollectReport>,
+    /// What was printed in it.
+    pub captured: Text,
+}
+
 /// Test files that were loaded.
 #[derive(Drop)]
 pub struct LoadedTests {
     pub files: Vec<TestFile>,
-    /// The errors of those whose loads have failed, in order.
-    pub errors: Vec<CollectReport>,
+    /// How the load of each has ended.
+    pub ends: Vec<LoadEnd>,
 }
 
-fn push_module(loaded: &mut LoadedTests, place: usize, v: Value) -> Result<(), OutOfMemory>
-    ensures files { OnOk result (loaded.new.files.items ≡ loaded.old.files.items ++ loads.test_file place (Some v) ∷ []) }
-    ensures errors { loaded.new.errors ≡ loaded.old.errors }
+fn load_end(
+    alloc: Global,
+    error: Option<CollectReport>,
+    printed: &[u8],
+) -> Result<LoadEnd, OutOfMemory>
+    ensures { IfOk result (λ end. end ≡ loads.load_end error printed.now) }
 {
-    loaded.files.push(TestFile {
-        place,
-        object: Some(v),
-    })?;
+    let captured = String::from_utf8_lossy(alloc, printed)?;
+    Ok(LoadEnd {
+        error,
+        captured: Text::from_string(captured),
+    })
+}
+
+fn push_loaded(
+    loaded: &mut LoadedTests,
+    place: usize,
+    object: Option<Value>,
+    end: LoadEnd,
+) -> Result<(), OutOfMemory>
+    ensures files { OnOk result (loaded.new.files.items ≡ loaded.old.files.items ++ loads.test_file place object ∷ []) }
+    ensures ends { OnOk result (loaded.new.ends.items ≡ loaded.old.ends.items ++ end ∷ []) }
+{
+    loaded.ends.push(end)?;
+    loaded.files.push(TestFile { place, object })?;
     Ok(())
 }
 
 ghost use Rattle.std.specs.Prelude.{◌++◌, ◌∷◌, [], Some, None};
 
 use py_values::value::Value;
-
-fn push_failed(
-    loaded: &mut LoadedTests,
-    place: usize,
-    report: CollectReport,
-) -> Result<(), OutOfMemory>
-    ensures files { OnOk result (loaded.new.files.items ≡ loaded.old.files.items ++ loads.test_file place None ∷ []) }
-    ensures errors { OnOk result (loaded.new.errors.items ≡ loaded.old.errors.items ++ report ∷ []) }
-{
-    loaded.errors.push(report)?;
-    loaded.files.push(TestFile {
-        place,
-        object: None,
-    })?;
-    Ok(())
-}
 
 /// Puts a file behind the others, with how its load has ended in this world.
 fn push_end(
@@ -133,12 +143,14 @@ fn push_end(
 {
     match &file.end {
         Ok(v) => {
-            push_module(loaded, place, *v)?;
+            let end = load_end(alloc, None, &file.printed)?;
+            push_loaded(loaded, place, Some(*v), end)?;
             Ok(())
         }
         Err(error) => {
             let report = collect_error(alloc, world, limit, path, error, &file.printed)?;
-            push_failed(loaded, place, report)?;
+            let end = load_end(alloc, Some(report), &file.printed)?;
+            push_loaded(loaded, place, None, end)?;
             Ok(())
         }
     }
@@ -178,7 +190,7 @@ pub fn load_tests(
 {
     let mut loaded = LoadedTests {
         files: Vec::new(alloc),
-        errors: Vec::new(alloc),
+        ends: Vec::new(alloc),
     };
     for place in places {
         load_test(alloc, world, limit, walk, *place, &mut loaded)?;

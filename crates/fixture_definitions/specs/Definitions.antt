@@ -4,6 +4,7 @@ use Rattle.std.specs.Prelude.{ℕ, Bool, true, false, List, [], ◌∷◌, ◌++
 use Rattle.std.specs.List.{flat_map}
 use Rattle.collect_names.specs.Found.{is_class_node}
 use Rattle.collect_names.specs.Objects.{object_in, function_at, class_at, names_of_class}
+use Rattle.collect_params.specs.Given.{fixture_params}
 use Rattle.collect_words.specs.Paths.{is_conftest}
 use Rattle.collect_words.specs.Walks.{path_at}
 use Rattle.collection_nodes.specs.Tree.{class_node, file_path, folder_node, names_of_file, outer_folder}
@@ -76,16 +77,21 @@ fixture_made in_class bound x id f = record {
 abbrev pub unless_request : Definition → List Definition
 unless_request d = if is_request d.fixture.name then [] else d ∷ []
 
-abbrev pub definition_made : ℕ → Bool → List ℕ → FixtureObj → ObjId → FunctionObj → Definition
-definition_made node in_class bound x id f = record { fixture = fixture_made in_class bound x id f; autouse = x.autouse; node = node }
+abbrev pub definition_made : List Obj → ℕ → Bool → List ℕ → FixtureObj → ObjId → FunctionObj → Definition
+definition_made heap node in_class bound x id f = record {
+  fixture = fixture_made in_class bound x id f;
+  autouse = x.autouse;
+  node = node;
+  params = fixture_params heap x;
+}
 
 -- it defines a fixture where it was applied to a function
-abbrev pub for_function : ℕ → Bool → List ℕ → FixtureObj → ObjId → Option FunctionObj → List Definition
-for_function node in_class bound x id (Some f) = unless_request (definition_made node in_class bound x id f)
-for_function node in_class bound x id None = []
+abbrev pub for_function : List Obj → ℕ → Bool → List ℕ → FixtureObj → ObjId → Option FunctionObj → List Definition
+for_function heap node in_class bound x id (Some f) = unless_request (definition_made heap node in_class bound x id f)
+for_function heap node in_class bound x id None = []
 
 abbrev pub for_applied : List Obj → ℕ → Bool → List ℕ → FixtureObj → Option ObjId → List Definition
-for_applied heap node in_class bound x (Some id) = for_function node in_class bound x id (function_at (slice_get heap id.at))
+for_applied heap node in_class bound x (Some id) = for_function heap node in_class bound x id (function_at (slice_get heap id.at))
 for_applied heap node in_class bound x None = []
 
 abbrev pub for_fixture : List Obj → ℕ → Bool → List ℕ → Option FixtureObj → List Definition

@@ -1,15 +1,17 @@
 -- THE TESTS of the test files, each with the names for which fixtures are looked for.
-use Rattle.std.specs.Prelude.{ℕ, Bool, true, false, List, Option, Some, None, codes, map}
+use Rattle.std.specs.Prelude.{ℕ, Bool, true, false, List, Option, Some, None, codes, count_by, map}
 use Rattle.std.specs.List.{filter, filter_map, flat_map}
-use Rattle.collect_marks.specs.Given.{item_marks}
+use Rattle.collect_marks.specs.Given.{is_mark_value, item_marks, of_function}
 use Rattle.collect_marks.specs.Names.{marks_in}
 use Rattle.collect_marks.specs.Says.{is_called}
 use Rattle.collect_names.specs.Found.{test_functions}
 use Rattle.collect_names.specs.Objects.{object_in, function_at}
 use Rattle.collect_names.specs.declared.found.TestClass.{TestClass}
 use Rattle.collect_names.specs.declared.found.TestFunction.{TestFunction}
+use Rattle.collect_params.specs.Given.{parametrizations}
 use Rattle.collection_nodes.specs.Tree.{class_node, names_of_file}
 use Rattle.collection_nodes.specs.declared.placed_file.PlacedFile.{PlacedFile}
+use Rattle.py_values.specs.declared.object.FunctionObj.{FunctionObj}
 use Rattle.py_values.specs.declared.object.MarkObj.{MarkObj}
 use Rattle.py_values.specs.declared.object.Obj.{Obj}
 use Rattle.py_values.specs.declared.object.Obj.TheVariants as obj
@@ -63,12 +65,18 @@ abbrev pub parent_of_test : List Obj → PlacedFile → Option TestClass → ℕ
 parent_of_test heap placed (Some class) = class_node heap placed class.name
 parent_of_test heap placed None = placed.node
 
+-- how many marks a function has
+abbrev pub near_count : List Obj → Option FunctionObj → ℕ
+near_count heap f = count_by (is_mark_value heap) (of_function f)
+
 abbrev pub found_test : List Obj → PlacedFile → List Value → TestFunction → FoundTest
 found_test heap placed marks test = record {
   test = test;
   place = placed.file.place;
   parent = parent_of_test heap placed test.class;
   marks = marks;
+  near = near_count heap (function_at (object_in heap test.function));
+  parametrized = parametrizations heap marks;
   uses = uses_of heap marks;
   arguments = arguments_asked (stands_in_class test.class) (function_at (object_in heap test.function));
 }

@@ -10,6 +10,7 @@ ghost use Rattle.fixture_definitions.specs.Definitions as definitions;
 use crate::arguments::{asked_params, copied, def_place, is_request};
 use crate::found::Definition;
 use collect_names::objects::{class_at, function_at, holds_tests, object_in};
+use collect_params::fixture_params;
 use collect_words::{Walk, is_conftest};
 use collection_nodes::{
     Mentions, PlacedFile, TestFile, class_node, classes_of, file_path, names_of_file, outer_node,
@@ -115,6 +116,7 @@ fn push_definition(found: &mut Vec<Definition>, one: Definition) -> Result<(), O
 fn push_made(
     alloc: Global,
     found: &mut Vec<Definition>,
+    heap: &Heap,
     node: u32,
     in_class: bool,
     bound: &PyText,
@@ -122,8 +124,9 @@ fn push_made(
     id: ObjId,
     function: &FunctionObj,
 ) -> Result<(), OutOfMemory>
-    ensures { OnOk result (found.new.items ≡ found.old.items ++ definitions.for_function node in_class bound.now fixture.now id (Some function.now)) }
+    ensures { OnOk result (found.new.items ≡ found.old.items ++ definitions.for_function heap.now node in_class bound.now fixture.now id (Some function.now)) }
 {
+    let params = fixture_params(alloc, heap, fixture)?;
     let made = fixture_made(alloc, in_class, bound, fixture, id, function)?;
     push_definition(
         found,
@@ -131,6 +134,7 @@ fn push_made(
             fixture: made,
             autouse: fixture.autouse,
             node,
+            params,
         },
     )
 }
@@ -156,7 +160,9 @@ fn push_defined(
     let Some(function) = function_at(heap.get(id)) else {
         return Ok(());
     };
-    push_made(alloc, found, node, in_class, bound, fixture, id, function)
+    push_made(
+        alloc, found, heap, node, in_class, bound, fixture, id, function,
+    )
 }
 
 /// Pushes what names define at a node, in order of first binding.

@@ -1,8 +1,11 @@
 // What is found of fixtures and tests.
 
 use collect_names::found::TestFunction;
+use collect_params::Parametrization;
+use param_rows::ParamSets;
 use py_text::PyText;
 use py_values::rows::Values;
+use py_values::value::Value;
 use seq::Seq;
 use test_suite::Fixture;
 
@@ -12,6 +15,8 @@ pub struct Definition {
     pub fixture: Fixture,
     pub autouse: bool,
     pub node: u32,
+    /// Its parameters, where it is parametrised.
+    pub params: Option<ParamSets<Value>>,
 }
 
 /// A test, with the node under which it stands, and the names for which fixtures are looked for.
@@ -22,8 +27,12 @@ pub struct FoundTest {
     pub place: usize,
     /// The node of its file or its class.
     pub parent: u32,
-    /// Its marks, nearest first.
+    /// Its marks, nearest first, but those of its rows.
     pub marks: Values,
+    /// How many of these are its function's own; those of a row stand behind them.
+    pub near: usize,
+    /// What its `parametrize` marks give, nearest first.
+    pub parametrized: Seq<Parametrization>,
     /// The names that its `usefixtures` marks give, in the order of its marks.
     pub uses: Seq<PyText>,
     /// The arguments of its function, in order, without the instance; `request` may be among them.

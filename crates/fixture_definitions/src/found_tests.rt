@@ -17,11 +17,12 @@ use collect_marks::given::{item_marks, mark_in};
 use collect_names::found::{TestClass, TestFunction};
 use collect_names::names::test_functions;
 use collect_names::objects::{function_at, object_in};
+use collect_params::parametrizations;
 use collection_nodes::{Mentions, PlacedFile, class_node, classes_of, names_of_file};
 use py_text::{OutOfMemory, PyText};
 use py_values::heap::Heap;
 use py_values::names::Names;
-use py_values::object::{MarkObj, Obj};
+use py_values::object::{FunctionObj, MarkObj, Obj};
 use py_values::rows::Values;
 use py_values::value::Value;
 use seq::Seq;
@@ -200,6 +201,28 @@ fn arguments_of_test(
 
 ghost use Rattle.fixture_definitions.specs.Arguments.{arguments_asked};
 
+fn marks_among(heap: &Heap, values: &[Value]) -> usize
+    ensures { result ≡ count_by (is_mark_value heap.now) values.now }
+{
+    values
+        .iter()
+        .filter(|v| mark_in(heap, **v).is_some())
+        .count()
+}
+
+ghost use Rattle.std.specs.Prelude.{count_by};
+ghost use Rattle.collect_marks.specs.Given.{is_mark_value, of_function};
+
+/// How many marks a function has.
+fn near_count(heap: &Heap, function: Option<&FunctionObj>) -> usize
+    ensures { result ≡ tests.near_count heap.now (option_copied function.entry) }
+{
+    match function {
+        Some(function) => marks_among(heap, function.marks.items()),
+        None => 0,
+    }
+}
+
 /// A test with these marks; these are the file's classes.
 fn found_test(
     alloc: Global,
@@ -214,12 +237,15 @@ fn found_test(
 {
     let parent = parent_of_test(alloc, placed, classes, &test.class, heap)?;
     let uses = uses_of(alloc, heap, &marks)?;
+    let parametrized = parametrizations(alloc, heap, &marks)?;
     let arguments = arguments_of_test(alloc, heap, test)?;
     Ok(FoundTest {
         test: copied_test(alloc, test)?,
         place: placed.file.place,
         parent,
         marks: Values::from_vec(marks),
+        near: near_count(heap, function_at(object_in(heap, test.function))),
+        parametrized: Seq::from_vec(parametrized),
         uses,
         arguments,
     })

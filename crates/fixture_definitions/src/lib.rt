@@ -8,10 +8,10 @@
 //!
 //! # What is proved
 //!
-//! - [`all_definitions`]: the definitions, those of the conftests in the order of their loads at their folders, then file by file those of
+//! - [`all_definitions`]: the definitions, with their parameters, those of the conftests in the order of their loads at their folders, then file by file those of
 //!   the module and of its classes of tests, in order of first binding (`all_definitions`).
-//! - [`tests_of`]: the tests of a file in order, each with its node's parent, its marks, what its `usefixtures` marks name and its
-//!   arguments (`tests_of`).
+//! - [`tests_of`]: the tests of a file in order, each with its node's parent, its marks, what its `parametrize` marks give, what its
+//!   `usefixtures` marks name and its arguments (`tests_of`).
 //! - [`fixture_in`], [`is_class_node`], [`but_request`], [`defined_at`]: what `fixture` made, whether a name is bound to a class of tests,
 //!   names without `request`, and the place of a function's `def` (the definitions of the same names).
 //!

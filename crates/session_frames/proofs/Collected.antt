@@ -2,16 +2,15 @@
 use Rattle.std.proofs.Common.{◌≡◌, ℕ, Bool, true, false, map, List, [], ◌∷◌, Option, None, Some, Ok, Err, refl, sym, ap, ◌∙◌}
 use Rattle.std.specs.Prelude.{chars, if◌then◌else◌}
 use Rattle.cli_words.specs.declared.options.Options.{Options}
-use Rattle.collect_tree.specs.Collection.{collect, collected_with, conftest_files, named_paths, nodes_selected, of_files, of_words, paths_at, read_path, selected_or_refused, with_conftests}
+use Rattle.collect_tree.specs.Collection.{collect, collected_of, conftest_files, named_paths, nodes_selected, of_files, of_words, paths_at, read_path, selected_or_refused, with_conftests}
 use Rattle.collect_tree.specs.Walk.{walk_of}
-use Rattle.collect_tree.specs.collect_items.Items.{found_suite}
-use Rattle.collect_tree.specs.collect_items.Nodes.{item_places, nodes_by_place}
+use Rattle.collect_tree.specs.collect_items.Items.{Findings, findings}
+use Rattle.collect_tree.specs.collect_items.Nodes.{nodes_by_place}
 use Rattle.collect_tree.specs.py_load.Prepared.{with_reads}
 use Rattle.collect_words.specs.Files.{conftests, test_files, walked}
 use Rattle.collect_words.specs.Words.{named_words}
 use Rattle.tracebacks.specs.py_machine.Worlds.{empty}
 use Rattle.collect_tree.specs.Loads.{LoadResults, ended_before, test_loads}
-use Rattle.collect_tree.specs.collect_items.declared.found.FoundSuite.{FoundSuite}
 use Rattle.collect_tree.specs.py_load.InTurn.{ConftestsEnd, FileEnd, conftest_loads, file_load, go_on, module_before}
 use Rattle.collect_tree.specs.py_load.Loading.{load_unless}
 use Rattle.collect_tree.specs.py_load.Reading.{ReadFile}
@@ -73,17 +72,17 @@ module _ (loads : (w : SourceWorld) (path : List ℕ) (budget : ℕ) → IsKeptI
     built_or true text c e = tt
     built_or false text c e = e
 
-    ended : (above : _) (found : FoundSuite) (places : List ℕ) (loaded : LoadResults) (r : _) → loaded.world.frozen ≡ [] → LeavesNone (selected_or_refused options above found places loaded r)
-    ended above found places loaded (Err fault) e = tt
-    ended above found places loaded (Ok numbers) e = built_or _ _ (collected_with options found places numbers loaded) e
+    ended : (walk : List (List ℕ)) (above : _) (f : Findings) (loaded : LoadResults) (r : _) → loaded.world.frozen ≡ [] → LeavesNone (selected_or_refused options walk above f loaded r)
+    ended walk above f loaded (Err fault) e = tt
+    ended walk above f loaded (Ok numbers) e = built_or _ _ (collected_of options walk f loaded numbers) e
 
     behind_conftests : (walk : List (List ℕ)) (words : _) (files : List ℕ) (x : ConftestsEnd × SourceWorld) → x.1.frozen ≡ [] → LeavesNone (with_conftests options walk words files x)
     behind_conftests walk words files (Err (path, error, printed), w) e = tt
     behind_conftests walk words files (Ok modules, w) e =
         let loaded = test_loads options.step_limit walk files w in
         let above = conftest_files (conftests walk files) modules in
-        ended above (found_suite loaded.world.heap walk above loaded.files) (item_places loaded.world.heap walk loaded.files) loaded
-        (nodes_selected options walk (nodes_by_place loaded.world.heap walk loaded.files) words) (tests_same options.step_limit walk files w ∙ e)
+        let f = findings loaded.world.heap walk above loaded.files in
+        ended walk above f loaded (nodes_selected options walk (nodes_by_place loaded.world.heap walk f.files) words) (tests_same options.step_limit walk files w ∙ e)
 
     from_world : (walk : List (List ℕ)) (words : _) (files : List ℕ) (w : SourceWorld) → w.frozen ≡ [] → LeavesNone (of_files options walk words files w)
     from_world walk words files w e =

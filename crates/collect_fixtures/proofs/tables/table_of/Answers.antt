@@ -1,7 +1,7 @@
 use Rattle.std.proofs.Common.{ℕ, ◌+◌, ◌++◌, List, length, ap, sym, subst, ◌∙◌}
 use Rattle.std.proofs.lemmas.List.{length-append, length-map}
 use Rattle.collect_fixtures.proofs.Counts.{defs_count}
-use Rattle.collect_fixtures.specs.Tables.{node_of_test, table_defs}
+use Rattle.collect_fixtures.specs.Tables.{item_node, table_defs}
 use Rattle.collect_fixtures.proofs.tables.table_of.Goals as goal
 use Rattle.fixture_table.specs.Tables.{TableValue}
 use Rattle.fixture_table.specs.Tree.{IsTree}
@@ -18,8 +18,8 @@ returns-in-Ok-clause-nodes c =
     ap (λ (t : TableValue). length t.nodes) c.in-Ok.ensures
     ∙ (ap (λ (t : TableValue). length t.nodes) c.in_ok-table.ensures
     ∙ (ap length c.in_ok-tree_of.ensures.same
-    ∙ (ap length c.in_ok-push_tests.ensures
-    ∙ (length-append c.args.outer.items _ ∙ ap (λ (n : ℕ). length c.args.outer.items + n) (length-map c.args.tests.now node_of_test)))))
+    ∙ (ap length c.in_ok-push_items.ensures
+    ∙ (length-append c.args.outer.items _ ∙ ap (λ (n : ℕ). length c.args.outer.items + n) (length-map c.args.parents.now item_node)))))
 
 pub returns-in-Ok-clause-tree : goal.returns-in-Ok-clause-tree
 returns-in-Ok-clause-tree c =

@@ -1,7 +1,0 @@
-use Rattle.std.proofs.Common.{◌≡◌, drop}
-use Rattle.std.specs.List.{list_any}
-use Rattle.collect_items.specs.Unbuilt.{binds_params}
-use Rattle.collect_items.proofs.unbuilt.any_params.Given as goal
-
-abbrev pub invariant-loop-at : goal.invariant-loop-at
-invariant-loop-at l = list_any (binds_params l.heap) (drop l.at l.names) ≡ list_any (binds_params l.heap) l.names
