@@ -1,9 +1,10 @@
 mod Free
 mod Distinct
-mod Counted
+mod Tables
 mod Product
 mod Zipped
 mod Short
 mod Groups
 mod Shuffled
+mod Gathered
 pub mod Regrouped

@@ -8,7 +8,7 @@ use Rattle.std.proofs.lemmas.List.Folds.{list_any-append}
 use Rattle.std.proofs.lemmas.List.Sorted.{IsPermutation-refl, IsPermutation-sym, IsPermutation-cons, IsPermutation-trans, IsPermutation-middle, IsPermutation-append_left, IsPermutation-append_right}
 use Rattle.param_rows.specs.Grouping.{is_seen, firsts, grouped, onto, stretches}
 
-abbrev Each : {A : Type 0} → (A → Type 0) → List A → Type 0
+abbrev pub Each : {A : Type 0} → (A → Type 0) → List A → Type 0
 Each P [] = Unit {0}
 Each P (x ∷ xs) = P x × Each P xs
 
@@ -36,11 +36,11 @@ filter_filter p q h (x ∷ xs) = elim (cases_Bool (p x)) [
 
 module _ {A K : Type 0} (same : A → A → Bool) (key : A → K) (decides : (one other : A) → Decides (same one other) (key one ≡ key other)) where
   -- each is of a group that neither those before it nor those that were seen are of
-  abbrev Fresh : List A → List A → Type 0
+  abbrev pub Fresh : List A → List A → Type 0
   Fresh seen [] = Unit {0}
   Fresh seen (x ∷ xs) = (is_seen same seen x ≡ false) × Fresh (seen ++ x ∷ []) xs
 
-  firsts_fresh : (seen xs : List A) → Fresh seen (firsts same seen xs)
+  pub firsts_fresh : (seen xs : List A) → Fresh seen (firsts same seen xs)
   firsts_fresh seen [] = tt
   firsts_fresh seen (x ∷ xs) = elim (cases_Bool (is_seen same seen x)) [
     | inl old ↦ rw old (firsts_fresh seen xs)
@@ -48,7 +48,7 @@ module _ {A K : Type 0} (same : A → A → Bool) (key : A → K) (decides : (on
   ]
 
   -- what was seen is of no later group
-  fresh_apart : (front back : List A) (f : A) (xs : List A) → Fresh (front ++ f ∷ back) xs → Each (λ x. same f x ≡ false) xs
+  pub fresh_apart : (front back : List A) (f : A) (xs : List A) → Fresh (front ++ f ∷ back) xs → Each (λ x. same f x ≡ false) xs
   fresh_apart front back f [] fresh = tt
   fresh_apart front back f (x ∷ xs) fresh =
       let parts = or_parts (is_seen same front x) (is_seen same (f ∷ back) x) (sym (list_any-append (λ y. same y x) front (f ∷ back)) ∙ fresh.0) in
@@ -56,7 +56,7 @@ module _ {A K : Type 0} (same : A → A → Bool) (key : A → K) (decides : (on
       (here.0, fresh_apart front (back ++ x ∷ []) f xs (subst (λ ys. Fresh ys xs) (append_assoc front (f ∷ back) (x ∷ [])) fresh.1))
 
   -- each element is of a group that was seen or is found
-  firsts_cover : (seen xs : List A) → Each (λ x. is_seen same (seen ++ firsts same seen xs) x ≡ true) xs
+  pub firsts_cover : (seen xs : List A) → Each (λ x. is_seen same (seen ++ firsts same seen xs) x ≡ true) xs
   firsts_cover seen [] = tt
   firsts_cover seen (x ∷ xs) = elim (cases_Bool (is_seen same seen x)) [
     | inl old ↦

@@ -5,4 +5,5 @@ pub mod Faults
 pub mod Steps
 pub mod Grouping
 pub mod Cuts
+pub mod Gathering
 pub mod Taken

@@ -1,11 +1,15 @@
-ghost use Rattle.std.specs.Prelude.{◌≡◌, ◌++◌, ◌∷◌, ◌<◌, ◌≤◌, ℕ, [], length, IfOk, OnOk, if◌then◌else◌, slice_index_or, IsPermutation};
-ghost use Rattle.std.specs.List.{filter, range_with_len};
-ghost use Rattle.param_rows.specs.Grouping.{firsts, is_seen, grouped, pair_of, key_of, keys_of, same_key, same_class, same_node, are_neighbours, pass, regrouped};
+ghost use Rattle.std.specs.Prelude.{◌≡◌, ◌++◌, ◌<◌, ◌≤◌, [], length, IfOk, OnOk, slice_index_or, IsPermutation};
+ghost use Rattle.std.specs.List.{range_with_len, position_or_len};
+ghost use Rattle.std.specs.Cmp.Lexicographic.{pointwise};
+ghost use Rattle.indexmap.specs.IndexSet.{insert_key};
+ghost use Rattle.param_rows.specs.Grouping.{grouped, pair_of, key_of, keys_of, same_pair, same_key, same_class, same_node, are_neighbours, pass, regrouped};
 ghost use Rattle.param_rows.specs.Cuts.{run_len};
+ghost use Rattle.param_rows.specs.Gathering.{groups_of, with_member};
 
 use crate::keys::ItemKeys;
 use crate::param::Pairs;
-use seq::OutOfMemory;
+use indexmap::IndexSet;
+use seq::{OutOfMemory, Seq};
 use session_types::Scope;
 use std::alloc::Global;
 
@@ -54,12 +58,6 @@ fn key_at(keys: &[Pairs], place: usize) -> &[(u32, u32)]
     }
 }
 
-fn same_key(keys: &[Pairs], one: usize, other: usize) -> bool
-    ensures { result ≡ same_key keys.now one other }
-{
-    key_at(keys, one) == key_at(keys, other)
-}
-
 fn same_class(one: Option<u32>, other: Option<u32>) -> bool
     ensures { result ≡ same_class one other }
 {
@@ -106,59 +104,49 @@ fn run_len(scope: Scope, items: &[ItemKeys], order: &[usize]) -> usize
     order.len()
 }
 
-fn is_seen(keys: &[Pairs], seen: &[usize], place: usize) -> bool
-    ensures { result ≡ is_seen (same_key keys.now) seen.now place }
-{
-    seen.iter().any(|one| same_key(keys, *one, place))
-}
-
-fn push_first(firsts: &mut Vec<usize>, keys: &[Pairs], place: usize) -> Result<(), OutOfMemory>
-    ensures { OnOk result (firsts.new.items ≡ (if is_seen (same_key keys.now) firsts.old.items place then firsts.old.items else (firsts.old.items ++ place ∷ []))) }
-{
-    if !is_seen(keys, firsts, place) {
-        firsts.push(place)?;
-    }
-    Ok(())
-}
-
-/// The first place of each key.
-fn firsts_of(alloc: Global, keys: &[Pairs], order: &[usize]) -> Result<Vec<usize>, OutOfMemory>
-    ensures { IfOk result (λ found. found.items ≡ firsts (same_key keys.now) [] order.now) }
-{
-    let mut found = Vec::new(alloc);
-    for place in order {
-        push_first(&mut found, keys, *place)?;
-    }
-    Ok(found)
-}
-
-fn push_if_same(
-    new: &mut Vec<usize>,
-    keys: &[Pairs],
-    first: usize,
+/// Puts a place behind those of the group with this number, or into a new group.
+fn push_member(
+    alloc: Global,
+    groups: &mut Vec<Seq<usize>>,
+    at: usize,
     place: usize,
 ) -> Result<(), OutOfMemory>
-    ensures { OnOk result (new.new.items ≡ new.old.items ++ (if same_key keys.now first place then (place ∷ []) else [])) }
+    requires { at ≤ length groups.old.items }
+    ensures { OnOk result (groups.new.items ≡ with_member at place groups.old.items) }
 {
-    if same_key(keys, first, place) {
-        new.push(place)?;
+    if at == groups.len() {
+        groups.push(Seq::from_slice(alloc, &[place])?)?;
+    } else {
+        groups[at].push(place)?;
     }
     Ok(())
 }
 
-/// Appends the places with one key.
-fn push_group(
-    new: &mut Vec<usize>,
-    keys: &[Pairs],
-    first: usize,
-    order: &[usize],
-) -> Result<(), OutOfMemory>
-    ensures { OnOk result (new.new.items ≡ new.old.items ++ filter (λ place. same_key keys.now first place) order.now) }
+/// The number of a key, the next one where it is new.
+fn number_of(
+    alloc: Global,
+    keys: &mut IndexSet<Pairs>,
+    key: &[(u32, u32)],
+) -> Result<usize, OutOfMemory>
+    ensures keys { OnOk result (keys.new.keys ≡ insert_key (pointwise same_pair) keys.old.keys key.now) }
+    ensures number { IfOk result (λ at. at ≡ position_or_len (pointwise same_pair key.now) keys.old.keys) }
 {
+    let copy = Pairs::from_slice(alloc, key)?;
+    let (at, _) = keys.insert_full(copy)?;
+    Ok(at)
+}
+
+/// The places with each key, in order of first appearance.
+fn groups_of(alloc: Global, keys: &[Pairs], order: &[usize]) -> Result<Vec<Seq<usize>>, OutOfMemory>
+    ensures { IfOk result (λ groups. groups.items ≡ groups_of (same_key keys.now) order.now) }
+{
+    let mut numbers = IndexSet::new(alloc);
+    let mut groups = Vec::new(alloc);
     for place in order {
-        push_if_same(new, keys, first, *place)?;
+        let at = number_of(alloc, &mut numbers, key_at(keys, *place))?;
+        push_member(alloc, &mut groups, at, *place)?;
     }
-    Ok(())
+    Ok(groups)
 }
 
 /// Appends the places of a stretch, grouped.
@@ -170,9 +158,9 @@ fn push_grouped(
 ) -> Result<(), OutOfMemory>
     ensures { OnOk result (new.new.items ≡ new.old.items ++ grouped (same_key keys.now) order.now) }
 {
-    let found = firsts_of(alloc, keys, order)?;
-    for first in &found {
-        push_group(new, keys, *first, order)?;
+    let groups = groups_of(alloc, keys, order)?;
+    for group in &groups {
+        new.extend_from_slice(group.items())?;
     }
     Ok(())
 }

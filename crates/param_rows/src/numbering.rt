@@ -1,9 +1,11 @@
-ghost use Rattle.std.specs.Prelude.{◌≡◌, ◌≢◌, ◌<◌, ℕ, ◌++◌, AllPairs, IfOk, OnOk, count_by, unwrap_or, find, not, true};
+ghost use Rattle.std.specs.Prelude.{◌≡◌, ◌≢◌, ◌++◌, ◌∷◌, [], AllPairs, IfOk, OnOk, None, Some, not, true};
 ghost use Rattle.std.specs.Fmt.{decimal};
-ghost use Rattle.param_rows.specs.Taken.{TakenTo, AllTaken};
-ghost use Rattle.param_rows.specs.Ids.{same_id, has_id, count_of, ends_in_digit, joint, numbered, first_free, made_of, unique_of};
+ghost use Rattle.std.specs.Map.{lookup};
+ghost use Rattle.param_rows.specs.Taken.{TakenTo, HaveSameIds, TellsMade};
+ghost use Rattle.param_rows.specs.Ids.{same_id, has_id, ends_in_digit, joint, numbered, first_free, made_of, unique_of};
 
-use crate::id::{PyId, is_same};
+use crate::id::PyId;
+use crate::taken::{IdSet, IdTable};
 use seq::OutOfMemory;
 use std::alloc::Global;
 
@@ -48,62 +50,89 @@ fn numbered(alloc: Global, id: &PyId, number: usize) -> Result<PyId, OutOfMemory
     Ok(PyId::from_vec(chars))
 }
 
-fn has_id(ids: &[PyId], id: &PyId) -> bool
-    ensures { result ≡ has_id id.now ids.now }
+fn is_free(taken: &IdSet, id: &PyId) -> bool
+    ensures { result ≡ not (has_id id.now taken.now) }
 {
-    ids.iter().any(|one| is_same(one, id))
+    !taken.has(id)
 }
 
-/// How often an id stands among others.
-fn count_of(ids: &[PyId], id: &PyId) -> usize
-    ensures { result ≡ count_of id.now ids.now }
-{
-    ids.iter().filter(|one| is_same(one, id)).count()
-}
-
-/// Whether the id is neither among the ids given nor already made.
-fn is_free(ids: &[PyId], made: &[PyId], id: &PyId) -> bool
-    ensures { result ≡ not (has_id id.now (ids.now ++ made.now)) }
-{
-    !has_id(ids, id) && !has_id(made, id)
-}
-
-/// The id with the first number whose result is neither among the ids given nor already made. All numbers below `from` are
-/// taken.
+/// The id with the first number whose result is neither among the ids given nor already made, and the number behind it. All
+/// numbers below `from` are taken.
 fn first_free(
     alloc: Global,
     ids: &[PyId],
     made: &[PyId],
+    taken: &IdSet,
     id: &PyId,
     from: usize,
-) -> Result<PyId, OutOfMemory>
-    requires { TakenTo (ids.now ++ made.now) id.now from }
-    ensures { IfOk result (λ one. one ≡ first_free (ids.now ++ made.now) id.now) }
+) -> Result<(PyId, usize), OutOfMemory>
+    requires same { HaveSameIds taken.now (ids.now ++ made.now) }
+    requires below { TakenTo (ids.now ++ made.now) id.now from }
+    ensures value { IfOk result (λ found. found.0 ≡ first_free (ids.now ++ made.now) id.now) }
+    ensures next { IfOk result (λ found. TakenTo (ids.now ++ (made.now ++ found.0 ∷ [])) id.now found.1) }
 {
     for number in from..ids.len() + made.len() + 1 {
         let one = numbered(alloc, id, number)?;
-        if is_free(ids, made, &one) {
-            return Ok(one);
+        if is_free(taken, &one) {
+            return Ok((one, number + 1));
         }
     }
     unreachable!()
 }
 
-/// What an occurrence of an id becomes, where those before it have been made: each of them that is equal took a number.
+/// What an occurrence of an id that is repeated becomes.
+fn numbered_from(
+    alloc: Global,
+    ids: &[PyId],
+    made: &[PyId],
+    table: &mut IdTable,
+    id: &PyId,
+    from: usize,
+) -> Result<PyId, OutOfMemory>
+    requires tells { TellsMade ids.now made.now table.old }
+    requires number { lookup (same_id id.now) table.old.numbers ≡ Some from }
+    ensures value { IfOk result (λ one. one ≡ made_of ids.now made.now id.now) }
+    ensures table { IfOk result (λ one. TellsMade ids.now (made.now ++ one ∷ []) table.new) }
+{
+    let (one, next) = first_free(alloc, ids, made, &table.taken, id, from)?;
+    table.make(alloc, id, &one, next)?;
+    Ok(one)
+}
+
+/// An id that stands among those given once stays.
+fn stays(
+    alloc: Global,
+    ids: &[PyId],
+    made: &[PyId],
+    table: &IdTable,
+    id: &PyId,
+) -> Result<PyId, OutOfMemory>
+    requires tells { TellsMade ids.now made.now table.now }
+    requires given { has_id id.now ids.now ≡ true }
+    requires number { lookup (same_id id.now) table.now.numbers ≡ None }
+    ensures value { IfOk result (λ one. one ≡ made_of ids.now made.now id.now) }
+    ensures table { IfOk result (λ one. TellsMade ids.now (made.now ++ one ∷ []) table.now) }
+{
+    let same = PyId::from_chars(alloc, id.chars())?;
+    Ok(same)
+}
+
+/// What an occurrence of an id becomes.
 fn made_of(
     alloc: Global,
     ids: &[PyId],
     made: &[PyId],
-    before: &[PyId],
+    table: &mut IdTable,
     id: &PyId,
 ) -> Result<PyId, OutOfMemory>
-    requires { AllTaken ids.now before.now made.now }
-    ensures { IfOk result (λ one. one ≡ made_of ids.now made.now id.now) }
+    requires tells { TellsMade ids.now made.now table.old }
+    requires given { has_id id.now ids.now ≡ true }
+    ensures value { IfOk result (λ one. one ≡ made_of ids.now made.now id.now) }
+    ensures table { IfOk result (λ one. TellsMade ids.now (made.now ++ one ∷ []) table.new) }
 {
-    if count_of(ids, id) > 1 {
-        first_free(alloc, ids, made, id, count_of(before, id))
-    } else {
-        PyId::from_chars(alloc, id.chars())
+    match table.number(id) {
+        Some(from) => numbered_from(alloc, ids, made, table, id, from),
+        None => stays(alloc, ids, made, table, id),
     }
 }
 
@@ -112,9 +141,10 @@ pub fn unique_ids(alloc: Global, ids: &[PyId]) -> Result<Vec<PyId>, OutOfMemory>
     ensures value { IfOk result (λ made. made.items ≡ unique_of ids.now) }
     ensures distinct { IfOk result (λ made. AllPairs (λ one other. one ≢ other) made.items) }
 {
+    let mut table = IdTable::of(alloc, ids)?;
     let mut made = Vec::new(alloc);
-    for at in 0..ids.len() {
-        made.push(made_of(alloc, ids, &made, &ids[..at], &ids[at])?)?;
+    for id in ids {
+        made.push(made_of(alloc, ids, &made, &mut table, id)?)?;
     }
     Ok(made)
 }
