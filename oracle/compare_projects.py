@@ -4,8 +4,10 @@
 compare_projects.py COUNT SEED --program PATH    each project that differs is made smaller and told; the last line counts them
 compare_projects.py COUNT SEED --tell            what the projects have, by the model alone
 compare_projects.py 1 SEED --show                one project, its words and the model's report
-    --kind fixtures|model|plain     projects of fixture_projects.py (fixtures), of the model's own generator without what isn't built
-                                    (model), of plain_projects.py, without fixtures (plain); fixtures where it isn't given
+    --kind fixtures|hooks|model|plain
+                                    projects of fixture_projects.py (fixtures), of hook_projects.py (hooks), of the model's own generator
+                                    without what isn't built (model), of plain_projects.py, without fixtures (plain); fixtures where it
+                                    isn't given
 
 What isn't built is told `not built` by both. Workers, whose assignment is open, are compared by `python3 -m model.fuzz`.
 """
@@ -17,6 +19,7 @@ import traceback
 import time
 
 import fixture_projects
+import hook_projects
 import plain_projects
 import room
 from model.runner import Features, Run, deep
@@ -28,7 +31,12 @@ class ModelFault(Exception):
     pass
 
 
-MAKERS = {"fixtures": fixture_projects.project, "model": fixture_projects.by_model_fuzz, "plain": plain_projects.project}
+MAKERS = {
+    "fixtures": fixture_projects.project,
+    "hooks": hook_projects.project,
+    "model": fixture_projects.by_model_fuzz,
+    "plain": plain_projects.project,
+}
 
 
 def whole(words, files):

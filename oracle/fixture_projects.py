@@ -1,4 +1,4 @@
-"""Random projects with fixtures, yields, finalizers, parameters and command lines with --setup-show; hooks and workers are rare (they are refused).
+"""Random projects with fixtures, yields, finalizers, parameters and command lines with --setup-show; workers are rare (they are refused).
 
 project(seed) -> (words, files): a list of texts, and a dict of paths to bytes.
 by_model_fuzz(seed) -> the same by the model's own generator, with what isn't built left out.
@@ -400,15 +400,15 @@ def project(seed):
     return made.words(files), files
 
 
-class Plain(Gen):
-    """The model's own generator; what it writes of hooks and workers is taken out again."""
+class Built(Gen):
+    """The model's own generator; what it writes of the hook for ids and of workers is taken out again."""
 
     def hook(self, name):
-        return [""]
+        return [""] if name == "pytest_make_parametrize_id" else super().hook(name)
 
 
 def by_model_fuzz(seed):
-    gen = Plain(seed, Features())
+    gen = Built(seed, Features())
     texts = gen.project()
     words = gen.words(texts)
     while "-n" in words:

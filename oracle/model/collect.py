@@ -227,7 +227,7 @@ class Collector:
         self.errors = {}
         self.conftests = []
         self.row_faults = False    # whether a file's rows gave a fault
-        self.hooks_built = True    # as long as hooks are not built, their faults don't come
+        self.asks_for_ids = True   # as long as the hook for ids is not built, it is not asked
 
     # -------------------------------------------------------------- words
 
@@ -385,7 +385,7 @@ class Collector:
                     continue
                 done.append(path)
                 told = self.load(path)
-                if told is None and self.hooks_built:
+                if told is None:
                     told = self.conftest_hooks(path)
                 if told is not None:
                     self.refuse_conftest(path, told)
@@ -602,7 +602,7 @@ class Collector:
     def hook_id(self, file_node, value, name, function):
         chain = self.table.chain(file_node)
         impls = [i for i in self.impls if i.hook == "pytest_make_parametrize_id" and i.node in chain]
-        if not impls:
+        if not impls or not self.asks_for_ids:
             return None
         runner = HookRunner(self.world, self.limit, {"val": value, "argname": name})
         end = hook_call(order(impls), runner, True)

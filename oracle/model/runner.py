@@ -33,7 +33,7 @@ ALL = ["package_scope", "fstrings", "builtin_fixtures", "last_failed", "dist_gro
 
 
 # What the program refuses as not built today; where a part joins the program, its word goes.
-UNBUILT = ("hooks", "workers")
+UNBUILT = ("ids", "workers")
 
 
 def unbuilt_of(words):
@@ -121,19 +121,17 @@ class Run:
 
     def refuse_words(self):
         options = self.options
-        if "workers" in self.unbuilt and (options.generated is not None or (options.workers > 0 and options.dist != "no")):
+        if "workers" in self.unbuilt and options.asks_workers:
             raise NotBuilt()
 
     def refuse_collected(self):
         """The conditions on what was collected, behind the refusals of collection."""
-        collector = self.collector
-        for path in collector.conftests if "hooks" in self.unbuilt else []:
-            if any(n.startswith("pytest_") for n, _ in collector.world.names(path)):
-                raise NotBuilt()
+        if "ids" in self.unbuilt and any(it.hook == "pytest_make_parametrize_id" for it in self.collected.impls):
+            raise NotBuilt()
 
     def collect(self):
         self.collector = Collector(self.files, self.options, self.exprs, self.features, self.rewrite)
-        self.collector.hooks_built = "hooks" not in self.unbuilt
+        self.collector.asks_for_ids = "ids" not in self.unbuilt
         return self.collector.collect()
 
     def fresh(self):

@@ -50,7 +50,7 @@ help_lines =
     ∷ codes "  -n, --numprocesses N     share the tests among N workers (not built yet)"
     ∷ codes "  --dist MODE              share them by file: loadfile; run no worker: no"
     ∷ codes "  --step-limit N           let a test take N steps, 1 to 100000000"
-    ∷ codes "  --generated SEED,FILES   run tests that are made up (not built yet)"
+    ∷ codes "  --generated SEED,FILES   run tests that are made up"
     ∷ codes "  --version                write the name and the version"
     ∷ codes "  --help                   write this text"
     ∷ codes "  --                       take all words behind it as paths"

@@ -39,7 +39,7 @@ options:
   -n, --numprocesses N     share the tests among N workers (not built yet)
   --dist MODE              share them by file: loadfile; run no worker: no
   --step-limit N           let a test take N steps, 1 to 100000000
-  --generated SEED,FILES   run tests that are made up (not built yet)
+  --generated SEED,FILES   run tests that are made up
   --version                write the name and the version
   --help                   write this text
   --                       take all words behind it as paths

@@ -1,6 +1,5 @@
 pub use Rattle.collect_fixtures.proofs as collect_fixtures_lemmas
 pub use Rattle.collect_rows.proofs as collect_rows_lemmas
-pub mod Entries
 pub mod Files
 pub mod Numbers
 pub mod Places

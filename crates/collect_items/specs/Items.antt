@@ -23,6 +23,7 @@ use Rattle.fixture_definitions.specs.declared.found.FoundTest.{FoundTest}
 use Rattle.fixture_table.specs.Tables.{TableValue}
 use Rattle.fixture_table.specs.declared.types.CollectionNode.{CollectionNode}
 use Rattle.py_values.specs.declared.object.Obj.{Obj}
+use Rattle.test_suite.specs.Hooks.{no_hooks}
 use Rattle.test_suite.specs.declared.fixture.Fixture.{Fixture}
 use Rattle.test_suite.specs.declared.item.BoundArgument.{BoundArgument}
 use Rattle.test_suite.specs.declared.item.Item.{Item}
@@ -92,7 +93,7 @@ defined_fixture d = d.fixture
 
 -- the suite of the items that were found: their nodes stand behind so many others
 abbrev pub suite_with : List Obj → List (List ℕ) → ℕ → FixtureTable → List FoundItem → Suite
-suite_with heap walk outer f items = record { items = items_from heap walk f outer items; fixtures = map defined_fixture f.definitions; outer = outer }
+suite_with heap walk outer f items = record { items = items_from heap walk f outer items; fixtures = map defined_fixture f.definitions; outer = outer; hooks = no_hooks }
 
 -- a test file with its items, or the fault of their rows
 pub record FoundFile : Type 0 where

@@ -22,7 +22,7 @@ use param_rows::ItemKeys;
 use py_text::OutOfMemory;
 use py_values::heap::Heap;
 use std::alloc::Global;
-use test_suite::Suite;
+use test_suite::{HookTable, Suite};
 
 /// A suite, with the table of its fixtures.
 #[derive(Drop)]
@@ -296,6 +296,7 @@ fn suite_with(
             items,
             fixtures,
             outer,
+            hooks: HookTable::new(alloc),
         }),
         Err(fault) => {
             drop(fixtures);

@@ -1,12 +1,12 @@
 //! The items of loaded test files: which tests of their modules are items with which rows and what their set-up demands, what words can name
-//! of them, in which order they run and which of them `-k` and `-m` choose, and whether conftests want what isn't built yet.
+//! of them, in which order they run and which of them `-k` and `-m` choose.
 //!
 //! # What it is for
 //!
 //! Collection asks here once all files are loaded, with the objects as they are then. [`found_items`] gives the suite of all test files,
 //! its items numbered in one list, with the table of its fixtures, the nodes of each file by which `collect_words` selects, and the fault of
 //! the rows of each file; [`ordered`] puts selected items in order, and [`chosen`] keeps of them those that the expressions of `-k` and `-m`
-//! accept; [`wants_unbuilt_conftest`] says whether a run has to be refused.
+//! accept.
 //!
 //! # What is proved
 //!
@@ -16,7 +16,6 @@
 //!   file in the order of the walk (`nodes`); and the fault of the rows of each file (`faults`).
 //! - [`ordered`]: the numbers in the order that `param_rows` defines (`ordered`). [`chosen`]: exactly the filter by the names of items and of
 //!   their marks (`same`), all of them numbers of items (`within`).
-//! - [`wants_unbuilt_conftest`]: exactly its definition.
 //!
 //! # What tests alone show
 //!
@@ -33,11 +32,9 @@ mod found;
 mod item;
 mod nodes;
 mod order;
-mod unbuilt;
 
 pub use choice::chosen;
 pub use collect_rows::RowsFault;
 pub use found::{FoundItems, FoundSuite, found_items};
 pub use order::ordered;
 pub use param_rows::ItemKeys;
-pub use unbuilt::wants_unbuilt_conftest;

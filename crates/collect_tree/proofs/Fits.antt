@@ -13,9 +13,10 @@ use Rattle.collect_words.specs.Words.{named_words}
 use Rattle.collect_words.specs.declared.fault.WordFault.{WordFault}
 use Rattle.collect_words.specs.declared.named.NamedWord.{NamedWord}
 use Rattle.collect_words.specs.declared.nodes.FileNodes.{FileNodes}
+use Rattle.conftest_hooks.specs.Registered.{any_makes_ids, hook_table}
+use Rattle.conftest_hooks.specs.declared.looking.FoundHook.{FoundHook}
 use Rattle.collection_nodes.specs.declared.test_file.TestFile.{TestFile}
 use Rattle.fixture_world.specs.Items.{item_in_session}
-use Rattle.py_load.specs.InTurn.{ConftestsEnd}
 use Rattle.py_load.specs.Reading.{ReadFile}
 use Rattle.report_parts.specs.Limits.{most_items}
 use Rattle.fixture_world.specs.report_rules.Collected.{Collected, ConftestFault, Refused, SelectedItem, Whole}
@@ -29,7 +30,8 @@ use Rattle.test_suite.specs.Suites.{fixture_at, numbered_item}
 use Rattle.test_suite.specs.declared.item.Item.{Item}
 use Rattle.test_suite.specs.declared.suite.Suite.{Suite}
 use Rattle.collect_tree.specs.Collection as collection
-use Rattle.collect_tree.specs.Collection.{End, collect, conftest_files, item_numbered, item_or_none, of_loaded, of_words, read_path, selected_by, with_conftests}
+use Rattle.collect_tree.specs.Collection.{End, collect, conftest_files, item_numbered, item_or_none, of_loaded, of_words, read_path, findings_in_hooks, selected_by, with_conftests}
+use Rattle.collect_tree.specs.Conftests.{ConftestsLoaded}
 use Rattle.collect_tree.specs.Loads.{LoadResults, test_loads}
 use Rattle.collect_tree.specs.Walk.{walk_of}
 use Rattle.collect_tree.proofs.Made as made
@@ -112,25 +114,25 @@ module _ (options : Options) where
   built_or true text c f = tt
   built_or false text c f = f
 
-  ended : (walk : List (List ℕ)) (above : List TestFile) (f : Findings) (m : IsMade f.suite) (loaded : LoadResults) (r : Result (List ℕ) WordFault) → OnceIn r
-      → FitsEnd (collection.selected_or_refused options walk above f loaded r)
-  ended walk above f m loaded (Err fault) o = tt
-  ended walk above f m loaded (Ok numbers) o =
+  ended : (more : Bool) (walk : List (List ℕ)) (f : Findings) (m : IsMade f.suite) (loaded : LoadResults) (r : Result (List ℕ) WordFault) → OnceIn r
+      → FitsEnd (collection.selected_or_refused options more walk f loaded r)
+  ended more walk f m loaded (Err fault) o = tt
+  ended more walk f m loaded (Ok numbers) o =
       let places = item_places f.files in
       let order = ordered f.keys numbers in
       let ns = filter (λ number. is_chosen options loaded.world.heap (numbered_item f.suite.suite.items number)) order in
       let one : Once ns = once_filter (λ number. is_chosen options loaded.world.heap (numbered_item f.suite.suite.items number)) order (once_ordered f.keys numbers o) in
-      built_or _ (codes "not built") (collection.collected_of options walk f loaded numbers)
+      built_or more (codes "not built") (collection.collected_of options walk f loaded numbers)
       (λ rules depth scopes. record { fits = fits rules f.suite m depth scopes places ns; distinct = distinct f.suite m places ns one })
 
-  loaded_fits : (walk : List (List ℕ)) (words : List NamedWord) (above : List TestFile) (loaded : LoadResults) → FitsEnd (of_loaded options walk words above loaded)
-  loaded_fits walk words above loaded =
-      let f = findings loaded.world.heap walk above loaded.files in
-      ended walk above f (made.made loaded.world.heap walk above loaded.files) loaded _ (once_selected most_items walk (walked walk options.ignore) (nodes_by_place loaded.world.heap walk f.files) words)
+  loaded_fits : (walk : List (List ℕ)) (words : List NamedWord) (hooks : List FoundHook) (above : List TestFile) (loaded : LoadResults) → FitsEnd (of_loaded options walk words hooks above loaded)
+  loaded_fits walk words hooks above loaded =
+      let f = findings_in_hooks (hook_table hooks) (findings loaded.world.heap walk above loaded.files) in
+      ended (any_makes_ids hooks) walk f (made.under (hook_table hooks) _ (made.made loaded.world.heap walk above loaded.files)) loaded _ (once_selected most_items walk (walked walk options.ignore) (nodes_by_place loaded.world.heap walk f.files) words)
 
-  conftests_fit : (walk : List (List ℕ)) (words : List NamedWord) (files : List ℕ) (x : ConftestsEnd × SourceWorld) → FitsEnd (with_conftests options walk words files x)
-  conftests_fit walk words files (Err (path, error, printed), w) = tt
-  conftests_fit walk words files (Ok modules, w) = loaded_fits walk words (conftest_files (conftests walk files) modules) (test_loads options.step_limit walk files w)
+  conftests_fit : (walk : List (List ℕ)) (words : List NamedWord) (files : List ℕ) (x : ConftestsLoaded × SourceWorld) → FitsEnd (with_conftests options walk words files x)
+  conftests_fit walk words files (Err (path, told), w) = tt
+  conftests_fit walk words files (Ok found, w) = loaded_fits walk words found.hooks (conftest_files (conftests walk files) found.modules) (test_loads options.step_limit walk files w)
 
   words_fit : (sources : List ReadFile) (walk : List (List ℕ)) (r : Result (List NamedWord) WordFault) → FitsEnd (of_words options sources walk r)
   words_fit sources walk (Err fault) = tt

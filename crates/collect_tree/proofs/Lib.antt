@@ -7,7 +7,8 @@ pub mod Made
 pub mod Runnable
 pub mod Fits
 pub mod Ends
-pub mod Conftests
+pub mod ConftestFiles
+pub mod Hooked
 pub mod FileErrors
 pub mod Ordered
 pub mod Parts

@@ -31,8 +31,10 @@ use Rattle.session_types.specs.Scopes.{rank}
 use Rattle.session_types.specs.declared.scope.Scope.{Scope}
 use Rattle.setup_stack.specs.fixture_instances.Items.{bound_names, requests_in}
 use Rattle.test_suite.specs.Suites.{fixture_at, fixture_or}
+use Rattle.test_suite.specs.declared.hook.HookTable.{HookTable}
 use Rattle.test_suite.specs.declared.item.BoundArgument.{BoundArgument}
 use Rattle.test_suite.specs.declared.item.Item.{Item}
+use Rattle.collect_tree.specs.Collection.{under_hooks}
 use Rattle.test_suite.specs.declared.item.ItemClosure.{ItemClosure}
 use Rattle.test_suite.specs.declared.item.ItemClosure.TheVariants as closure
 
@@ -75,6 +77,22 @@ made heap walk above files =
     let definitions = all_definitions heap walk folders above placed in
     let names = all_names definitions (all_tests heap placed) in
     made_behind heap walk outer names definitions (all_items (files_behind heap outer names definitions (all_tests heap placed) placed))
+
+-- its hooks don't matter
+pub under : (t : HookTable) (found : FoundSuite) → IsMade found → IsMade (under_hooks t found)
+under t found m = record {
+  heap = m.heap;
+  walk = m.walk;
+  outer = m.outer;
+  tests = m.tests;
+  names = m.names;
+  definitions = m.definitions;
+  nodes = m.nodes;
+  defs = m.defs;
+  items = m.items;
+  fixtures = m.fixtures;
+  behind = m.behind;
+}
 
 -- an item of a suite, and its place
 pub record IsItem (heap : List Obj) (walk : List (List ℕ)) (f : FixtureTable) (node : ℕ) (i : Item) : Type 0 where

@@ -1,5 +1,5 @@
 -- Parts of what was found.
-use Rattle.std.proofs.Common.{◌≡◌, List, map, subst}
+use Rattle.std.proofs.Common.{◌≡◌, map, subst}
 use Rattle.collect_items.specs.Items.{Findings, fault_of_file}
 use Rattle.collect_items.specs.Nodes.{item_places}
 use Rattle.collect_tree.specs.Told.{HasParts}

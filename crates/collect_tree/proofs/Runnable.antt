@@ -7,12 +7,20 @@ use Rattle.collect_items.specs.declared.found.FoundSuite.{FoundSuite}
 use Rattle.collection_nodes.specs.declared.test_file.TestFile.{TestFile}
 use Rattle.fixture_table.specs.Tree.{IsTree}
 use Rattle.py_values.specs.declared.object.Obj.{Obj}
-use Rattle.fixture_world.specs.runtest_rules.Rules.{rules_within}
+use Rattle.fixture_world.specs.runtest_rules.Rules.{impls_of, rules_within}
 use Rattle.test_suite.specs.Suites.{item_with_node, item_or}
 use Rattle.test_suite.specs.declared.item.Item.{Item}
 use Rattle.test_suite.specs.declared.suite.Suite.{Suite}
 use Rattle.collect_tree.specs.Runnable.{IsAtHome, IsRunnable}
-use Rattle.collect_tree.proofs.Made.{IsMade, count, fits_made, item_made, made, node_is, node_there, scope_of}
+use Rattle.collect_tree.proofs.Made.{IsMade, count, fits_made, item_made, made, node_is, node_there, scope_of, under}
+use Rattle.collect_tree.specs.Collection.{under_hooks}
+use Rattle.conftest_hooks.proofs.Tables.{table_ordered}
+use Rattle.conftest_hooks.specs.Ordered.{AreOrdered}
+use Rattle.conftest_hooks.specs.Registered.{hook_table}
+use Rattle.conftest_hooks.specs.declared.looking.FoundHook.{FoundHook}
+use Rattle.conftest_hooks.specs.hook_order.HookOrder.{InHookOrder}
+use Rattle.session_rules.specs.World.{Call, Phase, SetUp, Teardown}
+use Rattle.test_suite.specs.declared.hook.HookTable.{HookTable}
 
 behind_outer : (outer n : ℕ) → nat_le outer (outer + n) ≡ true
 behind_outer outer n = le-leb outer (outer + n) (omega arith)
@@ -34,15 +42,29 @@ at_home found m n i e =
       fits = λ limit. fits_made (rules_within limit found.suite) found m refl (λ d. refl) _ i (item_made found m n i e);
     }
 
-made_runs : (found : FoundSuite) → IsMade found → IsTree found.table.nodes → IsRunnable found
-made_runs found m tree =
+by_phase : (t : HookTable) → AreOrdered t → (phase : Phase) → InHookOrder (impls_of t phase)
+by_phase t o SetUp = o.set_up
+by_phase t o Call = o.call
+by_phase t o Teardown = o.teardown
+
+made_runs : (found : FoundSuite) → IsMade found → IsTree found.table.nodes → AreOrdered found.suite.hooks → IsRunnable found
+made_runs found m tree ordered =
     record {
       tree = tree;
       many = count (rules_within 0 found.suite) found m refl (λ d. refl);
       scopes = λ limit d l. sym (scope_of (rules_within limit found.suite) found m refl (λ e. refl) d);
+      hooks = by_phase found.suite.hooks ordered;
       items = λ n i e. at_home found m n i e;
     }
 
--- what is found, where the nodes of its table are a tree
-pub found_runs : (found : FoundSuite) (heap : List Obj) (walk : List (List ℕ)) (above files : List TestFile) → found ≡ (findings heap walk above files).suite → IsTree found.table.nodes → IsRunnable found
-found_runs found heap walk above files same tree = made_runs found (subst IsMade (sym same) (made heap walk above files)) tree
+-- what is found, where the nodes of its table are a tree, in the hooks of conftests
+pub found_runs : (found : FoundSuite) (heap : List Obj) (walk : List (List ℕ)) (above files : List TestFile) (hooks : List FoundHook) → found ≡ (findings heap walk above files).suite → IsTree found.table.nodes → IsRunnable (under_hooks (hook_table hooks) found)
+found_runs found heap walk above files hooks same tree =
+    made_runs (under_hooks (hook_table hooks) found) (under (hook_table hooks) found (subst IsMade (sym same) (made heap walk above files))) tree (table_ordered hooks)
+
+-- a suite in these hooks is what is found in the hooks that it has
+pub same_under : (r found s : FoundSuite) (t : HookTable) → r ≡ under_hooks t found → found ≡ s → r ≡ under_hooks r.suite.hooks s
+same_under r found s t e same =
+    e
+    ∙ (ap (λ (f : FoundSuite). under_hooks t f) same
+    ∙ ap (λ (u : HookTable). under_hooks u s) (sym (ap (λ (f : FoundSuite). f.suite.hooks) e)))

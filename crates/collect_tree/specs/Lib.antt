@@ -3,6 +3,8 @@ pub use Rattle.py_load.specs.file_source
 pub use Rattle.py_load.specs as py_load
 pub mod Walk
 pub mod Loads
+pub mod Conftests
+pub mod ConftestsTold
 pub mod Errors
 pub mod Collection
 pub mod Runnable

@@ -13,10 +13,10 @@ ghost use Rattle.collect_tree.specs.Told.{IsWithin, collection_end, loaded_told}
 ghost use Rattle.collect_tree.specs.Walk.{walk_of};
 
 use crate::collected::Collected;
+use crate::conftests::{FailedConftest, LoadedConftests, load_conftests};
 use crate::errors::all_errors;
 use crate::fault::{CollectFault, word_fault};
-use crate::loads::{LoadedTests, load_tests, load_told};
-use crate::unbuilt::wants_more;
+use crate::loads::{LoadedTests, load_tests};
 use crate::walk::{paths_at, walk_of_files};
 use cli_words::Options;
 use collect_items::{FoundItems, FoundSuite, ItemKeys, RowsFault, chosen, found_items, ordered};
@@ -24,12 +24,14 @@ use collect_words::{
     NamedWord, Walk, conftests, named_files, named_words, selected, test_files, walked,
 };
 use collection_nodes::TestFile;
+use conftest_hooks::{FoundHook, any_makes_ids, hook_table};
 use edge_io::Files;
-use py_load::{FailedFile, has_reading, load_conftests, prepare};
+use py_load::{has_reading, prepare};
 use py_values::value::Value;
 use report_parts::{CollectReport, MOST_ITEMS, OutOfMemory};
 use selection::Exprs;
 use std::alloc::Global;
+use test_suite::HookTable;
 use tracebacks::{World, heap};
 
 /// A number of items as it is reported.
@@ -120,8 +122,8 @@ fn in_order(
     requires exprs { AreExprs options.now exprs.now }
     requires few { length numbers.now ≤ most_items }
     requires runnable { IsRunnable parts.found }
-    requires parts { HasParts parts (findings world.now.heap walk.now above.now loaded.files.items) }
-    ensures told { IfOk result (λ c. collected_told c world.now ≡ collection.collected_of options.now walk.now (findings world.now.heap walk.now above.now loaded.files.items) (loaded_told loaded world.now) numbers.now) }
+    requires parts { HasParts parts (findings_in_hooks parts.found.suite.hooks (findings world.now.heap walk.now above.now loaded.files.items)) }
+    ensures told { IfOk result (λ c. collected_told c world.now ≡ collection.collected_of options.now walk.now (findings_in_hooks parts.found.suite.hooks (findings world.now.heap walk.now above.now loaded.files.items)) (loaded_told loaded world.now) numbers.now) }
     ensures within { IfOk result IsWithin }
 {
     let FoundParts {
@@ -137,6 +139,7 @@ fn in_order(
 }
 
 ghost use Rattle.collect_items.specs.Items.{findings};
+ghost use Rattle.collect_tree.specs.Collection.{findings_in_hooks};
 ghost use Rattle.collect_tree.specs.Told.{HasParts};
 
 /// What is collected of the items that the words name, unless what isn't built yet is wanted.
@@ -149,16 +152,19 @@ fn ended(
     above: &[TestFile],
     loaded: LoadedTests,
     parts: FoundParts,
+    more: bool,
     numbers: &[usize],
 ) -> Result<Collected, CollectFault>
     requires exprs { AreExprs options.now exprs.now }
     requires few { length numbers.now ≤ most_items }
     requires runnable { IsRunnable parts.found }
-    requires parts { HasParts parts (findings world.now.heap walk.now above.now loaded.files.items) }
-    ensures told { IfSome (collection_end result world.now) (λ e. e ≡ collection.selected_or_refused options.now walk.now above.now (findings world.now.heap walk.now above.now loaded.files.items) (loaded_told loaded world.now) (Meant numbers.now)) }
+    requires parts { HasParts parts (findings_in_hooks parts.found.suite.hooks (findings world.now.heap walk.now above.now loaded.files.items)) }
+    ensures told { IfSome (collection_end result world.now) (λ e. e ≡ collection.selected_or_refused options.now more walk.now (findings_in_hooks parts.found.suite.hooks (findings world.now.heap walk.now above.now loaded.files.items)) (loaded_told loaded world.now) (Meant numbers.now)) }
     ensures within { IfOk result IsWithin }
 {
-    if wants_more(heap(world), above)? {
+    if more {
+        drop(parts);
+        drop(loaded);
         return Err(CollectFault::NotBuilt);
     }
     let collected = in_order(
@@ -200,6 +206,16 @@ ghost use Rattle.collect_tree.specs.Told.{IsWordRefusal};
 use collect_words::FileNodes;
 use seq::Seq;
 
+/// A suite whose phases run in these hooks.
+fn under_hooks(hooks: HookTable, found: FoundSuite) -> FoundSuite
+    ensures whole { result ≡ collection.under_hooks hooks found }
+    ensures hooks { result.suite.hooks ≡ hooks }
+{
+    let mut found = found;
+    found.suite.hooks = hooks;
+    found
+}
+
 /// The collection of loaded files.
 fn of_loaded(
     alloc: Global,
@@ -208,13 +224,16 @@ fn of_loaded(
     exprs: &Exprs,
     walk: &Walk,
     words: &[NamedWord],
+    hooks: Vec<FoundHook>,
     above: &[TestFile],
     loaded: LoadedTests,
 ) -> Result<Collected, CollectFault>
     requires { AreExprs options.now exprs.now }
-    ensures told { IfSome (collection_end result world.now) (λ e. e ≡ collection.of_loaded options.now walk.now words.now above.now (loaded_told loaded world.now)) }
+    ensures told { IfSome (collection_end result world.now) (λ e. e ≡ collection.of_loaded options.now walk.now words.now hooks.items above.now (loaded_told loaded world.now)) }
     ensures within { IfOk result IsWithin }
 {
+    let more = any_makes_ids(&hooks);
+    let hooks = hook_table(alloc, hooks)?;
     let FoundItems {
         found,
         places,
@@ -223,7 +242,7 @@ fn of_loaded(
         faults,
     } = found_items(alloc, heap(world), walk, above, &loaded.files)?;
     let parts = FoundParts {
-        found,
+        found: under_hooks(hooks, found),
         places,
         keys,
         faults,
@@ -238,6 +257,7 @@ fn of_loaded(
             above,
             loaded,
             parts,
+            more,
             numbers.items(),
         ),
         Err(fault) => {
@@ -257,14 +277,22 @@ fn with_tests(
     walk: &Walk,
     words: &[NamedWord],
     places: &[usize],
+    hooks: Vec<FoundHook>,
     above: &[TestFile],
 ) -> Result<Collected, CollectFault>
     requires { AreExprs options.now exprs.now }
-    ensures told { IfSome (collection_end result world.new) (λ e. e ≡ collection.of_loaded options.now walk.now words.now above.now (test_loads options.now.step_limit walk.now places.now world.old)) }
+    ensures told { IfSome (collection_end result world.new) (λ e. e ≡ collection.of_loaded options.now walk.now words.now hooks.items above.now (test_loads options.now.step_limit walk.now places.now world.old)) }
     ensures within { IfOk result IsWithin }
 {
-    let loaded = load_tests(alloc, world, options.step_limit, walk, places)?;
-    of_loaded(alloc, world, options, exprs, walk, words, above, loaded)
+    match load_tests(alloc, world, options.step_limit, walk, places) {
+        Ok(loaded) => of_loaded(
+            alloc, world, options, exprs, walk, words, hooks, above, loaded,
+        ),
+        Err(fault) => {
+            drop(hooks);
+            Err(CollectFault::from(fault))
+        }
+    }
 }
 
 /// The conftests that were loaded, with their modules.
@@ -288,7 +316,7 @@ fn conftest_files(
     Ok(files)
 }
 
-/// The collection behind the conftests, whose modules these are.
+/// The collection behind these conftests.
 fn with_modules(
     alloc: Global,
     world: &mut World,
@@ -298,31 +326,32 @@ fn with_modules(
     words: &[NamedWord],
     places: &[usize],
     above: &[usize],
-    modules: &[Value],
+    conftests: LoadedConftests,
 ) -> Result<Collected, CollectFault>
     requires { AreExprs options.now exprs.now }
-    ensures told { IfSome (collection_end result world.new) (λ e. e ≡ collection.of_loaded options.now walk.now words.now (collection.conftest_files above.now modules.now) (test_loads options.now.step_limit walk.now places.now world.old)) }
+    ensures told { IfSome (collection_end result world.new) (λ e. e ≡ collection.of_loaded options.now walk.now words.now conftests.hooks.items (collection.conftest_files above.now conftests.modules.items) (test_loads options.now.step_limit walk.now places.now world.old)) }
     ensures within { IfOk result IsWithin }
 {
-    let files = conftest_files(alloc, above, modules)?;
-    with_tests(alloc, world, options, exprs, walk, words, places, &files)
+    let LoadedConftests { modules, hooks } = conftests;
+    match conftest_files(alloc, above, &modules) {
+        Ok(files) => with_tests(
+            alloc, world, options, exprs, walk, words, places, hooks, &files,
+        ),
+        Err(fault) => {
+            drop(hooks);
+            Err(CollectFault::from(fault))
+        }
+    }
 }
 
 /// The refusal that a failed conftest is.
-fn conftest_fault(
-    alloc: Global,
-    world: &World,
-    limit: u64,
-    failed: FailedFile,
-) -> Result<CollectFault, OutOfMemory>
-    ensures { IfOk result (λ e. e ≡ Conftest failed.path (load_told limit failed.path failed.error world.now)) }
+fn conftest_fault(failed: FailedConftest) -> CollectFault
+    ensures { result ≡ Conftest failed.path failed.told }
 {
-    let told = load_told(alloc, world, limit, failed.path.text(), &failed.error)?;
-    let FailedFile { path, .. } = failed;
-    Ok(CollectFault::Conftest(path, told))
+    let FailedConftest { path, told } = failed;
+    CollectFault::Conftest(path, told)
 }
 
-ghost use Rattle.collect_tree.specs.Loads.{load_told};
 ghost use Rattle.collect_tree.specs.declared.fault.CollectFault.TheVariants.{Conftest};
 
 /// The collection of test files, with the conftests above them.
@@ -341,8 +370,8 @@ fn of_files(
 {
     let above = conftests(alloc, walk, places)?;
     let paths = paths_at(alloc, walk, above.items())?;
-    match load_conftests(alloc, world, paths.items(), options.step_limit)? {
-        Ok(modules) => with_modules(
+    match load_conftests(alloc, world, options.step_limit, paths.items())? {
+        Ok(loaded) => with_modules(
             alloc,
             world,
             options,
@@ -351,12 +380,9 @@ fn of_files(
             words,
             places,
             above.items(),
-            &modules,
+            loaded,
         ),
-        Err(failed) => {
-            let fault = conftest_fault(alloc, world, options.step_limit, failed)?;
-            Err(fault)
-        }
+        Err(failed) => Err(conftest_fault(failed)),
     }
 }
 
@@ -451,7 +477,7 @@ ghost use Rattle.collect_words.specs.Words.{named_words};
 /// call it has all modules that were loaded.
 ///
 /// Fails with the first refusal: `NotFound` for a path, `Conftest`, `TooManyItems`, `NotFound` behind `::`, and
-/// `NotBuilt` for what the loaded names ask.
+/// `NotBuilt` for a hook that makes ids.
 pub fn collect(
     alloc: Global,
     world: &mut World,

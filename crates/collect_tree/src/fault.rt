@@ -6,7 +6,7 @@ use report_parts::{OutOfMemory, Text, Told};
 /// Why nothing is collected.
 #[derive(Drop)]
 pub enum CollectFault {
-    /// The tests want what isn't built yet of fixtures and hooks.
+    /// A conftest has the hook that isn't built yet, which makes ids.
     NotBuilt,
     /// The word names nothing of the tree, or nothing of its file.
     NotFound(Text),

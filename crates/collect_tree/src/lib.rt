@@ -2,8 +2,8 @@
 //!
 //! # What it is for
 //!
-//! [`collect`] names the words, loads the conftests and the test files that they reach, finds the items, and selects by the words and by
-//! `-k` and `-m` (pytest's how-to guide, "Specifying which tests to run"; its "Conventions for Python test discovery").
+//! [`collect`] names the words, loads the conftests with their hooks and the test files that they reach, finds the items, and selects by
+//! the words and by `-k` and `-m` (pytest's how-to guide, "Specifying which tests to run"; its "Conventions for Python test discovery").
 //!
 //! # What is proved
 //!
@@ -13,8 +13,9 @@
 //!   or the first refusal: a word whose path names nothing, a conftest that fails, more than 65,536 items, a word whose part behind `::`
 //!   names nothing, or what isn't built of hooks.
 //! - [`collect`]: what was collected can run (`within`, by `IsWithin`): the nodes of the table are a tree, its definitions are the
-//!   fixtures of the suite with their scopes, and each item is found by its node, which the table has, and its closure fits the rules of
-//!   the suite; the selected numbers are those of items, no more than 65,536 are selected before `-k` and `-m`, and no more errors.
+//!   fixtures of the suite with their scopes, its hooks are in hook order, and each item is found by its node, which the table has, and its
+//!   closure fits the rules of the suite; the selected numbers are those of items, no more than 65,536 are selected before `-k` and `-m`,
+//!   and no more errors.
 //! - [`what_is_collected_fits`]: the closures of the items fit any rules that have the suite's fixtures and their scopes, as those of
 //!   `runtest_rules` do, and no two selected items have one node: what a report's laws ask of a collection.
 //!
@@ -22,8 +23,8 @@
 //!
 //! # What tests alone show
 //!
-//! That the call succeeds with ample memory (`acceptance`). The definition was compared with a plain program outside of this repository on
-//! some thousands of random trees and words.
+//! That the call succeeds with ample memory (`acceptance`). The definition is held against the model of `oracle`, a plain program, on some
+//! thousands of random trees and words.
 //!
 //! # What neither shows
 //!
@@ -35,11 +36,11 @@ pub use fixture_world::{RunSetting, RunWorld};
 
 mod collected;
 mod collection;
+mod conftests;
 mod errors;
 mod fault;
 mod law;
 mod loads;
-mod unbuilt;
 mod walk;
 
 pub use collected::Collected;

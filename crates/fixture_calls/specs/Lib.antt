@@ -4,3 +4,4 @@ pub mod Arguments
 pub mod Asking
 pub mod Calls
 pub mod Yields
+pub mod Hooks

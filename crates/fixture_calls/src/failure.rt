@@ -35,7 +35,7 @@ fn copied_trace(alloc: Global, trace: &Trace) -> Result<Trace, OutOfMemory>
     Ok(Trace::from_vec(frames))
 }
 
-fn copied_thrown(alloc: Global, thrown: &Thrown) -> Result<Thrown, OutOfMemory>
+pub(crate) fn copied_thrown(alloc: Global, thrown: &Thrown) -> Result<Thrown, OutOfMemory>
     ensures { IfOk result (λ t. t ≡ thrown.now) }
 {
     let trace = copied_trace(alloc, &thrown.trace)?;

@@ -1,10 +1,10 @@
-//! What the functions of fixtures and tests do to a world.
+//! What the functions of fixtures, tests and hooks do to a world.
 //!
 //! # What it is for
 //!
 //! The runner calls the function of a fixture with its arguments, and keeps what remains behind its `yield` (pytest's fixture guide,
 //! "Teardown/Cleanup (AKA Fixture finalization)"); it makes a `request` for those that take one, and calls its finalizers; it calls tests
-//! with the values of their fixtures. Here is what each of these does to a world of sources, and a function for each.
+//! with the values of their fixtures, and hooks around both. Here is what each of these does to a world of sources, and a function for each.
 //!
 //! # What is proved
 //!
@@ -19,6 +19,9 @@
 //!   given up (`fixture_abandoned`). An exhausted one has raised `StepLimit`.
 //! - [`did_not_yield`], [`yielded_again`]: the exceptions of a fixture that yields never, or again (`did_not_yield`, `yielded_again`).
 //! - [`call_test`]: the call of a test (`test_called`); [`call_finalizer`]: that of a finalizer (`finalizer_called`).
+//! - [`call_hook`], [`begin_hook`]: the function of a hook is called within the step limit with the values that it takes (`hook_called`); a
+//!   wrapper's stops at its `yield` (`hook_begun`). [`resume_hook_with_values`], [`resume_hook_with_value`], [`resume_hook_by`]: what remains
+//!   of a wrapper goes on with a new list of values, with a value, or by an exception that is raised at its `yield` (`hook_resumed`).
 //! - [`copied`]: the same failure.
 //!
 //! Behind want of memory a world is spent: nothing is promised but the answer.
@@ -38,11 +41,15 @@ mod arguments;
 mod calls;
 mod exceptions;
 mod failure;
+mod hooks;
 mod requests;
 mod yields;
 
 pub use calls::{call_finalizer, call_test};
 pub use exceptions::exception_for;
 pub use failure::{Failure, copied};
+pub use hooks::{
+    CallEnd, begin_hook, call_hook, resume_hook_by, resume_hook_with_value, resume_hook_with_values,
+};
 pub use requests::{ask, ask_test, close};
 pub use yields::{FixtureEnd, abandon, begin, did_not_yield, resume, yielded_again};

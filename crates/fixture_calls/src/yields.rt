@@ -53,7 +53,7 @@ fn over_end(
     }
 }
 
-fn body_end(
+pub(crate) fn body_end(
     alloc: Global,
     world: &mut World,
     limit: u64,

@@ -32,7 +32,7 @@ mod definitions;
 mod found;
 mod found_tests;
 
-pub use arguments::{but_request, defined_at};
+pub use arguments::{asked_params, but_request, def_place, defined_at};
 pub use definitions::{all_definitions, fixture_in, is_class_node};
 pub use found::{Definition, FoundTest};
 pub use found_tests::tests_of;

@@ -23,8 +23,9 @@
 #![tactic(auto)]
 
 pub use runtest_rules::{
-    Ending, end_phase, fails_in_teardown, fixture_fault, is_same_exception, make_instance,
-    make_item, not_none, skip, wrapper_did_not_yield, wrapper_yielded_again, wrong_arguments,
+    Ending, end_phase, fails_in_teardown, fixture_fault, hooks_for, is_same_exception,
+    make_instance, make_item, not_none, skip, wrapper_did_not_yield, wrapper_yielded_again,
+    wrong_arguments,
 };
 
 mod executing;

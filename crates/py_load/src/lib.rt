@@ -3,7 +3,7 @@
 //! # What it is for
 //!
 //! [`prepare`] reads all files of a tree and gives a world their sources, so that each can be imported by its path. [`load_module`] and
-//! [`load_file`] load one of them, and [`load_conftests`] the conftests, up to the first that fails.
+//! [`load_file`] load one of them.
 //!
 //! # What is proved
 //!
@@ -18,8 +18,6 @@
 //!   meanwhile, which is taken (`file_load`).
 //! - [`loaded_once`], a law: a module that is loaded is not executed again: its further loads give it and change nothing, and those of one
 //!   that has failed raise the same exception with the same trace.
-//! - [`load_conftests`]: the modules of files that are loaded one after another, each in the world that the one before left, or the first
-//!   that fails, with why and with what was printed meanwhile; and the world behind the last load that was made (`conftest_loads`).
 //!
 //! Behind want of memory a world is spent.
 //!
@@ -33,14 +31,12 @@
 //! Time.
 #![tactic(auto)]
 
-mod conftests;
 mod error;
 mod file;
 mod laws;
 mod load;
 mod sources;
 
-pub use conftests::{FailedFile, load_conftests};
 pub use error::LoadError;
 pub use file::{LoadedFile, load_file};
 pub use laws::{has_reading, loaded_once, one_reading};

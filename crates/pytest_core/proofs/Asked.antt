@@ -2,7 +2,7 @@
 use Rattle.std.proofs.Common.{◌≡◌, ℕ, List, [], Bool, true, false, Option, None, Some, Result, Ok, Err, codes, refl, sym, subst}
 use Rattle.cli_words.specs.Faults.{usage_text}
 use Rattle.cli_words.specs.Info.{info_of}
-use Rattle.cli_words.specs.Options.{Refuses, options_of}
+use Rattle.cli_words.specs.Options.{Refuses, asks_for_workers, options_of}
 use Rattle.cli_words.specs.declared.fault.UsageFault.{UsageFault}
 use Rattle.cli_words.specs.declared.fault.UsageFault.TheVariants as usage
 use Rattle.cli_words.specs.declared.info.Info.{Info}
@@ -14,7 +14,6 @@ use Rattle.run_items.specs.report_rules.Report as rules
 use Rattle.selection.specs.Exprs.{AreExprs, IsRefused, refused_expression, selection_text}
 use Rattle.selection.specs.declared.fault.SelectionFault.{SelectionFault}
 use Rattle.selection.specs.declared.fault.SelectionFault.TheVariants as faults
-use Rattle.selection.specs.Unbuilt.{asks_for_unbuilt}
 use Rattle.selection.specs.declared.exprs.Exprs.{Exprs}
 use Rattle.pytest_core.specs.Profile.{profile, refused_text}
 use Rattle.pytest_core.specs.Report.{AskForRun, IsTreeReport, OfKept}
@@ -22,15 +21,15 @@ use Rattle.pytest_core.specs.Request.{OptionsAsk, WordsAsk, is_expression_fault,
 use Rattle.pytest_core.specs.Written.{IsResponseBy, Response, response_of}
 use Rattle.pytest_core.specs.declared.request.Request.{Request}
 use Rattle.pytest_core.specs.declared.request.Request.TheVariants.{Run, Said}
-use Rattle.pytest_core.proofs.Said.{accepts, kept_as, of_any, refuses_expression, refuses_unbuilt, says_fault, says_info, says_options, says_refused, says_run}
+use Rattle.pytest_core.proofs.Said.{accepts, kept_as, of_any, refuses_expression, refuses_unbuilt, says_fault, says_info, says_options, says_refused}
 
 -- OPTIONS
-pub unbuilt_said : (o : Options) (exprs : Exprs) (r : Response) → AreExprs o exprs → asks_for_unbuilt o ≡ true → r ≡ response_of (refusal (codes "not built"))
+pub unbuilt_said : (o : Options) (exprs : Exprs) (r : Response) → AreExprs o exprs → asks_for_workers o ≡ true → r ≡ response_of (refusal (codes "not built"))
     → (tree : List File) → IsResponseBy (OfKept (rules.SaysOfOptions HoldsSource profile o []) tree) r
 unbuilt_said o exprs r are asks same tree =
     of_any (rules.SaysOfOptions HoldsSource profile o []) tree (refusal (codes "not built")) r (says_refused o (codes "not built") (refuses_unbuilt o are.fine asks)) same
 
-pub run_asked : (o : Options) (exprs : Exprs) → AreExprs o exprs → asks_for_unbuilt o ≡ false → OptionsAsk o (Run o exprs)
+pub run_asked : (o : Options) (exprs : Exprs) → AreExprs o exprs → asks_for_workers o ≡ false → OptionsAsk o (Run o exprs)
 run_asked o exprs are built = (refl, are, accepts o are.fine built)
 
 refused_by : (o : Options) (fault : SelectionFault) → IsRefused o fault → is_expression_fault fault ≡ true → refused_expression o ≡ Some (selection_text fault)
@@ -68,11 +67,9 @@ words_ask words o (Said response) none read said =
     λ tree. kept_as (rules.SaysOfOptions HoldsSource profile o []) (rules.IsReport HoldsSource profile words) tree (response.0.items, response.1) (says_options words o (sym none) read) (said tree)
 
 -- A RUN
-pub run_said : (words : List (List ℕ)) (options : Options) (exprs : Exprs) (tree : List File) (r : Response) → WordsAsk words (Run options exprs)
-    → IsResponseBy (OfKept (rules.SaysOfFiles HoldsSource profile options []) tree) r → IsResponseBy (IsTreeReport words tree) r
-run_said words options exprs tree r (none, read, are, accepted) h =
-    kept_as (rules.SaysOfFiles HoldsSource profile options []) (rules.IsReport HoldsSource profile words) tree r
-    (λ files answer said. says_options words options none read files answer (says_run options accepted files answer said)) h
+pub run_said : (words : List (List ℕ)) (options : Options) (exprs : Exprs) → WordsAsk words (Run options exprs) → (tree : List File) (answer : PrintedAnswer)
+    → OfKept (rules.SaysOfOptions HoldsSource profile options []) tree answer → IsTreeReport words tree answer
+run_said words options exprs (none, read, are, accepted) tree answer (files, kept, said) = (files, kept, says_options words options none read files answer said)
 
 pub run_words : (words : List (List ℕ)) (options : Options) (exprs : Exprs) → WordsAsk words (Run options exprs) → AskForRun words
 run_words words options exprs (none, read, are, accepted) = record { options = options; no_info = none; read = read; accepted = accepted }

@@ -20,10 +20,12 @@ use Rattle.run_items.specs.report_rules.Rows.{ran, session_rows, task}
 use Rattle.run_items.specs.Stands.{IsPlan, IsPlannedItem, planned}
 use Rattle.run_items.specs.Texts.{fixture_texts}
 use Rattle.run_items.specs.declared.plan.Plan.{Plan}
+use Rattle.run_items.specs.Runs.{BeginsPlan}
 use Rattle.runtest_loop.specs.Course.{chosen_in}
 use Rattle.runtest_loop.specs.Fed.{AreKnown, numbers_at, numbers_in_range}
+use Rattle.runtest_loop.specs.Received.{AreFirst}
+use Rattle.runtest_loop.specs.Run.{Begins}
 use Rattle.run_items.specs.runtest_rules.Rules.{rules as tests}
-use Rattle.selection.specs.Unbuilt.{asks_for_unbuilt}
 use Rattle.session_rules.specs.Fits.{Distinct}
 use Rattle.session_rules.specs.Session.{has_stopped}
 use Rattle.session_rules.specs.World.{Item as SessionItem}
@@ -31,9 +33,8 @@ use Rattle.share_files.specs.Deal.{Every}
 use Rattle.run_items.specs.source_meaning.Meaning.{SourceWorld}
 use Rattle.run_items.specs.test_suite.declared.item.Item.{Item}
 use Rattle.pytest_core.specs.Profile.{profile}
-use Rattle.pytest_core.specs.Run.{AreApart, IsRunAnswer, IsOneGroup, IsRunOf, RunsFirst, chosen_first, collected_of, items_known, plan_by}
-use Rattle.pytest_core.specs.declared.session.RunAnswer.{RunAnswer}
-use Rattle.pytest_core.proofs.NoWorkers.{rows_ran, stopped_ran}
+use Rattle.pytest_core.specs.Run.{AreApart, IsRunAnswer, IsOneGroup, IsRunOf, RunsFirst, chosen_first, collected_of, items_known, plan_by, wants_workers}
+use Rattle.pytest_core.proofs.NoWorkers.{rows_ran, single, stopped_ran}
 use Rattle.pytest_core.proofs.Refiled.{ran_as, reports_as, unfiled}
 
 -- numbers in range
@@ -58,7 +59,7 @@ below_none (x ∷ xs) (suc n) l e = below_none xs n (omega arith) e
 
 -- the plan of a suite that can run
 pub is_plan : (options : Options) (found : FoundSuite) → IsRunnable found → IsPlan (plan_by options found)
-is_plan options found r = record { tree = r.tree; many = r.many; scopes = r.scopes options.step_limit }
+is_plan options found r = record { tree = r.tree; many = r.many; scopes = r.scopes options.step_limit; hooks = r.hooks }
 
 is_planned : (options : Options) (found : FoundSuite) (i : Item) → IsAtHome found i → IsPlannedItem (plan_by options found) i
 is_planned options found i h = record { node = h.node; found = h.at; fits = h.fits options.step_limit }
@@ -113,19 +114,32 @@ module _ (options : Options) (found : FoundSuite) (ns : List ℕ) (w : SourceWor
   apart : AreApart found ns → Distinct (map chosen_item (chosen_first (plan_by options found) (ns ∷ [])))
   apart d = subst (λ (is : List SessionItem). Distinct is) (sym (ap (map chosen_item) are_chosen ∙ known_as options found ns)) d
 
-  answers_one : (answer : RunAnswer) (errors : List CollectReport) → asks_for_unbuilt options ≡ false → options.collect_only ≡ false → not_empty errors ≡ false → AreApart found ns
-      → RunsFirst (plan_by options found) options (ns ∷ []) w answer → IsRunAnswer options found ns errors w answer
+  answers_one : (told : List ItemReport) (early : Bool) (errors : List CollectReport) → wants_workers options ns errors ≡ false → options.collect_only ≡ false → not_empty errors ≡ false → AreApart found ns
+      → RunsFirst (plan_by options found) options (ns ∷ []) w told early → IsRunAnswer options found ns errors w told early
   unfolding RunsFirst
-  answers_one answer errors built running whole d h =
-      let is : IsRunOf (plan_by options found) options (chosen_first (plan_by options found) (ns ∷ [])) w answer = h (apart d) in
+  answers_one told early errors built running whole d h =
+      let is : IsRunOf (plan_by options found) options (chosen_first (plan_by options found) (ns ∷ [])) w told early = h (apart d) in
       record {
-        reports = λ places deselected. sym (ap (map (rules.report_of HoldsSource profile options found.suite)) (rows_ran options (collected_of found places ns deselected errors w) built running whole)
+        reports = λ places deselected. sym (ap (map (rules.report_of HoldsSource profile options found.suite)) (rows_ran options (collected_of found places ns deselected errors w) (single options found places ns deselected errors w built) running whole)
             ∙ (sym (shown_as places) ∙ is.reports));
-        stopped = λ places deselected. sym (stopped_ran options (collected_of found places ns deselected errors w) built running whole ∙ (sym (stopped_as places) ∙ is.stopped));
+        stopped = λ places deselected. sym (stopped_ran options (collected_of found places ns deselected errors w) (single options found places ns deselected errors w built) running whole ∙ (sym (stopped_as places) ∙ is.stopped));
       }
 
   -- by the one group
-  pub answers : (groups : List (List ℕ)) → groups ≡ ns ∷ [] → (answer : RunAnswer) (errors : List CollectReport) → asks_for_unbuilt options ≡ false → options.collect_only ≡ false → not_empty errors ≡ false
-      → AreApart found ns → RunsFirst (plan_by options found) options groups w answer → IsRunAnswer options found ns errors w answer
-  answers groups e answer errors built running whole d h =
-      answers_one answer errors built running whole d (subst (λ gs. RunsFirst (plan_by options found) options gs w answer) e h)
+  pub answers : (groups : List (List ℕ)) → groups ≡ ns ∷ [] → (told : List ItemReport) (early : Bool) (errors : List CollectReport) → wants_workers options ns errors ≡ false → options.collect_only ≡ false → not_empty errors ≡ false
+      → AreApart found ns → RunsFirst (plan_by options found) options groups w told early → IsRunAnswer options found ns errors w told early
+  answers groups e told early errors built running whole d h =
+      answers_one told early errors built running whole d (subst (λ gs. RunsFirst (plan_by options found) options gs w told early) e h)
+
+  -- where it breaks off
+  first_one : options.collect_only ≡ false → AreApart found ns → (taken : List ItemReport) → BeginsPlan (plan_by options found) options (chosen_first (plan_by options found) (ns ∷ [])) w [] taken
+      → (errors : List CollectReport) → wants_workers options ns errors ≡ false → not_empty errors ≡ false → (places : List ℕ) (deselected : ℕ) → AreFirst (rules.reports_told HoldsSource profile options (collected_of found places ns deselected errors w) []) taken
+  unfolding Begins
+  first_one running d taken h errors built whole places deselected =
+      let b = h (apart d) in
+      (b.0, ap (map (rules.report_of HoldsSource profile options found.suite)) (rows_ran options (collected_of found places ns deselected errors w) (single options found places ns deselected errors w built) running whole) ∙ (sym (shown_as places) ∙ b.1))
+
+  pub reports_first : (groups : List (List ℕ)) → groups ≡ ns ∷ [] → options.collect_only ≡ false → AreApart found ns → (taken : List ItemReport) → BeginsPlan (plan_by options found) options (chosen_first (plan_by options found) groups) w [] taken
+      → (errors : List CollectReport) → wants_workers options ns errors ≡ false → not_empty errors ≡ false → (places : List ℕ) (deselected : ℕ) → AreFirst (rules.reports_told HoldsSource profile options (collected_of found places ns deselected errors w) []) taken
+  reports_first groups e running d taken h =
+      first_one running d taken (subst (λ gs. BeginsPlan (plan_by options found) options (chosen_first (plan_by options found) gs) w [] taken) e h)

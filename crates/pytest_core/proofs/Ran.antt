@@ -1,7 +1,6 @@
 -- What is reported of collected items, from what their run gave.
 use Rattle.std.proofs.Common.{◌≡◌, ◌<◌, ◌+◌, ℕ, List, [], ◌∷◌, All, Bool, true, false, Option, None, Some, length, map, refl, sym, ap, ap₂, subst, ◌∙◌}
 use Rattle.std.specs.Prelude.{IfSome, IsSomeAnd, option_map, slice_get, slice_index_or}
-use Rattle.std.proofs.lemmas.List.{length-map}
 use Rattle.cli_words.specs.declared.options.Options.{Options}
 use Rattle.collect_tree.specs.collect_items.declared.found.FoundSuite.{FoundSuite}
 use Rattle.collect_tree.specs.Collection.{collect, item_numbered, item_or_none, selected_by}
@@ -14,7 +13,6 @@ use Rattle.collect_tree.specs.py_load.Reading.{AreRead, ReadFile}
 use Rattle.report_parts.specs.Outcomes.{not_empty}
 use Rattle.report_parts.specs.declared.report.CollectReport.{CollectReport}
 use Rattle.report_parts.specs.declared.report.ItemReport.{ItemReport}
-use Rattle.run_items.proofs.report_rules_lemmas.Placed.{no_place}
 use Rattle.run_items.specs.report_rules.Answer as answers
 use Rattle.run_items.specs.report_rules.Collected.{Collected as Found, Collection, ConftestFault, Refused, SelectedItem, Whole}
 use Rattle.run_items.specs.report_rules.Fits.{IsFit, chosen_item}
@@ -24,7 +22,6 @@ use Rattle.run_items.specs.NotRun.{AreNotRun, selected_items}
 use Rattle.run_items.specs.Texts.{fixture_texts}
 use Rattle.run_items.specs.runtest_rules.Language.{python}
 use Rattle.run_items.specs.runtest_rules.Rules.{rules as tests}
-use Rattle.selection.specs.Unbuilt.{asks_for_unbuilt}
 use Rattle.session_rules.specs.Fits.{Distinct}
 use Rattle.session_rules.specs.World.{Item as SessionItem}
 use Rattle.share_files.specs.Deal.{Every}
@@ -35,12 +32,9 @@ use Rattle.run_items.specs.test_suite.declared.suite.Suite.{Suite}
 use Rattle.pytest_core.specs.Profile.{profile}
 use Rattle.pytest_core.specs.Report.{AreDistinct, end_answer}
 use Rattle.pytest_core.specs.Run.{AreApart, IsRunAnswer, collected_of, items_known}
-use Rattle.pytest_core.specs.Status.{status_seen}
 use Rattle.pytest_core.specs.Written.{IsResponseBy, Response, response_of}
-use Rattle.pytest_core.specs.declared.session.RunAnswer.{RunAnswer}
-use Rattle.pytest_core.specs.declared.status.Status.{Status}
 use Rattle.pytest_core.proofs.Chosen.{below_none, every}
-use Rattle.pytest_core.proofs.NoWorkers.{no_worker, none_taken, rows_failed, rows_listed, stopped_failed, stopped_listed}
+use Rattle.pytest_core.proofs.NoWorkers.{rows_failed, rows_listed, stopped_failed, stopped_listed}
 use Rattle.pytest_core.proofs.Said.{response_as, says_collected}
 
 -- what a session knows of items does not depend on the places of their files
@@ -63,54 +57,27 @@ numbered_as found places (n ∷ ns) (l, h) =
     (ap (selected_item found.table (slice_index_or places n 0)) (there_as (found.suite.outer + n) (slice_get found.suite.items n) (below_none found.suite.items n l)))
     (numbered_as found places ns h)
 
-pub answer_listed : (options : Options) (found : FoundSuite) (ns : List ℕ) (errors : List CollectReport) (w : SourceWorld) (answer : RunAnswer) → asks_for_unbuilt options ≡ false → options.collect_only ≡ true
-    → All (λ n. n < length found.suite.items) ns → AreNotRun found.suite.items ns answer.reports.items → answer.stopped ≡ false → IsRunAnswer options found ns errors w answer
+pub answer_listed : (options : Options) (found : FoundSuite) (ns : List ℕ) (errors : List CollectReport) (w : SourceWorld) (told : List ItemReport) (early : Bool) → options.collect_only ≡ true
+    → All (λ n. n < length found.suite.items) ns → AreNotRun found.suite.items ns told → early ≡ false → IsRunAnswer options found ns errors w told early
 unfolding AreNotRun
-answer_listed options found ns errors w answer built listing within h quiet =
+answer_listed options found ns errors w told early listing within h quiet =
     record {
       reports = λ places deselected.
           let c = collected_of found places ns deselected errors w in
-          sym (ap (map (rules.report_of HoldsSource profile options found.suite)) (rows_listed options c built listing)
+          sym (ap (map (rules.report_of HoldsSource profile options found.suite)) (rows_listed options c listing)
           ∙ (ap (λ cs. map (rules.report_of HoldsSource profile options found.suite) (map (λ t. report_row t [] []) (map (task None) cs))) (numbered_as found places ns (every _ ns within))
           ∙ h found.table (λ n. slice_index_or places n 0) options (tests options found.suite).scope (fixture_texts found.suite)));
-      stopped = λ places deselected. quiet ∙ sym (stopped_listed options (collected_of found places ns deselected errors w) built listing);
+      stopped = λ places deselected. quiet ∙ sym (stopped_listed options (collected_of found places ns deselected errors w) listing);
     }
 
 -- where a file could not be collected
-pub answer_failed : (options : Options) (found : FoundSuite) (ns : List ℕ) (errors : List CollectReport) (w : SourceWorld) (answer : RunAnswer) → asks_for_unbuilt options ≡ false → options.collect_only ≡ false
-    → not_empty errors ≡ true → answer.reports.items ≡ [] → answer.stopped ≡ false → IsRunAnswer options found ns errors w answer
-answer_failed options found ns errors w answer built running failed none quiet =
+pub answer_failed : (options : Options) (found : FoundSuite) (ns : List ℕ) (errors : List CollectReport) (w : SourceWorld) (told : List ItemReport) (early : Bool) → options.collect_only ≡ false
+    → not_empty errors ≡ true → told ≡ [] → early ≡ false → IsRunAnswer options found ns errors w told early
+answer_failed options found ns errors w told early running failed none quiet =
     record {
-      reports = λ places deselected. none ∙ sym (ap (map (rules.report_of HoldsSource profile options found.suite)) (rows_failed options (collected_of found places ns deselected errors w) built running failed));
-      stopped = λ places deselected. quiet ∙ sym (stopped_failed options (collected_of found places ns deselected errors w) built running failed);
+      reports = λ places deselected. none ∙ sym (ap (map (rules.report_of HoldsSource profile options found.suite)) (rows_failed options (collected_of found places ns deselected errors w) running failed));
+      stopped = λ places deselected. quiet ∙ sym (stopped_failed options (collected_of found places ns deselected errors w) running failed);
     }
-
--- the whole report
-pub response_of_run : (options : Options) (x : Collected) (w : SourceWorld) (answer : RunAnswer) → asks_for_unbuilt options ≡ false → IsRunAnswer options x.found x.selected x.errors.items w answer
-    → (bytes : List ℕ) (status : Status) (count : ℕ) → count ≡ length x.selected
-    → bytes ≡ answers.report_bytes options count x.deselected x.errors.items 0 answer.reports.items [] answer.stopped
-    → status ≡ status_seen (answers.status_of count x.errors.items answer.reports.items)
-    → (bytes, status) ≡ response_of (rules.report HoldsSource profile options (collected_told x w) [])
-response_of_run options x w answer built h bytes status count counted is said =
-    let c = collected_told x w in
-    let none : rules.workers_of options c ≡ 0 = no_worker options c built in
-    let many : length c.selected ≡ length x.selected = length-map x.selected _ in
-    let told : answer.reports.items ≡ rules.reports_told HoldsSource profile options c [] = h.reports x.places.items x.deselected in
-    let stops : answer.stopped ≡ rules.reached_maxfail (tests options c.table) options c = h.stopped x.places.items x.deselected in
-    let places : rules.places_told HoldsSource profile options c [] ≡ [] = no_place HoldsSource profile options c [] none in
-    let all : answers.report_bytes options (length c.selected) c.deselected c.errors (rules.workers_of options c) (rules.reports_told HoldsSource profile options c []) (rules.places_told HoldsSource profile options c []) (rules.reached_maxfail (tests options c.table) options c) ≡ bytes = cc in
-    let ends : status_seen (answers.status_of (length c.selected) c.errors (rules.reports_told HoldsSource profile options c [])) ≡ status = cc in
-    sym (ap₂ (λ (b : List ℕ) (s : Status). (b, s)) all ends)
-
--- from the lists as the code lends them
-pub response_of_slices : (options : Options) (x : Collected) (w : SourceWorld) (answer : RunAnswer) → asks_for_unbuilt options ≡ false → (errors : List CollectReport) (reports : List ItemReport) → errors ≡ x.errors.items
-    → reports ≡ answer.reports.items → IsRunAnswer options x.found x.selected errors w answer
-    → (bytes : List ℕ) (status : Status) (count : ℕ) → count ≡ length x.selected → bytes ≡ answers.report_bytes options count x.deselected errors 0 reports [] answer.stopped
-    → status ≡ status_seen (answers.status_of count errors reports) → (bytes, status) ≡ response_of (rules.report HoldsSource profile options (collected_told x w) [])
-response_of_slices options x w answer built errors reports es rs h bytes status count counted is said =
-    response_of_run options x w answer built (subst (λ (e : List CollectReport). IsRunAnswer options x.found x.selected e w answer) es h) bytes status count counted
-    (is ∙ ap₂ (λ (e : List CollectReport) (r : List ItemReport). answers.report_bytes options count x.deselected e 0 r [] answer.stopped) es rs)
-    (said ∙ ap₂ (λ (e : List CollectReport) (r : List ItemReport). status_seen (answers.status_of count e r)) es rs)
 
 -- WHERE COLLECTION ENDED
 some_same : {X : Type 0} (a b : X) → Some a ≡ Some b → a ≡ b
@@ -130,10 +97,6 @@ pub of_collected : (options : Options) (files : List File) (reads : List ReadFil
 of_collected options files reads end r fits read is h =
     response_as (rules.SaysOfCollection HoldsSource profile options [] end) (rules.SaysOfFiles HoldsSource profile options [] files) r
     (λ answer said. says_collected options files reads answer fits read (subst (λ e. rules.SaysOfCollection HoldsSource profile options [] e answer) is said)) h
-
-pub whole_said : (options : Options) (x : Collected) (w : SourceWorld) (r : Response) → asks_for_unbuilt options ≡ false → r ≡ response_of (rules.report HoldsSource profile options (collected_told x w) [])
-    → IsResponseBy (rules.SaysOfCollection HoldsSource profile options [] (Whole (collected_told x w))) r
-whole_said options x w r built same = record { answer = rules.report HoldsSource profile options (collected_told x w) []; is = (none_taken options (collected_told x w) built, refl); same = same }
 
 pub faulty_said : (options : Options) (files : List File) (reads : List ReadFile) (end : Option End) (r : Response) → tree_limit files ≡ None → AreRead files reads
     → IfSome end (λ e. e ≡ collect options reads) → IsSomeAnd end (λ e. option_map response_of (end_answer e) ≡ Some r) → IsResponseBy (rules.SaysOfFiles HoldsSource profile options [] files) r

@@ -24,7 +24,7 @@ use Rattle.run_items.specs.test_suite.declared.suite.Suite.{Suite}
 use Rattle.pytest_core.specs.Profile.{profile, refused_text}
 use Rattle.pytest_core.specs.Report.{IsTreeReport, OfKept}
 use Rattle.pytest_core.proofs.Kept.{kept_files}
-use Rattle.pytest_core.proofs.NoWorkers.{only_none}
+use Rattle.pytest_core.proofs.NoWorkers.{no_worker, only_none}
 use Rattle.pytest_core.proofs.Said.{built_by}
 
 -- bytes say one thing
@@ -39,7 +39,7 @@ module _ (taken : List (List ℕ)) (files : List File) (answer : PrintedAnswer) 
   of_collection : (options : Options) (x : Collection python Suite) → refused_text options ≡ None → rules.SaysOfCollection HoldsSource profile options taken x answer → taken ≡ []
   of_collection options (Refused text) e said = said.0
   of_collection options (ConftestFault path told) e said = said.0
-  of_collection options (Whole c) e said = only_none options c (built_by options e) taken said.0
+  of_collection options (Whole c) e said = only_none options c (no_worker options c (built_by options e)) taken said.0
 
   of_limit : (options : Options) (given : List File) (x : Option TreeLimit) → refused_text options ≡ None
       → MatchOption x ((sources : List ReadFile) × rules.AreSources HoldsSource profile given sources × rules.SaysOfCollection HoldsSource profile options taken (collect options sources) answer) (λ l. (taken ≡ []) × (answer ≡ refusal (limit_text l))) → taken ≡ []

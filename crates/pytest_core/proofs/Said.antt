@@ -1,9 +1,9 @@
 -- What is said of words, from what is said of their options and of files.
 use Rattle.std.proofs.Common.{◌≡◌, ℕ, List, [], ◌∷◌, Bool, true, false, cond, Option, None, Some, Result, Ok, Err, MatchOption, MatchResult, codes, refl, sym, subst, ap, ◌∙◌, ◌||◌}
-use Rattle.std.specs.Prelude.{IfOk, IfSome, IsSome, is_some}
+use Rattle.std.specs.Prelude.{IfOk, IfSome, IsSome}
 use Rattle.cli_words.specs.Faults.{usage_text}
 use Rattle.cli_words.specs.Info.{info_of}
-use Rattle.cli_words.specs.Options.{options_of}
+use Rattle.cli_words.specs.Options.{asks_for_workers, options_of}
 use Rattle.cli_words.specs.declared.fault.UsageFault.{UsageFault}
 use Rattle.cli_words.specs.declared.info.Info.{Info}
 use Rattle.cli_words.specs.declared.options.Options.{Options}
@@ -19,7 +19,6 @@ use Rattle.run_items.specs.report_rules.Report as rules
 use Rattle.run_items.specs.runtest_rules.Language.{python}
 use Rattle.run_items.specs.test_suite.declared.suite.Suite.{Suite}
 use Rattle.selection.specs.Exprs.{refused_expression}
-use Rattle.selection.specs.Unbuilt.{asks_for_unbuilt}
 use Rattle.pytest_core.specs.Profile.{first_text, profile, refused_text}
 use Rattle.pytest_core.specs.Report.{IsTreeReport, OfKept}
 use Rattle.pytest_core.specs.Status.{is_said, status_seen}
@@ -50,6 +49,10 @@ of_any Says tree answer r is same = let kept = kept_files tree in record { answe
 pub some_as : {X : Type 0} (o : Option X) (P Q : X → Type 0) → ((x : X) → P x → Q x) → IfSome o P → IfSome o Q
 some_as None P Q f h = tt
 some_as (Some x) P Q f h = f x h
+
+pub some_of : {X : Type 0} (o : Option X) (P : X → Type 0) → ((x : X) → P x) → IfSome o P
+some_of None P f = tt
+some_of (Some x) P f = f x
 
 pub both_as : {X E : Type 0} (x : Result X E) (P Q R : X → Type 0) → ((y : X) → P y → Q y → R y) → IfOk x P → IfOk x Q → IfOk x R
 both_as (Ok y) P Q R f h k = f y h k
@@ -87,14 +90,6 @@ says_limit options files limit passes =
     λ x. MatchOption x ((sources : List ReadFile) × rules.AreSources HoldsSource profile files sources × rules.SaysOfCollection HoldsSource profile options [] (collect options sources) (refusal (limit_text limit))) (λ l. (NoGroups ≡ NoGroups) × (refusal (limit_text limit) ≡ refusal (limit_text l))) in
     subst P (sym passes) (refl, refl)
 
--- a tree that passes a limit
-pub limit_said : (options : Options) (tree : Option (List File)) (limit : Option TreeLimit) (r : Response)
-    → IfSome limit (λ l. IfSome tree (λ fs. (kept : List File) × IsKept fs kept × (tree_limit kept ≡ Some l))) → IfSome limit (λ l. r ≡ response_of (refusal (limit_text l))) → IsSome limit
-    → IfSome tree (λ fs. IsResponseBy (OfKept (rules.SaysOfFiles HoldsSource profile options []) fs) r)
-limit_said options None limit r passes same some = tt
-limit_said options (Some fs) None r passes same some = absurd (cc)
-limit_said options (Some fs) (Some l) r (kept, is, e) same some = record { answer = refusal (limit_text l); is = (kept, is, says_limit options kept l e); same = same }
-
 -- OPTIONS
 abbrev NoText : Option (List ℕ)
 NoText = None
@@ -104,17 +99,17 @@ no_first None false text e = (refl, refl)
 no_first None true text e = absurd (cc)
 no_first (Some said) more text e = absurd (cc)
 
-pub built_by : (options : Options) → refused_text options ≡ None → asks_for_unbuilt options ≡ false
-built_by options e = (no_first (refused_expression options) (asks_for_unbuilt options) (codes "not built") e).1
+pub built_by : (options : Options) → refused_text options ≡ None → asks_for_workers options ≡ false
+built_by options e = (no_first (refused_expression options) (asks_for_workers options) (codes "not built") e).1
 
-pub accepts : (options : Options) → refused_expression options ≡ None → asks_for_unbuilt options ≡ false → refused_text options ≡ None
-accepts options none built = ap (λ x. first_text x (cond (asks_for_unbuilt options) (Some (codes "not built")) None)) none ∙ ap (λ (b : Bool). cond b (Some (codes "not built")) NoText) built
+pub accepts : (options : Options) → refused_expression options ≡ None → asks_for_workers options ≡ false → refused_text options ≡ None
+accepts options none built = ap (λ x. first_text x (cond (asks_for_workers options) (Some (codes "not built")) None)) none ∙ ap (λ (b : Bool). cond b (Some (codes "not built")) NoText) built
 
-pub refuses_unbuilt : (options : Options) → refused_expression options ≡ None → asks_for_unbuilt options ≡ true → refused_text options ≡ Some (codes "not built")
-refuses_unbuilt options none asks = ap (λ x. first_text x (cond (asks_for_unbuilt options) (Some (codes "not built")) None)) none ∙ ap (λ (b : Bool). cond b (Some (codes "not built")) NoText) asks
+pub refuses_unbuilt : (options : Options) → refused_expression options ≡ None → asks_for_workers options ≡ true → refused_text options ≡ Some (codes "not built")
+refuses_unbuilt options none asks = ap (λ x. first_text x (cond (asks_for_workers options) (Some (codes "not built")) None)) none ∙ ap (λ (b : Bool). cond b (Some (codes "not built")) NoText) asks
 
 pub refuses_expression : (options : Options) (text : List ℕ) → refused_expression options ≡ Some text → refused_text options ≡ Some text
-refuses_expression options text e = ap (λ x. first_text x (cond (asks_for_unbuilt options) (Some (codes "not built")) None)) e
+refuses_expression options text e = ap (λ x. first_text x (cond (asks_for_workers options) (Some (codes "not built")) None)) e
 
 pub says_refused : (options : Options) (text : List ℕ) → refused_text options ≡ Some text → (files : List File) → rules.SaysOfOptions HoldsSource profile options [] files (refusal text)
 says_refused options text e files =
@@ -122,24 +117,21 @@ says_refused options text e files =
     λ x. MatchOption x (rules.SaysOfFiles HoldsSource profile options [] (rules.files_for HoldsSource profile options.generated files) (refusal text)) (λ t. (NoGroups ≡ NoGroups) × (refusal text ≡ refusal t)) in
     subst P (sym e) (refl, refl)
 
-none_asked : (x : Option (ℕ × ℕ)) → is_some x ≡ false → x ≡ None
-none_asked None e = refl
-none_asked (Some asked) e = absurd (cc)
-
-none_in : (a b : Bool) → (a || b) ≡ false → b ≡ false
-none_in false b e = e
-none_in true b e = absurd (cc)
-
-pub none_generated : (options : Options) → asks_for_unbuilt options ≡ false → options.generated ≡ None
-unfolding asks_for_unbuilt
-none_generated options e = none_asked options.generated (none_in _ (is_some options.generated) e)
-
-pub says_run : (options : Options) → refused_text options ≡ None → (files : List File) (answer : PrintedAnswer) → rules.SaysOfFiles HoldsSource profile options [] files answer → rules.SaysOfOptions HoldsSource profile options [] files answer
+pub says_run : (options : Options) → refused_text options ≡ None → (files : List File) (answer : PrintedAnswer) → rules.SaysOfFiles HoldsSource profile options [] (rules.files_for HoldsSource profile options.generated files) answer → rules.SaysOfOptions HoldsSource profile options [] files answer
 says_run options e files answer said =
-    let given : rules.files_for HoldsSource profile options.generated files ≡ files = ap (λ x. rules.files_for HoldsSource profile x files) (none_generated options (built_by options e)) in
     let P : Option (List ℕ) → Type 0 =
     λ x. MatchOption x (rules.SaysOfFiles HoldsSource profile options [] (rules.files_for HoldsSource profile options.generated files) answer) (λ t. (NoGroups ≡ NoGroups) × (answer ≡ refusal t)) in
-    subst P (sym e) (subst (λ fs. rules.SaysOfFiles HoldsSource profile options [] fs answer) (sym given) said)
+    subst P (sym e) said
+
+-- of the tree's files
+pub says_tree : (options : Options) → refused_text options ≡ None → options.generated ≡ None → (files : List File) (answer : PrintedAnswer) → rules.SaysOfFiles HoldsSource profile options [] files answer → rules.SaysOfOptions HoldsSource profile options [] files answer
+says_tree options e none files answer said =
+    says_run options e files answer (subst (λ fs. rules.SaysOfFiles HoldsSource profile options [] fs answer) (sym (ap (λ x. rules.files_for HoldsSource profile x files) none)) said)
+
+-- of the generated files, whatever the tree's are
+pub says_generated : (options : Options) (asked : ℕ × ℕ) → refused_text options ≡ None → options.generated ≡ Some asked → (files : List File) (answer : PrintedAnswer) → rules.SaysOfFiles HoldsSource profile options [] (profile.generated asked.0 asked.1) answer → rules.SaysOfOptions HoldsSource profile options [] files answer
+says_generated options asked e some files answer said =
+    says_run options e files answer (subst (λ fs. rules.SaysOfFiles HoldsSource profile options [] fs answer) (sym (ap (λ x. rules.files_for HoldsSource profile x files) some)) said)
 
 -- WORDS
 by_words : (words : List (List ℕ)) (files : List File) (answer : PrintedAnswer) → info_of words ≡ None → rules.SaysOfWords HoldsSource profile [] words files answer → rules.IsReport HoldsSource profile words files answer

@@ -4,4 +4,5 @@ pub mod Report
 pub mod Request
 pub mod Run
 pub mod Status
+pub mod Streamed
 pub mod Written

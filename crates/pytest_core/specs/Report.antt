@@ -1,5 +1,5 @@
 -- THE REPORT OF WORDS AND FILES.
-use Rattle.std.specs.Prelude.{◌≡◌, ℕ, List, Option, None, Some, Ok, map}
+use Rattle.std.specs.Prelude.{◌≡◌, ℕ, List, [], Option, None, Some, Ok, map}
 use Rattle.cli_words.specs.Info.{info_of}
 use Rattle.cli_words.specs.Options.{options_of}
 use Rattle.cli_words.specs.declared.options.Options.{Options}
@@ -31,6 +31,10 @@ end_answer (Whole c) = None
 -- no two selected items are one
 abbrev pub AreDistinct : Collected python Suite → Type 0
 AreDistinct c = Distinct (map chosen_item c.selected)
+
+-- the report of what was collected
+abbrev pub IsReportOf : Options → Collected python Suite → PrintedAnswer → Type 0
+IsReportOf options c answer = answer ≡ rules.report HoldsSource profile options c []
 
 -- words that ask for a run: they ask for no information, and are not refused
 pub record AskForRun (words : List (List ℕ)) : Type 0 where

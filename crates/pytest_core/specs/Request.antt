@@ -1,5 +1,5 @@
 -- WHAT WORDS ASK FOR: a run, or a text that does not depend on the tree.
-use Rattle.std.specs.Prelude.{◌≡◌, ℕ, Bool, true, false, List, [], None, Ok}
+use Rattle.std.specs.Prelude.{◌≡◌, ℕ, ◌≤◌, Bool, true, false, List, [], Option, None, Some, Ok}
 use Rattle.cli_words.specs.Info.{info_of}
 use Rattle.cli_words.specs.Options.{options_of}
 use Rattle.cli_words.specs.declared.fault.UsageFault.{UsageFault}
@@ -41,3 +41,8 @@ OptionsAsk o (Said response) = (tree : List File) → IsResponseBy (OfKept (rule
 abbrev pub WordsAsk : List (List ℕ) → Request → Type 0
 WordsAsk words (Run options exprs) = (info_of words ≡ None) × (options_of words ≡ Ok options) × AreExprs options exprs × (refused_text options ≡ None)
 WordsAsk words (Said response) = (tree : List File) → IsResponseBy (IsTreeReport words tree) (response.0.items, response.1)
+
+-- the bounds of `--generated`: a seed from 0 to 65,535, and 1 to 4,000 files
+abbrev pub IsInBounds : Option (ℕ × ℕ) → Type 0
+IsInBounds None = Unit {0}
+IsInBounds (Some asked) = (asked.0 ≤ 65535) × (1 ≤ asked.1) × (asked.1 ≤ 4000)

@@ -1,11 +1,14 @@
 -- What a run on one thread gives.
-use Rattle.std.specs.Prelude.{◌≡◌, ℕ, List, [], ◌∷◌, None, map}
+use Rattle.std.specs.Prelude.{◌≡◌, ℕ, Bool, not, ◌&&◌, List, [], ◌∷◌, None, map}
+use Rattle.cli_words.specs.Options.{asks_for_workers}
 use Rattle.cli_words.specs.declared.options.Options.{Options}
 use Rattle.collect_tree.specs.collect_items.declared.found.FoundSuite.{FoundSuite}
 use Rattle.collect_tree.specs.Collection.{item_numbered, selected_by}
 use Rattle.collect_tree.specs.file_source.Sources.{HoldsSource}
 use Rattle.run_items.specs.fixture_world.Items.{item_in_session}
+use Rattle.report_parts.specs.Outcomes.{not_empty}
 use Rattle.report_parts.specs.declared.report.CollectReport.{CollectReport}
+use Rattle.report_parts.specs.declared.report.ItemReport.{ItemReport}
 use Rattle.run_items.specs.report_rules.Collected.{Collected, SelectedItem}
 use Rattle.run_items.specs.report_rules.Fits.{chosen_item}
 use Rattle.run_items.specs.report_rules.Items.{item_report}
@@ -23,7 +26,6 @@ use Rattle.session_rules.specs.World.{Item}
 use Rattle.run_items.specs.source_meaning.Meaning.{SourceWorld}
 use Rattle.run_items.specs.test_suite.declared.suite.Suite.{Suite}
 use Rattle.pytest_core.specs.Profile.{profile}
-use Rattle.pytest_core.specs.declared.session.RunAnswer.{RunAnswer}
 
 -- what was collected: the items of a suite with these numbers, in files at these places
 abbrev pub collected_of : FoundSuite → List ℕ → List ℕ → ℕ → List CollectReport → SourceWorld → Collected python Suite
@@ -43,27 +45,31 @@ items_known found numbers = map (λ n. item_in_session found.table (item_numbere
 abbrev pub AreApart : FoundSuite → List ℕ → Type 0
 AreApart found numbers = Distinct (items_known found numbers)
 
+-- whether workers run these items: where words ask for workers, no file could not be collected, and there are items
+abbrev pub wants_workers : Options → List ℕ → List CollectReport → Bool
+wants_workers options numbers errors = asks_for_workers options && (not (not_empty errors) && not_empty numbers)
+
 -- the reports of a run of these items, and whether it stopped early, are those of the report, whatever the places of the files and the
 -- number of the items that are not run
-pub record IsRunAnswer (options : Options) (found : FoundSuite) (numbers : List ℕ) (errors : List CollectReport) (w : SourceWorld) (answer : RunAnswer) : Type 0 where
-  pub reports : (places : List ℕ) (deselected : ℕ) → answer.reports.items ≡ rules.reports_told HoldsSource profile options (collected_of found places numbers deselected errors w) []
-  pub stopped : (places : List ℕ) (deselected : ℕ) → answer.stopped ≡ rules.reached_maxfail (tests options found.suite) options (collected_of found places numbers deselected errors w)
+pub record IsRunAnswer (options : Options) (found : FoundSuite) (numbers : List ℕ) (errors : List CollectReport) (w : SourceWorld) (told : List ItemReport) (early : Bool) : Type 0 where
+  pub reports : (places : List ℕ) (deselected : ℕ) → told ≡ rules.reports_told HoldsSource profile options (collected_of found places numbers deselected errors w) []
+  pub stopped : (places : List ℕ) (deselected : ℕ) → early ≡ rules.reached_maxfail (tests options found.suite) options (collected_of found places numbers deselected errors w)
 
 -- what the run of found items depends on: their suite, its table and the limit of steps
 abbrev pub plan_by : Options → FoundSuite → Plan
 plan_by options found = record { run = record { limit = options.step_limit; suite = found.suite }; table = found.table }
 
 -- the answer of a run by a plan: the reports of its session, and whether that stopped early
-pub record IsRunOf (plan : Plan) (options : Options) (chosen : List SelectedItem) (w : SourceWorld) (answer : RunAnswer) : Type 0 where
-  pub reports : map (item_report options (plan_rules plan).scope (plan_fixture plan)) (session_rows (plan_rules plan) w options.maxfail (map (task None) chosen)) ≡ answer.reports.items
-  pub stopped : has_stopped options.maxfail (ran (plan_rules plan) w options.maxfail (map (task None) chosen)) ≡ answer.stopped
+pub record IsRunOf (plan : Plan) (options : Options) (chosen : List SelectedItem) (w : SourceWorld) (told : List ItemReport) (early : Bool) : Type 0 where
+  pub reports : map (item_report options (plan_rules plan).scope (plan_fixture plan)) (session_rows (plan_rules plan) w options.maxfail (map (task None) chosen)) ≡ told
+  pub stopped : has_stopped options.maxfail (ran (plan_rules plan) w options.maxfail (map (task None) chosen)) ≡ early
 
 -- the items of the first group
 abbrev pub chosen_first : Plan → List (List ℕ) → List SelectedItem
 chosen_first plan groups = chosen_in (planned plan) plan.run.suite.items (numbers_at groups 0)
 
-unfoldable pub RunsFirst : Plan → Options → List (List ℕ) → SourceWorld → RunAnswer → Type 0
-RunsFirst plan options groups w answer = Distinct (map chosen_item (chosen_first plan groups)) → IsRunOf plan options (chosen_first plan groups) w answer
+unfoldable pub RunsFirst : Plan → Options → List (List ℕ) → SourceWorld → List ItemReport → Bool → Type 0
+RunsFirst plan options groups w told early = Distinct (map chosen_item (chosen_first plan groups)) → IsRunOf plan options (chosen_first plan groups) w told early
 
 -- the only group
 abbrev pub IsOneGroup : List (List ℕ) → Type 0

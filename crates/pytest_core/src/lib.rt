@@ -2,8 +2,8 @@
 //!
 //! # What it is for
 //!
-//! [`pytest_main`] is the program: it reads the words and the kept files of the tree, collects and runs the tests that the words name,
-//! and writes the report.
+//! [`pytest_main`] is the program: it reads the words and the kept files of the tree, or makes up those of `--generated`, collects and runs
+//! the tests that the words name, and writes the report as it becomes known.
 //!
 //! # What is proved
 //!
@@ -11,7 +11,9 @@
 //!   report's; where the status is `SinkFault` or `OutOfMemory`, by a prefix of them; where it is `TreeFault`, by nothing. The report
 //!   (`IsTreeReport`) is that of `report_rules` for the language of this program (`profile`: the words that it refuses, the collection of
 //!   `collect_tree`, what fixtures and tests do by the rules of `runtest_rules`, and the names of fixtures), over the tree's kept files in
-//!   the order of their paths.
+//!   the order of their paths, or over the generated files.
+//! - While items of one thread run, what was put are the head and the pieces of the reports that were taken (`ReportWriter`, `Stems`), also
+//!   where the run breaks off.
 //! - [`one_report`], [`has_report`], laws: words and files have one report and no other. So the clause above names it.
 //! - [`what_a_report_tells`], a law, is the headline, by the kept files of the tree. A report is a text that the words ask for, a refusal
 //!   (of words that are read wrong, of what isn't built, of files that pass a limit, or collection's), that of a conftest that failed in
@@ -29,7 +31,8 @@
 //!
 //! # What tests alone show
 //!
-//! That it succeeds with ample memory, and the bytes of worked reports (`acceptance`).
+//! That it succeeds with ample memory, and the bytes of worked reports (`acceptance`). That the head is put before
+//! anything runs, and each piece before the next item runs, is the code's order, which no clause says.
 //!
 //! # What neither shows
 //!
@@ -39,7 +42,6 @@
 
 mod answer;
 mod collected;
-mod gathered;
 mod laws;
 mod one_group;
 mod refusal;
@@ -48,6 +50,8 @@ mod request;
 mod run;
 mod session;
 mod status;
+mod writer;
+mod writing;
 
 pub use laws::{has_report, one_report, what_a_report_tells};
 pub use run::pytest_main;

@@ -1,10 +1,11 @@
 // What is said without a run: of words and files that are refused, of a conftest that raises, and of words that ask for information.
 
-ghost use Rattle.std.specs.Prelude.{◌≡◌, ◌++◌, IfOk, IfSome, IsSome, IsTrue, IsErrOf, OnOk, codes, string_bytes};
+ghost use Rattle.std.specs.Prelude.{◌≡◌, ◌++◌, IfErr, IfOk, IfSome, IsSome, IsTrue, IsErrOf, OnOk, codes, string_bytes};
 ghost use Rattle.cli_words.specs.Faults.{usage_text};
 ghost use Rattle.edge_io.specs.Files.{LargeFile};
 ghost use Rattle.edge_io.specs.LoadFaults.{limit_of};
 ghost use Rattle.pytest_core.specs.Status.{is_said};
+ghost use Rattle.pytest_core.specs.Streamed.{IsNotSink};
 ghost use Rattle.pytest_core.specs.Written.{response_of};
 ghost use Rattle.run_items.specs.report_rules.Answer.{conftest_fault, info_answer, limit_text, refusal};
 ghost use Rattle.selection.specs.Exprs.{selection_text};
@@ -73,10 +74,13 @@ fn refuse_size(alloc: Global, path: &str) -> Result<Response, OutOfMemory>
     refuse(alloc, text.as_str())
 }
 
-/// Why there is no response.
+/// Why a run broke off.
 #[derive(Debug, Drop)]
 pub enum RunFault {
+    /// The tree failed, and nothing was written.
     Tree,
+    /// The sink failed.
+    Sink,
     OutOfMemory,
 }
 
@@ -97,6 +101,7 @@ pub fn refuse_tree(alloc: Global, fault: &LoadFault) -> Result<Response, RunFaul
     ensures limit { IfOk result (λ r. IsSome (limit_of fault.now)) }
     ensures said { IfOk result (λ r. IsTrue (is_said r.1)) }
     ensures tree { IsErrOf result RunFault.Tree → fault.now ≡ LoadFault.Tree }
+    ensures fault { IfErr result IsNotSink }
 {
     match fault {
         LoadFault::Tree => Err(RunFault::Tree),

@@ -1,15 +1,16 @@
 // The report of what was collected.
 
-ghost use Rattle.std.specs.Prelude.{◌≡◌, ◌+◌, ◌≤◌, [], IfOk, IsTrue, length, if◌then◌else◌};
+ghost use Rattle.std.specs.Prelude.{◌≡◌, ◌+◌, ◌≤◌, IfOk, IsTrue, length, if◌then◌else◌};
 ghost use Rattle.std.specs.List.{list_any};
 ghost use Rattle.pytest_core.specs.Status.{is_said, status_seen};
+ghost use Rattle.pytest_core.specs.Streamed.{rest_of};
 ghost use Rattle.report_parts.specs.Limits.{most_items};
 ghost use Rattle.run_items.specs.report_rules.Answer as rules;
 
 use crate::status::Status;
 use cli_words::Options;
 use report_parts::{is_failed, is_raised};
-use report_text::{CollectReport, ItemReport, OutOfMemory, head, progress, sections, summary};
+use report_text::{CollectReport, ItemReport, OutOfMemory, sections, summary};
 use std::alloc::Global;
 
 /// Whether an item failed or had an error.
@@ -50,27 +51,26 @@ pub fn status_of(selected: u32, errors: &[CollectReport], reports: &[ItemReport]
     status_by(!errors.is_empty(), any_bad(reports), selected == 0)
 }
 
-/// The bytes of a report without workers: the head, the progress, the sections and the summary.
-pub fn report_bytes(
+/// What stands behind what is written of the progress: the sections and the summary.
+pub fn rest_bytes(
     alloc: Global,
     options: &Options,
     selected: u32,
     deselected: u32,
     errors: &[CollectReport],
+    left: Vec<u8>,
     reports: &[ItemReport],
     stopped: bool,
 ) -> Result<Vec<u8>, OutOfMemory>
     requires items { selected + deselected ≤ most_items }
     requires errors { length errors.now ≤ most_items }
-    ensures { IfOk result (λ bytes. bytes.items ≡ rules.report_bytes options.now selected deselected errors.now 0 reports.now [] stopped) }
+    ensures { IfOk result (λ bytes. bytes.items ≡ rest_of options.now selected deselected errors.now left.items reports.now stopped) }
 {
-    let mut out = head(alloc, options, selected, deselected, errors.len() as u32, 0)?;
-    let progress = progress(alloc, options, reports, &[])?;
+    let mut out = left;
     let sections = sections(alloc, options, errors, reports)?;
     let summary = summary(
         alloc, options, errors, reports, selected, deselected, stopped,
     )?;
-    out.extend_from_slice(&progress)?;
     out.extend_from_slice(&sections)?;
     out.extend_from_slice(&summary)?;
     Ok(out)

@@ -6,7 +6,7 @@ ghost use Rattle.pytest_core.specs.Request.{OptionsAsk, WordsAsk, is_expression_
 use crate::refusal::{Response, refuse, refuse_expression, refuse_words, tell_info};
 use cli_words::{Options, UsageFault, asked_info, read_words};
 use report_text::OutOfMemory;
-use selection::{Exprs, SelectionFault, asks_for_unbuilt, read_exprs};
+use selection::{Exprs, SelectionFault, read_exprs};
 use std::alloc::Global;
 
 /// What words ask for.
@@ -23,7 +23,7 @@ fn built_request(alloc: Global, options: Options, exprs: Exprs) -> Result<Reques
     requires { AreExprs options exprs }
     ensures { IfOk result (OptionsAsk options) }
 {
-    if asks_for_unbuilt(&options) {
+    if options.asks_for_workers() {
         return Ok(Request::Said(refuse(alloc, "not built")?));
     }
     Ok(Request::Run(options, exprs))

@@ -3,17 +3,18 @@ ghost use Rattle.edge_io.specs.Causes.{Rose};
 ghost use Rattle.pytest_core.specs.Report.{AskForRun, IsTreeReport};
 ghost use Rattle.pytest_core.specs.Written.{Wrote};
 
-use crate::answer::answer;
+use crate::answer::put_answer;
 use crate::refusal::RunFault;
 use crate::status::Status;
-use edge_io::{Gate, Sink, SinkFail, Tree, put_all};
+use edge_io::{Gate, Sink, Tree};
 use std::alloc::Global;
 use std::thread::Threads;
 
-/// Runs the tests that the words name, and writes the report.
+/// Runs the tests that the words name, and writes the report as it becomes known: the head when the tests are collected, the progress of
+/// each test as it ends, and then the rest.
 ///
 /// The words are those of the command line behind the program's name. Nothing is written before all
-/// files were read, and nothing is put behind a fault of the sink.
+/// files were read, and nothing runs or is put behind a fault of the sink.
 pub fn pytest_main<R: Threads + Sync, T: Tree, S: Sink, G: Gate + Sync>(
     _rt: &R,
     alloc: Global,
@@ -32,14 +33,10 @@ pub fn pytest_main<R: Threads + Sync, T: Tree, S: Sink, G: Gate + Sync>(
     // The sink's fault comes only where its count rose.
     ensures sink { result ≡ Status.SinkFault → Rose (S.faults out.old) (S.faults out.new) }
 {
-    let (bytes, status) = match answer(alloc, words, tree) {
-        Ok(answer) => answer,
-        Err(RunFault::Tree) => return Status::TreeFault,
-        Err(RunFault::OutOfMemory) => return Status::OutOfMemory,
-    };
-    match put_all(out, &bytes) {
-        Ok(()) => status,
-        Err(SinkFail::Failed) => Status::SinkFault,
-        Err(SinkFail::OutOfMemory) => Status::OutOfMemory,
+    match put_answer(alloc, words, tree, out) {
+        Ok(status) => status,
+        Err(RunFault::Tree) => Status::TreeFault,
+        Err(RunFault::Sink) => Status::SinkFault,
+        Err(RunFault::OutOfMemory) => Status::OutOfMemory,
     }
 }

@@ -1,10 +1,13 @@
 -- What the functions of sources do is what the rules of a plan say.
-use Rattle.std.proofs.Common.{◌≡◌, ℕ, ◌==◌, Bool, true, false, cond, List, [], ◌∷◌, ◌++◌, map, refl, sym, ap, ◌∙◌, subst, Option, None, Some, option_to_list}
-use Rattle.std.proofs.lemmas.List.{append-nil}
+use Rattle.std.proofs.Common.{◌≡◌, ℕ, Bool, List, [], ◌∷◌, ◌++◌, map, refl, sym, ap, ap₂, ◌∙◌, subst, Option, None, Some, option_to_list}
+use Rattle.std.proofs.lemmas.List.Kept.{AllPairs-filter}
 use Rattle.fixture_calls.specs.Asking.{test_request}
 use Rattle.fixture_calls.specs.Calls.{test_called}
+use Rattle.fixture_calls.specs.Hooks.{hook_begun}
 use Rattle.fixture_calls.specs.declared.failure.Failure.{Failure}
+use Rattle.fixture_calls.specs.declared.yields.FixtureEnd.{FixtureEnd}
 use Rattle.fixture_world.specs.Items.{closure_of, item_in_session}
+use Rattle.hook_order.specs.HookOrder.{InHookOrder, RunsBefore}
 use Rattle.hook_order.specs.declared.implementation.Impl.{Impl}
 use Rattle.hook_phases.specs.Steps.{IsKnownWhere, behind_implement, item_where}
 use Rattle.item_stack.specs.Leaving.{IsNextItem, chain_for}
@@ -13,17 +16,18 @@ use Rattle.report_parts.specs.Outcomes.{is_raised}
 use Rattle.report_parts.specs.declared.outcome.Phase.{Phase as ShownPhase}
 use Rattle.report_parts.specs.declared.outcome.Phase.TheVariants as shown
 use Rattle.runtest_reports.specs.report_rules.Collected.{CapturedEnd, ends_badly}
-use Rattle.run_items.specs.Stands.{IsPlannedItem, node_of, object_noted, plan_rules, planned, stand_state}
+use Rattle.run_items.specs.Hooking.{arguments_at, implemented_at}
+use Rattle.run_items.specs.Stands.{IsPlan, IsPlannedItem, node_of, object_noted, plan_rules, planned, stand_state}
 use Rattle.run_items.specs.declared.plan.Plan.{Plan}
 use Rattle.run_items.specs.declared.stand.ItemObject.{ItemObject as StandObject}
 use Rattle.run_items.specs.declared.stand.Stand.{Stand}
 use Rattle.runtest_reports.specs.Kept.{session_phase}
 use Rattle.runtest_reports.specs.Stages.{IsKnownItem, session_item}
-use Rattle.fixture_world.specs.runtest_rules.Failures.{fixture_fault, skipped, wrong_arguments}
+use Rattle.fixture_world.specs.runtest_rules.Failures.{fixture_fault, wrong_arguments}
 use Rattle.fixture_world.specs.runtest_rules.Language.{python}
 use Rattle.fixture_world.specs.runtest_rules.Objects.{instance_of_item, item_object}
 use Rattle.fixture_world.specs.runtest_rules.Phases.{phase_ended, phase_of}
-use Rattle.fixture_world.specs.runtest_rules.Rules.{hook_answer, hook_end_of, implemented_for}
+use Rattle.fixture_world.specs.runtest_rules.Rules.{hooks_for, implemented_for, impls_of, serves}
 use Rattle.session_rules.specs.Hooks.{HookAnswer}
 use Rattle.session_rules.specs.Session.{answered, chain_of, gathered, object_made, one_raised, with_new_instance, set_up_by, set_up_item, telling, test_with}
 use Rattle.session_rules.specs.Session as session
@@ -33,6 +37,7 @@ use Rattle.session_rules.specs.World as world
 use Rattle.session_types.specs.declared.journal.Event.{Event}
 use Rattle.item_stack.specs.setup_stack.declared.stack.SetupStack.{SetupStack}
 use Rattle.fixture_calls.specs.source_meaning.Meaning.{SourceWorld}
+use Rattle.test_suite.specs.Hooks.{hook_at}
 use Rattle.test_suite.specs.Suites.{item_with_node}
 use Rattle.test_suite.specs.declared.item.Item.{Item}
 
@@ -40,21 +45,6 @@ use Rattle.test_suite.specs.declared.item.Item.{Item}
 pub object_more : (os : List StandObject) (o : StandObject) → map object_noted (os ++ o ∷ []) ≡ map object_noted os ++ object_noted o ∷ []
 object_more [] o = refl
 object_more (x ∷ os) o = ap (λ (l : List (ItemObject python)). object_noted x ∷ l) (object_more os o)
-
--- an implementation that skips gives no value
-none_gathered : (f : Option Failure) → gathered (one_raised {L = python} (hook_answer f)) ≡ []
-none_gathered (Some f) = refl
-none_gathered None = refl
-
-nothing_gathered : (i : Item) (which : Impl) (w : SourceWorld) → gathered (one_raised {L = python} (implemented_for i which w).answer) ≡ []
-nothing_gathered i which w =
-    elim (which.registered == 0) as (λ b. gathered (one_raised {L = python} (cond b (hook_end_of (skipped i w)) (hook_end_of (None, w))).answer) ≡ []) [
-      | true ↦ none_gathered (skipped i w).0
-      | false ↦ refl
-    ]
-
-behind_same : (s : SessionState python) (x : WorldAnswer python (HookAnswer Value Failure)) → gathered (one_raised {L = python} x.answer) ≡ [] → in_world x.world s ≡ behind_implement x s
-behind_same s x none = ap (λ (values : List Value). record s { world = x.world; values = values }) (sym (append-nil s.values) ∙ ap (λ (l : List Value). s.values ++ l) (sym none))
 
 module _ (plan : Plan) (item : Item) (p : IsPlannedItem plan item) where
   -- THE OBJECTS
@@ -76,16 +66,31 @@ module _ (plan : Plan) (item : Item) (p : IsPlannedItem plan item) where
       ap (λ (x : Failure × SourceWorld). session_step (x.0 ∷ []) (in_world x.1 s)) (e ∙ ap (λ (i : Item). fixture_fault i s.world) (sym p.found))
       ∙ ap (λ (o : Option (List ℕ)). set_up_by (plan_rules plan) (item_in_session plan.table item) o s) (sym none)
 
+  -- THE HOOKS
+
+  pub hooks_same : (phase : world.Phase) (hooks : List Impl) → hooks ≡ hooks_for plan.run.suite.hooks item (impls_of plan.run.suite.hooks phase) → hooks ≡ (plan_rules plan).hooks phase item.node
+  hooks_same phase hooks e = e ∙ ap (λ (i : Item). hooks_for plan.run.suite.hooks i (impls_of plan.run.suite.hooks phase)) (sym p.found)
+
+  -- those that serve an item stay in hook order
+  pub hooks_ordered : IsPlan plan → (phase : world.Phase) (hooks : List Impl) → hooks ≡ hooks_for plan.run.suite.hooks item (impls_of plan.run.suite.hooks phase) → InHookOrder hooks
+  hooks_ordered q phase hooks e =
+      subst (λ (l : List Impl). InHookOrder l) (sym e) (AllPairs-filter RunsBefore (serves plan.run.suite.hooks item) (impls_of plan.run.suite.hooks phase) (q.hooks phase))
+
   -- THE IMPLEMENTATIONS BESIDE THOSE OF THE PHASES
 
-  pub implement_same : (which : Impl) (w w2 : SourceWorld) (a : HookAnswer Value Failure) → answered {L = python} a w2 ≡ implemented_for item which w → answered {L = python} a w2 ≡ implemented_for (item_with_node plan.run.suite item.node) which w
-  implement_same which w w2 a e = e ∙ ap (λ (i : Item). implemented_for i which w) (sym p.found)
+  pub implement_same : (next : Option Item) (which : Impl) (s : SessionState python) (given behind : Option Value) (w2 : SourceWorld) (a : HookAnswer Value Failure)
+      → given ≡ (arguments_at plan item next which s).item → behind ≡ (arguments_at plan item next which s).next
+      → answered {L = python} a w2 ≡ implemented_for plan.run.limit plan.run.suite.hooks item (record { item = given; next = behind }) which s.world → answered {L = python} a w2 ≡ implemented_at plan item next which s
+  implement_same next which s given behind w2 a g b e =
+      e
+      ∙ (ap (λ (i : Item). implemented_for plan.run.limit plan.run.suite.hooks i (record { item = given; next = behind }) which s.world) (sym p.found)
+      ∙ ap₂ (λ (x y : Option Value). implemented_for plan.run.limit plan.run.suite.hooks (item_with_node plan.run.suite item.node) (record { item = x; next = y }) which s.world) g b)
 
-  pub gathered_same : (which : Impl) (s : SessionState python) (w2 : SourceWorld) (a : HookAnswer Value Failure) → answered {L = python} a w2 ≡ implemented_for item which s.world
-      → in_world w2 s ≡ behind_implement (implemented_for (item_with_node plan.run.suite item.node) which s.world) s
-  gathered_same which s w2 a e =
-      behind_same s (answered a w2) (subst (λ (x : WorldAnswer python (HookAnswer Value Failure)). gathered (one_raised {L = python} x.answer) ≡ []) (sym e) (nothing_gathered item which s.world))
-      ∙ ap (λ (x : WorldAnswer python (HookAnswer Value Failure)). behind_implement x s) (implement_same which s.world w2 a e)
+  pub gathered_same : (next : Option Item) (which : Impl) (s : SessionState python) (w2 : SourceWorld) (a : HookAnswer Value Failure) (values : List Value) → answered {L = python} a w2 ≡ implemented_at plan item next which s
+      → values ≡ s.values ++ gathered (one_raised {L = python} a) → record s { world = w2; values = values } ≡ behind_implement (implemented_at plan item next which s) s
+  gathered_same next which s w2 a values e more =
+      ap (λ (l : List Value). record s { world = w2; values = l }) more
+      ∙ ap (λ (x : WorldAnswer python (HookAnswer Value Failure)). behind_implement x s) e
 
   -- THE CALL
 
@@ -118,6 +123,13 @@ module _ (plan : Plan) (item : Item) (p : IsPlannedItem plan item) where
   pub fails_same : (raised : List Failure) (s : SessionState python) (error : Bool) → error ≡ ends_badly Teardown (phase_ended Teardown item raised s.world).0
       → error ≡ is_raised (telling (plan_rules plan) Teardown (item_in_session plan.table item) (session_step raised s)).told.end
   fails_same raised s error e = e ∙ ap (λ (i : Item). ends_badly Teardown (phase_ended Teardown i raised s.world).0) (sym p.found)
+
+-- a wrapper begins with the objects of the item and the next
+pub begun_same : (plan : Plan) (item : Item) (next : Option Item) (which : Impl) (s : SessionState python) (given behind : Option Value) (begun : FixtureEnd × SourceWorld)
+    → given ≡ (arguments_at plan item next which s).item → behind ≡ (arguments_at plan item next which s).next
+    → begun ≡ hook_begun plan.run.limit (hook_at plan.run.suite.hooks which.code) given behind s.world
+    → begun ≡ hook_begun plan.run.limit (hook_at plan.run.suite.hooks which.code) (arguments_at plan item next which s).item (arguments_at plan item next which s).next s.world
+begun_same plan item next which s given behind begun g b e = e ∙ ap₂ (λ (x y : Option Value). hook_begun plan.run.limit (hook_at plan.run.suite.hooks which.code) x y s.world) g b
 
 -- an event is noted
 pub noted_same : (s : Stand) (k : SetupStack Value Failure ℕ) (e f : Event) → k ≡ record s.stack.stack { events = k.events } → k.events ≡ s.stack.stack.events ++ e ∷ [] → e ≡ f

@@ -1,29 +1,27 @@
 -- What a run of a plan gives.
-use Rattle.std.proofs.Common.{◌≡◌, ℕ, Bool, List, [], ◌∷◌, inl, inr, map, refl, sym, ap, ap₂, ◌∙◌, subst, arith, Option, None, Some, option_to_list, option_map}
+use Rattle.std.proofs.Common.{◌≡◌, ℕ, Bool, List, [], ◌∷◌, inl, inr, map, refl, sym, ap, ap₂, ◌∙◌, subst, Option, None, Some, option_to_list, option_map}
 use Rattle.std.specs.Prelude.{slice_get}
 use Rattle.cli_words.specs.declared.options.Options.{Options}
 use Rattle.fixture_calls.specs.declared.failure.Failure.{Failure}
 use Rattle.item_stack.specs.fixture_instances.Resting.{AreSpent}
 use Rattle.item_stack.specs.fixture_instances.declared.ends.CachedResult.{CachedResult}
-use Rattle.hook_order.specs.HookOrder.{InHookOrder}
 use Rattle.item_stack.specs.States.{instance_kept}
 use Rattle.py_values.specs.declared.value.Value.{Value}
 use Rattle.report_parts.specs.declared.report.ItemReport.{ItemReport}
 use Rattle.runtest_reports.specs.report_rules.Collected.{SelectedItem}
-use Rattle.run_items.specs.Runs.{RunsPlan}
+use Rattle.run_items.specs.Runs.{BeginsPlan, RunsPlan}
 use Rattle.run_items.specs.Stands.{IsNewStand, IsPlannedItem, object_noted, plan_fixture, plan_rules, planned, stand_state}
 use Rattle.run_items.specs.declared.plan.Plan.{Plan}
 use Rattle.run_items.specs.declared.stand.ItemObject.{ItemObject}
 use Rattle.run_items.specs.declared.stand.Stand.{Stand}
 use Rattle.runtest_loop.specs.Course.{chosen_at, chosen_in}
 use Rattle.runtest_loop.specs.Fed.{AreKnown}
-use Rattle.runtest_loop.specs.Run.{Runs}
+use Rattle.runtest_loop.specs.Run.{Begins, Runs}
 use Rattle.runtest_loop.specs.declared.run_end.RunEnd.{RunEnd}
 use Rattle.fixture_world.specs.runtest_rules.Language.{python}
-use Rattle.fixture_world.specs.runtest_rules.Rules.{hooks_of}
 use Rattle.session_rules.specs.Fits.{HasFixtureClosure}
 use Rattle.session_rules.specs.Session.{initial_state}
-use Rattle.session_rules.specs.World.{Call, Language, Phase, SetUp, Teardown}
+use Rattle.session_rules.specs.World.{Language}
 use Rattle.session_types.proofs.Lists.{In-append}
 use Rattle.session_types.specs.Members.{IsMember}
 use Rattle.session_types.specs.declared.instance.Instance.{Instance}
@@ -45,12 +43,6 @@ none_spent L (i ∷ is) e = cc
 
 pub all_spent : (s : Stand) → (stand_state s).live ≡ [] → AreSpent s.stack.stack.live.live
 all_spent s e = none_spent python s.stack.stack.live.live e
-
--- the built-in hooks run in this order
-pub in_order : (phase : Phase) → InHookOrder (hooks_of phase)
-in_order SetUp = grind arith
-in_order Call = grind arith
-in_order Teardown = grind arith
 
 module _ (plan : Plan) (items : List Item) (known : AreKnown (IsPlannedItem plan) items) where
   one_fits : (n : ℕ) (o : Option Item) → slice_get items n ≡ o → (c : SelectedItem) → IsMember c (option_to_list (option_map (planned plan) o)) → HasFixtureClosure (plan_rules plan) c.item
@@ -79,3 +71,9 @@ module _ (plan : Plan) (items : List Item) (known : AreKnown (IsPlannedItem plan
   lent_run lent same options numbers first told end stand r =
       runs_plan options numbers first told end stand
       (subst (λ (is : List Item). Runs (plan_rules plan) (plan_fixture plan) options (chosen_in (planned plan) is numbers) first told end (stand_state stand)) same r)
+
+  pub lent_front : (lent : List Item) → lent ≡ items → (options : Options) (numbers : List ℕ) (first : SourceWorld) (before taken : List ItemReport)
+      → Begins (plan_rules plan) (plan_fixture plan) options (chosen_in (planned plan) lent numbers) first before taken
+      → BeginsPlan plan options (chosen_in (planned plan) items numbers) first before taken
+  lent_front lent same options numbers first before taken b =
+      subst (λ (is : List Item). Begins (plan_rules plan) (plan_fixture plan) options (chosen_in (planned plan) is numbers) first before taken) same b

@@ -5,5 +5,6 @@ pub use Rattle.fixture_world.specs.runtest_rules
 pub use Rattle.test_suite.specs as test_suite
 pub mod Texts
 pub mod Stands
+pub mod Hooking
 pub mod Runs
 pub mod NotRun

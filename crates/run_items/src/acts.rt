@@ -1,24 +1,24 @@
 // What is done in the world of a run, by the rules of sources.
 
-ghost use Rattle.std.specs.Prelude.{◌≡◌, [], IfOk, codes};
+ghost use Rattle.std.specs.Prelude.{◌≡◌, IfOk, codes};
 ghost use Rattle.fixture_calls.specs.Asking.{test_request};
 ghost use Rattle.fixture_calls.specs.Calls.{test_called};
-ghost use Rattle.fixture_calls.specs.Failing.{as_failure, made_at};
+ghost use Rattle.fixture_calls.specs.Hooks.{hook_begun, hook_called, resumed_by, resumed_with_value, resumed_with_values};
 ghost use Rattle.fixture_calls.specs.Yields.{fixture_abandoned};
-ghost use Rattle.py_values.specs.declared.class.ExcClass.TheVariants as class;
+ghost use Rattle.fixture_world.specs.runtest_rules.Rules.{wrapper_fault};
 ghost use Rattle.runtest_reports.specs.report_rules.Collected.{ends_badly};
 ghost use Rattle.fixture_world.specs.runtest_rules.Failures as failures;
 ghost use Rattle.fixture_world.specs.runtest_rules.Objects as objects;
 ghost use Rattle.fixture_world.specs.runtest_rules.Phases as phases;
 ghost use Rattle.session_rules.specs.World.{Teardown};
 
-use fixture_calls::{Failure, Frozen};
+use fixture_calls::{CallEnd, Failure, FixtureEnd, Frozen};
 use fixture_world::{Ending, RunWorld};
 use py_values::value::Value;
 use report_parts::Phase;
 use seq::OutOfMemory;
 use std::alloc::Global;
-use test_suite::Item;
+use test_suite::{Hook, Item};
 
 /// Where a world takes memory.
 pub(crate) fn memory(world: &RunWorld) -> Global {
@@ -128,18 +128,93 @@ pub(crate) fn abandon(world: &mut RunWorld, rest: Frozen)
     fixture_calls::abandon(&mut world.world, rest);
 }
 
-/// The exception of a wrapper that ended without yielding.
-pub(crate) fn wrapper_did_not_yield(world: &mut RunWorld) -> Result<Failure, OutOfMemory>
-    ensures { IfOk result (λ failure. (failure, world.new) ≡ as_failure (made_at [] class.RuntimeError (codes "hook wrapper did not yield") world.old)) }
+/// Calls the function of a hook with these objects.
+pub(crate) fn call_hook(
+    world: &mut RunWorld,
+    hook: &Hook,
+    item: Option<Value>,
+    next: Option<Value>,
+    limit: u64,
+) -> Result<CallEnd, OutOfMemory>
+    ensures { IfOk result (λ end. (end, world.new) ≡ hook_called limit hook.now item next world.old) }
 {
-    let failure = fixture_world::wrapper_did_not_yield(world.alloc, &mut world.world)?;
+    let end = fixture_calls::call_hook(world.alloc, &mut world.world, hook, item, next, limit)?;
+    Ok(end)
+}
+
+/// Calls the function of a wrapper with these objects; one that yields stops there.
+pub(crate) fn begin_hook(
+    world: &mut RunWorld,
+    hook: &Hook,
+    item: Option<Value>,
+    next: Option<Value>,
+    limit: u64,
+) -> Result<FixtureEnd, OutOfMemory>
+    ensures { IfOk result (λ end. (end, world.new) ≡ hook_begun limit hook.now item next world.old) }
+{
+    let end = fixture_calls::begin_hook(world.alloc, &mut world.world, hook, item, next, limit)?;
+    Ok(end)
+}
+
+/// What remains of a wrapper goes on with these values as a new list.
+pub(crate) fn resume_with_values(
+    world: &mut RunWorld,
+    rest: Frozen,
+    values: &[Value],
+    limit: u64,
+) -> Result<FixtureEnd, OutOfMemory>
+    ensures { IfOk result (λ end. (end, world.new) ≡ resumed_with_values limit rest values.now world.old) }
+{
+    let alloc = world.alloc;
+    let end = fixture_calls::resume_hook_with_values(alloc, &mut world.world, rest, values, limit)?;
+    Ok(end)
+}
+
+/// What remains of a wrapper goes on with a value, or else None.
+pub(crate) fn resume_with_value(
+    world: &mut RunWorld,
+    rest: Frozen,
+    value: Option<Value>,
+    limit: u64,
+) -> Result<FixtureEnd, OutOfMemory>
+    ensures { IfOk result (λ end. (end, world.new) ≡ resumed_with_value limit rest value world.old) }
+{
+    let alloc = world.alloc;
+    let end = fixture_calls::resume_hook_with_value(alloc, &mut world.world, rest, value, limit)?;
+    Ok(end)
+}
+
+/// What remains of a wrapper goes on by the exception of a failure.
+pub(crate) fn resume_by(
+    world: &mut RunWorld,
+    rest: Frozen,
+    failure: &Failure,
+    limit: u64,
+) -> Result<FixtureEnd, OutOfMemory>
+    ensures { IfOk result (λ end. (end, world.new) ≡ resumed_by limit rest failure.now world.old) }
+{
+    let end = fixture_calls::resume_hook_by(world.alloc, &mut world.world, rest, failure, limit)?;
+    Ok(end)
+}
+
+/// The exception of a wrapper that ended without yielding.
+pub(crate) fn wrapper_did_not_yield(
+    world: &mut RunWorld,
+    hook: &Hook,
+) -> Result<Failure, OutOfMemory>
+    ensures { IfOk result (λ failure. (failure, world.new) ≡ wrapper_fault hook.now (codes "hook wrapper did not yield") world.old) }
+{
+    let failure = fixture_world::wrapper_did_not_yield(world.alloc, &mut world.world, hook)?;
     Ok(failure)
 }
 
 /// The exception of a wrapper that yields again.
-pub(crate) fn wrapper_yielded_again(world: &mut RunWorld) -> Result<Failure, OutOfMemory>
-    ensures { IfOk result (λ failure. (failure, world.new) ≡ as_failure (made_at [] class.RuntimeError (codes "hook wrapper yielded twice") world.old)) }
+pub(crate) fn wrapper_yielded_again(
+    world: &mut RunWorld,
+    hook: &Hook,
+) -> Result<Failure, OutOfMemory>
+    ensures { IfOk result (λ failure. (failure, world.new) ≡ wrapper_fault hook.now (codes "hook wrapper yielded twice") world.old) }
 {
-    let failure = fixture_world::wrapper_yielded_again(world.alloc, &mut world.world)?;
+    let failure = fixture_world::wrapper_yielded_again(world.alloc, &mut world.world, hook)?;
     Ok(failure)
 }

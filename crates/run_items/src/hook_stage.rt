@@ -10,11 +10,11 @@ ghost use Rattle.runtest_reports.specs.report_rules.Collected.{ends_badly};
 ghost use Rattle.session_rules.specs.Hooks.{SentValue};
 ghost use Rattle.session_rules.specs.Teardown.{in_world};
 
-use crate::acts::{abandon, memory, wrapper_did_not_yield, wrapper_yielded_again};
-use crate::hooking;
+use crate::acts::{abandon, memory};
 use crate::opening::make_ready;
 use crate::plan::Plan;
 use crate::stand::Stand;
+use crate::{hooking, wrapping};
 use fixture_calls::{Failure, Frozen, World};
 use fixture_world::{Ending, is_same_exception, not_none};
 use hook_order::Impl;
@@ -50,13 +50,8 @@ impl HookStage for Stand {
 
     ghost known = { IsPlannedItem };
 
-    fn hooks(
-        &self,
-        _plan: &Plan,
-        phase: HookPhase,
-        _item: &Item,
-    ) -> Result<Seq<Impl>, OutOfMemory> {
-        let hooks = hooking::hooks_of(memory(&self.world), phase)?;
+    fn hooks(&self, plan: &Plan, phase: HookPhase, item: &Item) -> Result<Seq<Impl>, OutOfMemory> {
+        let hooks = hooking::hooks_of(memory(&self.world), plan, phase, item)?;
         Ok(hooks)
     }
 
@@ -91,87 +86,82 @@ impl HookStage for Stand {
 
     fn implement(
         &mut self,
-        _plan: &Plan,
+        plan: &Plan,
         _phase: HookPhase,
         item: &Item,
-        _next: Option<&Item>,
+        next: Option<&Item>,
         which: &Impl,
     ) -> Result<ImplementEnd<Value, Failure>, OutOfMemory> {
-        let end = hooking::implement(&mut self.world, item, which)?;
+        let end = hooking::implement(self, plan, item, next, which)?;
         Ok(end)
     }
 
     fn open_wrapper(
         &mut self,
-        _plan: &Plan,
+        plan: &Plan,
         _phase: HookPhase,
-        _item: &Item,
-        _next: Option<&Item>,
-        _which: &Impl,
+        item: &Item,
+        next: Option<&Item>,
+        which: &Impl,
     ) -> Result<WrapperEnd<Value, Failure, Frozen>, OutOfMemory> {
-        Ok(WrapperEnd::Returned(Value::None))
+        let end = wrapping::open_wrapper(self, plan, item, next, which)?;
+        Ok(end)
     }
 
-    fn wrapper_did_not_yield(
-        &mut self,
-        _plan: &Plan,
-        _which: &Impl,
-    ) -> Result<Failure, OutOfMemory> {
-        let failure = wrapper_did_not_yield(&mut self.world)?;
+    fn wrapper_did_not_yield(&mut self, plan: &Plan, which: &Impl) -> Result<Failure, OutOfMemory> {
+        let table = &plan.run.suite.hooks;
+        let failure = wrapping::wrapper_did_not_yield(&mut self.world, table, which)?;
         Ok(failure)
     }
 
     fn resume_with_values(
         &mut self,
-        _plan: &Plan,
+        plan: &Plan,
         _phase: HookPhase,
         _item: &Item,
         rest: Frozen,
     ) -> Result<WrapperEnd<Value, Failure, Frozen>, OutOfMemory> {
-        abandon(&mut self.world, rest);
-        Ok(WrapperEnd::Returned(Value::None))
+        let end = wrapping::resume_with_values(self, plan.run.limit, rest)?;
+        Ok(end)
     }
 
     fn resume_with_value(
         &mut self,
-        _plan: &Plan,
+        plan: &Plan,
         _phase: HookPhase,
         _item: &Item,
         rest: Frozen,
-        _value: Option<Value>,
+        value: Option<Value>,
     ) -> Result<WrapperEnd<Value, Failure, Frozen>, OutOfMemory>
-        requires here { IsPlan _plan.now }
-        requires known { IsPlannedItem _plan.now _item.now }
-        ensures how { IfOk result (λ end. wrapper_end python end ≡ ((plan_rules _plan.now).resume_wrapper (phase_of _phase) (item_in_session _plan.now.table _item.now).node rest (SentValue _value) (stand_state self.old).world).how) }
-        ensures state { OnOk result (stand_state self.new ≡ in_world ((plan_rules _plan.now).resume_wrapper (phase_of _phase) (item_in_session _plan.now.table _item.now).node rest (SentValue _value) (stand_state self.old).world).world (stand_state self.old)) }
-        ensures here { IsPlan _plan.now }
+        requires here { IsPlan plan.now }
+        requires known { IsPlannedItem plan.now _item.now }
+        ensures how { IfOk result (λ end. wrapper_end python end ≡ ((plan_rules plan.now).resume_wrapper (phase_of _phase) (item_in_session plan.now.table _item.now).node rest (SentValue value) (stand_state self.old).world).how) }
+        ensures state { OnOk result (stand_state self.new ≡ in_world ((plan_rules plan.now).resume_wrapper (phase_of _phase) (item_in_session plan.now.table _item.now).node rest (SentValue value) (stand_state self.old).world).world (stand_state self.old)) }
+        ensures here { IsPlan plan.now }
     {
-        abandon(&mut self.world, rest);
-        Ok(WrapperEnd::Returned(Value::None))
+        let end = wrapping::resume_with_value(self, plan.run.limit, rest, value)?;
+        Ok(end)
     }
 
     fn resume_with_exception(
         &mut self,
-        _plan: &Plan,
+        plan: &Plan,
         _phase: HookPhase,
         _item: &Item,
         rest: Frozen,
-        _thrown: &Failure,
+        thrown: &Failure,
     ) -> Result<WrapperEnd<Value, Failure, Frozen>, OutOfMemory> {
-        abandon(&mut self.world, rest);
-        Ok(WrapperEnd::Returned(Value::None))
+        let end = wrapping::resume_by(self, plan.run.limit, rest, thrown)?;
+        Ok(end)
     }
 
     fn abandon(&mut self, _plan: &Plan, rest: Frozen) {
         abandon(&mut self.world, rest);
     }
 
-    fn wrapper_yielded_again(
-        &mut self,
-        _plan: &Plan,
-        _which: &Impl,
-    ) -> Result<Failure, OutOfMemory> {
-        let failure = wrapper_yielded_again(&mut self.world)?;
+    fn wrapper_yielded_again(&mut self, plan: &Plan, which: &Impl) -> Result<Failure, OutOfMemory> {
+        let table = &plan.run.suite.hooks;
+        let failure = wrapping::wrapper_yielded_again(&mut self.world, table, which)?;
         Ok(failure)
     }
 

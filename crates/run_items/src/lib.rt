@@ -4,15 +4,17 @@
 //!
 //! `runtest_loop` runs items on a stage (`Stage` of `runtest_reports`); here is the stage of a world of sources ([`Stand`]): the world, and
 //! what is set up in it (`item_stack`). What the items and their fixtures do are the rules of `runtest_rules` for the suite of a [`Plan`].
-//! Each phase of an item is a hook call around its built-in (`hook_phases`), of the runner's own implementations.
+//! Each phase of an item is a hook call around its built-in (`hook_phases`), of the runner's own implementations and of those of conftests
+//! that serve the item.
 //!
 //! # What is proved
 //!
 //! - [`run`]: the reports, the journal, the world and the end are those of the session of one thread that `session_rules` and
 //!   `report_rules` define over the rules of sources, where no two of the items have one node; the journal is lawful (`RunsPlan`, clause
 //!   `run`). It ends `Done` only where the feed has ended (`done`), and blames the receiver only where the receiver's count of faults rose
-//!   (`blamed`). The feed stays one of the same groups (`feed`), and without `--maxfail` the run isn't stopped (`whole`). Behind it no
-//!   fixture stands at its `yield`, whatever it gives (`spent`).
+//!   (`blamed`). The feed stays one of the same groups (`feed`), and without `--maxfail` the run isn't stopped (`whole`). Where it breaks
+//!   off, the receiver has taken the first of those reports (`begun`); what it is then stems from what was lent (`stems`, `broken`). Behind
+//!   it no fixture stands at its `yield`, whatever it gives (`spent`).
 //! - [`not_run`]: the reports of items that do not run, as with `--collect-only` (`AreNotRun`).
 //!
 //! # What tests alone show
@@ -38,6 +40,7 @@ mod running;
 mod setting_up;
 mod staging;
 mod stand;
+mod wrapping;
 
 pub use fixture_calls::World;
 pub use plan::Plan;

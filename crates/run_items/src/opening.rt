@@ -6,7 +6,7 @@ ghost use Rattle.fixture_world.specs.Items.{item_in_session};
 ghost use Rattle.hook_phases.specs.Steps.{IsKnownWhere, item_where};
 ghost use Rattle.run_items.specs.Stands.{IsPlannedItem, object_noted, plan_rules, stand_state};
 ghost use Rattle.fixture_world.specs.runtest_rules.Language.{python};
-ghost use Rattle.session_rules.specs.Session.{node_of, object_made, object_of, ready, with_item_object, with_new_instance, with_nextitem};
+ghost use Rattle.session_rules.specs.Session.{node_of, object_made, object_of, object_of_next, ready, with_item_object, with_new_instance, with_nextitem};
 
 use crate::acts::{make_instance, make_item, memory};
 use crate::plan::Plan;
@@ -28,6 +28,23 @@ fn object_of(objects: &[ItemObject], node: u32) -> Option<Value>
         rest = others;
     }
     None
+}
+
+/// The object of an item, where it was made.
+pub(crate) fn own_object(stand: &Stand, item: &Item) -> Option<Value>
+    ensures { result ≡ object_of item.now.node (stand_state stand.now).objects }
+{
+    object_of(stand.objects.items(), item.node)
+}
+
+/// The object of the next item, where there is one and it was made.
+pub(crate) fn next_object(stand: &Stand, plan: &Plan, next: Option<&Item>) -> Option<Value>
+    ensures { result ≡ object_of_next (node_of (item_where (item_in_session plan.now.table) (option_map (λ item. item.now) next.entry))) (stand_state stand.now).objects }
+{
+    match next {
+        Some(next) => own_object(stand, next),
+        None => None,
+    }
 }
 
 /// The object of a node alone, where there is one.

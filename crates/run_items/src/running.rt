@@ -1,10 +1,10 @@
 // The run of the selected items.
 
-ghost use Rattle.std.specs.Prelude.{◌≡◌, ◌<◌, ◌≤◌, ◌++◌, [], All, List, IfErr, IfOk, false, length, map};
+ghost use Rattle.std.specs.Prelude.{◌≡◌, ◌<◌, ◌≤◌, ◌++◌, [], All, Bool, List, IfErr, IfOk, OnErr, OnOk, false, length, map};
 ghost use Rattle.item_stack.specs.fixture_instances.Resting.{AreSpent};
 ghost use Rattle.report_parts.specs.declared.report.ItemReport.{ItemReport};
 ghost use Rattle.run_items.specs.NotRun.{AreNotRun, unrun_report};
-ghost use Rattle.run_items.specs.Runs.{RunsPlan};
+ghost use Rattle.run_items.specs.Runs.{BeginsPlan, RunsPlan};
 ghost use Rattle.run_items.specs.Stands.{IsNewStand, IsPlan, IsPlannedItem, planned};
 ghost use Rattle.runtest_loop.specs.Course.{chosen_in};
 ghost use Rattle.runtest_loop.specs.Fed.{AreKnown, numbers_fed, numbers_in_range, unfed};
@@ -52,11 +52,15 @@ pub fn run<F: Feed, P: Receiver>(
     requires in_range { numbers_in_range (length plan.now.run.suite.items) groups.now }
     requires few { unfed groups.now (F.given feed.old) ≤ 131072 }
     requires fresh { F.given feed.old ≡ [] }
+    requires from { P.stems to.old true to.old }
     ensures run { IfOk result (λ end. (reports : List ItemReport) × (P.taken to.new ≡ P.taken to.old ++ reports)
         × RunsPlan plan.now options.now (chosen_in (planned plan.now) plan.now.run.suite.items (numbers_fed groups.now (F.given feed.new))) stand.old.world reports end stand.new) }
     ensures feed { (F.origin feed.new ≡ F.origin feed.old) × (F.limit feed.new ≡ F.limit feed.old) }
     ensures whole { IfOk result (λ end. options.now.maxfail ≡ 0 → is_stopped end ≡ false) }
     ensures done { IfOk result (λ end. is_stopped end ≡ false → F.ended feed.new ≡ true) }
+    ensures stems { OnOk result (P.stems to.old true to.new) }
+    ensures broken { OnErr result ((whole : Bool) × P.stems to.old whole to.new) }
+    ensures begun { OnErr result (BeginsPlan plan.now options.now (chosen_in (planned plan.now) plan.now.run.suite.items (numbers_fed groups.now (F.given feed.new))) stand.old.world (P.taken to.old) (P.taken to.new)) }
     ensures blamed { IfErr result (λ fault. IsBlamed (P.faults to.old) (P.faults to.new) fault) }
     ensures spent { AreSpent stand.new.stack.stack.live.live }
 {

@@ -1,11 +1,12 @@
 // The run of the items that a feed gives.
 
-ghost use Rattle.std.specs.Prelude.{◌≡◌, ℕ, ◌<◌, ◌≤◌, ◌+◌, ◌++◌, [], List, IfErr, IfOk, OnOk, length, option_copied, option_to_list, false, true};
+ghost use Rattle.std.specs.Prelude.{◌≡◌, ℕ, ◌<◌, ◌≤◌, ◌+◌, ◌++◌, [], Bool, List, IfErr, IfOk, OnErr, OnOk, length, option_copied, option_to_list, false, true};
 ghost use Rattle.runtest_reports.specs.fixture_sessions.FixtureSession as loop;
 ghost use Rattle.runtest_loop.specs.Course.{IsToldItem, chosen_in, reports_left, run_left};
 ghost use Rattle.runtest_loop.specs.Fed.{AreKnown, IsNumbered, numbers_fed, numbers_in_range, unfed};
 ghost use Rattle.runtest_loop.specs.Item.{IsCalledItem};
-ghost use Rattle.runtest_loop.specs.Run.{Runs, is_stopped};
+ghost use Rattle.runtest_loop.specs.Received.{AreFirst};
+ghost use Rattle.runtest_loop.specs.Run.{Begins, Runs, is_stopped};
 ghost use Rattle.report_parts.specs.declared.report.ItemReport.{ItemReport};
 ghost use Rattle.runtest_loop.specs.RunFaults.{IsBlamed};
 ghost use Rattle.runtest_reports.specs.report_rules.Collected.{report_language};
@@ -98,11 +99,15 @@ fn run_all<S: Stage, F: Feed, P: Receiver>(
     requires in_range { numbers_in_range (length items.now) groups.now }
     requires few { unfed groups.now (F.given feed.old) ≤ 131072 }
     requires fresh { F.given feed.old ≡ [] }
+    requires from { P.stems to.old true to.old }
     ensures reports { IfOk result (λ end. P.taken to.new ≡ P.taken to.old ++ reports_left (S.rules setting.now) (S.fixture setting.now) options.now [] (chosen_in (S.selected setting.now) items.now (numbers_fed groups.now (F.given feed.new))) 0 (S.state stage.old)) }
     ensures state { IfOk result (λ end. S.state stage.new ≡ (run_left (S.rules setting.now) (S.fixture setting.now) options.now (chosen_in (S.selected setting.now) items.now (numbers_fed groups.now (F.given feed.new))) 0 (S.state stage.old)).state) }
     ensures stopped { IfOk result (λ end. is_stopped end ≡ reaches options.now.maxfail (run_left (S.rules setting.now) (S.fixture setting.now) options.now (chosen_in (S.selected setting.now) items.now (numbers_fed groups.now (F.given feed.new))) 0 (S.state stage.old)).bad) }
     ensures feed { (F.origin feed.new ≡ F.origin feed.old) × (F.limit feed.new ≡ F.limit feed.old) }
     ensures done { IfOk result (λ end. is_stopped end ≡ false → F.ended feed.new ≡ true) }
+    ensures stems { OnOk result (P.stems to.old true to.new) }
+    ensures broken { OnErr result ((whole : Bool) × P.stems to.old whole to.new) }
+    ensures begun { OnErr result (AreFirst (P.taken to.old ++ reports_left (S.rules setting.now) (S.fixture setting.now) options.now [] (chosen_in (S.selected setting.now) items.now (numbers_fed groups.now (F.given feed.new))) 0 (S.state stage.old)) (P.taken to.new)) }
     ensures blamed { IfErr result (λ fault. IsBlamed (P.faults to.old) (P.faults to.new) fault) }
     ensures here { OnOk result (S.stands setting.now stage.new) }
 {
@@ -161,11 +166,15 @@ pub fn run<S: Stage, F: Feed, P: Receiver>(
     requires in_range { numbers_in_range (length items.now) groups.now }
     requires few { unfed groups.now (F.given feed.old) ≤ 131072 }
     requires fresh { F.given feed.old ≡ [] }
+    requires from { P.stems to.old true to.old }
     ensures run { IfOk result (λ end. (reports : List ItemReport) × (P.taken to.new ≡ P.taken to.old ++ reports)
         × Runs (S.rules setting.now) (S.fixture setting.now) options.now (chosen_in (S.selected setting.now) items.now (numbers_fed groups.now (F.given feed.new))) (S.state stage.old).world reports end (S.state stage.new)) }
     ensures feed { (F.origin feed.new ≡ F.origin feed.old) × (F.limit feed.new ≡ F.limit feed.old) }
     ensures whole { IfOk result (λ end. options.now.maxfail ≡ 0 → is_stopped end ≡ false) }
     ensures done { IfOk result (λ end. is_stopped end ≡ false → F.ended feed.new ≡ true) }
+    ensures stems { OnOk result (P.stems to.old true to.new) }
+    ensures broken { OnErr result ((whole : Bool) × P.stems to.old whole to.new) }
+    ensures begun { OnErr result (Begins (S.rules setting.now) (S.fixture setting.now) options.now (chosen_in (S.selected setting.now) items.now (numbers_fed groups.now (F.given feed.new))) (S.state stage.old).world (P.taken to.old) (P.taken to.new)) }
     ensures blamed { IfErr result (λ fault. IsBlamed (P.faults to.old) (P.faults to.new) fault) }
     ensures empty { OnOk result ((S.state stage.new).live ≡ []) }
     ensures here { OnOk result (S.stands setting.now stage.new) }

@@ -1,23 +1,30 @@
 -- THE RULES of a session over sources: what fixtures and tests do to a world (pytest's reference, "Fixtures", "Test running (runtest)
 -- hooks"; `_pytest/runner.py`, "basic collect and runtest protocol implementations").
-use Rattle.std.specs.Prelude.{ℕ, ◌==◌, Bool, true, false, List, [], ◌∷◌, length, Option, Some, None, codes, nat_eq, if◌then◌else◌}
+use Rattle.std.specs.Prelude.{ℕ, ◌==◌, Bool, false, ◌||◌, List, [], ◌∷◌, length, Option, Some, None, codes, nat_eq, nat_lt, if◌then◌else◌}
+use Rattle.std.specs.List.{filter, starts_with}
 use Rattle.cli_words.specs.declared.options.Options.{Options}
 use Rattle.hook_order.specs.declared.implementation.Impl.{Impl}
 use Rattle.py_values.specs.declared.class.ExcClass.TheVariants as class
 use Rattle.py_values.specs.declared.value.Value.{Value}
 use Rattle.py_values.specs.declared.value.Value.TheVariants as val
 use Rattle.report_rules.specs.Collected.{CapturedEnd}
-use Rattle.session_rules.specs.Hooks.{HookAnswer, HookGave, HookRaised}
-use Rattle.session_rules.specs.World.{Rules, Phase, SetUp, Call, Teardown, WorldAnswer, Account, CallOutcome, BodyEnd, NewException, NewRequest, ClosedRequest, BodyOutcome, Returned, Yielded, Raised}
+use Rattle.session_rules.specs.Hooks.{HookAnswer, HookGave, HookMessage, HookRaised, SentRaise, SentValue, SentValues}
+use Rattle.session_rules.specs.World.{Rules, Phase, SetUp, Call, Teardown, WorldAnswer, Account, HookArguments, CallOutcome, BodyEnd, NewException, NewRequest, ClosedRequest, BodyOutcome, Returned, Yielded, Raised}
 use Rattle.tracebacks.specs.source_meaning.Meaning.{SourceWorld}
 use Rattle.fixture_calls.specs.Asking.{finalizers_taken, fixture_request, test_request}
 use Rattle.fixture_calls.specs.Calls.{finalizer_called, test_called}
-use Rattle.fixture_calls.specs.Failing.{as_failure, exception_of, made_at}
+use Rattle.fixture_calls.specs.Failing.{as_failure, exception_of, made_for}
+use Rattle.fixture_calls.specs.Hooks.{hook_begun, hook_called, resumed_by, resumed_with_value, resumed_with_values}
 use Rattle.fixture_calls.specs.Yields.{did_not_yield, fixture_abandoned, fixture_begun, fixture_resumed, yielded_again}
 use Rattle.fixture_calls.specs.declared.failure.Failure.{Failure}
+use Rattle.fixture_calls.specs.declared.hooks.CallEnd.{CallEnd}
+use Rattle.fixture_calls.specs.declared.hooks.CallEnd.TheVariants as call
 use Rattle.fixture_calls.specs.declared.yields.FixtureEnd.{FixtureEnd}
 use Rattle.fixture_calls.specs.declared.yields.FixtureEnd.TheVariants as end
+use Rattle.test_suite.specs.Hooks.{hook_at, hook_with_code}
 use Rattle.test_suite.specs.Suites.{fixture_at, item_with_node}
+use Rattle.test_suite.specs.declared.hook.Hook.{Hook}
+use Rattle.test_suite.specs.declared.hook.HookTable.{HookTable}
 use Rattle.test_suite.specs.declared.item.FixtureParam.{FixtureParam}
 use Rattle.test_suite.specs.declared.item.Item.{Item}
 use Rattle.test_suite.specs.declared.suite.Suite.{Suite}
@@ -52,22 +59,30 @@ body_end_of (end.Raised f) = Raised f
 abbrev pub body_outcome : FixtureEnd × SourceWorld → BodyOutcome python
 body_outcome x = record { how = body_end_of x.0; world = x.1 }
 
--- without hooks of sources no wrapper begins or goes on
-abbrev pub no_body : SourceWorld → BodyOutcome python
-no_body w = record { how = Returned val.None; world = w }
+-- HOOKS
 
--- an exception that is never asked for
-abbrev pub no_wrapper : List ℕ → SourceWorld → NewException python
-no_wrapper text w = new_exception (as_failure (made_at [] class.RuntimeError text w))
+-- the implementations of the hook of a phase, in hook order
+abbrev pub impls_of : HookTable → Phase → List Impl
+impls_of table SetUp = table.set_up
+impls_of table Call = table.call
+impls_of table Teardown = table.teardown
 
--- THE HOOKS of a phase are the built-in implementations alone, in hook order: for set-up a tryfirst one that skips, and one that sets up
-abbrev pub built_in_hook : ℕ → Bool → Impl
-built_in_hook number first = record { registered = number; wrapper = false; first = first; last = false; node = 0; code = 0 }
+-- an item's file stands in the folder of a hook, or below
+abbrev pub is_in_folder : Item → Option Hook → Bool
+is_in_folder i None = false
+is_in_folder i (Some h) = starts_with nat_eq i.file h.folder
 
-abbrev pub hooks_of : Phase → List Impl
-hooks_of SetUp = built_in_hook 0 true ∷ built_in_hook 1 false ∷ []
-hooks_of Call = built_in_hook 2 false ∷ []
-hooks_of Teardown = built_in_hook 3 false ∷ []
+-- an implementation serves the items of its conftest's folder, and of those below; a built-in one serves all
+abbrev pub serves : HookTable → Item → Impl → Bool
+serves table i which = nat_lt which.registered 4 || is_in_folder i (hook_with_code table which.code)
+
+-- THE HOOKS of a phase that serve an item, in hook order
+abbrev pub hooks_for : HookTable → Item → List Impl → List Impl
+hooks_for table i impls = filter (serves table i) impls
+
+-- an exception that the runner makes for a hook has the place of its `def`
+abbrev pub wrapper_fault : Hook → List ℕ → SourceWorld → Failure × SourceWorld
+wrapper_fault h text w = as_failure (made_for h.defined class.RuntimeError text w)
 
 abbrev pub hook_answer : Option Failure → HookAnswer Value Failure
 hook_answer (Some f) = HookRaised f
@@ -76,16 +91,31 @@ hook_answer None = HookGave None
 abbrev pub hook_end_of : Option Failure × SourceWorld → WorldAnswer python (HookAnswer Value Failure)
 hook_end_of x = world_answer (hook_answer x.0, x.1)
 
--- the implementation with the number 0 skips
-abbrev pub implemented_for : Item → Impl → SourceWorld → WorldAnswer python (HookAnswer Value Failure)
-implemented_for i which w = if which.registered == 0 then hook_end_of (skipped i w) else hook_end_of (None, w)
-
 -- a value, unless it is None
 abbrev pub not_none : Value → Option Value
 not_none val.None = None
 not_none (val.Bool b) = Some (val.Bool b)
 not_none (val.Int n) = Some (val.Int n)
 not_none (val.Ref id) = Some (val.Ref id)
+
+-- the value that a hook gave is one, unless it is None
+abbrev pub call_answer : CallEnd → HookAnswer Value Failure
+call_answer (call.Returned v) = HookGave (not_none v)
+call_answer (call.Raised f) = HookRaised f
+
+abbrev pub call_end_of : CallEnd × SourceWorld → WorldAnswer python (HookAnswer Value Failure)
+call_end_of x = world_answer (call_answer x.0, x.1)
+
+-- the implementation with the number 0 skips; others are hooks of conftests
+abbrev pub implemented_for : ℕ → HookTable → Item → HookArguments python → Impl → SourceWorld → WorldAnswer python (HookAnswer Value Failure)
+implemented_for limit table i arguments which w =
+    if which.registered == 0 then hook_end_of (skipped i w) else call_end_of (hook_called limit (hook_at table which.code) arguments.item arguments.next w)
+
+-- what remains of a wrapper goes on with what it gets at its `yield`
+abbrev pub wrapper_resumed : ℕ → ℕ → HookMessage Value Failure → SourceWorld → FixtureEnd × SourceWorld
+wrapper_resumed limit rest (SentValues values) w = resumed_with_values limit rest values w
+wrapper_resumed limit rest (SentValue value) w = resumed_with_value limit rest value w
+wrapper_resumed limit rest (SentRaise f) w = resumed_by limit rest f w
 
 -- exceptions are objects
 abbrev pub is_object_at : ℕ → Value → Bool
@@ -126,12 +156,12 @@ rules_within limit suite =
       ask_test = λ n w. request_answer (test_request (item_with_node suite n) w);
       test = λ n own values request w. after_call (test_called limit (item_with_node suite n) own values request w);
       wrong_arguments = λ n w. new_exception (wrong_arguments (item_with_node suite n) w);
-      hooks = λ phase n. hooks_of phase;
-      implement = λ phase n arguments which w. implemented_for (item_with_node suite n) which w;
-      open_wrapper = λ phase n arguments which w. no_body w;
-      wrapper_did_not_yield = λ which w. no_wrapper (codes "hook wrapper did not yield") w;
-      resume_wrapper = λ phase n rest sent w. no_body (fixture_abandoned rest w);
-      wrapper_yielded_again = λ which w. no_wrapper (codes "hook wrapper yielded twice") w;
+      hooks = λ phase n. hooks_for suite.hooks (item_with_node suite n) (impls_of suite.hooks phase);
+      implement = λ phase n arguments which w. implemented_for limit suite.hooks (item_with_node suite n) arguments which w;
+      open_wrapper = λ phase n arguments which w. body_outcome (hook_begun limit (hook_at suite.hooks which.code) arguments.item arguments.next w);
+      wrapper_did_not_yield = λ which w. new_exception (wrapper_fault (hook_at suite.hooks which.code) (codes "hook wrapper did not yield") w);
+      resume_wrapper = λ phase n rest sent w. body_outcome (wrapper_resumed limit rest sent w);
+      wrapper_yielded_again = λ which w. new_exception (wrapper_fault (hook_at suite.hooks which.code) (codes "hook wrapper yielded twice") w);
       unless_none = not_none;
       is_same_object = λ e f. is_same_value (exception_of e) (exception_of f);
       end_phase = λ phase n raised w. account (phase_ended phase (item_with_node suite n) raised w);

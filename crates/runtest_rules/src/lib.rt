@@ -4,9 +4,9 @@
 //!
 //! The rules of a session (`session_rules`) ask of a language what its fixtures and tests do. Here are those of the language of sources
 //! for a suite that was collected (`rules`): fixtures with their scopes and arguments, yield fixtures, `request` with its finalizers
-//! (`fixture_calls` has what each of them does), and the phases of an item (pytest's reference, "Test running (runtest) hooks"), with a
-//! function for each. No hooks of sources are spoken of. A session over these rules is defined by `session_rules`, its report by
-//! `report_rules`.
+//! (`fixture_calls` has what each of them does), the hooks around the phases of an item (pytest's reference, "Test running (runtest)
+//! hooks"), and these phases, with a function for each. A session over these rules is
+//! defined by `session_rules`, its report by `report_rules`.
 //!
 //! # What is proved
 //!
@@ -20,8 +20,9 @@
 //! - [`end_phase`]: how a phase has ended that raised these, by the marks: passed, skipped, expected to fail or raised, with what is told
 //!   of each exception; and what was printed in it, which is taken (`phase_ended`). [`fails_in_teardown`]: whether a teardown that raised
 //!   these is an error.
-//! - [`wrapper_did_not_yield`], [`wrapper_yielded_again`]: the exceptions of a hook wrapper that yields never, or again (`no_wrapper`).
-//!   [`not_none`]: a value, unless it is None. [`is_same_exception`]: whether two failures are of one exception (`is_same_value`).
+//! - [`hooks_for`]: the implementations of a hook that serve an item (`hooks_for`). [`wrapper_did_not_yield`], [`wrapper_yielded_again`]:
+//!   `RuntimeError` of a wrapper that yields never, or again, with the place of its `def` (`wrapper_fault`). [`not_none`]: a value, unless
+//!   it is None. [`is_same_exception`]: whether two failures are of one exception (`is_same_value`).
 //!
 //! Behind want of memory a world is spent: nothing is promised but the answer.
 //!
@@ -36,12 +37,14 @@
 
 mod ending;
 mod failures;
+mod hooks;
 mod objects;
 mod phases;
-mod wrappers;
 
 pub use ending::Ending;
 pub use failures::{fixture_fault, skip, wrong_arguments};
+pub use hooks::{
+    hooks_for, is_same_exception, not_none, wrapper_did_not_yield, wrapper_yielded_again,
+};
 pub use objects::{make_instance, make_item};
 pub use phases::{end_phase, fails_in_teardown};
-pub use wrappers::{is_same_exception, not_none, wrapper_did_not_yield, wrapper_yielded_again};

@@ -1,25 +1,34 @@
 -- Behind a collection no frame is out: loads leave the frames as they were, and the first world has none.
-use Rattle.std.proofs.Common.{◌≡◌, ℕ, Bool, true, false, map, List, [], ◌∷◌, Option, None, Some, Ok, Err, refl, sym, ap, ◌∙◌}
-use Rattle.std.specs.Prelude.{chars, if◌then◌else◌}
+use Rattle.std.proofs.Common.{◌≡◌, ℕ, Bool, true, false, List, [], ◌∷◌, map, Option, None, Some, Ok, Err, refl, sym, ap, ◌∙◌}
+use Rattle.std.specs.Prelude.{Result, chars, codes, if◌then◌else◌}
 use Rattle.cli_words.specs.declared.options.Options.{Options}
-use Rattle.collect_tree.specs.Collection.{collect, collected_of, conftest_files, named_paths, nodes_selected, of_files, of_words, paths_at, read_path, selected_or_refused, with_conftests}
+use Rattle.collect_tree.specs.Collection as collection
+use Rattle.collect_tree.specs.Collection.{collect, conftest_files, findings_in_hooks, named_paths, nodes_selected, of_files, of_loaded, of_words, paths_at, read_path, selected_or_refused, with_conftests}
+use Rattle.collect_tree.specs.Conftests.{ConftestsLoaded, behind_hooks, behind_load, conftests_loaded, found_before, hooks_of_module}
+use Rattle.collect_tree.specs.Loads.{LoadResults, ended_before, test_loads}
 use Rattle.collect_tree.specs.Walk.{walk_of}
 use Rattle.collect_tree.specs.collect_items.Items.{Findings, findings}
 use Rattle.collect_tree.specs.collect_items.Nodes.{nodes_by_place}
+use Rattle.collection_nodes.specs.declared.test_file.TestFile.{TestFile}
+use Rattle.collect_tree.specs.py_load.InTurn.{FileEnd, file_load}
+use Rattle.collect_tree.specs.py_load.Loading.{load_unless}
 use Rattle.collect_tree.specs.py_load.Prepared.{with_reads}
+use Rattle.collect_tree.specs.py_load.Reading.{ReadFile}
 use Rattle.collect_words.specs.Files.{conftests, test_files, walked}
 use Rattle.collect_words.specs.Words.{named_words}
-use Rattle.tracebacks.specs.py_machine.Worlds.{empty}
-use Rattle.collect_tree.specs.Loads.{LoadResults, ended_before, test_loads}
-use Rattle.collect_tree.specs.py_load.InTurn.{ConftestsEnd, FileEnd, conftest_loads, file_load, go_on, module_before}
-use Rattle.collect_tree.specs.py_load.Loading.{load_unless}
-use Rattle.collect_tree.specs.py_load.Reading.{ReadFile}
+use Rattle.collect_words.specs.declared.fault.WordFault.{WordFault}
+use Rattle.collect_words.specs.declared.named.NamedWord.{NamedWord}
+use Rattle.conftest_hooks.specs.Registered.{any_makes_ids, hook_table}
+use Rattle.conftest_hooks.specs.declared.looking.FoundHook.{FoundHook}
+use Rattle.conftest_hooks.specs.declared.looking.HookFault.{HookFault}
 use Rattle.core_rules.specs.Keeps.{IsKeptIn}
 use Rattle.core_rules.specs.source_meaning.Meaning.{SourceWorld, source_module}
+use Rattle.py_values.specs.declared.value.Value.{Value}
 use Rattle.runtest_rules.specs.Language.{python}
 use Rattle.runtest_rules.specs.py_world.Resuming.{is_out}
 use Rattle.runtest_rules.specs.report_rules.Collected.{Collected, Collection, ConftestFault, Refused, Whole}
 use Rattle.runtest_rules.specs.test_suite.declared.suite.Suite.{Suite}
+use Rattle.tracebacks.specs.py_machine.Worlds.{empty}
 use Rattle.session_frames.proofs.Worlds.{out_in}
 
 -- what a collection leaves, where it is whole
@@ -41,19 +50,23 @@ module _ (loads : (w : SourceWorld) (path : List ℕ) (budget : ℕ) → IsKeptI
   load_same : (limit : ℕ) (path : List ℕ) (w : SourceWorld) → (file_load limit path w).1.frozen ≡ w.frozen
   load_same limit path w = unless_same _ (chars path) limit w
 
-  before_same : (v : _) (rest : ConftestsEnd × SourceWorld) → (module_before v rest).1.frozen ≡ rest.1.frozen
-  before_same v (Ok modules, w) = refl
-  before_same v (Err file, w) = refl
+  found_same : (v : Value) (hooks : List FoundHook) (rest : ConftestsLoaded × SourceWorld) → (found_before v hooks rest).1.frozen ≡ rest.1.frozen
+  found_same v hooks (Ok found, w) = refl
+  found_same v hooks (Err failed, w) = refl
 
-  on_same : (path : List ℕ) (end : FileEnd) (rest : ConftestsEnd × SourceWorld) (w : SourceWorld) → rest.1.frozen ≡ w.frozen → (go_on path end rest w).1.frozen ≡ w.frozen
-  on_same path (Ok v, printed) rest w e = before_same v rest ∙ e
-  on_same path (Err error, printed) rest w e = refl
+  hooks_same : (path : List ℕ) (v : Value) (r : Result (List FoundHook) HookFault) (rest : ConftestsLoaded × SourceWorld) (w : SourceWorld) → rest.1.frozen ≡ w.frozen → (behind_hooks path v r rest w).1.frozen ≡ w.frozen
+  hooks_same path v (Ok hooks) rest w e = found_same v hooks rest ∙ e
+  hooks_same path v (Err fault) rest w e = refl
 
-  conftests_same : (limit : ℕ) (paths : List (List ℕ)) (w : SourceWorld) → (conftest_loads limit paths w).1.frozen ≡ w.frozen
+  on_same : (limit : ℕ) (path : List ℕ) (end : FileEnd) (rest : ConftestsLoaded × SourceWorld) (w : SourceWorld) → rest.1.frozen ≡ w.frozen → (behind_load limit path end rest w).1.frozen ≡ w.frozen
+  on_same limit path (Ok v, printed) rest w e = hooks_same path v (hooks_of_module path v w) rest w e
+  on_same limit path (Err error, printed) rest w e = refl
+
+  conftests_same : (limit : ℕ) (paths : List (List ℕ)) (w : SourceWorld) → (conftests_loaded limit paths w).1.frozen ≡ w.frozen
   conftests_same limit [] w = refl
   conftests_same limit (path ∷ paths) w =
       let x = file_load limit path w in
-      on_same path x.0 (conftest_loads limit paths x.1) x.1 (conftests_same limit paths x.1) ∙ load_same limit path w
+      on_same limit path x.0 (conftests_loaded limit paths x.1) x.1 (conftests_same limit paths x.1) ∙ load_same limit path w
 
   ended_same : (limit : ℕ) (path : List ℕ) (place : ℕ) (end : FileEnd) (w : SourceWorld) (rest : LoadResults) → (ended_before limit path place end w rest).world.frozen ≡ rest.world.frozen
   ended_same limit path place (Ok v, printed) w rest = refl
@@ -72,24 +85,27 @@ module _ (loads : (w : SourceWorld) (path : List ℕ) (budget : ℕ) → IsKeptI
     built_or true text c e = tt
     built_or false text c e = e
 
-    ended : (walk : List (List ℕ)) (above : _) (f : Findings) (loaded : LoadResults) (r : _) → loaded.world.frozen ≡ [] → LeavesNone (selected_or_refused options walk above f loaded r)
-    ended walk above f loaded (Err fault) e = tt
-    ended walk above f loaded (Ok numbers) e = built_or _ _ (collected_of options walk f loaded numbers) e
+    ended : (more : Bool) (walk : List (List ℕ)) (f : Findings) (loaded : LoadResults) (r : Result (List ℕ) WordFault) → loaded.world.frozen ≡ [] → LeavesNone (selected_or_refused options more walk f loaded r)
+    ended more walk f loaded (Err fault) e = tt
+    ended more walk f loaded (Ok numbers) e = built_or more (codes "not built") (collection.collected_of options walk f loaded numbers) e
 
-    behind_conftests : (walk : List (List ℕ)) (words : _) (files : List ℕ) (x : ConftestsEnd × SourceWorld) → x.1.frozen ≡ [] → LeavesNone (with_conftests options walk words files x)
-    behind_conftests walk words files (Err (path, error, printed), w) e = tt
-    behind_conftests walk words files (Ok modules, w) e =
+    loaded_leaves : (walk : List (List ℕ)) (words : List NamedWord) (hooks : List FoundHook) (above : List TestFile) (loaded : LoadResults) → loaded.world.frozen ≡ [] → LeavesNone (of_loaded options walk words hooks above loaded)
+    loaded_leaves walk words hooks above loaded e =
+        let f = findings_in_hooks (hook_table hooks) (findings loaded.world.heap walk above loaded.files) in
+        ended (any_makes_ids hooks) walk f loaded (nodes_selected options walk (nodes_by_place loaded.world.heap walk f.files) words) e
+
+    behind_conftests : (walk : List (List ℕ)) (words : List NamedWord) (files : List ℕ) (x : ConftestsLoaded × SourceWorld) → x.1.frozen ≡ [] → LeavesNone (with_conftests options walk words files x)
+    behind_conftests walk words files (Err (path, told), w) e = tt
+    behind_conftests walk words files (Ok found, w) e =
         let loaded = test_loads options.step_limit walk files w in
-        let above = conftest_files (conftests walk files) modules in
-        let f = findings loaded.world.heap walk above loaded.files in
-        ended walk above f loaded (nodes_selected options walk (nodes_by_place loaded.world.heap walk f.files) words) (tests_same options.step_limit walk files w ∙ e)
+        loaded_leaves walk words found.hooks (conftest_files (conftests walk files) found.modules) loaded (tests_same options.step_limit walk files w ∙ e)
 
-    from_world : (walk : List (List ℕ)) (words : _) (files : List ℕ) (w : SourceWorld) → w.frozen ≡ [] → LeavesNone (of_files options walk words files w)
+    from_world : (walk : List (List ℕ)) (words : List NamedWord) (files : List ℕ) (w : SourceWorld) → w.frozen ≡ [] → LeavesNone (of_files options walk words files w)
     from_world walk words files w e =
         let paths = paths_at walk (conftests walk files) in
-        behind_conftests walk words files (conftest_loads options.step_limit paths w) (conftests_same options.step_limit paths w ∙ e)
+        behind_conftests walk words files (conftests_loaded options.step_limit paths w) (conftests_same options.step_limit paths w ∙ e)
 
-    read : (sources : List ReadFile) (walk : List (List ℕ)) (r : _) → LeavesNone (of_words options sources walk r)
+    read : (sources : List ReadFile) (walk : List (List ℕ)) (r : Result (List NamedWord) WordFault) → LeavesNone (of_words options sources walk r)
     read sources walk (Err fault) = tt
     read sources walk (Ok words) = from_world walk words (test_files walk (walked walk options.ignore) words) (with_reads (named_paths walk words) sources empty) refl
 

@@ -1,31 +1,42 @@
--- What fixtures and tests of sources do keeps the frames that are out.
-use Rattle.std.proofs.Common.{◌≡◌, ℕ, true, false, cond, List, [], Option, None, refl, ◌∙◌}
-use Rattle.std.specs.Prelude.{◌==◌}
+-- What fixtures, tests and hooks of sources do keeps the frames that are out.
+use Rattle.std.proofs.Common.{◌≡◌, ℕ, true, false, cond, List, [], Option, None, refl, subst, ◌∙◌}
+use Rattle.std.specs.Prelude.{◌==◌, codes, slice_set}
 use Rattle.cli_words.specs.declared.options.Options.{Options}
-use Rattle.core_rules.specs.Keeps.{IsKeptBehind, IsKeptIn}
+use Rattle.core_rules.specs.Keeps.{FramesBehind, IsKeptBehind, IsKeptIn}
 use Rattle.runtest_rules.specs.fixture_calls.Arguments.{asks_request, positional}
 use Rattle.runtest_rules.specs.fixture_calls.Asking.{finalizers_taken, fixture_request, scope_text, test_request}
 use Rattle.runtest_rules.specs.fixture_calls.Calls.{finalizer_called, test_called}
+use Rattle.runtest_rules.specs.fixture_calls.Failing.{in_heap}
+use Rattle.runtest_rules.specs.fixture_calls.Hooks.{failure_thrown, hook_begun, hook_called, hook_resumed, hook_values, or_none}
 use Rattle.runtest_rules.specs.fixture_calls.Yields.{did_not_yield, fixture_abandoned, fixture_begun, fixture_resumed, own_if, yielded_again}
 use Rattle.runtest_rules.specs.fixture_calls.declared.failure.Failure.{Failure}
 use Rattle.hook_order.specs.declared.implementation.Impl.{Impl}
+use Rattle.py_values.specs.declared.object.Obj.TheVariants as obj
 use Rattle.py_values.specs.declared.value.Value.{Value}
 use Rattle.py_values.specs.declared.value.Value.TheVariants as val
-use Rattle.runtest_rules.specs.py_world.Resuming.{Sent, SentValue, abandon_of, is_out}
+use Rattle.runtest_rules.specs.py_world.Resuming.{Sent, SentThrow, SentValue, abandon_of, is_out}
+use Rattle.runtest_rules.specs.py_world.World.{Frozen}
 use Rattle.runtest_rules.specs.Failures.{fixture_fault, skip_reason, skipped, wrong_arguments}
 use Rattle.runtest_rules.specs.Language.{python}
 use Rattle.runtest_rules.specs.Objects.{instance_of_item, item_object}
 use Rattle.runtest_rules.specs.Phases.{phase_ended}
-use Rattle.runtest_rules.specs.Rules.{body_outcome, hook_end_of, implemented_for, param_value, rules}
+use Rattle.runtest_rules.specs.Rules.{body_outcome, call_end_of, hook_end_of, implemented_for, param_value, rules, wrapper_fault, wrapper_resumed}
 use Rattle.session_rules.specs.Frames.{BeginsFrame, KeepsFrames, ResumesFrame, SameFrames, TakesFrame}
-use Rattle.session_rules.specs.World.{Phase}
+use Rattle.session_rules.specs.Hooks as message
+use Rattle.session_rules.specs.Hooks.{HookMessage}
+use Rattle.session_rules.specs.World.{HookArguments, Phase}
 use Rattle.core_rules.specs.source_meaning.Meaning.{SourceWorld, source_begin, source_call, source_resume}
+use Rattle.core_rules.specs.source_meaning.Requests.{source_kinds}
+use Rattle.runtest_rules.specs.test_suite.Hooks.{hook_at}
 use Rattle.runtest_rules.specs.test_suite.Suites.{fixture_at, item_with_node}
 use Rattle.runtest_rules.specs.test_suite.declared.fixture.Fixture.{Fixture}
+use Rattle.runtest_rules.specs.test_suite.declared.hook.Hook.{Hook}
+use Rattle.runtest_rules.specs.test_suite.declared.hook.HookTable.{HookTable}
 use Rattle.runtest_rules.specs.test_suite.declared.item.BoundArgument.{BoundArgument}
 use Rattle.runtest_rules.specs.test_suite.declared.item.Item.{Item}
 use Rattle.runtest_rules.specs.test_suite.declared.suite.Suite.{Suite}
-use Rattle.session_frames.proofs.Worlds.{body_begun_frames, body_resumed_frames, call_frames, instance_frames, request_frames, same_frames, skip_frames, taken}
+use Rattle.tracebacks.specs.runner_values.Given.{added_object}
+use Rattle.session_frames.proofs.Worlds.{body_begun_frames, body_resumed_frames, call_end_frames, call_frames, instance_frames, request_frames, same_frames, skip_frames, taken}
 
 -- what the runner makes
 made_instance : (i : Item) (w : SourceWorld) → SameFrames is_out w (instance_of_item i w).1
@@ -60,6 +71,9 @@ faulty : (i : Item) (w : SourceWorld) → SameFrames is_out w (fixture_fault i w
 unfolding fixture_fault
 faulty i w = same_frames w (fixture_fault i w).1 refl
 
+hook_faulty : (h : Hook) (text : List ℕ) (w : SourceWorld) → SameFrames is_out w (wrapper_fault h text w).1
+hook_faulty h text w = same_frames w (wrapper_fault h text w).1 refl
+
 wrong : (i : Item) (w : SourceWorld) → SameFrames is_out w (wrong_arguments i w).1
 unfolding wrong_arguments
 wrong i w = same_frames w (wrong_arguments i w).1 refl
@@ -75,13 +89,6 @@ ended phase i raised w = same_frames w (phase_ended phase i raised w).1 refl
 gone : (n : ℕ) (w : SourceWorld) → TakesFrame is_out n w (fixture_abandoned n w)
 unfolding fixture_abandoned
 gone n w = taken w (fixture_abandoned n w) n refl
-
-nothing_done : (i : Item) (which : Impl) (w : SourceWorld) → SameFrames is_out w (implemented_for i which w).world
-nothing_done i which w =
-    elim (which.registered == 0) as (λ b. SameFrames is_out w (cond b (hook_end_of (skipped i w)) (hook_end_of (None, w))).world) [
-      | true ↦ skips i w
-      | false ↦ λ r. refl
-    ]
 
 -- what source code does
 module _ (calls : (w : SourceWorld) (f : Value) (args : List Value) (budget : ℕ) → IsKeptIn w (source_call f args budget w).1)
@@ -113,6 +120,44 @@ module _ (calls : (w : SourceWorld) (f : Value) (args : List Value) (budget : �
       let t = source_resume n (SentValue val.None) limit w in
       body_resumed_frames limit t.0.out n w t.1 out (resumes w n (SentValue val.None) limit).frames
 
+  -- what hooks do
+
+  hooked : (limit : ℕ) (h : Hook) (item next : Option Value) (w : SourceWorld) → SameFrames is_out w (hook_called limit h item next w).1
+  unfolding hook_called
+  hooked limit h item next w =
+      let args = hook_values item next h in
+      let called = source_call h.function args limit w in
+      same_frames w (hook_called limit h item next w).1 (call_end_frames limit called.0.out called.1 ∙ (calls w h.function args limit).frozen)
+
+  implemented : (limit : ℕ) (table : HookTable) (i : Item) (arguments : HookArguments python) (which : Impl) (w : SourceWorld) → SameFrames is_out w (implemented_for limit table i arguments which w).world
+  implemented limit table i arguments which w =
+      elim (which.registered == 0) as (λ b. SameFrames is_out w (cond b (hook_end_of (skipped i w)) (call_end_of (hook_called limit (hook_at table which.code) arguments.item arguments.next w))).world) [
+        | true ↦ skips i w
+        | false ↦ hooked limit (hook_at table which.code) arguments.item arguments.next w
+      ]
+
+  opened : (limit : ℕ) (h : Hook) (item next : Option Value) (w : SourceWorld) → BeginsFrame {L = python} is_out w (body_outcome (hook_begun limit h item next w))
+  unfolding hook_begun
+  opened limit h item next w =
+      let args = hook_values item next h in
+      let t = source_begin h.function args limit w in
+      body_begun_frames limit t.0.out w t.1 (begins w h.function args limit).frames
+
+  -- in a world with the same frames
+  sent_on : (limit n : ℕ) (sent : Sent) (w v : SourceWorld) → v.frozen ≡ w.frozen → is_out n w ≡ true → ResumesFrame {L = python} is_out n w (body_outcome (hook_resumed limit n sent v))
+  unfolding hook_resumed
+  sent_on limit n sent w v same out =
+      let t = source_resume n sent limit v in
+      body_resumed_frames limit t.0.out n w t.1 out
+      (subst (λ (fs : List (Option (Frozen source_kinds.rest))). FramesBehind t.0.out (slice_set fs n None) t.1.frozen) same (resumes v n sent limit).frames)
+
+  wrapper_on : (limit n : ℕ) (sent : HookMessage Value Failure) (w : SourceWorld) → is_out n w ≡ true → ResumesFrame {L = python} is_out n w (body_outcome (wrapper_resumed limit n sent w))
+  wrapper_on limit n (message.SentValues values) w out =
+      let made = in_heap (added_object (obj.List values) w.heap) w in
+      sent_on limit n (SentValue made.0) w made.1 refl out
+  wrapper_on limit n (message.SentValue value) w out = sent_on limit n (SentValue (or_none value)) w w refl out
+  wrapper_on limit n (message.SentRaise failure) w out = sent_on limit n (SentThrow (failure_thrown failure)) w w refl out
+
   pub keeps : (options : Options) (suite : Suite) → KeepsFrames (rules options suite) is_out
   keeps options suite =
       record {
@@ -130,10 +175,10 @@ module _ (calls : (w : SourceWorld) (f : Value) (args : List Value) (budget : �
         ask_test = λ n w. test_asked (item_with_node suite n) w;
         test = λ n own values request w. tested options.step_limit (item_with_node suite n) own values request w;
         wrong_arguments = λ n w. wrong (item_with_node suite n) w;
-        implement = λ phase n arguments which w. nothing_done (item_with_node suite n) which w;
-        open_wrapper = λ phase n arguments which w r. refl;
-        wrapper_did_not_yield = λ which w r. refl;
-        resume_wrapper = λ phase n rest sent w out. gone rest w;
-        wrapper_yielded_again = λ which w r. refl;
+        implement = λ phase n arguments which w. implemented options.step_limit suite.hooks (item_with_node suite n) arguments which w;
+        open_wrapper = λ phase n arguments which w. opened options.step_limit (hook_at suite.hooks which.code) arguments.item arguments.next w;
+        wrapper_did_not_yield = λ which w. hook_faulty (hook_at suite.hooks which.code) (codes "hook wrapper did not yield") w;
+        resume_wrapper = λ phase n rest sent w out. wrapper_on options.step_limit rest sent w out;
+        wrapper_yielded_again = λ which w. hook_faulty (hook_at suite.hooks which.code) (codes "hook wrapper yielded twice") w;
         end_phase = λ phase n raised w. ended phase (item_with_node suite n) raised w;
       }

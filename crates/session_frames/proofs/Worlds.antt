@@ -5,6 +5,7 @@ use Rattle.runtest_rules.specs.collect_names.declared.found.TestClass.{TestClass
 use Rattle.core_rules.specs.Keeps.{FramesBehind}
 use Rattle.runtest_rules.specs.fixture_calls.Asking.{request_if}
 use Rattle.runtest_rules.specs.fixture_calls.Calls.{call_failure}
+use Rattle.runtest_rules.specs.fixture_calls.Hooks.{call_end}
 use Rattle.runtest_rules.specs.fixture_calls.Yields.{body_end, over_end}
 use Rattle.py_values.specs.declared.value.ObjId.{ObjId}
 use Rattle.py_values.specs.declared.value.Value.{Value}
@@ -119,6 +120,11 @@ pub call_frames : (limit : ℕ) (o : Outcome) (w : SourceWorld) → (call_failur
 call_frames limit (out.Value v) w = refl
 call_frames limit (out.Raised t) w = refl
 call_frames limit (out.Exhausted trace) w = refl
+
+pub call_end_frames : (limit : ℕ) (o : Outcome) (w : SourceWorld) → (call_end limit o w).1.frozen ≡ w.frozen
+call_end_frames limit (out.Value v) w = refl
+call_end_frames limit (out.Raised t) w = refl
+call_end_frames limit (out.Exhausted trace) w = refl
 
 -- a body that has ended, or stands at its `yield`
 over_frames : (limit : ℕ) (o : Outcome) (w : SourceWorld) → (over_end limit o w).1.frozen ≡ w.frozen

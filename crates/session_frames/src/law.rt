@@ -11,6 +11,7 @@ ghost use Rattle.session_rules.specs.BuiltIns.{HaveBuiltIns};
 ghost use Rattle.session_rules.specs.Frames.{KeepsFrames};
 ghost use Rattle.session_rules.specs.World.{Item};
 
+use conftest_hooks::built_ins_are_there;
 use core_rules::source_code_keeps_its_world;
 
 /// A law: what fixtures and tests of sources do tells which frames stand at a `yield` behind it.
@@ -27,7 +28,9 @@ pub fn collection_leaves_no_frame_out()
     source_code_keeps_its_world();
 }
 
-/// A law: the hooks of each item have the runner's own implementations.
+/// A law: the hooks of each item have the runner's own implementations, under the rules of what is collected.
 pub fn hooks_have_the_built_ins()
-    ensures { (options : Options) (suite : Suite) (item : Item) → HaveBuiltIns (rules options suite) item }
-{}
+    ensures { (options : Options) (sources : List ReadFile) (c : Collected python Suite) → collect options sources ≡ Whole c → (item : Item) → HaveBuiltIns (rules options c.table) item }
+{
+    built_ins_are_there();
+}

@@ -1,4 +1,4 @@
-//! A test suite, as collection found it: its items and its fixtures, by number.
+//! A test suite, as collection found it: its items, its fixtures and its hooks, by number.
 //!
 //! # What it is for
 //!
@@ -9,7 +9,7 @@
 //! # What is proved
 //!
 //! - [`Suite::item`] and [`Suite::fixture`] give what the definitions of the same names look up, where there is one (`item_with_node`,
-//!   `fixture_at`).
+//!   `fixture_at`); [`HookTable::hook`] likewise (`hook_at`).
 //!
 //! # What tests alone show
 //!
@@ -21,9 +21,11 @@
 #![tactic(auto)]
 
 mod fixture;
+mod hook;
 mod item;
 mod suite;
 
 pub use fixture::Fixture;
+pub use hook::{Hook, HookArgument, HookTable};
 pub use item::{BoundArgument, FixtureParam, Item, ItemClosure};
 pub use suite::Suite;

@@ -4,11 +4,12 @@ ghost use Rattle.std.specs.Prelude.{◌≡◌, option_copied};
 ghost use Rattle.test_suite.specs.Suites as suites;
 
 use crate::fixture::Fixture;
+use crate::hook::HookTable;
 use crate::item::Item;
 use seq::Seq;
 use session_types::DefId;
 
-/// The items and the fixtures of a run.
+/// The items, the fixtures and the hooks of a run.
 pub struct Suite {
     /// All items of all test files; an item's number is its place.
     pub items: Seq<Item>,
@@ -16,6 +17,8 @@ pub struct Suite {
     pub fixtures: Seq<Fixture>,
     /// How many nodes stand before those of the items.
     pub outer: u32,
+    /// The implementations of the hooks around their phases.
+    pub hooks: HookTable,
 }
 
 impl Drop for Suite {
@@ -24,6 +27,7 @@ impl Drop for Suite {
             items: _,
             fixtures: _,
             outer: _,
+            hooks: _,
         } = self;
     }
 }

@@ -235,11 +235,13 @@ impl Feed for TimedFeed {
 pub struct NoReports;
 
 impl Receiver for NoReports {
-    ghost use Rattle.std.specs.Prelude.{[]};
+    ghost use Rattle.std.specs.Prelude.{[], ⊤};
 
     ghost taken = { λ none. [] };
 
     ghost faults = { λ none. 0 };
+
+    ghost stems = { λ first whole now. ⊤ };
 
     fn report(&mut self, report: ItemReport) -> Result<(), ReceiveFail> {
         drop(report);

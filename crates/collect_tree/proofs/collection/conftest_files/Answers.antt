@@ -1,5 +1,5 @@
 use Rattle.std.proofs.Common.{arith}
-use Rattle.collect_tree.proofs.Conftests.{files_end, files_on}
+use Rattle.collect_tree.proofs.ConftestFiles.{files_end, files_on}
 use Rattle.collect_tree.proofs.collection.conftest_files.Goals as goal
 
 pub returns-in_default : goal.returns-in_default

@@ -3,11 +3,16 @@ use Rattle.run_items.specs.Stands.{IsPlan, IsPlannedItem}
 use Rattle.run_items.specs.declared.plan.Plan.{Plan}
 use Rattle.runtest_loop.specs.Fed.{AreKnown}
 use Rattle.pytest_core.proofs.Chosen.{are_known, is_plan}
+use Rattle.pytest_core.proofs.Streamed.{none_broke}
+use Rattle.pytest_core.specs.Run.{plan_by}
 use Rattle.pytest_core.proofs.session.run_group.Goals as goal
 
 pub run_whole-requires-clause-plan : goal.run_whole-requires-clause-plan
-run_whole-requires-clause-plan c = subst (λ (p : Plan). IsPlan p) (sym c.plan_of.ensures) (is_plan c.args.options.now c.args.found c.requires.runnable)
+run_whole-requires-clause-plan g c = subst (λ (p : Plan). IsPlan p) (sym c.plan_of.ensures) (is_plan c.args.options.now c.args.found c.requires.runnable)
 
 pub run_whole-requires-clause-known : goal.run_whole-requires-clause-known
-run_whole-requires-clause-known c =
+run_whole-requires-clause-known g c =
     subst (λ (p : Plan). AreKnown (IsPlannedItem p) p.run.suite.items) (sym c.plan_of.ensures) (are_known c.args.options.now c.args.found c.requires.runnable)
+
+pub returns-in-Err-clause-broke : goal.returns-in-Err-clause-broke
+returns-in-Err-clause-broke g c = none_broke (plan_by c.args.options.now c.args.found) c.args.options.now c.args.groups.now c.args.world (g.S.Sink.told c.args.out.now)

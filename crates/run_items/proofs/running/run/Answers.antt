@@ -1,5 +1,5 @@
 use Rattle.std.proofs.Common.{subst, sym, List, length}
-use Rattle.run_items.proofs.Given.{all_spent, lent_run, starts}
+use Rattle.run_items.proofs.Given.{all_spent, lent_front, lent_run, starts}
 use Rattle.run_items.specs.Stands.{IsPlannedItem}
 use Rattle.runtest_loop.specs.Fed.{AreKnown, numbers_fed, numbers_in_range}
 use Rattle.test_suite.specs.declared.item.Item.{Item}
@@ -28,3 +28,8 @@ returns-in-Ok-clause-run g c =
 
 pub returns-in-Ok-clause-spent : goal.returns-in-Ok-clause-spent
 returns-in-Ok-clause-spent g c = all_spent c.run.new.stage c.in-Ok.ensures.empty
+
+pub returns-in-Err-clause-begun : goal.returns-in-Err-clause-begun
+returns-in-Err-clause-begun g c =
+    let plan = c.args.plan.now in
+    lent_front plan plan.run.suite.items c.requires.known c.items-items.result.now c.items-items.ensures c.args.options.now (numbers_fed c.args.groups.now (g.F.Feed.given c.run.new.feed)) c.args.stand.now.world (g.P.Receiver.taken c.args.to.now) (g.P.Receiver.taken c.run.new.to) c.in-Err.ensures.begun

@@ -16,6 +16,7 @@ invariant-items g l = record {
   in_range : Every (λ n. n < length l.items) (option_to_list l.current ++ l.rest);
   few : l.bad + 3 * (unfed l.groups (g.F.Feed.given l.feed) + length (option_to_list l.current ++ l.rest)) ≤ 393216;
   going : reaches l.options.maxfail l.bad ≡ false;
+  stems : g.P.Receiver.stems l.fn.to true l.to;
   faults : g.P.Receiver.faults l.fn.to ≤ g.P.Receiver.faults l.to;
 }
 
