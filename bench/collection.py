@@ -188,4 +188,5 @@ def main():
             table(program, name, tree, words, sizes)
 
 
-main()
+if __name__ == "__main__":
+    main()

@@ -11,9 +11,9 @@ from model.runner import Features, Run  # noqa: E402
 ROOT = os.path.dirname(os.path.dirname(os.path.abspath(__file__)))
 
 
-def by_model(words, files):
-    """(bytes, status) of the model, for a list of texts and a dict of paths to bytes."""
-    done = Run(words, files, Features()).result()
+def by_model(words, files, draws=None):
+    """(bytes, status) of the model, for a list of texts and a dict of paths to bytes; with workers, by the worker that draws each group."""
+    done = Run(words, files, Features()).result(draws)
     return done.output, done.status
 
 

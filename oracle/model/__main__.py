@@ -1,6 +1,6 @@
 """python3 -m model [words]: the report over the current folder.
 
-The environment variable MODEL_UNBUILT names what is refused as not built (`ids,workers`; what the program
+The environment variable MODEL_UNBUILT names what is refused as not built (`workers`; what the program
 refuses today, where it isn't there; nothing, where it is empty), and MODEL_FEATURES what the model has beyond the
 program (names separated by commas, or `all`)."""
 import os

@@ -298,11 +298,13 @@ class Collector:
             if file in self.errors:
                 continue
             self.add_definitions(file)
+        # Tests are read as they are behind all loads, before the hook for ids is asked for any.
+        tests = {file: self.tests_of(file) for file in test_files if file not in self.errors}
         for file in test_files:
             if file in self.errors:
                 continue
             try:
-                self.file_items[file] = self.items_of(file)
+                self.file_items[file] = [item for test in tests[file] for item in self.items_of_test(*test)]
             except FileFault as fault:
                 self.row_faults = True
                 text = texts[file] + self.world.take_printed()
@@ -477,7 +479,8 @@ class Collector:
 
     # -------------------------------------------------------------- items
 
-    def items_of(self, file):
+    def tests_of(self, file):
+        """The tests of a file, each with what its items are made of."""
         node = self.file_node(file)
         out = []
         module_marks = []
@@ -486,34 +489,37 @@ class Collector:
                 module_marks = marks_of_value(value)
         for name, value in self.world.names(file):
             if name.startswith("test") and isinstance(value, values.Function):
-                out.extend(self.items_of_function(file, node, node, None, None, name, value, [], module_marks))
+                out.append(self.test_of(file, node, node, None, None, name, value, [], module_marks))
             elif self.test_class(name, value):
                 at = self.table.node("Class", node, file, name)
                 class_marks = marks_of_value(value.names.get("pytestmark")) + list(value.marks)
                 for inner, v in value.names.items():
                     if inner.startswith("test") and isinstance(v, values.Function):
-                        out.extend(self.items_of_function(file, node, at, name, value, inner, v,
-                                                          class_marks, module_marks))
+                        out.append(self.test_of(file, node, at, name, value, inner, v, class_marks, module_marks))
         return out
 
-    def items_of_function(self, file, file_node, at, class_name, class_value, name, function,
-                          class_marks, module_marks):
-        method = class_name is not None
+    def test_of(self, file, file_node, at, class_name, class_value, name, function, class_marks, module_marks):
         own_marks = list(function.marks) + class_marks + module_marks
         uses = []
         for m in own_marks:
             if m.name == "usefixtures":
                 uses.extend(a for a in m.args)
-        args = arguments(function, method)
         # A bare `parametrize` (in a `pytestmark` or in `param(marks=)`) has no names and no rows.
         marks = [m for m in own_marks if m.name == "parametrize" and m.args]
-        names_of = [mark_names(m) for m in marks]
+        mark_lists = [(mark_names(m), mark_sets(m)) for m in marks]
+        return (file, file_node, at, class_name, class_value, name, function, class_marks, module_marks, uses, mark_lists)
+
+    def items_of_test(self, file, file_node, at, class_name, class_value, name, function, class_marks, module_marks,
+                      uses, mark_lists):
+        method = class_name is not None
+        args = arguments(function, method)
+        names_of = [n for n, sets in mark_lists]
         bound = []
         for names in names_of:
             bound.extend(n for n in names if n not in bound)
         closed = self.table.closure(at, bound, uses, args)
         try:
-            lists = self.sets_of(file_node, closed, marks, names_of, uses, args, function)
+            lists = self.sets_of(file_node, closed, mark_lists, uses, args, function)
             sizes = [len(sets) for _, _, sets in lists]
             rows = product(sizes)
         except RowFault as fault:
@@ -554,7 +560,7 @@ class Collector:
             item("[" + "-".join(ids) + "]", row_bound, params, row_marks, False)
         return out
 
-    def sets_of(self, file_node, closed, marks, names_of, uses, args, function):
+    def sets_of(self, file_node, closed, mark_lists, uses, args, function):
         """The lists of parameter sets with their ids: fixtures, then marks."""
         lists = []
         if closed.fault is None:
@@ -563,7 +569,6 @@ class Collector:
                 known.extend(self.table.defs[d].args)
         else:
             known = list(args) + list(uses)
-        mark_lists = [(n, mark_sets(m)) for n, m in zip(names_of, marks)]
         mark_faults([(n, [len(s.values) for s in sets]) for n, sets in mark_lists], known)
         if closed.fault is None:
             for d in closed.defs:

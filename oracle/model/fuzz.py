@@ -1,6 +1,6 @@
 """python3 -m model.fuzz COUNT SEED [--program PATH] [--features a,b] [--unbuilt WORDS] [--show]
 
-`--unbuilt ids,workers`: these are refused by `ERROR: not built` (by default what the program refuses today;
+`--unbuilt workers`: these are refused by `ERROR: not built` (by default what the program refuses today;
 `--unbuilt ""`: nothing is).
 
 Random projects for the runner: fixtures of all scopes with overriding, parameters, yields and faults, hooks and

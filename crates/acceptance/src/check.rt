@@ -1,6 +1,8 @@
-use crate::case::{Case, Expectation};
-use edge_io::{MemSink, MemTree, OpenGate, SureTree};
-use pytest_core::pytest_main;
+use crate::calls::check_calls;
+use crate::case::{Case, Each, Expectation};
+use crate::ends::ends_of;
+use crate::run::{Run, copied, run_case};
+use journal_tests::journal_of;
 use std::alloc::{AllocError, Global};
 use std::thread::Threads;
 
@@ -47,35 +49,67 @@ fn wanted_text(alloc: Global, wanted: &[Expectation]) -> Result<String, AllocErr
     Ok(text)
 }
 
-/// Runs a case, and says what was wanted and what came where they differ.
-pub fn check<R: Threads + Sync>(rt: &R, alloc: Global, case: Case) -> Result<String, AllocError> {
-    let Case {
-        words,
-        files,
-        wanted,
-        status,
-        outside,
-    } = case;
-    let tree = SureTree::new(alloc, files);
-    let mut tree = MemTree::new(tree, vec![in alloc; outside.tree_fails]?);
-    let mut out = MemSink::new(
-        alloc,
-        outside.sink_takes,
-        vec![in alloc; outside.sink_fails]?,
-    );
-    let came = pytest_main(rt, alloc, &words, &mut tree, &mut out, &OpenGate).number();
-    let Ok(output) = str::from_utf8(out.bytes()) else {
+/// What is wrong with what came of a case, or an empty text.
+fn fault_of(alloc: Global, case: &Case, run: &Run) -> Result<String, AllocError> {
+    let Ok(output) = str::from_utf8(&run.output) else {
         return String::from_str(alloc, "the output is not UTF-8\n");
     };
-    if !has_all(output, &wanted) {
-        let text = wanted_text(alloc, &wanted)?;
+    if !has_all(output, &case.wanted) {
+        let text = wanted_text(alloc, &case.wanted)?;
         return format!(in alloc; "wanted\n{text}but got\n{output}");
     }
-    if came != status {
-        return format!(in alloc; "wanted status {status} but got {came}\n");
+    if run.late != 0 {
+        return String::from_str(alloc, "a worker was held for too long\n");
     }
-    if outside.sink_fails != 0 && out.calls() != outside.sink_fails {
+    if run.status != case.status {
+        let (wanted, came) = (case.status, run.status);
+        return format!(in alloc; "wanted status {wanted} but got {came}\n");
+    }
+    if case.outside.sink_fails != 0 && run.puts != case.outside.sink_fails {
         return String::from_str(alloc, "no put was wanted behind the one that failed\n");
     }
     Ok(String::new(alloc))
+}
+
+/// What is wrong with what the runs of a case come to, where that is told, or an empty text.
+fn check_ends<R: Threads + Sync>(rt: &R, alloc: Global, case: &Case) -> Result<String, AllocError> {
+    if case.ends.is_empty() {
+        return Ok(String::new(alloc));
+    }
+    let came = ends_of(rt, alloc, case)?;
+    if came == case.ends {
+        return Ok(String::new(alloc));
+    }
+    format!(in alloc; "wanted ends\n{}but got\n{came}", case.ends)
+}
+
+/// What is wrong with what the journal of a case tells, where one is asked for, or an empty text.
+fn check_journal(alloc: Global, case: &Case) -> Result<String, AllocError> {
+    if case.journal.is_empty() {
+        return Ok(String::new(alloc));
+    }
+    let files = copied(alloc, &case.files)?;
+    let came = journal_of(alloc, &case.words, files)?;
+    if came == case.journal {
+        return Ok(String::new(alloc));
+    }
+    format!(in alloc; "wanted journal\n{}but got\n{came}", case.journal)
+}
+
+/// Runs a case, and says what was wanted and what came where they differ.
+pub fn check<R: Threads + Sync>(rt: &R, alloc: Global, case: &Case) -> Result<String, AllocError> {
+    let files = copied(alloc, &case.files)?;
+    let whole = run_case(rt, alloc, case, files, case.outside)?;
+    let fault = fault_of(alloc, case, &whole)?;
+    if !fault.is_empty() {
+        return Ok(fault);
+    }
+    let fault = check_journal(alloc, case)?;
+    if !fault.is_empty() {
+        return Ok(fault);
+    }
+    match case.each {
+        Each::Nothing | Each::Prefix => check_ends(rt, alloc, case),
+        Each::TreeCall | Each::Put => check_calls(rt, alloc, case, &whole),
+    }
 }

@@ -3,10 +3,12 @@
 //! # What it is for
 //!
 //! Each file `NAME.case` has words, files, and what a run over them must write and answer; where it tells so, a call of the tree or the
-//! sink fails. Those named `wrong_..` want what no run writes or answers, and must be told as wrong, so that a checker that passes
-//! everything is seen. The rows of `expressions.rows` are sources for the front end alone, those of `values.rows` are on values, operators
-//! and calls, and those of `stdin` programs for the machine alone, under exact budgets; `expression_tests`, `value_tests` and
-//! `machine_tests` read and run them, and their pages say what a row is.
+//! sink fails or wants memory, or each in turn, or the last file is cut behind each of its bytes, or it is said which worker draws which
+//! group; where it asks for it, the journal of its run is read besides, by `journal_tests`. Those named `wrong_..` want what no run
+//! writes or answers, and must be told as wrong, so that a checker that passes everything is seen. The rows of `expressions.rows` are
+//! sources for the front end alone, those of `values.rows` are on values, operators and calls, and those of `stdin` programs for the
+//! machine alone, under exact budgets; `expression_tests`, `value_tests` and `machine_tests` read and run them, and their pages say what a
+//! row is.
 //!
 //! # What is proved
 //!
@@ -14,8 +16,13 @@
 //! `pytest_core`.
 #![tactic(auto)]
 
+mod calls;
 mod case;
 mod check;
+mod draws;
+mod ends;
+mod run;
+mod scarce;
 
 use case::read_case;
 use check::check;
@@ -41,7 +48,7 @@ fn case_names<R: Files + AllocGlobal + Clone + Drop>(rt: &R) -> io::Result<Vec<S
 /// What is wrong with a case, or an empty text.
 fn fault_of<R: Threads + Sync>(rt: &R, alloc: Global, text: &str) -> Result<String, AllocError> {
     match read_case(alloc, text)? {
-        Some(case) => check(rt, alloc, case),
+        Some(case) => check(rt, alloc, &case),
         None => String::from_str(alloc, "it is no case\n"),
     }
 }

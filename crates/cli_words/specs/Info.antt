@@ -47,7 +47,7 @@ help_lines =
     ∷ codes "  -v, --verbose            write a line for each test"
     ∷ codes "  --tb STYLE               tell of a failure: short (as without it), line, no"
     ∷ codes "  --setup-show             show how fixtures are set up"
-    ∷ codes "  -n, --numprocesses N     share the tests among N workers (not built yet)"
+    ∷ codes "  -n, --numprocesses N     share the tests among N workers"
     ∷ codes "  --dist MODE              share them by file: loadfile; run no worker: no"
     ∷ codes "  --step-limit N           let a test take N steps, 1 to 100000000"
     ∷ codes "  --generated SEED,FILES   run tests that are made up"

@@ -36,7 +36,7 @@ options:
   -v, --verbose            write a line for each test
   --tb STYLE               tell of a failure: short (as without it), line, no
   --setup-show             show how fixtures are set up
-  -n, --numprocesses N     share the tests among N workers (not built yet)
+  -n, --numprocesses N     share the tests among N workers
   --dist MODE              share them by file: loadfile; run no worker: no
   --step-limit N           let a test take N steps, 1 to 100000000
   --generated SEED,FILES   run tests that are made up

@@ -30,6 +30,7 @@ use Rattle.test_suite.specs.declared.item.Item.{Item}
 use Rattle.test_suite.specs.declared.suite.Suite.{Suite}
 use Rattle.fixture_definitions.specs.collect_params.param_rows.declared.keys.ItemKeys.{ItemKeys}
 use Rattle.collect_items.specs.Chosen.{item_keys}
+use Rattle.collect_items.specs.declared.found.FoundFile.{FoundFile}
 use Rattle.collect_items.specs.declared.found.FoundSuite.{FoundSuite}
 
 -- the fixtures of a collection: the table of their definitions, and the texts of the names in it
@@ -95,10 +96,9 @@ defined_fixture d = d.fixture
 abbrev pub suite_with : List Obj → List (List ℕ) → ℕ → FixtureTable → List FoundItem → Suite
 suite_with heap walk outer f items = record { items = items_from heap walk f outer items; fixtures = map defined_fixture f.definitions; outer = outer; hooks = no_hooks }
 
--- a test file with its items, or the fault of their rows
-pub record FoundFile : Type 0 where
-  pub file : TestFile
-  pub items : FileItems
+-- the classes of tests of a file, as words name them
+abbrev pub classes_in : List Obj → TestFile → List (List ℕ)
+classes_in heap file = map encode_utf8_all (classes_of heap file)
 
 -- a file whose rows have a fault has no items
 abbrev pub items_kept : FileItems → List FoundItem
@@ -127,7 +127,11 @@ pub record Findings : Type 0 where
 module _ (heap : List Obj) where
   -- what comes of the tests of a file: their nodes follow one another from this one on
   abbrev pub file_found : FixtureTable → ℕ → PlacedFile → FoundFile
-  file_found f node placed = record { file = placed.file; items = items_of_tests heap f.table f.names f.definitions node (tests_of heap placed) }
+  file_found f node placed = record {
+    file = placed.file;
+    classes = classes_in heap placed.file;
+    items = items_of_tests heap f.table f.names f.definitions node (tests_of heap placed);
+  }
 
   abbrev pub files_found : FixtureTable → ℕ → List PlacedFile → List FoundFile
   files_found f node [] = []
@@ -169,7 +173,3 @@ module _ (heap : List Obj) (walk : List (List ℕ)) where
   -- WHAT IS FOUND in loaded test files, with the conftests above them
   unfoldable pub findings : List TestFile → List TestFile → Findings
   findings conftests files = findings_under (all_folders walk files) conftests (placed_of files)
-
--- its classes of tests, as words name them
-abbrev pub classes_in : List Obj → TestFile → List (List ℕ)
-classes_in heap file = map encode_utf8_all (classes_of heap file)

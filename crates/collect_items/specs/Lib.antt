@@ -4,3 +4,4 @@ pub use Rattle.collect_rows.specs as collect_rows
 pub mod Chosen
 pub mod Items
 pub mod Nodes
+pub mod Reads

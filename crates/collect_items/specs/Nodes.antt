@@ -4,8 +4,8 @@ use Rattle.collect_names.specs.declared.found.TestClass.{TestClass}
 use Rattle.collect_rows.specs.declared.items.FoundItem.{FoundItem}
 use Rattle.collect_words.specs.declared.nodes.FileNodes.{FileNodes}
 use Rattle.collect_words.specs.declared.nodes.ItemNames.{ItemNames}
-use Rattle.py_values.specs.declared.object.Obj.{Obj}
-use Rattle.collect_items.specs.Items.{FoundFile, all_items, classes_in, fault_of_file, items_of_file}
+use Rattle.collect_items.specs.Items.{all_items, fault_of_file, items_of_file}
+use Rattle.collect_items.specs.declared.found.FoundFile.{FoundFile}
 
 -- the place of the file of each item
 abbrev pub place_of_item : FoundItem → ℕ
@@ -28,17 +28,17 @@ numbered number [] = []
 numbered number (i ∷ is) = names_of number i ∷ numbered (number + 1) is
 
 -- what words can name of a file, whose items are numbered from this one on. Of one that failed, by its load or its rows, nothing is known
-abbrev pub nodes_of : List Obj → ℕ → FoundFile → FileNodes
-nodes_of heap first f = record {
+abbrev pub nodes_of : ℕ → FoundFile → FileNodes
+nodes_of first f = record {
   failed = not (is_some f.file.object) || is_some (fault_of_file f);
-  classes = classes_in heap f.file;
+  classes = f.classes;
   items = numbered first (items_of_file f);
 }
 
 -- the files with their nodes, numbered one behind the other
-abbrev pub all_nodes : List Obj → ℕ → List FoundFile → List (ℕ × FileNodes)
-all_nodes heap first [] = []
-all_nodes heap first (f ∷ rest) = (f.file.place, nodes_of heap first f) ∷ all_nodes heap (first + length (items_of_file f)) rest
+abbrev pub all_nodes : ℕ → List FoundFile → List (ℕ × FileNodes)
+all_nodes first [] = []
+all_nodes first (f ∷ rest) = (f.file.place, nodes_of first f) ∷ all_nodes (first + length (items_of_file f)) rest
 
 -- a file that is no test file
 abbrev pub no_nodes : FileNodes
@@ -50,8 +50,8 @@ with_nodes [] nodes = nodes
 with_nodes (file ∷ files) nodes = slice_set (with_nodes files nodes) file.0 file.1
 
 -- THE NODES OF ALL FILES, in the order of the walk: files that were not loaded have none
-unfoldable pub nodes_by_place : List Obj → List (List ℕ) → List FoundFile → List FileNodes
-nodes_by_place heap walk files = with_nodes (all_nodes heap 0 files) (replicate (length walk) no_nodes)
+unfoldable pub nodes_by_place : List (List ℕ) → List FoundFile → List FileNodes
+nodes_by_place walk files = with_nodes (all_nodes 0 files) (replicate (length walk) no_nodes)
 
 -- THE PLACES of the files of all items
 unfoldable pub item_places : List FoundFile → List ℕ

@@ -7,7 +7,7 @@ ghost use Rattle.collect_items.specs.Items as items;
 ghost use Rattle.collect_items.specs.Nodes as nodes;
 
 use crate::copies::fixtures_of;
-use crate::item::items_from;
+use crate::item::{classes_in, items_from};
 use crate::nodes::{by_place, file_nodes};
 use crate::order::keys_of;
 use collect_fixtures::{all_names, table_of};
@@ -21,8 +21,20 @@ use fixture_table::{CollectionNode, Table};
 use param_rows::ItemKeys;
 use py_text::OutOfMemory;
 use py_values::heap::Heap;
+use report_parts::Text;
+use seq::Seq;
 use std::alloc::Global;
 use test_suite::{HookTable, Suite};
+
+/// A test file with what was found of it.
+#[derive(Drop)]
+pub struct FoundFile {
+    pub file: TestFile,
+    /// Its classes of tests, as words name them.
+    pub classes: Seq<Text>,
+    /// Its items, or the fault of their rows.
+    pub items: FileItems,
+}
 
 /// A suite, with the table of its fixtures.
 #[derive(Drop)]
@@ -47,10 +59,10 @@ pub struct FoundItems {
 
 /// What came of the files so far: the items, the nodes of each file beside its place, and the fault of its rows.
 #[derive(Drop)]
-struct ListedFiles {
-    items: Vec<FoundItem>,
-    nodes: Vec<(usize, FileNodes)>,
-    faults: Vec<Option<RowsFault>>,
+pub(crate) struct ListedFiles {
+    pub(crate) items: Vec<FoundItem>,
+    pub(crate) nodes: Vec<(usize, FileNodes)>,
+    pub(crate) faults: Vec<Option<RowsFault>>,
 }
 
 fn push_tests(
@@ -67,7 +79,7 @@ fn push_tests(
 }
 
 /// The tests of files.
-fn list_tests(
+pub(crate) fn list_tests(
     alloc: Global,
     heap: &Heap,
     placed: &[PlacedFile],
@@ -82,7 +94,7 @@ fn list_tests(
 }
 
 /// The parents of the nodes of tests.
-fn test_parents(alloc: Global, tests: &[FoundTest]) -> Result<Vec<u32>, OutOfMemory>
+pub(crate) fn test_parents(alloc: Global, tests: &[FoundTest]) -> Result<Vec<u32>, OutOfMemory>
     ensures { IfOk result (λ parents. parents.items ≡ map items.parent_of_found tests.now) }
 {
     let mut parents = Vec::new(alloc);
@@ -125,22 +137,25 @@ fn counted(count: usize) -> Result<u32, OutOfMemory>
     }
 }
 
-/// Puts what comes of a file behind the others.
-fn list_file(
+/// Puts a file behind the others.
+pub(crate) fn list_file(
     alloc: Global,
-    heap: &Heap,
     listed: &mut ListedFiles,
-    file: TestFile,
-    came: FileItems,
+    found: FoundFile,
 ) -> Result<(), OutOfMemory>
-    ensures items { OnOk result (listed.new.items.items ≡ listed.old.items.items ++ items.items_kept came) }
-    ensures nodes { OnOk result (listed.new.nodes.items ≡ listed.old.nodes.items ++ (file.place, nodes.nodes_of heap.now (length listed.old.items.items) (record { file = file; items = came })) ∷ []) }
-    ensures faults { OnOk result (listed.new.faults.items ≡ listed.old.faults.items ++ items.fault_kept came ∷ []) }
+    ensures items { OnOk result (listed.new.items.items ≡ listed.old.items.items ++ items.items_of_file found) }
+    ensures nodes { OnOk result (listed.new.nodes.items ≡ listed.old.nodes.items ++ (found.file.place, nodes.nodes_of (length listed.old.items.items) found) ∷ []) }
+    ensures faults { OnOk result (listed.new.faults.items ≡ listed.old.faults.items ++ items.fault_of_file found ∷ []) }
 {
+    let FoundFile {
+        file,
+        classes,
+        items: came,
+    } = found;
     let first = listed.items.len();
     match came {
         FileItems::Items(found) => {
-            let one = file_nodes(alloc, heap, first, file, false, found.items())?;
+            let one = file_nodes(alloc, first, file, classes, false, found.items())?;
             listed.nodes.push((file.place, one))?;
             listed.faults.push(None)?;
             let mut found = found.into_vec();
@@ -148,7 +163,7 @@ fn list_file(
             Ok(())
         }
         FileItems::Fault(fault) => {
-            let one = file_nodes(alloc, heap, first, file, true, &[])?;
+            let one = file_nodes(alloc, first, file, classes, true, &[])?;
             listed.nodes.push((file.place, one))?;
             listed.faults.push(Some(fault))?;
             Ok(())
@@ -183,7 +198,7 @@ fn list_one(
     requires same { length definitions.now ≡ length table.now.defs }
     requires count { count ≡ length table.now.nodes }
     ensures items { OnOk result (listed.new.items.items ≡ listed.old.items.items ++ items.items_of_file (items.file_found heap.now (items.fixtures_with table.now names.now definitions.now) node placed)) }
-    ensures nodes { OnOk result (listed.new.nodes.items ≡ listed.old.nodes.items ++ (placed.file.place, nodes.nodes_of heap.now (length listed.old.items.items) (items.file_found heap.now (items.fixtures_with table.now names.now definitions.now) node placed)) ∷ []) }
+    ensures nodes { OnOk result (listed.new.nodes.items ≡ listed.old.nodes.items ++ (placed.file.place, nodes.nodes_of (length listed.old.items.items) (items.file_found heap.now (items.fixtures_with table.now names.now definitions.now) node placed)) ∷ []) }
     ensures faults { OnOk result (listed.new.faults.items ≡ listed.old.faults.items ++ items.fault_of_file (items.file_found heap.now (items.fixtures_with table.now names.now definitions.now) node placed) ∷ []) }
     ensures behind { IfOk result (λ n. n ≡ node + length (tests_of heap.now placed)) }
 {
@@ -193,8 +208,13 @@ fn list_one(
         // Each test has a node.
         return Err(OutOfMemory);
     }
-    let came = items_of_tests(alloc, heap, table, names, definitions, node, &tests)?;
-    list_file(alloc, heap, listed, placed.file, came)?;
+    let classes = classes_in(alloc, heap, placed.file)?;
+    let found = FoundFile {
+        file: placed.file,
+        classes,
+        items: items_of_tests(alloc, heap, table, names, definitions, node, &tests)?,
+    };
+    list_file(alloc, listed, found)?;
     plus(node, many)
 }
 
@@ -212,7 +232,7 @@ fn list_files(
     requires same { length definitions.now ≡ length table.now.defs }
     requires count { count ≡ length table.now.nodes }
     ensures items { IfOk result (λ l. l.items.items ≡ items.all_items (items.files_found heap.now (items.fixtures_with table.now names.now definitions.now) first placed.now)) }
-    ensures nodes { IfOk result (λ l. l.nodes.items ≡ nodes.all_nodes heap.now 0 (items.files_found heap.now (items.fixtures_with table.now names.now definitions.now) first placed.now)) }
+    ensures nodes { IfOk result (λ l. l.nodes.items ≡ nodes.all_nodes 0 (items.files_found heap.now (items.fixtures_with table.now names.now definitions.now) first placed.now)) }
     ensures faults { IfOk result (λ l. l.faults.items ≡ map items.fault_of_file (items.files_found heap.now (items.fixtures_with table.now names.now definitions.now) first placed.now)) }
 {
     let mut listed = ListedFiles {
@@ -250,7 +270,7 @@ fn files_behind(
     placed: &[PlacedFile],
 ) -> Result<ListedFiles, OutOfMemory>
     ensures items { IfOk result (λ l. l.items.items ≡ items.all_items (items.files_behind heap.now outer.items names.now definitions.now tests.now placed.now)) }
-    ensures nodes { IfOk result (λ l. l.nodes.items ≡ nodes.all_nodes heap.now 0 (items.files_behind heap.now outer.items names.now definitions.now tests.now placed.now)) }
+    ensures nodes { IfOk result (λ l. l.nodes.items ≡ nodes.all_nodes 0 (items.files_behind heap.now outer.items names.now definitions.now tests.now placed.now)) }
     ensures faults { IfOk result (λ l. l.faults.items ≡ map items.fault_of_file (items.files_behind heap.now outer.items names.now definitions.now tests.now placed.now)) }
 {
     let first = counted(outer.len())?;
@@ -352,7 +372,7 @@ fn suite_behind(
 }
 
 /// What is found in files that were listed.
-fn found_listed(
+pub(crate) fn found_listed(
     alloc: Global,
     heap: &Heap,
     walk: &Walk,
@@ -402,7 +422,7 @@ fn found_behind(
     ensures suite { IfOk result (λ f. f.found ≡ (items.findings_behind heap.now walk.now outer.items definitions.now tests.now placed.now).suite) }
     ensures places { IfOk result (λ f. f.places.items ≡ nodes.item_places (items.findings_behind heap.now walk.now outer.items definitions.now tests.now placed.now).files) }
     ensures keys { IfOk result (λ f. f.keys.items ≡ (items.findings_behind heap.now walk.now outer.items definitions.now tests.now placed.now).keys) }
-    ensures nodes { IfOk result (λ f. f.nodes.items ≡ nodes.nodes_by_place heap.now walk.now (items.findings_behind heap.now walk.now outer.items definitions.now tests.now placed.now).files) }
+    ensures nodes { IfOk result (λ f. f.nodes.items ≡ nodes.nodes_by_place walk.now (items.findings_behind heap.now walk.now outer.items definitions.now tests.now placed.now).files) }
     ensures faults { IfOk result (λ f. f.faults.items ≡ map items.fault_of_file (items.findings_behind heap.now walk.now outer.items definitions.now tests.now placed.now).files) }
     ensures tree { IfOk result (λ f. IsTree f.found.table.nodes) }
 {
@@ -424,7 +444,7 @@ fn found_under(
     ensures suite { IfOk result (λ f. f.found ≡ (items.findings_under heap.now walk.now folders.now conftests.now placed.now).suite) }
     ensures places { IfOk result (λ f. f.places.items ≡ nodes.item_places (items.findings_under heap.now walk.now folders.now conftests.now placed.now).files) }
     ensures keys { IfOk result (λ f. f.keys.items ≡ (items.findings_under heap.now walk.now folders.now conftests.now placed.now).keys) }
-    ensures nodes { IfOk result (λ f. f.nodes.items ≡ nodes.nodes_by_place heap.now walk.now (items.findings_under heap.now walk.now folders.now conftests.now placed.now).files) }
+    ensures nodes { IfOk result (λ f. f.nodes.items ≡ nodes.nodes_by_place walk.now (items.findings_under heap.now walk.now folders.now conftests.now placed.now).files) }
     ensures faults { IfOk result (λ f. f.faults.items ≡ map items.fault_of_file (items.findings_under heap.now walk.now folders.now conftests.now placed.now).files) }
     ensures tree { IfOk result (λ f. IsTree f.found.table.nodes) }
 {
@@ -446,7 +466,7 @@ pub fn found_items(
     ensures suite { IfOk result (λ f. f.found ≡ (items.findings heap.now walk.now conftests.now files.now).suite) }
     ensures places { IfOk result (λ f. f.places.items ≡ nodes.item_places (items.findings heap.now walk.now conftests.now files.now).files) }
     ensures keys { IfOk result (λ f. f.keys.items ≡ (items.findings heap.now walk.now conftests.now files.now).keys) }
-    ensures nodes { IfOk result (λ f. f.nodes.items ≡ nodes.nodes_by_place heap.now walk.now (items.findings heap.now walk.now conftests.now files.now).files) }
+    ensures nodes { IfOk result (λ f. f.nodes.items ≡ nodes.nodes_by_place walk.now (items.findings heap.now walk.now conftests.now files.now).files) }
     ensures faults { IfOk result (λ f. f.faults.items ≡ map items.fault_of_file (items.findings heap.now walk.now conftests.now files.now).files) }
     ensures tree { IfOk result (λ f. IsTree f.found.table.nodes) }
 {

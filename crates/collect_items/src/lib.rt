@@ -14,6 +14,9 @@
 //!   has rows, with its names, its marks, its arguments, what its row gives and what its set-up demands, over the table of all definitions,
 //!   whose nodes are a tree (`tree`); the place of the file of each (`places`), and what its order goes by (`keys`); what words can name of each
 //!   file in the order of the walk (`nodes`); and the fault of the rows of each file (`faults`).
+//! - The same in three, where something is done to the rows between: [`read_files`] reads the tests of all files and what rows are made over
+//!   (`files_read`), [`table_in`] gives the table in which each test has a node (`table_in`), and [`found_in`] what is found in files whose
+//!   items were made (`findings_in`).
 //! - [`ordered`]: the numbers in the order that `param_rows` defines (`ordered`). [`chosen`]: exactly the filter by the names of items and of
 //!   their marks (`same`), all of them numbers of items (`within`).
 //!
@@ -32,9 +35,11 @@ mod found;
 mod item;
 mod nodes;
 mod order;
+mod reads;
 
 pub use choice::chosen;
 pub use collect_rows::RowsFault;
-pub use found::{FoundItems, FoundSuite, found_items};
+pub use found::{FoundFile, FoundItems, FoundSuite, found_items};
 pub use order::ordered;
 pub use param_rows::ItemKeys;
+pub use reads::{FileTests, FilesRead, ItemBasis, found_in, read_files, table_in};

@@ -3,13 +3,12 @@
 ghost use Rattle.std.specs.Prelude.{◌≡◌, ◌++◌, ◌∷◌, ◌+◌, [], IfOk, OnOk, option_map, replicate, slice_set};
 ghost use Rattle.collect_items.specs.Nodes as nodes;
 
-use crate::item::{classes_in, encoded};
+use crate::item::encoded;
 use collect_names::found::TestClass;
 use collect_rows::FoundItem;
 use collect_words::{FileNodes, ItemNames};
 use collection_nodes::TestFile;
 use py_text::{OutOfMemory, PyText};
-use py_values::heap::Heap;
 use report_parts::Text;
 use seq::Seq;
 use std::alloc::Global;
@@ -83,27 +82,26 @@ fn numbered(alloc: Global, first: usize, tests: &[FoundItem]) -> Result<Seq<Item
     Ok(names)
 }
 
-/// What words can name of a file with these items, whose numbers go from this one on; with none where it failed.
+/// What words can name of a file with these classes and these items, whose numbers go from this one on; with none where it failed.
 pub fn file_nodes(
     alloc: Global,
-    heap: &Heap,
     first: usize,
     file: TestFile,
+    classes: Seq<Text>,
     faulty: bool,
     found: &[FoundItem],
 ) -> Result<FileNodes, OutOfMemory>
-    ensures { IfOk result (λ n. n ≡ record { failed = not (is_some file.object) || faulty; classes = items.classes_in heap.now file; items = nodes.numbered first found.now }) }
+    ensures { IfOk result (λ n. n ≡ record { failed = not (is_some file.object) || faulty; classes = classes; items = nodes.numbered first found.now }) }
 {
-    let classes = classes_in(alloc, heap, file)?;
+    let items = numbered(alloc, first, found)?;
     Ok(FileNodes {
         failed: file.object.is_none() || faulty,
         classes,
-        items: numbered(alloc, first, found)?,
+        items,
     })
 }
 
 ghost use Rattle.std.specs.Prelude.{◌||◌, is_some, not};
-ghost use Rattle.collect_items.specs.Items as items;
 
 fn no_nodes(alloc: Global) -> FileNodes
     ensures { result ≡ nodes.no_nodes }

@@ -143,13 +143,9 @@ parametrizations heap marks = flat_map (parametrized heap) (filter (is_called (c
 
 -- PARAMS OF FIXTURES
 
-abbrev pub sets_of_texts : List Obj → List (List ℕ) → List Value → List (ParamSet Value)
-sets_of_texts heap ids vs = sets_from heap true (map Some ids) 0 vs
-
-abbrev pub texts_or_none : Option (List (List ℕ)) → List (List ℕ)
-texts_or_none (Some ids) = ids
-texts_or_none None = []
+abbrev pub fixture_sets : List Obj → Option (List Value) → List Value → List (ParamSet Value)
+fixture_sets heap ids vs = sets_from heap true (map (text_of heap) (values_in_row ids)) 0 vs
 
 -- THE PARAMETERS of a fixture, where it has any
 unfoldable pub fixture_params : List Obj → FixtureObj → Option (List (ParamSet Value))
-fixture_params heap x = option_map (sets_of_texts heap (texts_or_none x.ids)) x.params
+fixture_params heap x = option_map (fixture_sets heap x.ids) x.params

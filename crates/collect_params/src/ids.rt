@@ -96,7 +96,7 @@ fn object_id(
 
 /// The id of one value of an argument, in a row.
 #[tactic(auto, unfolding(crate::specs::Values::value_id))]
-fn value_id(
+pub fn value_id(
     alloc: Global,
     heap: &Heap,
     name: &PyText,
@@ -180,7 +180,7 @@ fn push_all_behind_dash(id: &mut Vec<char>, ids: &[PyText]) -> Result<(), OutOfM
 }
 
 /// Ids side by side, with `-` between.
-fn dashed(alloc: Global, ids: &[PyText]) -> Result<Vec<char>, OutOfMemory>
+pub fn dashed(alloc: Global, ids: &[PyText]) -> Result<Vec<char>, OutOfMemory>
     ensures { IfOk result (λ id. id.items ≡ written.dashed ids.now) }
 {
     let mut id = Vec::new(alloc);

@@ -11,7 +11,8 @@
 //!   `param` give it, and the marks of `param` (`parametrizations`).
 //! - [`fixture_params`]: the sets of a fixture's parameters, where it has any (`fixture_params`).
 //! - [`set_ids`], [`param_ids`]: the ids, those of values where none is given, escaped, and with equal ones told apart
-//!   (`set_ids`, `param_ids`).
+//!   (`set_ids`, `param_ids`). [`value_id`]: the id that a value has by itself (`value_id`). [`dashed`]: ids side by side, with `-` between
+//!   (`dashed`).
 //!
 //! # What tests alone show
 //!
@@ -32,6 +33,6 @@ mod parametrize;
 mod sets;
 
 pub use given::Parametrization;
-pub use ids::{param_ids, set_ids};
+pub use ids::{dashed, param_ids, set_ids, value_id};
 pub use parametrize::parametrizations;
 pub use sets::fixture_params;

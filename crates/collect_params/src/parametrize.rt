@@ -11,10 +11,9 @@ ghost use Rattle.collect_params.specs.Given as given;
 
 use crate::given::Parametrization;
 use crate::names::{is_single, names_given};
-use crate::sets::sets_of;
+use crate::sets::{sets_of, texts_at};
 use collect_marks::given::mark_in;
 use param_rows::ParamSets;
-use py_operands::texts::text_of;
 use py_text::{OutOfMemory, PyText};
 use py_values::heap::Heap;
 use py_values::names::Name;
@@ -24,32 +23,6 @@ use py_values::value::Value;
 use pytest_arguments::given::row_at;
 use seq::Seq;
 use std::alloc::Global;
-
-/// A copy of a text, where there is one.
-fn text_copied(alloc: Global, text: Option<&PyText>) -> Result<Option<PyText>, OutOfMemory>
-    ensures { IfOk result (λ t. t ≡ option_copied text.entry) }
-{
-    match text {
-        Some(text) => Ok(Some(PyText::from_chars(alloc, text.chars())?)),
-        None => Ok(None),
-    }
-}
-
-/// The texts that values are; what is none gives none.
-fn texts_at(
-    alloc: Global,
-    heap: &Heap,
-    values: &[Value],
-) -> Result<Vec<Option<PyText>>, OutOfMemory>
-    ensures { IfOk result (λ ids. ids.items ≡ map (text_of heap.now) values.now) }
-{
-    let mut ids = Vec::new(alloc);
-    for v in values {
-        let id = text_copied(alloc, text_of(heap, *v))?;
-        ids.push(id)?;
-    }
-    Ok(ids)
-}
 
 fn named_ids(alloc: Global, mark: &MarkObj) -> Result<Option<Value>, OutOfMemory>
     ensures { IfOk result (λ v. v ≡ find_name (codes "ids") mark.now.named) }

@@ -1,17 +1,19 @@
 // Sets of values.
 
-ghost use Rattle.std.specs.Prelude.{◌≡◌, ◌++◌, ◌∷◌, [], IfOk, None as NoId, OnOk, Some as GivenId, map, option_copied};
+ghost use Rattle.std.specs.Prelude.{◌≡◌, ◌++◌, ◌∷◌, [], IfOk, OnOk, map, option_copied};
 ghost use Rattle.std.specs.Option.{option_or};
 ghost use Rattle.collect_marks.specs.collect_names.Objects.{object_in};
 ghost use Rattle.pytest_arguments.specs.Given.{row_at};
+ghost use Rattle.pytest_arguments.specs.py_operands.Texts.{text_of};
 ghost use Rattle.collect_params.specs.Given as given;
 
 use collect_names::objects::object_in;
 use param_rows::{ParamSet, ParamSets};
+use py_operands::texts::text_of;
 use py_text::{OutOfMemory, PyText};
 use py_values::heap::Heap;
 use py_values::object::{FixtureObj, Obj, ParamObj};
-use py_values::rows::Texts;
+use py_values::rows::Values;
 use py_values::value::Value;
 use pytest_arguments::given::row_at;
 use seq::Seq;
@@ -193,25 +195,44 @@ pub fn sets_of(
     Ok(sets)
 }
 
-/// The ids of a fixture, as those of a `parametrize` are kept.
-fn texts_given(alloc: Global, texts: &Option<Texts>) -> Result<Vec<Option<PyText>>, OutOfMemory>
-    ensures { IfOk result (λ ids. ids.items ≡ map GivenId (given.texts_or_none texts.now)) }
+/// A copy of a text, where there is one.
+fn text_copied(alloc: Global, text: Option<&PyText>) -> Result<Option<PyText>, OutOfMemory>
+    ensures { IfOk result (λ t. t ≡ option_copied text.entry) }
 {
-    match texts {
-        Some(texts) => some_texts(alloc, texts.items()),
-        None => Ok(Vec::new(alloc)),
+    match text {
+        Some(text) => Ok(Some(PyText::from_chars(alloc, text.chars())?)),
+        None => Ok(None),
     }
 }
 
-fn some_texts(alloc: Global, texts: &[PyText]) -> Result<Vec<Option<PyText>>, OutOfMemory>
-    ensures { IfOk result (λ ids. ids.items ≡ map GivenId texts.now) }
+/// The texts that values are; what is none gives none.
+pub fn texts_at(
+    alloc: Global,
+    heap: &Heap,
+    values: &[Value],
+) -> Result<Vec<Option<PyText>>, OutOfMemory>
+    ensures { IfOk result (λ ids. ids.items ≡ map (text_of heap.now) values.now) }
 {
     let mut ids = Vec::new(alloc);
-    for text in texts {
-        let id = PyText::from_chars(alloc, text.chars())?;
-        ids.push(Some(id))?;
+    for v in values {
+        let id = text_copied(alloc, text_of(heap, *v))?;
+        ids.push(id)?;
     }
     Ok(ids)
+}
+
+/// The ids that a fixture gives its parameters.
+fn fixture_ids(
+    alloc: Global,
+    heap: &Heap,
+    ids: &Option<Values>,
+) -> Result<Vec<Option<PyText>>, OutOfMemory>
+    ensures { IfOk result (λ texts. texts.items ≡ map (text_of heap.now) (given.values_in_row ids.now)) }
+{
+    match ids {
+        Some(ids) => texts_at(alloc, heap, ids.items()),
+        None => Ok(Vec::new(alloc)),
+    }
 }
 
 /// The sets of the parameters of a fixture, where it has any.
@@ -226,7 +247,7 @@ pub fn fixture_params(
     let Some(values) = &fixture.params else {
         return Ok(None);
     };
-    let ids = texts_given(alloc, &fixture.ids)?;
+    let ids = fixture_ids(alloc, heap, &fixture.ids)?;
     let sets = sets_of(alloc, heap, true, &ids, values.items())?;
     Ok(Some(sets))
 }

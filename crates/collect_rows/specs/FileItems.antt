@@ -43,10 +43,13 @@ abbrev pub or_fault : Option RowsFault → FileItems → FileItems
 or_fault None items = items
 or_fault (Some fault) items = Fault fault
 
+abbrev pub fault_at : TraceFrame → List ℕ → RowsFault
+fault_at defined text = record { trace = defined ∷ []; text = text }
+
 -- a fault is told at the test's `def`; the tests behind it aren't looked at
 abbrev pub rows_before : TraceFrame → FoundTest → TestRows → FileItems → FileItems
 rows_before defined t (rows.Rows rows) others = items_before (map (found_item t) rows) others
-rows_before defined t (rows.Fault text) others = Fault (record { defined = defined; text = text })
+rows_before defined t (rows.Fault text) others = Fault (fault_at defined text)
 
 module _ (heap : List Obj) (table : TableValue) (names : List (List ℕ)) (definitions : List Definition) where
   -- of one test, before those of the others

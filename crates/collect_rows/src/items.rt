@@ -37,10 +37,10 @@ pub struct FoundItem {
     pub row: ItemRow,
 }
 
-/// What is told of a fault of the rows of a test, and the place of its `def`.
+/// What is told of a fault of the rows of a test: its open calls, which are the place of the test's `def` or those of an exception.
 #[derive(Drop)]
 pub struct RowsFault {
-    pub defined: TraceFrame,
+    pub trace: Seq<TraceFrame>,
     pub text: PyText,
 }
 
@@ -126,7 +126,7 @@ fn found_item(alloc: Global, test: &FoundTest, row: ItemRow) -> Result<FoundItem
 }
 
 /// Pushes the items of a test with these rows.
-fn push_items(
+pub fn push_items(
     alloc: Global,
     found: &mut Seq<FoundItem>,
     test: &FoundTest,
@@ -146,6 +146,20 @@ fn def_of_test(alloc: Global, heap: &Heap, test: &TestFunction) -> Result<TraceF
     ensures { IfOk result (λ f. f ≡ defined_at (objects.function_at (objects.object_in heap.now test.now.function))) }
 {
     defined_at(alloc, function_at(object_in(heap, test.function)))
+}
+
+/// A fault that is told at the `def` of a test.
+pub fn fault_at_def(
+    alloc: Global,
+    heap: &Heap,
+    test: &FoundTest,
+    text: PyText,
+) -> Result<RowsFault, OutOfMemory>
+    ensures { IfOk result (λ f. f ≡ items.fault_at (defined_at (objects.function_at (objects.object_in heap.now test.now.test.function))) text) }
+{
+    let mut trace = Seq::new(alloc);
+    trace.push(def_of_test(alloc, heap, &test.test)?)?;
+    Ok(RowsFault { trace, text })
 }
 
 /// Pushes the items of the test at a node; or what is told of the fault of its rows, at its `def`.
@@ -169,8 +183,8 @@ fn push_test(
             Ok(None)
         }
         TestRows::Fault(text) => {
-            let defined = def_of_test(alloc, heap, &test.test)?;
-            Ok(Some(RowsFault { defined, text }))
+            let fault = fault_at_def(alloc, heap, test, text)?;
+            Ok(Some(fault))
         }
     }
 }

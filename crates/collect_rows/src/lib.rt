@@ -13,6 +13,10 @@
 //!
 //! - [`items_of_tests`]: each test with each of its rows, in order, or the fault of the first test that has one (`items_of_tests`).
 //!
+//! - What the two are made of is public, for who makes the lists of a test otherwise: [`numbers_bound`] and [`names_known`] (`numbers_bound`,
+//!   `names_known`), [`mark_of`], [`marks_of`] and [`with_ids`] (`mark_of`, `with_ids`), [`marks_fault`] (`marks_fault` of `param_rows`),
+//!   [`rows_of_lists`] (`rows_of_lists`), [`push_items`] (`found_item`) and [`fault_at_def`] (`fault_at`).
+//!
 //! # What tests alone show
 //!
 //! That the calls succeed with ample memory (`acceptance`).
@@ -31,6 +35,7 @@ mod lists;
 mod row;
 mod rows;
 
-pub use items::{FileItems, FoundItem, RowsFault, items_of_tests};
+pub use items::{FileItems, FoundItem, RowsFault, fault_at_def, items_of_tests, push_items};
+pub use lists::{mark_of, marks_of, names_known, with_ids};
 pub use row::{ItemRow, TestRows};
-pub use rows::test_rows;
+pub use rows::{marks_fault, numbers_bound, rows_of_lists, test_rows};

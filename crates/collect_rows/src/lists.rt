@@ -45,7 +45,7 @@ fn push_with_id(
 }
 
 /// Sets with these ids.
-fn with_ids(
+pub fn with_ids(
     alloc: Global,
     sets: &[ParamSet<Value>],
     ids: &[PyId],
@@ -60,7 +60,7 @@ fn with_ids(
 }
 
 /// A `parametrize`, its names by number and its sets with their ids.
-fn mark_of(
+pub fn mark_of(
     alloc: Global,
     heap: &Heap,
     names: &Mentions,

@@ -14,7 +14,7 @@ use collection_nodes::Mentions;
 use fixture_definitions::{Definition, FoundTest};
 use fixture_table::Table;
 use param_rows::{ParamMark, ParamRow, PyId, RowFault};
-use py_text::OutOfMemory;
+use py_text::{OutOfMemory, PyText};
 use py_values::heap::Heap;
 use py_values::value::Value;
 use seq::Seq;
@@ -51,7 +51,7 @@ ghost use Rattle.fixture_definitions.specs.collect_params.param_rows.declared.pa
 ghost use Rattle.py_values.specs.declared.value.Value.{Value as PyValue};
 
 /// The rows of these lists, or their fault.
-fn rows_of_lists(
+pub fn rows_of_lists(
     alloc: Global,
     names: &Mentions,
     definitions: &[Definition],
@@ -72,8 +72,41 @@ fn rows_of_lists(
     }
 }
 
+/// A law: beside an empty list `param_rows` finds the faults of marks alone, since it makes no row.
+fn no_rows_beside_an_empty_list()
+    ensures { (ids : Vec Id Global) (marks : List (ParamMark PyValue)) (known : List ℕ) → ids.items ≡ [] → first_fault ((0, ids) ∷ []) marks known ≡ row_faults.marks_fault known [] marks }
+{}
+
+ghost use Rattle.std.specs.Prelude.{◌∷◌, [], option_map};
+ghost use Rattle.fixture_definitions.specs.collect_params.param_rows.Faults as row_faults;
+
+/// The text of the first fault of these `parametrize` marks, however many rows they give.
+pub fn marks_fault(
+    alloc: Global,
+    names: &Mentions,
+    known: &[u32],
+    marks: &[ParamMark<Value>],
+) -> Result<Option<PyText>, OutOfMemory>
+    ensures { IfOk result (λ fault. fault ≡ option_map (rows.fault_text names.now) (row_faults.marks_fault known.now [] marks.now)) }
+{
+    no_rows_beside_an_empty_list();
+    let mut lists = Vec::new(alloc);
+    lists.push((0, Vec::new(alloc)))?;
+    match param_rows::rows(alloc, &lists, marks, known) {
+        Ok(_) => Ok(None),
+        Err(why) => {
+            let text = fault_text(alloc, names, why)?;
+            Ok(Some(text))
+        }
+    }
+}
+
 /// The numbers of the names that a test's rows bind.
-fn numbers_bound(alloc: Global, names: &Mentions, test: &FoundTest) -> Result<Seq<u32>, OutOfMemory>
+pub fn numbers_bound(
+    alloc: Global,
+    names: &Mentions,
+    test: &FoundTest,
+) -> Result<Seq<u32>, OutOfMemory>
     ensures { IfOk result (λ numbers. numbers ≡ all_numbers names.now (tables.names_bound test.now)) }
 {
     let bound = names_bound(alloc, test)?;

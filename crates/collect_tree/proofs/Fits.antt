@@ -1,10 +1,10 @@
 -- What is collected fits the rules of its fixtures.
 use Rattle.std.proofs.Common.{◌≡◌, ◌+◌, ℕ, Bool, true, false, List, [], ◌∷◌, inl, inr, map, length, Option, Some, None, Result, Ok, Err, refl, sym, ap, ◌∙◌, subst, eq-eqb, arith}
-use Rattle.std.specs.Prelude.{◌==◌, nat_lt, codes, slice_get, if◌then◌else◌}
+use Rattle.std.specs.Prelude.{◌==◌, nat_lt, slice_get, if◌then◌else◌}
 use Rattle.std.specs.List.{filter, flat_map}
 use Rattle.cli_words.specs.declared.options.Options.{Options}
 use Rattle.collect_items.specs.Chosen.{is_chosen, ordered}
-use Rattle.collect_items.specs.Items.{Findings, findings}
+use Rattle.collect_items.specs.Items.{Findings}
 use Rattle.collect_items.specs.Nodes.{item_places, nodes_by_place}
 use Rattle.collect_items.specs.declared.found.FoundSuite.{FoundSuite}
 use Rattle.collect_words.specs.Files.{conftests, includes_number, walked}
@@ -13,7 +13,7 @@ use Rattle.collect_words.specs.Words.{named_words}
 use Rattle.collect_words.specs.declared.fault.WordFault.{WordFault}
 use Rattle.collect_words.specs.declared.named.NamedWord.{NamedWord}
 use Rattle.collect_words.specs.declared.nodes.FileNodes.{FileNodes}
-use Rattle.conftest_hooks.specs.Registered.{any_makes_ids, hook_table}
+use Rattle.conftest_hooks.specs.Registered.{hook_table}
 use Rattle.conftest_hooks.specs.declared.looking.FoundHook.{FoundHook}
 use Rattle.collection_nodes.specs.declared.test_file.TestFile.{TestFile}
 use Rattle.fixture_world.specs.Items.{item_in_session}
@@ -30,7 +30,7 @@ use Rattle.test_suite.specs.Suites.{fixture_at, numbered_item}
 use Rattle.test_suite.specs.declared.item.Item.{Item}
 use Rattle.test_suite.specs.declared.suite.Suite.{Suite}
 use Rattle.collect_tree.specs.Collection as collection
-use Rattle.collect_tree.specs.Collection.{End, collect, conftest_files, item_numbered, item_or_none, of_loaded, of_words, read_path, findings_in_hooks, selected_by, with_conftests}
+use Rattle.collect_tree.specs.Collection.{End, collect, conftest_files, item_numbered, item_or_none, found_loaded, of_loaded, of_words, read_path, findings_in_hooks, selected_by, with_conftests}
 use Rattle.collect_tree.specs.Conftests.{ConftestsLoaded}
 use Rattle.collect_tree.specs.Loads.{LoadResults, test_loads}
 use Rattle.collect_tree.specs.Walk.{walk_of}
@@ -110,25 +110,22 @@ once_selected most walk tests files words =
     (or_missing_once (first_missing files words) (reached walk tests files words) (once_each [] (flat_map (λ (w : NamedWord). item_numbers (items_named walk tests files w.named)) words) tt))
 
 module _ (options : Options) where
-  built_or : (b : Bool) (text : List ℕ) (c : Collected python Suite) → FitsAll c → FitsEnd (if b then Refused text else Whole c)
-  built_or true text c f = tt
-  built_or false text c f = f
-
-  ended : (more : Bool) (walk : List (List ℕ)) (f : Findings) (m : IsMade f.suite) (loaded : LoadResults) (r : Result (List ℕ) WordFault) → OnceIn r
-      → FitsEnd (collection.selected_or_refused options more walk f loaded r)
-  ended more walk f m loaded (Err fault) o = tt
-  ended more walk f m loaded (Ok numbers) o =
+  ended : (walk : List (List ℕ)) (f : Findings) (m : IsMade f.suite) (loaded : LoadResults) (r : Result (List ℕ) WordFault) → OnceIn r
+      → FitsEnd (collection.selected_or_refused options walk f loaded r)
+  ended walk f m loaded (Err fault) o = tt
+  ended walk f m loaded (Ok numbers) o =
       let places = item_places f.files in
       let order = ordered f.keys numbers in
       let ns = filter (λ number. is_chosen options loaded.world.heap (numbered_item f.suite.suite.items number)) order in
       let one : Once ns = once_filter (λ number. is_chosen options loaded.world.heap (numbered_item f.suite.suite.items number)) order (once_ordered f.keys numbers o) in
-      built_or more (codes "not built") (collection.collected_of options walk f loaded numbers)
-      (λ rules depth scopes. record { fits = fits rules f.suite m depth scopes places ns; distinct = distinct f.suite m places ns one })
+      λ rules depth scopes. record { fits = fits rules f.suite m depth scopes places ns; distinct = distinct f.suite m places ns one }
 
   loaded_fits : (walk : List (List ℕ)) (words : List NamedWord) (hooks : List FoundHook) (above : List TestFile) (loaded : LoadResults) → FitsEnd (of_loaded options walk words hooks above loaded)
   loaded_fits walk words hooks above loaded =
-      let f = findings_in_hooks (hook_table hooks) (findings loaded.world.heap walk above loaded.files) in
-      ended (any_makes_ids hooks) walk f (made.under (hook_table hooks) _ (made.made loaded.world.heap walk above loaded.files)) loaded _ (once_selected most_items walk (walked walk options.ignore) (nodes_by_place loaded.world.heap walk f.files) words)
+      let table = hook_table hooks in
+      let x = found_loaded options.step_limit table walk above loaded in
+      let f = findings_in_hooks table x.0 in
+      ended walk f (made.under table _ (made.found_made options.step_limit table walk above loaded table.ids)) x.1 _ (once_selected most_items walk (walked walk options.ignore) (nodes_by_place walk f.files) words)
 
   conftests_fit : (walk : List (List ℕ)) (words : List NamedWord) (files : List ℕ) (x : ConftestsLoaded × SourceWorld) → FitsEnd (with_conftests options walk words files x)
   conftests_fit walk words files (Err (path, told), w) = tt

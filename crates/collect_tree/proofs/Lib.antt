@@ -10,5 +10,5 @@ pub mod Ends
 pub mod ConftestFiles
 pub mod Hooked
 pub mod FileErrors
+pub mod Finds
 pub mod Ordered
-pub mod Parts

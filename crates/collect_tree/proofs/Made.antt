@@ -8,6 +8,8 @@ use Rattle.collect_items.proofs.collect_fixtures_lemmas.Needs.{item_whole}
 use Rattle.collect_items.specs.collect_fixtures.Closures.{item_closure}
 use Rattle.collect_items.specs.collect_fixtures.Tables.{all_names, all_numbers, item_node, table_defs, table_of}
 use Rattle.collect_items.specs.Items.{FixtureTable, all_items, bound_number, defined_fixture, files_behind, findings, fixtures_with, item, items_from, parent_of_item, placed_of, suite_behind}
+use Rattle.collect_ids.specs.Files.{files_asked}
+use Rattle.collect_items.specs.Reads.{files_read}
 use Rattle.collect_items.specs.declared.found.FoundSuite.{FoundSuite}
 use Rattle.collection_nodes.specs.Tree.{all_folders, outer_nodes}
 use Rattle.collection_nodes.specs.declared.test_file.TestFile.{TestFile}
@@ -16,6 +18,7 @@ use Rattle.collect_items.specs.fixture_definitions.Definitions.{all_definitions}
 use Rattle.collect_items.specs.fixture_definitions.Tests.{all_tests}
 use Rattle.collect_items.specs.fixture_definitions.declared.found.Definition.{Definition}
 use Rattle.collect_items.specs.collect_rows.declared.items.FoundItem.{FoundItem}
+use Rattle.conftest_hooks.specs.hook_order.declared.implementation.Impl.{Impl}
 use Rattle.fixture_table.proofs.Settles.{settled}
 use Rattle.fixture_table.specs.Faults as table
 use Rattle.fixture_table.specs.Nearest.{def_at}
@@ -34,7 +37,8 @@ use Rattle.test_suite.specs.Suites.{fixture_at, fixture_or}
 use Rattle.test_suite.specs.declared.hook.HookTable.{HookTable}
 use Rattle.test_suite.specs.declared.item.BoundArgument.{BoundArgument}
 use Rattle.test_suite.specs.declared.item.Item.{Item}
-use Rattle.collect_tree.specs.Collection.{under_hooks}
+use Rattle.collect_tree.specs.Collection.{found_by, found_of_asked, under_hooks}
+use Rattle.collect_tree.specs.Loads.{LoadResults}
 use Rattle.test_suite.specs.declared.item.ItemClosure.{ItemClosure}
 use Rattle.test_suite.specs.declared.item.ItemClosure.TheVariants as closure
 
@@ -77,6 +81,14 @@ made heap walk above files =
     let definitions = all_definitions heap walk folders above placed in
     let names = all_names definitions (all_tests heap placed) in
     made_behind heap walk outer names definitions (all_items (files_behind heap outer names definitions (all_tests heap placed) placed))
+
+-- also where the hook that makes ids was asked
+pub found_made : (limit : ℕ) (hooks : HookTable) (walk : List (List ℕ)) (above : List TestFile) (loaded : LoadResults) (impls : List Impl) → IsMade (found_by limit hooks walk above loaded impls).0.suite
+found_made limit hooks walk above loaded [] = made loaded.world.heap walk above loaded.files
+found_made limit hooks walk above loaded (which ∷ others) =
+    let read = files_read loaded.world.heap walk above loaded.files in
+    let x = files_asked limit hooks walk read loaded.world in
+    made_behind x.1.heap walk read.basis.outer read.basis.names read.basis.definitions (all_items (map found_of_asked x.0))
 
 -- its hooks don't matter
 pub under : (t : HookTable) (found : FoundSuite) → IsMade found → IsMade (under_hooks t found)

@@ -2,18 +2,17 @@
 use Rattle.std.proofs.Common.{◌≡◌, ◌+◌, ◌-◌, ℕ, Bool, true, List, Some, None, refl, sym, ap, ◌∙◌, subst, arith}
 use Rattle.std.specs.Prelude.{nat_le, slice_get, if◌then◌else◌}
 use Rattle.std.proofs.lemmas.Bool.{le-leb}
-use Rattle.collect_items.specs.Items.{findings}
 use Rattle.collect_items.specs.declared.found.FoundSuite.{FoundSuite}
 use Rattle.collection_nodes.specs.declared.test_file.TestFile.{TestFile}
 use Rattle.fixture_table.specs.Tree.{IsTree}
-use Rattle.py_values.specs.declared.object.Obj.{Obj}
 use Rattle.fixture_world.specs.runtest_rules.Rules.{impls_of, rules_within}
 use Rattle.test_suite.specs.Suites.{item_with_node, item_or}
 use Rattle.test_suite.specs.declared.item.Item.{Item}
 use Rattle.test_suite.specs.declared.suite.Suite.{Suite}
 use Rattle.collect_tree.specs.Runnable.{IsAtHome, IsRunnable}
-use Rattle.collect_tree.proofs.Made.{IsMade, count, fits_made, item_made, made, node_is, node_there, scope_of, under}
-use Rattle.collect_tree.specs.Collection.{under_hooks}
+use Rattle.collect_tree.proofs.Made.{IsMade, count, fits_made, found_made, item_made, node_is, node_there, scope_of, under}
+use Rattle.collect_tree.specs.Collection.{found_loaded, under_hooks}
+use Rattle.collect_tree.specs.Loads.{LoadResults}
 use Rattle.conftest_hooks.proofs.Tables.{table_ordered}
 use Rattle.conftest_hooks.specs.Ordered.{AreOrdered}
 use Rattle.conftest_hooks.specs.Registered.{hook_table}
@@ -58,13 +57,11 @@ made_runs found m tree ordered =
     }
 
 -- what is found, where the nodes of its table are a tree, in the hooks of conftests
-pub found_runs : (found : FoundSuite) (heap : List Obj) (walk : List (List ℕ)) (above files : List TestFile) (hooks : List FoundHook) → found ≡ (findings heap walk above files).suite → IsTree found.table.nodes → IsRunnable (under_hooks (hook_table hooks) found)
-found_runs found heap walk above files hooks same tree =
-    made_runs (under_hooks (hook_table hooks) found) (under (hook_table hooks) found (subst IsMade (sym same) (made heap walk above files))) tree (table_ordered hooks)
+pub found_runs : (found : FoundSuite) (limit : ℕ) (walk : List (List ℕ)) (above : List TestFile) (loaded : LoadResults) (hooks : List FoundHook) (table : HookTable) → table ≡ hook_table hooks
+    → found ≡ (found_loaded limit table walk above loaded).0.suite → IsTree found.table.nodes → IsRunnable (under_hooks table found)
+found_runs found limit walk above loaded hooks table e same tree =
+    made_runs (under_hooks table found) (under table found (subst IsMade (sym same) (found_made limit table walk above loaded table.ids))) tree (subst AreOrdered (sym e) (table_ordered hooks))
 
--- a suite in these hooks is what is found in the hooks that it has
-pub same_under : (r found s : FoundSuite) (t : HookTable) → r ≡ under_hooks t found → found ≡ s → r ≡ under_hooks r.suite.hooks s
-same_under r found s t e same =
-    e
-    ∙ (ap (λ (f : FoundSuite). under_hooks t f) same
-    ∙ ap (λ (u : HookTable). under_hooks u s) (sym (ap (λ (f : FoundSuite). f.suite.hooks) e)))
+-- the table of what makes ids is in hook order
+pub ids_ordered : (hooks : List FoundHook) (table : HookTable) → table ≡ hook_table hooks → InHookOrder table.ids
+ids_ordered hooks table e = subst (λ (t : HookTable). InHookOrder t.ids) (sym e) (table_ordered hooks).ids

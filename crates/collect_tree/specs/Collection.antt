@@ -1,13 +1,18 @@
 -- THE COLLECTION: what the words of a command line collect from the files of a tree (pytest's how-to guide, "Specifying which tests to
 -- run", and its "Conventions for Python test discovery"). The first of these refuses: a word whose path names no file or folder; a
--- conftest that fails; more items than a session may have; a word whose part behind `::` names nothing of its file; and what isn't built
--- yet of hooks.
-use Rattle.std.specs.Prelude.{ℕ, ◌+◌, ◌-◌, Bool, List, [], ◌∷◌, Option, Some, None, Result, Ok, Err, codes, length, map, slice_get, slice_index_or, if◌then◌else◌}
+-- conftest that fails; more items than a session may have; a word whose part behind `::` names nothing of its file.
+use Rattle.std.specs.Prelude.{ℕ, ◌+◌, ◌-◌, List, [], ◌∷◌, Option, Some, None, Result, Ok, Err, ◌++◌, length, map, slice_get, slice_index_or}
 use Rattle.cli_words.specs.declared.options.Options.{Options}
+use Rattle.collect_ids.specs.Files.{files_asked}
+use Rattle.collect_ids.specs.declared.files.AskedFile.{AskedFile}
 use Rattle.collect_items.specs.Chosen.{chosen, ordered}
 use Rattle.collect_items.specs.Items.{Findings, fault_of_file, findings}
 use Rattle.collect_items.specs.Nodes.{item_places, nodes_by_place}
+use Rattle.collect_items.specs.Reads.{files_read, findings_in}
+use Rattle.collect_items.specs.declared.found.FoundFile.{FoundFile}
+use Rattle.collect_items.specs.collect_rows.declared.items.RowsFault.{RowsFault}
 use Rattle.collect_items.specs.declared.found.FoundSuite.{FoundSuite}
+use Rattle.collect_items.specs.declared.reads.FilesRead.{FilesRead}
 use Rattle.collect_words.specs.Files.{conftests, named_files, test_files, walked}
 use Rattle.collect_words.specs.Nodes.{selected}
 use Rattle.collect_words.specs.Walks.{path_at}
@@ -16,7 +21,7 @@ use Rattle.collect_words.specs.declared.fault.WordFault.{WordFault}
 use Rattle.collect_words.specs.declared.named.NamedWord.{NamedWord}
 use Rattle.collect_words.specs.declared.nodes.FileNodes.{FileNodes}
 use Rattle.collection_nodes.specs.declared.test_file.TestFile.{TestFile}
-use Rattle.conftest_hooks.specs.Registered.{any_makes_ids, hook_table}
+use Rattle.conftest_hooks.specs.Registered.{hook_table}
 use Rattle.conftest_hooks.specs.declared.looking.FoundHook.{FoundHook}
 use Rattle.fixture_world.specs.Items.{selected_item}
 use Rattle.py_load.specs.Prepared.{with_reads}
@@ -28,6 +33,8 @@ use Rattle.report_parts.specs.declared.report.CollectReport.{CollectReport}
 use Rattle.fixture_world.specs.report_rules.Collected.{Collected, Collection, ConftestFault, Refused, SelectedItem, Whole}
 use Rattle.fixture_world.specs.runtest_rules.Language.{python}
 use Rattle.tracebacks.specs.source_meaning.Meaning.{SourceWorld}
+use Rattle.conftest_hooks.specs.hook_order.declared.implementation.Impl.{Impl}
+use Rattle.collect_items.specs.fixture_definitions.collect_params.param_rows.declared.keys.ItemKeys.{ItemKeys}
 use Rattle.test_suite.specs.Suites.{no_item}
 use Rattle.test_suite.specs.declared.hook.HookTable.{HookTable}
 use Rattle.test_suite.specs.declared.item.Item.{Item}
@@ -35,6 +42,7 @@ use Rattle.test_suite.specs.declared.suite.Suite.{Suite}
 use Rattle.collect_tree.specs.Conftests.{ConftestsLoaded, conftests_loaded}
 use Rattle.collect_tree.specs.Errors.{all_errors}
 use Rattle.collect_tree.specs.Loads.{LoadResults, test_loads}
+use Rattle.collect_tree.specs.declared.loads.LoadEnd.{LoadEnd}
 use Rattle.collect_tree.specs.Walk.{walk_of}
 
 abbrev pub End : Type 0
@@ -78,6 +86,36 @@ selected_by found places number = selected_item found.table (slice_index_or plac
 abbrev pub named_paths : List (List ℕ) → List NamedWord → List (List ℕ)
 named_paths walk words = paths_at walk (named_files words)
 
+-- what the hook that makes ids printed for each file stands behind what was printed in its load
+abbrev pub with_printed : LoadEnd → List ℕ → LoadEnd
+with_printed end printed = record { error = end.error; captured = end.captured ++ printed }
+
+abbrev pub ends_with_printed : List LoadEnd → List AskedFile → List LoadEnd
+ends_with_printed [] asked = []
+ends_with_printed (end ∷ ends) [] = end ∷ ends
+ends_with_printed (end ∷ ends) (one ∷ asked) = with_printed end one.printed ∷ ends_with_printed ends asked
+
+abbrev pub found_of_asked : AskedFile → FoundFile
+found_of_asked one = one.found
+
+-- the loads behind the hook that makes ids
+abbrev pub loads_asked : LoadResults → List AskedFile × SourceWorld → LoadResults
+loads_asked loaded x = record { files = loaded.files; ends = ends_with_printed loaded.ends x.0; world = x.1 }
+
+abbrev pub found_behind : List (List ℕ) → FilesRead → LoadResults → List AskedFile × SourceWorld → Findings × LoadResults
+found_behind walk read loaded x = (findings_in x.1.heap walk read.basis (map found_of_asked x.0), loads_asked loaded x)
+
+abbrev pub found_asked : ℕ → HookTable → List (List ℕ) → FilesRead → LoadResults → Findings × LoadResults
+found_asked limit hooks walk read loaded = found_behind walk read loaded (files_asked limit hooks walk read loaded.world)
+
+-- what is found in loaded files: where conftests have the hook that makes ids, it is asked for them first
+abbrev pub found_by : ℕ → HookTable → List (List ℕ) → List TestFile → LoadResults → List Impl → Findings × LoadResults
+found_by limit hooks walk above loaded [] = (findings loaded.world.heap walk above loaded.files, loaded)
+found_by limit hooks walk above loaded (which ∷ others) = found_asked limit hooks walk (files_read loaded.world.heap walk above loaded.files) loaded
+
+abbrev pub found_loaded : ℕ → HookTable → List (List ℕ) → List TestFile → LoadResults → Findings × LoadResults
+found_loaded limit hooks walk above loaded = found_by limit hooks walk above loaded hooks.ids
+
 module _ (options : Options) where
   -- of the items with these numbers, those that `-k` and `-m` accept, in the same order
   abbrev pub collected_with : FoundSuite → List ℕ → List ℕ → SourceWorld → List CollectReport → Collected python Suite
@@ -92,25 +130,31 @@ module _ (options : Options) where
       }
 
   -- what is collected: the items that the words name, those with the same parameters of a broad scope side by side
-  abbrev pub collected_of : List (List ℕ) → Findings → LoadResults → List ℕ → Collected python Suite
-  collected_of walk f loaded numbers =
-      collected_with f.suite (item_places f.files) (ordered f.keys numbers) loaded.world (all_errors walk loaded.world loaded.files loaded.ends (map fault_of_file f.files))
+  abbrev pub collected_by : List (List ℕ) → FoundSuite → List ℕ → List ItemKeys → List (Option RowsFault) → LoadResults → List ℕ → Collected python Suite
+  collected_by walk found places keys faults loaded numbers =
+      collected_with found places (ordered keys numbers) loaded.world (all_errors walk loaded.world loaded.files loaded.ends faults)
 
-  -- the items that the words name, or why they are refused; at last, whether more is wanted than is built
-  abbrev pub selected_or_refused : Bool → List (List ℕ) → Findings → LoadResults → Result (List ℕ) WordFault → End
-  selected_or_refused more walk f loaded (Err fault) = Refused (fault_text fault)
-  selected_or_refused more walk f loaded (Ok numbers) = if more then Refused (codes "not built") else Whole (collected_of walk f loaded numbers)
+  abbrev pub collected_of : List (List ℕ) → Findings → LoadResults → List ℕ → Collected python Suite
+  collected_of walk f loaded numbers = collected_by walk f.suite (item_places f.files) f.keys (map fault_of_file f.files) loaded numbers
+
+  -- the items that the words name, or why they are refused
+  abbrev pub selected_or_refused : List (List ℕ) → Findings → LoadResults → Result (List ℕ) WordFault → End
+  selected_or_refused walk f loaded (Err fault) = Refused (fault_text fault)
+  selected_or_refused walk f loaded (Ok numbers) = Whole (collected_of walk f loaded numbers)
 
   -- the items that the words name, by number
   abbrev pub nodes_selected : List (List ℕ) → List FileNodes → List NamedWord → Result (List ℕ) WordFault
   nodes_selected walk nodes words = selected most_items walk (walked walk options.ignore) nodes words
 
-  abbrev pub of_findings : Bool → List (List ℕ) → List NamedWord → LoadResults → Findings → End
-  of_findings more walk words loaded f = selected_or_refused more walk f loaded (nodes_selected walk (nodes_by_place loaded.world.heap walk f.files) words)
+  abbrev pub of_findings : List (List ℕ) → List NamedWord → LoadResults → Findings → End
+  of_findings walk words loaded f = selected_or_refused walk f loaded (nodes_selected walk (nodes_by_place walk f.files) words)
 
-  -- the items of the loaded files, selected by the words; a hook that makes ids isn't built
+  abbrev pub of_found : List (List ℕ) → List NamedWord → HookTable → Findings × LoadResults → End
+  of_found walk words hooks x = of_findings walk words x.1 (findings_in_hooks hooks x.0)
+
+  -- the items of the loaded files, selected by the words
   abbrev pub of_loaded : List (List ℕ) → List NamedWord → List FoundHook → List TestFile → LoadResults → End
-  of_loaded walk words hooks above loaded = of_findings (any_makes_ids hooks) walk words loaded (findings_in_hooks (hook_table hooks) (findings loaded.world.heap walk above loaded.files))
+  of_loaded walk words hooks above loaded = of_found walk words (hook_table hooks) (found_loaded options.step_limit (hook_table hooks) walk above loaded)
 
   -- conftests, then test files
   abbrev pub with_conftests : List (List ℕ) → List NamedWord → List ℕ → ConftestsLoaded × SourceWorld → End

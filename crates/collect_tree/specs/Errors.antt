@@ -1,5 +1,5 @@
 -- THE ERRORS OF COLLECTION, in the order of the files: a load that has failed, or else the first fault of the rows of a file's tests, which is
--- told behind all loads, at the test's `def`.
+-- told behind all loads.
 use Rattle.std.specs.Prelude.{ℕ, List, [], ◌∷◌, ◌++◌, Option, Some, None}
 use Rattle.collect_items.specs.collect_rows.declared.items.RowsFault.{RowsFault}
 use Rattle.collect_words.specs.Walks.{path_at}
@@ -11,7 +11,7 @@ use Rattle.collect_tree.specs.declared.loads.LoadEnd.{LoadEnd}
 
 -- what is told of a fault of rows; what was printed is that of the load
 abbrev pub rows_error : List ℕ → List ℕ → RowsFault → SourceWorld → CollectReport
-rows_error path captured fault w = record { file = path; told = told w.sources (fault.defined ∷ []) fault.text; captured = captured }
+rows_error path captured fault w = record { file = path; told = told w.sources fault.trace fault.text; captured = captured }
 
 abbrev pub rows_errors : List ℕ → List ℕ → Option RowsFault → SourceWorld → List CollectReport
 rows_errors path captured (Some fault) w = rows_error path captured fault w ∷ []

@@ -1,3 +1,4 @@
+pub use Rattle.collect_ids.specs as collect_ids
 pub use Rattle.collect_items.specs as collect_items
 pub use Rattle.py_load.specs.file_source
 pub use Rattle.py_load.specs as py_load

@@ -1,7 +1,8 @@
 -- What the code's answers tell of a collection.
-use Rattle.std.specs.Prelude.{◌≡◌, ℕ, ◌+◌, ◌<◌, ◌≤◌, List, Option, Some, None, Result, Ok, Err, All, codes, length, map}
+use Rattle.std.specs.Prelude.{◌≡◌, ℕ, ◌+◌, ◌<◌, ◌≤◌, List, Option, Some, None, Result, Ok, Err, All, length, map}
 use Rattle.collect_items.specs.Items.{Findings, fault_of_file}
-use Rattle.collect_items.specs.Nodes.{item_places}
+use Rattle.collect_items.specs.Nodes.{item_places, nodes_by_place}
+use Rattle.collect_items.specs.declared.found.FoundItems.{FoundItems}
 use Rattle.collect_words.specs.Words.{fault_text}
 use Rattle.collect_words.specs.declared.fault.WordFault.{WordFault}
 use Rattle.collect_words.specs.declared.fault.WordFault.TheVariants as word
@@ -14,9 +15,8 @@ use Rattle.collect_tree.specs.Collection.{End, selected_by}
 use Rattle.collect_tree.specs.Loads.{LoadResults, loaded_before}
 use Rattle.collect_tree.specs.Runnable.{IsRunnable}
 use Rattle.collect_tree.specs.declared.collected.Collected.{Collected}
-use Rattle.collect_tree.specs.declared.collection.FoundParts.{FoundParts}
 use Rattle.collect_tree.specs.declared.fault.CollectFault.{CollectFault}
-use Rattle.collect_tree.specs.declared.fault.CollectFault.TheVariants.{NotBuilt, NotFound, TooManyItems, Conftest, OutOfMemory}
+use Rattle.collect_tree.specs.declared.fault.CollectFault.TheVariants.{NotFound, TooManyItems, Conftest, OutOfMemory}
 use Rattle.collect_tree.specs.declared.loads.LoadedTests.{LoadedTests}
 
 -- loaded test files, in the world behind the loads
@@ -32,12 +32,13 @@ collected_told c w = record {
   errors = c.errors.items;
 }
 
--- parts of what is found
-pub record HasParts (parts : FoundParts) (f : Findings) : Type 0 where
-  pub suite : parts.found ≡ f.suite
-  pub places : parts.places.items ≡ item_places f.files
-  pub keys : parts.keys.items ≡ f.keys
-  pub faults : parts.faults.items ≡ map fault_of_file f.files
+-- what the code found is this
+pub record IsFound (walk : List (List ℕ)) (found : FoundItems) (f : Findings) : Type 0 where
+  pub suite : found.found ≡ f.suite
+  pub places : found.places.items ≡ item_places f.files
+  pub keys : found.keys.items ≡ f.keys
+  pub nodes : found.nodes.items ≡ nodes_by_place walk f.files
+  pub faults : found.faults.items ≡ map fault_of_file f.files
 
 -- the refusal of words
 abbrev pub collect_fault : WordFault → CollectFault
@@ -48,7 +49,6 @@ collect_fault word.OutOfMemory = OutOfMemory
 -- an answer, in the world behind it; want of memory tells nothing
 abbrev pub collection_end : Result Collected CollectFault → SourceWorld → Option End
 collection_end (Ok c) w = Some (Whole (collected_told c w))
-collection_end (Err NotBuilt) w = Some (Refused (codes "not built"))
 collection_end (Err (NotFound name)) w = Some (Refused (fault_text (word.NotFound name)))
 collection_end (Err TooManyItems) w = Some (Refused (fault_text word.TooManyItems))
 collection_end (Err (Conftest path told)) w = Some (ConftestFault path told)
@@ -71,7 +71,6 @@ LoadsOne old new one = (rest : LoadResults) → after_loads old (one rest) ≡ a
 
 -- a refusal of words that is meant, or want of memory
 abbrev pub IsWordRefusal : Result (List ℕ) WordFault → CollectFault → Type 0
-IsWordRefusal meant NotBuilt = ⊥
 IsWordRefusal meant (NotFound name) = meant ≡ Err (word.NotFound name)
 IsWordRefusal meant TooManyItems = meant ≡ Err word.TooManyItems
 IsWordRefusal meant (Conftest path told) = ⊥

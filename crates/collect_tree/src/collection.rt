@@ -16,15 +16,16 @@ use crate::collected::Collected;
 use crate::conftests::{FailedConftest, LoadedConftests, load_conftests};
 use crate::errors::all_errors;
 use crate::fault::{CollectFault, word_fault};
+use crate::found::{FoundFiles, found_loaded};
 use crate::loads::{LoadedTests, load_tests};
 use crate::walk::{paths_at, walk_of_files};
 use cli_words::Options;
-use collect_items::{FoundItems, FoundSuite, ItemKeys, RowsFault, chosen, found_items, ordered};
+use collect_items::{FoundItems, FoundSuite, ItemKeys, RowsFault, chosen, ordered};
 use collect_words::{
     NamedWord, Walk, conftests, named_files, named_words, selected, test_files, walked,
 };
 use collection_nodes::TestFile;
-use conftest_hooks::{FoundHook, any_makes_ids, hook_table};
+use conftest_hooks::{FoundHook, hook_table};
 use edge_io::Files;
 use py_load::{has_reading, prepare};
 use py_values::value::Value;
@@ -114,7 +115,6 @@ fn in_order(
     options: &Options,
     exprs: &Exprs,
     walk: &Walk,
-    above: &[TestFile],
     loaded: LoadedTests,
     parts: FoundParts,
     numbers: &[usize],
@@ -122,8 +122,7 @@ fn in_order(
     requires exprs { AreExprs options.now exprs.now }
     requires few { length numbers.now ≤ most_items }
     requires runnable { IsRunnable parts.found }
-    requires parts { HasParts parts (findings_in_hooks parts.found.suite.hooks (findings world.now.heap walk.now above.now loaded.files.items)) }
-    ensures told { IfOk result (λ c. collected_told c world.now ≡ collection.collected_of options.now walk.now (findings_in_hooks parts.found.suite.hooks (findings world.now.heap walk.now above.now loaded.files.items)) (loaded_told loaded world.now) numbers.now) }
+    ensures told { IfOk result (λ c. collected_told c world.now ≡ collection.collected_by options.now walk.now parts.found parts.places.items parts.keys.items parts.faults.items (loaded_told loaded world.now) numbers.now) }
     ensures within { IfOk result IsWithin }
 {
     let FoundParts {
@@ -136,41 +135,6 @@ fn in_order(
     let order = ordered(alloc, &keys, numbers)?;
     let errors = all_errors(alloc, world, walk, &files, ends, &faults)?;
     accepted(alloc, world, options, exprs, found, places, &order, errors)
-}
-
-ghost use Rattle.collect_items.specs.Items.{findings};
-ghost use Rattle.collect_tree.specs.Collection.{findings_in_hooks};
-ghost use Rattle.collect_tree.specs.Told.{HasParts};
-
-/// What is collected of the items that the words name, unless what isn't built yet is wanted.
-fn ended(
-    alloc: Global,
-    world: &World,
-    options: &Options,
-    exprs: &Exprs,
-    walk: &Walk,
-    above: &[TestFile],
-    loaded: LoadedTests,
-    parts: FoundParts,
-    more: bool,
-    numbers: &[usize],
-) -> Result<Collected, CollectFault>
-    requires exprs { AreExprs options.now exprs.now }
-    requires few { length numbers.now ≤ most_items }
-    requires runnable { IsRunnable parts.found }
-    requires parts { HasParts parts (findings_in_hooks parts.found.suite.hooks (findings world.now.heap walk.now above.now loaded.files.items)) }
-    ensures told { IfSome (collection_end result world.now) (λ e. e ≡ collection.selected_or_refused options.now more walk.now (findings_in_hooks parts.found.suite.hooks (findings world.now.heap walk.now above.now loaded.files.items)) (loaded_told loaded world.now) (Meant numbers.now)) }
-    ensures within { IfOk result IsWithin }
-{
-    if more {
-        drop(parts);
-        drop(loaded);
-        return Err(CollectFault::NotBuilt);
-    }
-    let collected = in_order(
-        alloc, world, options, exprs, walk, above, loaded, parts, numbers,
-    )?;
-    Ok(collected)
 }
 
 /// The numbers of the items that the words name, or why they are refused.
@@ -216,10 +180,57 @@ fn under_hooks(hooks: HookTable, found: FoundSuite) -> FoundSuite
     found
 }
 
+/// The collection of what was found in loaded files.
+fn of_found(
+    alloc: Global,
+    world: &World,
+    options: &Options,
+    exprs: &Exprs,
+    walk: &Walk,
+    words: &[NamedWord],
+    hooks: HookTable,
+    found: FoundItems,
+    loaded: LoadedTests,
+) -> Result<Collected, CollectFault>
+    requires exprs { AreExprs options.now exprs.now }
+    requires runnable { IsRunnable (collection.under_hooks hooks found.found) }
+    ensures told { (f : Findings) → IsFound walk.now found f → IfSome (collection_end result world.now) (λ e. e ≡ collection.of_found options.now walk.now words.now hooks (f, loaded_told loaded world.now)) }
+    ensures within { IfOk result IsWithin }
+{
+    let FoundItems {
+        found,
+        places,
+        keys,
+        nodes,
+        faults,
+    } = found;
+    let parts = FoundParts {
+        found: under_hooks(hooks, found),
+        places,
+        keys,
+        faults,
+    };
+    match named_items(alloc, walk, options, words, &nodes) {
+        Ok(numbers) => {
+            let numbers = numbers.items();
+            let collected = in_order(alloc, world, options, exprs, walk, loaded, parts, numbers)?;
+            Ok(collected)
+        }
+        Err(fault) => {
+            drop(parts);
+            drop(loaded);
+            Err(fault)
+        }
+    }
+}
+
+ghost use Rattle.collect_items.specs.Items.{Findings};
+ghost use Rattle.collect_tree.specs.Told.{IsFound};
+
 /// The collection of loaded files.
 fn of_loaded(
     alloc: Global,
-    world: &World,
+    world: &mut World,
     options: &Options,
     exprs: &Exprs,
     walk: &Walk,
@@ -229,43 +240,22 @@ fn of_loaded(
     loaded: LoadedTests,
 ) -> Result<Collected, CollectFault>
     requires { AreExprs options.now exprs.now }
-    ensures told { IfSome (collection_end result world.now) (λ e. e ≡ collection.of_loaded options.now walk.now words.now hooks.items above.now (loaded_told loaded world.now)) }
+    ensures told { IfSome (collection_end result world.new) (λ e. e ≡ collection.of_loaded options.now walk.now words.now hooks.items above.now (loaded_told loaded world.old)) }
     ensures within { IfOk result IsWithin }
 {
-    let more = any_makes_ids(&hooks);
     let hooks = hook_table(alloc, hooks)?;
-    let FoundItems {
-        found,
-        places,
-        keys,
-        nodes,
-        faults,
-    } = found_items(alloc, heap(world), walk, above, &loaded.files)?;
-    let parts = FoundParts {
-        found: under_hooks(hooks, found),
-        places,
-        keys,
-        faults,
-    };
-    match named_items(alloc, walk, options, words, &nodes) {
-        Ok(numbers) => ended(
-            alloc,
-            world,
-            options,
-            exprs,
-            walk,
-            above,
-            loaded,
-            parts,
-            more,
-            numbers.items(),
-        ),
-        Err(fault) => {
-            drop(parts);
-            drop(loaded);
-            Err(fault)
-        }
-    }
+    let FoundFiles { found, loaded } = found_loaded(
+        alloc,
+        world,
+        options.step_limit,
+        &hooks,
+        walk,
+        above,
+        loaded,
+    )?;
+    of_found(
+        alloc, world, options, exprs, walk, words, hooks, found, loaded,
+    )
 }
 
 /// The collection behind the conftests.
@@ -476,8 +466,7 @@ ghost use Rattle.collect_words.specs.Words.{named_words};
 /// Collects what the words of these options name among the files of a tree, and `-k` and `-m` accept. The world is a new one; behind the
 /// call it has all modules that were loaded.
 ///
-/// Fails with the first refusal: `NotFound` for a path, `Conftest`, `TooManyItems`, `NotFound` behind `::`, and
-/// `NotBuilt` for a hook that makes ids.
+/// Fails with the first refusal: `NotFound` for a path, `Conftest`, `TooManyItems`, `NotFound` behind `::`.
 pub fn collect(
     alloc: Global,
     world: &mut World,

@@ -9,7 +9,6 @@ use collect_items::RowsFault;
 use collect_words::Walk;
 use collection_nodes::TestFile;
 use py_text::PyText;
-use py_world::{Trace, TraceFrame};
 use report_parts::{CollectReport, OutOfMemory, Text};
 use std::alloc::Global;
 use tracebacks::{World, told};
@@ -18,17 +17,6 @@ fn copied_text(alloc: Global, text: &PyText) -> Result<PyText, OutOfMemory>
     ensures { IfOk result (λ t. t ≡ text.now) }
 {
     PyText::from_chars(alloc, text.chars())
-}
-
-fn copied_frame(alloc: Global, frame: &TraceFrame) -> Result<TraceFrame, OutOfMemory>
-    ensures { IfOk result (λ f. f ≡ frame.now) }
-{
-    let path = copied_text(alloc, &frame.path)?;
-    Ok(TraceFrame {
-        path,
-        line: frame.line,
-        name: copied_text(alloc, &frame.name)?,
-    })
 }
 
 /// What is told of a fault of rows.
@@ -41,10 +29,8 @@ fn rows_error(
 ) -> Result<CollectReport, OutOfMemory>
     ensures { IfOk result (λ r. r ≡ errors.rows_error path.now captured fault.now world.now) }
 {
-    let mut frames = Vec::new(alloc);
-    frames.push(copied_frame(alloc, &fault.defined)?)?;
     let text = copied_text(alloc, &fault.text)?;
-    let told = told(alloc, world, &Trace::from_vec(frames), text)?;
+    let told = told(alloc, world, &fault.trace, text)?;
     Ok(CollectReport {
         file: Text::from_str(alloc, path)?,
         told,

@@ -6,8 +6,6 @@ use report_parts::{OutOfMemory, Text, Told};
 /// Why nothing is collected.
 #[derive(Drop)]
 pub enum CollectFault {
-    /// A conftest has the hook that isn't built yet, which makes ids.
-    NotBuilt,
     /// The word names nothing of the tree, or nothing of its file.
     NotFound(Text),
     /// The words reach more items than a session may have.

@@ -10,8 +10,9 @@
 //! - [`collect`]: what it gives is the collection of the files' sources (`told`, by `collect options sources`): the items that the words
 //!   select and `-k` and `-m` accept, each test as many items as it has rows, those with the same parameters of a broad scope side by side,
 //!   the number of the others, the errors of collection in the order of the files, those of rows among them, and the world behind all loads;
-//!   or the first refusal: a word whose path names nothing, a conftest that fails, more than 65,536 items, a word whose part behind `::`
-//!   names nothing, or what isn't built of hooks.
+//!   or the first refusal: a word whose path names nothing, a conftest that fails, more than 65,536 items, or a word whose part behind `::`
+//!   names nothing. Where conftests have the hook that makes ids, it was asked for them behind all loads (`collect_ids`), and the world is
+//!   the one behind it.
 //! - [`collect`]: what was collected can run (`within`, by `IsWithin`): the nodes of the table are a tree, its definitions are the
 //!   fixtures of the suite with their scopes, its hooks are in hook order, and each item is found by its node, which the table has, and its
 //!   closure fits the rules of the suite; the selected numbers are those of items, no more than 65,536 are selected before `-k` and `-m`,
@@ -39,6 +40,7 @@ mod collection;
 mod conftests;
 mod errors;
 mod fault;
+mod found;
 mod law;
 mod loads;
 mod walk;

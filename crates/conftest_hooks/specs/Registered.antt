@@ -1,7 +1,6 @@
 -- HOOKS ARE REGISTERED one after another, each in its place of hook order (pluggy's documentation, "Call time order"). The built-in
 -- implementations come first, and have the numbers 0 to 3.
 use Rattle.std.specs.Prelude.{ℕ, ◌+◌, suc, Bool, true, false, ◌&&◌, ◌||◌, ◌==◌, List, [], ◌∷◌, ◌++◌, length, insert, nat_le, nat_lt, if◌then◌else◌}
-use Rattle.std.specs.List.{list_any}
 use Rattle.hook_order.specs.HookOrder.{class_of, layer_of}
 use Rattle.hook_order.specs.declared.implementation.Impl.{Impl}
 use Rattle.test_suite.specs.declared.hook.HookTable.{HookTable}
@@ -43,19 +42,6 @@ built_in_hooks = record {
 -- a hook with a code: those of conftests are registered behind the built-in ones
 abbrev pub hook_impl : ℕ → FoundHook → Impl
 hook_impl code h = record { registered = 4 + code; wrapper = h.flags.wrapper; first = h.flags.first; last = h.flags.last; node = 0; code = code }
-
--- THE HOOK THAT MAKES IDS
-abbrev pub makes_ids : HookName → Bool
-makes_ids hook.SetUp = false
-makes_ids hook.Call = false
-makes_ids hook.Teardown = false
-makes_ids hook.MakeId = true
-
-abbrev pub is_id_hook : FoundHook → Bool
-is_id_hook h = makes_ids h.name
-
-abbrev pub any_makes_ids : List FoundHook → Bool
-any_makes_ids hs = list_any is_id_hook hs
 
 -- the implementation joins those of its hook
 abbrev pub put_under : HookName → Impl → HookTable → HookTable

@@ -12,7 +12,6 @@
 //!   its last `hookimpl` and the folder whose items it serves; or the first fault, with its text and the place of the function's `def`: a name
 //!   that is none of a hook, an argument that the hook doesn't have, a `yield` in what is no wrapper (`hooks_among`).
 //! - [`conftest_folder`]: the folder of a conftest, with its slash (`conftest_folder`).
-//! - [`any_makes_ids`]: whether one of them is the hook that makes ids (`any_makes_ids`).
 //! - [`hook_table`]: the table of hooks that were found, which are registered one after another behind the built-in implementations
 //!   (`hook_table`). [`hooks_are_ordered`]: each of its lists is in hook order (`AreOrdered`). [`built_ins_are_there`]: each has the runner's
 //!   own implementations of its phase, each once, and no others of the runner; also what is left of it where some of conftests' are left
@@ -39,4 +38,4 @@ mod registering;
 pub use hook_name::HookName;
 pub use looking::{FoundHook, HookFault};
 pub use reading::{conftest_folder, hooks_among};
-pub use registering::{any_makes_ids, built_ins_are_there, hook_table, hooks_are_ordered};
+pub use registering::{built_ins_are_there, hook_table, hooks_are_ordered};

@@ -154,23 +154,6 @@ fn put_under(
     Ok(())
 }
 
-/// Whether it is the hook that makes ids.
-fn is_id_hook(found: &FoundHook) -> bool
-    ensures { result ≡ registered.is_id_hook found.now }
-{
-    match found.name {
-        HookName::SetUp | HookName::Call | HookName::Teardown => false,
-        HookName::MakeId => true,
-    }
-}
-
-/// Whether any of these hooks makes ids.
-pub fn any_makes_ids(found: &[FoundHook]) -> bool
-    ensures { result ≡ registered.any_makes_ids found.now }
-{
-    found.iter().any(|one| is_id_hook(one))
-}
-
 fn code_of(table: &HookTable) -> Result<u32, OutOfMemory>
     ensures { IfOk result (λ code. code ≡ length table.now.hooks) }
 {

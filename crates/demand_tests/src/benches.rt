@@ -3,7 +3,7 @@
 ghost use Rattle.std.specs.Prelude.{◌≡◌, ◌<◌, [], length, IfOk, OnOk};
 ghost use Rattle.setup_stack.specs.Asking.{AreReady, IsReady};
 ghost use Rattle.fixture_instances.specs.Items.{item_for_session};
-ghost use Rattle.demand_tests.specs.Logs.{IsBench, logging, two_items};
+ghost use Rattle.demand_tests.specs.Logs.{FramesAreOut, IsBench, logging, two_items};
 
 use crate::logs::{Cause, Log, LogEntry, Part, Script, Way};
 use fixture_instances::{ItemParam, ItemRef};
@@ -101,16 +101,22 @@ fn add_row(
 
 fn stacked(alloc: Global, table: Table, script: Script) -> Result<Bench, OutOfMemory>
     requires { IsBench script table }
-    ensures { IfOk result (λ bench. IsBench bench.script bench.table) }
+    ensures bench { IfOk result (λ bench. IsBench bench.script bench.table) }
+    ensures frames { IfOk result (λ bench. FramesAreOut bench.script bench.world bench.stack) }
 {
     let stack = SetupStack::new(alloc)?;
+    let lines = Seq::new(alloc);
+    let frames = Seq::new(alloc);
+    let world = Log {
+        alloc,
+        lines,
+        frames,
+        last: None,
+        before: None,
+    };
     Ok(Bench {
         script,
-        world: Log {
-            lines: Seq::new(alloc),
-            last: None,
-            before: None,
-        },
+        world,
         table,
         stack,
     })
@@ -118,7 +124,8 @@ fn stacked(alloc: Global, table: Table, script: Script) -> Result<Bench, OutOfMe
 
 /// A bench with these definitions.
 pub fn bench_of(alloc: Global, rows: &[Row]) -> Result<Bench, OutOfMemory>
-    ensures { IfOk result (λ bench. IsBench bench.script bench.table) }
+    ensures bench { IfOk result (λ bench. IsBench bench.script bench.table) }
+    ensures frames { IfOk result (λ bench. FramesAreOut bench.script bench.world bench.stack) }
 {
     let mut table = two_items(alloc)?;
     let mut script = Script {
@@ -134,7 +141,8 @@ pub fn bench_of(alloc: Global, rows: &[Row]) -> Result<Bench, OutOfMemory>
 /// So many definitions, each of which asks for the one behind it.
 pub fn deep(alloc: Global, count: u32) -> Result<Bench, OutOfMemory>
     requires { count < 100000 }
-    ensures { IfOk result (λ bench. IsBench bench.script bench.table) }
+    ensures bench { IfOk result (λ bench. IsBench bench.script bench.table) }
+    ensures frames { IfOk result (λ bench. FramesAreOut bench.script bench.world bench.stack) }
 {
     let mut table = two_items(alloc)?;
     let mut script = Script {
@@ -157,12 +165,12 @@ pub fn deep(alloc: Global, count: u32) -> Result<Bench, OutOfMemory>
 /// What was done on a bench, in order.
 pub fn end(bench: Bench) -> Log {
     let Bench {
-        script,
+        script: _script,
         mut world,
         table: _table,
         mut stack,
     } = bench;
-    stack.abandon_all(&mut world, &script);
+    stack.abandon_all(&mut world);
     stack.close();
     world
 }
@@ -172,8 +180,10 @@ fn demand(bench: &mut Bench, item: &ItemRef<u32>, def: DefId) -> Result<Seq<Caus
     requires bench { IsBench bench.old.script bench.old.table }
     requires node { item.now.node < 4 }
     requires ready { IsReady (logging bench.old.script) (item_for_session bench.old.table item.now) (length bench.old.table.defs) (length bench.old.script.parts) def }
+    requires frames { FramesAreOut bench.old.script bench.old.world bench.old.stack }
     ensures script { bench.new.script ≡ bench.old.script }
     ensures table { bench.new.table ≡ bench.old.table }
+    ensures frames { OnOk result (FramesAreOut bench.new.script bench.new.world bench.new.stack) }
 {
     match bench.stack.demand(
         bench.script.alloc,
@@ -198,8 +208,10 @@ fn demand_each(
     requires bench { IsBench bench.old.script bench.old.table }
     requires node { item.now.node < 4 }
     requires ready { AreReady (logging bench.old.script) (item_for_session bench.old.table item.now) (length bench.old.table.defs) (length bench.old.script.parts) defs.now }
+    requires frames { FramesAreOut bench.old.script bench.old.world bench.old.stack }
     ensures script { OnOk result (bench.new.script ≡ bench.old.script) }
     ensures table { OnOk result (bench.new.table ≡ bench.old.table) }
+    ensures frames { OnOk result (FramesAreOut bench.new.script bench.new.world bench.new.stack) }
 {
     let mut rest = defs;
     'defs: while let Some((def, others)) = rest.split_first() {
@@ -221,8 +233,10 @@ fn demand_all(
     requires bench { IsBench bench.old.script bench.old.table }
     requires node { item.now.node < 4 }
     requires ready { AreReady (logging bench.old.script) (item_for_session bench.old.table item.now) (length bench.old.table.defs) (length bench.old.script.parts) defs.now }
+    requires frames { FramesAreOut bench.old.script bench.old.world bench.old.stack }
     ensures script { bench.new.script ≡ bench.old.script }
     ensures table { bench.new.table ≡ bench.old.table }
+    ensures frames { OnOk result (FramesAreOut bench.new.script bench.new.world bench.new.stack) }
 {
     bench.stack.demand_all(
         bench.script.alloc,
@@ -244,7 +258,9 @@ fn set_up(
     requires bench { IsBench bench.old.script bench.old.table }
     requires node { item.now.node < 4 }
     requires bound { item.now.bound ≡ [] }
-    ensures { OnOk result (IsBench bench.new.script bench.new.table) }
+    requires frames { FramesAreOut bench.old.script bench.old.world bench.old.stack }
+    ensures bench { OnOk result (IsBench bench.new.script bench.new.table) }
+    ensures frames { OnOk result (FramesAreOut bench.new.script bench.new.world bench.new.stack) }
 {
     match bench.table.closure(item.node, &[], &[], args) {
         // No table of these tests has a fault.
@@ -258,8 +274,10 @@ fn set_up(
 
 /// An item's test is called. What it raised.
 fn call(bench: &mut Bench, item: &ItemRef<u32>, raises: bool) -> Result<Seq<Cause>, OutOfMemory>
+    requires frames { FramesAreOut bench.old.script bench.old.world bench.old.stack }
     ensures script { bench.new.script ≡ bench.old.script }
     ensures table { bench.new.table ≡ bench.old.table }
+    ensures frames { OnOk result (FramesAreOut bench.new.script bench.new.world bench.new.stack) }
 {
     let mut raised = Seq::new(bench.script.alloc);
     bench.stack.call_begins(bench.script.alloc, item)?;
@@ -280,7 +298,9 @@ pub fn run(
     requires bench { IsBench bench.old.script bench.old.table }
     requires node { item.now.node < 4 }
     requires bound { item.now.bound ≡ [] }
-    ensures { OnOk result (IsBench bench.new.script bench.new.table) }
+    requires frames { FramesAreOut bench.old.script bench.old.world bench.old.stack }
+    ensures bench { OnOk result (IsBench bench.new.script bench.new.table) }
+    ensures frames { OnOk result (FramesAreOut bench.new.script bench.new.world bench.new.stack) }
 {
     let refused = set_up(bench, item, how.args, how.asking)?;
     if !refused.is_empty() {
@@ -293,7 +313,9 @@ pub fn run(
 fn go_on(bench: &mut Bench, next: &ItemRef<u32>) -> Result<Seq<Cause>, OutOfMemory>
     requires bench { IsBench bench.old.script bench.old.table }
     requires node { next.now.node < 4 }
-    ensures { OnOk result (IsBench bench.new.script bench.new.table) }
+    requires frames { FramesAreOut bench.old.script bench.old.world bench.old.stack }
+    ensures bench { OnOk result (IsBench bench.new.script bench.new.table) }
+    ensures frames { OnOk result (FramesAreOut bench.new.script bench.new.world bench.new.stack) }
 {
     bench.stack.leave(
         bench.script.alloc,
@@ -306,8 +328,10 @@ fn go_on(bench: &mut Bench, next: &ItemRef<u32>) -> Result<Seq<Cause>, OutOfMemo
 
 /// All goes down.
 fn end_all(bench: &mut Bench) -> Result<Seq<Cause>, OutOfMemory>
-    requires { IsBench bench.old.script bench.old.table }
-    ensures { OnOk result (IsBench bench.new.script bench.new.table) }
+    requires bench { IsBench bench.old.script bench.old.table }
+    requires frames { FramesAreOut bench.old.script bench.old.world bench.old.stack }
+    ensures bench { OnOk result (IsBench bench.new.script bench.new.table) }
+    ensures frames { OnOk result (FramesAreOut bench.new.script bench.new.world bench.new.stack) }
 {
     bench.stack.leave(
         bench.script.alloc,
@@ -363,6 +387,7 @@ pub fn both(
     requires other { other.now.node ≡ 3 }
     requires one_bound { one.now.bound ≡ [] }
     requires other_bound { other.now.bound ≡ [] }
+    requires frames { FramesAreOut bench.old.script bench.old.world bench.old.stack }
 {
     let mut raised = run(bench, one, how)?;
     add_all(&mut raised, go_on(bench, other)?)?;

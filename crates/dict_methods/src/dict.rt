@@ -1,13 +1,14 @@
 // Calls of the methods of dicts, and of `dict`.
 
 ghost use Rattle.std.specs.Prelude.{◌≡◌, IfOk, length, option_copied};
+ghost use Rattle.call_products.specs.Products.{product_within as within_steps};
 ghost use Rattle.dict_methods.specs.Dicts as dicts;
 
 use crate::copies::{copy_made, update_made};
-use crate::keyed::{get, key_args, pop, setdefault};
+use crate::keyed::{get, key_args, pop, setdefault, wrong_within};
 use crate::views::{items, keys, values};
 use call_products::arguments::{has_none, pair, sole};
-use call_products::product::{Product, plain, wrong};
+use call_products::product::{Product, plain, product_within, wrong};
 use py_kinds::builtins::dict_method_name;
 use py_values::builtin::DictMethod;
 use py_values::change::Change;
@@ -103,7 +104,7 @@ fn no_names(named: &[(PyText, Value)]) -> bool
     }
 }
 
-/// A call of a method of a dict.
+/// A call of a method of a dict, under a budget.
 fn dict_called(
     alloc: Global,
     heap: &Heap,
@@ -112,23 +113,45 @@ fn dict_called(
     dict: &Dict,
     args: &[Value],
     named: &[(PyText, Value)],
-) -> Result<Product, OutOfMemory>
-    ensures { IfOk result (λ p. p ≡ dicts.dict_called heap.now which id dict.now args.now named.now) }
+    budget: u64,
+) -> Result<Option<Product>, OutOfMemory>
+    ensures { IfOk result (λ p. p ≡ within_steps budget (dicts.dict_called heap.now which id dict.now args.now named.now)) }
 {
     match which {
-        DictMethod::Clear => clear(alloc, id, has_none(args, named)),
-        DictMethod::Copy => copy_alone(alloc, dict, has_none(args, named)),
-        DictMethod::Get => get(alloc, heap, dict, key_args(args, no_names(named))),
-        DictMethod::Items => items_alone(alloc, heap, dict, has_none(args, named)),
-        DictMethod::Keys => keys_alone(alloc, dict, has_none(args, named)),
-        DictMethod::Pop => pop(alloc, heap, id, dict, key_args(args, no_names(named))),
-        DictMethod::SetDefault => setdefault(alloc, heap, id, dict, pair(args, named)),
-        DictMethod::Update => update(alloc, heap, id, dict, sole(args, named)),
-        DictMethod::Values => values_alone(alloc, dict, has_none(args, named)),
+        DictMethod::Clear => {
+            let product = clear(alloc, id, has_none(args, named))?;
+            Ok(product_within(product, budget))
+        }
+        DictMethod::Copy => {
+            let product = copy_alone(alloc, dict, has_none(args, named))?;
+            Ok(product_within(product, budget))
+        }
+        DictMethod::Get => get(alloc, heap, dict, key_args(args, no_names(named)), budget),
+        DictMethod::Items => {
+            let product = items_alone(alloc, heap, dict, has_none(args, named))?;
+            Ok(product_within(product, budget))
+        }
+        DictMethod::Keys => {
+            let product = keys_alone(alloc, dict, has_none(args, named))?;
+            Ok(product_within(product, budget))
+        }
+        DictMethod::Pop => {
+            let given = key_args(args, no_names(named));
+            pop(alloc, heap, id, dict, given, budget)
+        }
+        DictMethod::SetDefault => setdefault(alloc, heap, id, dict, pair(args, named), budget),
+        DictMethod::Update => {
+            let product = update(alloc, heap, id, dict, sole(args, named))?;
+            Ok(product_within(product, budget))
+        }
+        DictMethod::Values => {
+            let product = values_alone(alloc, dict, has_none(args, named))?;
+            Ok(product_within(product, budget))
+        }
     }
 }
 
-/// A call of a method that was read through a dict (Python library reference, mapping types).
+/// A call of a method that was read through a dict, under a budget (Python library reference, mapping types).
 #[tactic(auto, unfolding(crate::specs::Dicts::dict_method_of))]
 pub fn dict_method(
     alloc: Global,
@@ -137,11 +160,12 @@ pub fn dict_method(
     id: ObjId,
     args: &[Value],
     named: &[(PyText, Value)],
-) -> Result<Product, OutOfMemory>
-    ensures { IfOk result (λ p. p ≡ dicts.dict_method_of heap.now which id args.now named.now) }
+    budget: u64,
+) -> Result<Option<Product>, OutOfMemory>
+    ensures { IfOk result (λ p. p ≡ within_steps budget (dicts.dict_method_of heap.now which id args.now named.now)) }
 {
     match heap.get(id) {
-        Some(Obj::Dict(dict)) => dict_called(alloc, heap, which, id, dict, args, named),
-        _ => wrong(alloc, dict_method_name(which), 0),
+        Some(Obj::Dict(dict)) => dict_called(alloc, heap, which, id, dict, args, named, budget),
+        _ => wrong_within(alloc, dict_method_name(which), budget),
     }
 }

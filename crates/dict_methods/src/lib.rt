@@ -7,8 +7,8 @@
 //!
 //! # What is proved
 //!
-//! - [`dict::dict_method`] gives exactly the product that its definition says: the value, the change of the dict, its new objects, its
-//!   cost, or the raise with class, text (or the key) and cost.
+//! - [`dict::dict_method`] gives exactly the product that its definition says, under a budget: the value, the change of the dict, its new
+//!   objects, its cost, or the raise with class, text (or the key) and cost; nothing where the budget doesn't suffice.
 //! - `get`, `pop`, `setdefault` and `clear` cost what the use of their key costs; the others cost the dict's length, also where they raise,
 //!   and the length of what they give. A copy uses each key once, `update` those of the other dict.
 //!
@@ -18,7 +18,7 @@
 //!
 //! # What neither shows
 //!
-//! How long a call takes: `update` copies the dict.
+//! How long a call takes: `update` copies the dict; a key is made only as far as the budget goes (py_kinds).
 #![tactic(auto)]
 
 pub mod copies;

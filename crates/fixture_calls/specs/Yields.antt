@@ -6,6 +6,7 @@ use Rattle.py_values.specs.declared.value.Value.TheVariants as val
 use Rattle.py_world.specs.Resuming.{BegunOut, Yielded, Over, SentValue, ToldBegun, abandon_of}
 use Rattle.py_world.specs.declared.ended.Outcome.{Outcome}
 use Rattle.py_world.specs.declared.ended.Outcome.TheVariants as out
+use Rattle.py_machine.specs.Worlds.{spent_world}
 use Rattle.py_machine.specs.source_meaning.Meaning.{SourceWorld, source_begin, source_resume}
 use Rattle.py_machine.specs.source_meaning.Requests.{source_kinds}
 use Rattle.test_suite.specs.declared.fixture.Fixture.{Fixture}
@@ -50,6 +51,10 @@ fixture_resumed limit n w = body_ended limit (source_resume n (SentValue val.Non
 -- WHAT REMAINS is given up
 unfoldable pub fixture_abandoned : ℕ → SourceWorld → SourceWorld
 fixture_abandoned n w = abandon_of n w
+
+-- WHAT REMAINS is let go behind want of memory: the world is spent
+abbrev pub fixture_given_up : ℕ → SourceWorld → SourceWorld
+fixture_given_up n w = spent_world w
 
 abbrev pub did_not_yield_text : List ℕ → List ℕ
 did_not_yield_text name = codes "fixture '" ++ (name ++ codes "' did not yield")

@@ -1,15 +1,16 @@
 // The functions of hooks.
 
-ghost use Rattle.std.specs.Prelude.{◌≡◌, IfOk, map};
+ghost use Rattle.std.specs.Prelude.{◌≡◌, IfOk, map, true};
 ghost use Rattle.py_machine.specs.Yields.{sent_of};
 ghost use Rattle.py_machine.specs.runner_values.Given.{added_object};
 ghost use Rattle.py_values.specs.declared.object.Obj.TheVariants as obj;
+ghost use Rattle.py_world.specs.Resuming.{is_out};
 ghost use Rattle.fixture_calls.specs.Failing as failing;
 ghost use Rattle.fixture_calls.specs.Hooks as hooks;
 
 use crate::exceptions::exhausted;
 use crate::failure::{Failure, copied_thrown};
-use crate::yields::{FixtureEnd, abandon, body_end};
+use crate::yields::{FixtureEnd, body_end, give_up};
 use py_machine::{Begun, Frozen, New, Sent, World, call, make};
 use py_text::OutOfMemory;
 use py_values::value::Value;
@@ -128,6 +129,7 @@ fn resume_sent(
     sent: Sent,
     limit: u64,
 ) -> Result<FixtureEnd, OutOfMemory>
+    requires out { is_out rest world.old ≡ true }
     ensures { IfOk result (λ e. (e, world.new) ≡ hooks.hook_resumed limit rest (sent_of sent) world.old) }
 {
     let Begun { out, steps: _ } = py_machine::resume(world, rest, sent, limit)?;
@@ -141,8 +143,8 @@ fn new_list(alloc: Global, world: &mut World, values: &[Value]) -> Result<Value,
     make(world, &New::List(values))
 }
 
-/// What remains of a wrapper goes on within a limit of steps, with these values as a new list. It is spent, whatever is answered; behind
-/// want of memory the world is too.
+/// What remains of a wrapper, and is out, goes on within a limit of steps, with these values as a new list. It is spent, whatever is answered;
+/// behind want of memory the world is too.
 pub fn resume_hook_with_values(
     alloc: Global,
     world: &mut World,
@@ -150,12 +152,13 @@ pub fn resume_hook_with_values(
     values: &[Value],
     limit: u64,
 ) -> Result<FixtureEnd, OutOfMemory>
+    requires out { is_out rest world.old ≡ true }
     ensures { IfOk result (λ e. (e, world.new) ≡ hooks.resumed_with_values limit rest values.now world.old) }
 {
     match new_list(alloc, world, values) {
         Ok(list) => resume_sent(alloc, world, rest, Sent::Value(list), limit),
         Err(fault) => {
-            abandon(world, rest);
+            give_up(world, rest);
             Err(fault)
         }
     }
@@ -169,6 +172,7 @@ pub fn resume_hook_with_value(
     value: Option<Value>,
     limit: u64,
 ) -> Result<FixtureEnd, OutOfMemory>
+    requires out { is_out rest world.old ≡ true }
     ensures { IfOk result (λ e. (e, world.new) ≡ hooks.resumed_with_value limit rest value world.old) }
 {
     resume_sent(alloc, world, rest, Sent::Value(or_none(value)), limit)
@@ -191,12 +195,13 @@ pub fn resume_hook_by(
     failure: &Failure,
     limit: u64,
 ) -> Result<FixtureEnd, OutOfMemory>
+    requires out { is_out rest world.old ≡ true }
     ensures { IfOk result (λ e. (e, world.new) ≡ hooks.resumed_by limit rest failure.now world.old) }
 {
     match copied_thrown(alloc, thrown_of(failure)) {
         Ok(thrown) => resume_sent(alloc, world, rest, Sent::Throw(thrown), limit),
         Err(fault) => {
-            abandon(world, rest);
+            give_up(world, rest);
             Err(fault)
         }
     }

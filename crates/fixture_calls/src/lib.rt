@@ -16,7 +16,8 @@
 //! - [`begin`]: the function of a fixture is called within the step limit, with the instance of the item's class where it stands in a class,
 //!   then with its `request`, what the row of the item binds and the values in the order of its arguments; it returns, or raises, or stands
 //!   at its `yield` (`fixture_begun`). [`resume`]: what remains goes on, with the sent value None (`fixture_resumed`); [`abandon`]: it is
-//!   given up (`fixture_abandoned`). An exhausted one has raised `StepLimit`.
+//!   given up (`fixture_abandoned`). Both ask that its frame is out (`out`); [`give_up`] lets it go behind want of memory, with which the
+//!   world is spent (`fixture_given_up`). An exhausted one has raised `StepLimit`.
 //! - [`did_not_yield`], [`yielded_again`]: the exceptions of a fixture that yields never, or again (`did_not_yield`, `yielded_again`).
 //! - [`call_test`]: the call of a test (`test_called`); [`call_finalizer`]: that of a finalizer (`finalizer_called`).
 //! - [`call_hook`], [`begin_hook`]: the function of a hook is called within the step limit with the values that it takes (`hook_called`); a
@@ -52,4 +53,4 @@ pub use hooks::{
     CallEnd, begin_hook, call_hook, resume_hook_by, resume_hook_with_value, resume_hook_with_values,
 };
 pub use requests::{ask, ask_test, close};
-pub use yields::{FixtureEnd, abandon, begin, did_not_yield, resume, yielded_again};
+pub use yields::{FixtureEnd, abandon, begin, did_not_yield, give_up, resume, yielded_again};

@@ -1,7 +1,8 @@
 // The functions of fixtures, which may stop at a `yield`.
 
-ghost use Rattle.std.specs.Prelude.{◌≡◌, IfOk};
+ghost use Rattle.std.specs.Prelude.{◌≡◌, IfOk, true};
 ghost use Rattle.py_machine.specs.Yields.{told_out};
+ghost use Rattle.py_world.specs.Resuming.{is_out};
 ghost use Rattle.fixture_calls.specs.Failing as failing;
 ghost use Rattle.fixture_calls.specs.Yields as yields;
 
@@ -101,7 +102,7 @@ pub fn begin(
     body_end(alloc, world, limit, out)
 }
 
-/// What remains behind a `yield` goes on within a limit of steps, with the sent value None. Behind want of memory the world is spent.
+/// What remains behind a `yield`, and is out, goes on within a limit of steps, with the sent value None. Behind want of memory the world is spent.
 #[tactic(auto, unfolding(crate::specs::Yields::fixture_resumed))]
 pub fn resume(
     alloc: Global,
@@ -109,18 +110,27 @@ pub fn resume(
     rest: Frozen,
     limit: u64,
 ) -> Result<FixtureEnd, OutOfMemory>
+    requires out { is_out rest world.old ≡ true }
     ensures { IfOk result (λ e. (e, world.new) ≡ yields.fixture_resumed limit rest world.old) }
 {
     let Begun { out, steps: _ } = py_machine::resume(world, rest, Sent::Value(Value::None), limit)?;
     body_end(alloc, world, limit, out)
 }
 
-/// Gives up what remains behind a `yield`. Takes no memory.
+/// Gives up what remains behind a `yield`, and is out. Takes no memory.
 #[tactic(auto, unfolding(crate::specs::Yields::fixture_abandoned))]
 pub fn abandon(world: &mut World, rest: Frozen)
+    requires out { is_out rest world.old ≡ true }
     ensures { world.new ≡ yields.fixture_abandoned rest world.old }
 {
     py_machine::abandon(world, rest);
+}
+
+/// Lets go what remains behind a `yield` behind want of memory: the world is spent. Takes no memory.
+pub fn give_up(world: &mut World, rest: Frozen)
+    ensures { world.new ≡ yields.fixture_given_up rest world.old }
+{
+    py_machine::give_up(world, rest);
 }
 
 fn did_not_yield_text(alloc: Global, name: &[char]) -> Result<PyText, OutOfMemory>

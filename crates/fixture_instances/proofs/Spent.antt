@@ -2,12 +2,11 @@
 use Rattle.std.proofs.Common.{◌≡◌, ℕ, ◌+◌, ◌<◌, List, [], ◌∷◌, ◌++◌, refl, sym, ap, ◌∙◌, arith, length, take, drop, set, get_or, map, subst, Option, Some, None}
 use Rattle.std.proofs.lemmas.List.{at_drop_more, drop-set-lt, get_or-map, map-set, map_push, set-get_or, take_more_set}
 use Rattle.session_types.specs.declared.instance.Instance.{Instance}
-use Rattle.session_rules.specs.World.{Language, Rules}
 use Rattle.fixture_instances.specs.declared.ends.CachedResult.{CachedResult}
 use Rattle.fixture_instances.specs.declared.live.Kept.{Kept}
 use Rattle.live_chains.specs.declared.id.LiveId.{LiveId}
 use Rattle.fixture_instances.specs.Joined.{InstanceList, ArePaired, with_slots, with_slot}
-use Rattle.fixture_instances.specs.Resting.{AreKeptSpent, AreSpent, abandoned, abandoned_kept, given_up, spent_instance, spent_held, spent_kept}
+use Rattle.fixture_instances.specs.Resting.{AreKeptSpent, AreSpent, all_given_up, all_kept_given_up, given_up_where, spent_instance, spent_held, spent_kept}
 
 pub not_both : {R : Type 0} (o : Option R) (x : R) → o ≡ None → o ≡ Some x → ⊥
 not_both o x n s = (let z : None ≡ Some x = sym n ∙ s in cc)
@@ -59,17 +58,17 @@ module _ {V E R : Type 0} where
       ∙ (ap (λ (l : List (Kept V E R)). l ++ spent_kept y ∷ []) h
       ∙ (ap (λ (k : Kept V E R). take i xs ++ k ∷ []) (ap spent_kept e ∙ sym e) ∙ sym t)))
 
-pub abandoned_more : {L : Language} (rules : Rules L) (xs : List (Kept L.Value L.Thrown L.Rest)) (i : ℕ) (d y : Kept L.Value L.Thrown L.Rest) (rest : Option L.Rest) (w v a : L.World) → i < length xs → rest ≡ (get_or xs i d).held.rest → v ≡ given_up rules rest w → abandoned_kept rules (drop i xs) w ≡ a → abandoned_kept rules (drop (i + 1) (set xs i y)) v ≡ a
-abandoned_more {L} rules xs i d y rest w v a lt er ev h =
-    ap (λ (l : List (Kept L.Value L.Thrown L.Rest)). abandoned_kept rules l v) (drop-set-lt (i + 1) xs i y (omega arith))
-    ∙ (ap (λ (u : L.World). abandoned_kept rules (drop (i + 1) xs) u) (ev ∙ ap (λ (r : Option L.Rest). given_up rules r w) er)
-    ∙ (sym (at_drop_more (λ (l : List (Kept L.Value L.Thrown L.Rest)). abandoned_kept rules l w) xs i d lt) ∙ h))
+pub given_up_more : {V E R W : Type 0} (given_up : R → W → W) (xs : List (Kept V E R)) (i : ℕ) (d y : Kept V E R) (rest : Option R) (w v a : W) → i < length xs → rest ≡ (get_or xs i d).held.rest → v ≡ given_up_where given_up rest w → all_kept_given_up given_up (drop i xs) w ≡ a → all_kept_given_up given_up (drop (i + 1) (set xs i y)) v ≡ a
+given_up_more {V} {E} {R} {W} given_up xs i d y rest w v a lt er ev h =
+    ap (λ (l : List (Kept V E R)). all_kept_given_up given_up l v) (drop-set-lt (i + 1) xs i y (omega arith))
+    ∙ (ap (λ (u : W). all_kept_given_up given_up (drop (i + 1) xs) u) (ev ∙ ap (λ (r : Option R). given_up_where given_up r w) er)
+    ∙ (sym (at_drop_more (λ (l : List (Kept V E R)). all_kept_given_up given_up l w) xs i d lt) ∙ h))
 
-pub abandoned_joined : {L : Language} (rules : Rules L) (is : List (Instance ℕ)) (ks : List (Kept L.Value L.Thrown L.Rest)) (w : L.World) → ArePaired is ks → abandoned rules (with_slots is ks) w ≡ abandoned_kept rules ks w
-abandoned_joined rules [] [] w p = refl
-abandoned_joined rules [] (k ∷ ks) w p = absurd p
-abandoned_joined rules (i ∷ is) [] w p = absurd p
-abandoned_joined rules (i ∷ is) (k ∷ ks) w p = abandoned_joined rules is ks (given_up rules k.held.rest w) p.1
+pub given_up_joined : {V E R W : Type 0} (given_up : R → W → W) (is : List (Instance ℕ)) (ks : List (Kept V E R)) (w : W) → ArePaired is ks → all_given_up given_up (with_slots is ks) w ≡ all_kept_given_up given_up ks w
+given_up_joined given_up [] [] w p = refl
+given_up_joined given_up [] (k ∷ ks) w p = absurd p
+given_up_joined given_up (i ∷ is) [] w p = absurd p
+given_up_joined given_up (i ∷ is) (k ∷ ks) w p = given_up_joined given_up is ks (given_up_where given_up k.held.rest w) p.1
 
 -- the list whose frames were given up
 pub pairs_given : {V E R : Type 0} (is : List (Instance ℕ)) (ks new : List (Kept V E R)) → new ≡ map spent_kept ks → ArePaired is ks → ArePaired is new
@@ -86,10 +85,10 @@ list_given {V} {E} {R} is ids ks new spare next v e view =
     ap (λ (l : List (Instance (CachedResult V E R))). listed ids spare next l) (ap (λ (l : List (Kept V E R)). with_slots is l) e ∙ joined_spent is ks)
     ∙ ap (λ (u : InstanceList V E R). all_given u) view
 
-pub world_given : {L : Language} (rules : Rules L) (is : List (Instance ℕ)) (ids : List LiveId) (ks lent : List (Kept L.Value L.Thrown L.Rest)) (spare next : ℕ) (v : InstanceList L.Value L.Thrown L.Rest) (w : L.World) → lent ≡ ks → ArePaired is ks → listed ids spare next (with_slots is ks) ≡ v → abandoned_kept rules lent w ≡ abandoned rules v.live w
-world_given {L} rules is ids ks lent spare next v w e p view =
-    ap (λ (l : List (Kept L.Value L.Thrown L.Rest)). abandoned_kept rules l w) e
-    ∙ (sym (abandoned_joined rules is ks w p) ∙ ap (λ (u : InstanceList L.Value L.Thrown L.Rest). abandoned rules u.live w) view)
+pub world_given : {V E R W : Type 0} (given_up : R → W → W) (is : List (Instance ℕ)) (ids : List LiveId) (ks lent : List (Kept V E R)) (spare next : ℕ) (v : InstanceList V E R) (w : W) → lent ≡ ks → ArePaired is ks → listed ids spare next (with_slots is ks) ≡ v → all_kept_given_up given_up lent w ≡ all_given_up given_up v.live w
+world_given {V} {E} {R} {W} given_up is ids ks lent spare next v w e p view =
+    ap (λ (l : List (Kept V E R)). all_kept_given_up given_up l w) e
+    ∙ (sym (given_up_joined given_up is ks w p) ∙ ap (λ (u : InstanceList V E R). all_given_up given_up u.live w) view)
 
 pub spent_now : {V E R : Type 0} (is new : List (Instance (CachedResult V E R))) → new ≡ map spent_instance is → AreSpent new
 spent_now {V} {E} {R} is new e = subst (λ (l : List (Instance (CachedResult V E R))). AreSpent l) (sym e) (all_spent is)

@@ -1,7 +1,6 @@
--- The frozen frames that a stack holds, and how they are given up.
+-- The frozen frames that a stack holds, and how they are let go behind want of memory.
 use Rattle.std.specs.Prelude.{◌≡◌, List, [], ◌∷◌, Option, None, Some}
 use Rattle.session_types.specs.declared.instance.Instance.{Instance}
-use Rattle.session_rules.specs.World.{Language, Rules}
 use Rattle.fixture_instances.specs.declared.ends.CachedResult.{CachedResult}
 use Rattle.fixture_instances.specs.declared.live.Kept.{Kept}
 use Rattle.fixture_instances.specs.Joined.{with_slot}
@@ -16,18 +15,19 @@ spent_instance i = with_slot (spent_held i.slot) i
 abbrev pub spent_kept : {V E R : Type 0} → Kept V E R → Kept V E R
 spent_kept k = record k { held = spent_held k.held }
 
-abbrev pub given_up : {L : Language} → Rules L → Option L.Rest → L.World → L.World
-given_up rules None w = w
-given_up rules (Some rest) w = rules.abandon rest w
+-- what remains is let go behind want of memory, where there is something
+abbrev pub given_up_where : {R W : Type 0} → (R → W → W) → Option R → W → W
+given_up_where given_up None w = w
+given_up_where given_up (Some rest) w = given_up rest w
 
--- what remains of each is given up, in order of set-up
-abbrev pub abandoned : {L : Language} → Rules L → List (Instance (CachedResult L.Value L.Thrown L.Rest)) → L.World → L.World
-abandoned rules [] w = w
-abandoned rules (i ∷ is) w = abandoned rules is (given_up rules i.slot.rest w)
+-- what remains of each, in order of set-up
+abbrev pub all_given_up : {V E R W : Type 0} → (R → W → W) → List (Instance (CachedResult V E R)) → W → W
+all_given_up given_up [] w = w
+all_given_up given_up (i ∷ is) w = all_given_up given_up is (given_up_where given_up i.slot.rest w)
 
-abbrev pub abandoned_kept : {L : Language} → Rules L → List (Kept L.Value L.Thrown L.Rest) → L.World → L.World
-abandoned_kept rules [] w = w
-abandoned_kept rules (k ∷ ks) w = abandoned_kept rules ks (given_up rules k.held.rest w)
+abbrev pub all_kept_given_up : {V E R W : Type 0} → (R → W → W) → List (Kept V E R) → W → W
+all_kept_given_up given_up [] w = w
+all_kept_given_up given_up (k ∷ ks) w = all_kept_given_up given_up ks (given_up_where given_up k.held.rest w)
 
 -- none is frozen
 abbrev pub AreSpent : {V E R : Type 0} → List (Instance (CachedResult V E R)) → Type 0

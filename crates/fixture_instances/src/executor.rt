@@ -1,4 +1,5 @@
-ghost use Rattle.std.specs.Prelude.{◌≡◌, ◌<◌, Bool, length, IfOk, OnOk};
+ghost use Rattle.std.specs.Prelude.{◌≡◌, ◌<◌, Bool, true, length, IfOk, OnOk};
+ghost use Rattle.session_rules.specs.Frames.{KeepsFrames};
 ghost use Rattle.session_rules.specs.World.{Phase, Rules, language};
 ghost use Rattle.fixture_table.specs.Tables.{TableValue};
 ghost use Rattle.fixture_instances.specs.declared.items.ItemRef.{ItemRef};
@@ -36,6 +37,12 @@ pub trait Executor {
 
     /// Whether this is the table of the fixtures and this is an item that the setting speaks of.
     ghost knows: { Self.Setting → TableValue → ItemRef Self.Value → Type 0 };
+
+    /// Whether what remains of a body is out.
+    ghost is_out: { Self.Rest → Self → Bool };
+
+    /// The world in which what remains of a body is let go behind want of memory: it is spent.
+    ghost given_up: { Self.Rest → Self → Self };
 
     /// Whether a definition's function has a `yield`.
     fn yields(
@@ -97,12 +104,18 @@ pub trait Executor {
         setting: &Self::Setting,
         rest: Self::Rest,
     ) -> Result<BodyEnd<Self::Value, Self::Thrown, Self::Rest>, OutOfMemory>
+        requires out { is_out rest self.old ≡ true }
         ensures how { IfOk result (λ end. body_end (rules setting.now) end ≡ ((rules setting.now).resume rest self.old).how) }
         ensures world { OnOk result (self.new ≡ ((rules setting.now).resume rest self.old).world) };
 
     /// Gives up what remains behind a `yield`. Takes no memory.
     fn abandon(&mut self, setting: &Self::Setting, rest: Self::Rest)
+        requires out { is_out rest self.old ≡ true }
         ensures { self.new ≡ (rules setting.now).abandon rest self.old };
+
+    /// Lets go what remains behind a `yield` where memory was wanted: the world is spent. Takes no memory.
+    fn give_up(&mut self, rest: Self::Rest)
+        ensures { self.new ≡ given_up rest self.old };
 
     /// `fixture function has more than one 'yield'`
     fn yielded_again(
@@ -134,4 +147,6 @@ pub trait Executor {
     /// A copy of an exception with its trace.
     fn copied(&self, thrown: &Self::Thrown) -> Result<Self::Thrown, OutOfMemory>
         ensures { IfOk result (λ copy. copy ≡ thrown.now) };
+
+    ghost keeps: { (setting : Self.Setting) → KeepsFrames (rules setting) is_out };
 }

@@ -16,7 +16,7 @@
 //!   node, of which at most one lives; `dependents_of` and `off_of` give what goes down, in the order in which it goes down
 //!   (`same`), each once (`once`). `is_in_order` tells what holds of every such list. `reserve` makes room for one more (`room`,
 //!   `count`) and changes nothing else (`same`); neither `link` nor `take` can fail.
-//! - `abandon_all` gives up every frozen frame that the list holds, in order of set-up (`world`, `live`). `close` ends a list that
+//! - `give_up_all` lets every frozen frame go that the list holds, in order of set-up, behind want of memory (`world`, `live`). `close` ends a list that
 //!   holds none, and a list ends in no other way.
 //! - What remains of a body (`Rest`) may not be dropped: it is resumed, given up, or held by the list.
 //!
@@ -40,4 +40,4 @@ mod live;
 pub use ends::{BodyEnd, CachedResult, SetUpEnd};
 pub use executor::Executor;
 pub use items::{BoundValue, ItemParam, ItemRef, chain_of, parameter_in, place_of, requests_of};
-pub use live::{LiveFixtures, abandon_all};
+pub use live::{LiveFixtures, give_up_all};

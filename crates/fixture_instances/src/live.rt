@@ -7,7 +7,7 @@ ghost use Rattle.session_types.specs.declared.instance.Instance.{Instance};
 ghost use Rattle.live_chains.specs.declared.id.LiveId.{LiveId};
 ghost use Rattle.live_chains.specs.Chained.{Apart, RisingBy, id_order, ids_without};
 ghost use Rattle.fixture_instances.specs.Joined.{with_slot, kept_at, kept_order, kept_without, def_and_node};
-ghost use Rattle.fixture_instances.specs.Resting.{AreKeptSpent, AreSpent, abandoned, abandoned_kept, given_up, spent_instance, spent_kept};
+ghost use Rattle.fixture_instances.specs.Resting.{AreKeptSpent, AreSpent, all_given_up, all_kept_given_up, given_up_where, spent_instance, spent_kept};
 
 use crate::ends::CachedResult;
 use crate::executor::Executor;
@@ -266,40 +266,35 @@ impl<V, E, R> LiveFixtures<V, E, R> {
     }
 }
 
-/// What remains of an instance is given up.
-fn give_up<W: Executor>(world: &mut W, setting: &W::Setting, rest: Option<W::Rest>)
-    ensures { world.new ≡ given_up (W.rules setting.now) rest world.old }
+/// What remains of an instance is let go, behind want of memory.
+fn give_up<W: Executor>(world: &mut W, rest: Option<W::Rest>)
+    ensures { world.new ≡ given_up_where W.given_up rest world.old }
 {
     match rest {
         None => {}
-        Some(rest) => world.abandon(setting, rest),
+        Some(rest) => world.give_up(rest),
     }
 }
 
-/// What remains of all of these is given up, in order.
-fn give_up_each<W: Executor>(
-    kept: &mut [Kept<W::Value, W::Thrown, W::Rest>],
-    world: &mut W,
-    setting: &W::Setting,
-)
+/// What remains of all of these is let go, in order.
+fn give_up_each<W: Executor>(kept: &mut [Kept<W::Value, W::Thrown, W::Rest>], world: &mut W)
     ensures kept { kept.new ≡ map spent_kept kept.old }
-    ensures world { world.new ≡ abandoned_kept (W.rules setting.now) kept.old world.old }
+    ensures world { world.new ≡ all_kept_given_up W.given_up kept.old world.old }
 {
     for one in kept.iter_mut() {
-        give_up(world, setting, one.held.rest.take());
+        give_up(world, one.held.rest.take());
     }
 }
 
-/// What remains of all live instances is given up, in order of set-up.
-pub fn abandon_all<W: Executor>(
+/// What remains of all live instances is let go behind want of memory, in order of set-up.
+pub fn give_up_all<W: Executor>(
     live: &mut LiveFixtures<W::Value, W::Thrown, W::Rest>,
     world: &mut W,
-    setting: &W::Setting,
 )
     ensures live { live.new ≡ record live.old { live = map spent_instance live.old.live } }
-    ensures world { world.new ≡ abandoned (W.rules setting.now) live.old.live world.old }
+    ensures world { world.new ≡ all_given_up W.given_up live.old.live world.old }
 {
-    give_up_each(&mut live.kept, world, setting);
+    give_up_each(&mut live.kept, world);
 }
 
 /// Lets go what is kept of instances of which nothing remains.

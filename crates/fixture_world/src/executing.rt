@@ -7,6 +7,8 @@ ghost use Rattle.fixture_instances.specs.Items.{parameter_in};
 ghost use Rattle.fixture_instances.specs.Views as views;
 ghost use Rattle.runtest_rules.specs.Language.{python};
 ghost use Rattle.runtest_rules.specs.Rules.{body_end_of, rules_within};
+ghost use Rattle.runtest_rules.specs.py_world.Resuming.{is_out};
+ghost use Rattle.runtest_rules.proofs.Kept.{keeps_within};
 ghost use Rattle.fixture_calls.specs.Yields as yields;
 ghost use Rattle.test_suite.specs.Suites.{fixture_at, no_fixture};
 
@@ -96,6 +98,12 @@ impl Executor for RunWorld {
 
     ghost knows = { λ setting table item. length table.defs ≡ length setting.suite.fixtures };
 
+    ghost is_out = { is_out };
+
+    ghost given_up = { yields.fixture_given_up };
+
+    ghost keeps = { λ setting. keeps_within setting.limit setting.suite };
+
     fn yields(
         &self,
         setting: &RunSetting,
@@ -172,6 +180,10 @@ impl Executor for RunWorld {
 
     fn abandon(&mut self, _setting: &RunSetting, rest: Frozen) {
         fixture_calls::abandon(&mut self.world, rest);
+    }
+
+    fn give_up(&mut self, rest: Frozen) {
+        fixture_calls::give_up(&mut self.world, rest);
     }
 
     fn yielded_again(&mut self, setting: &RunSetting, def: DefId) -> Result<Failure, OutOfMemory> {

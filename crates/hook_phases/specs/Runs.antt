@@ -1,5 +1,5 @@
 -- A stage while a hook call runs on it.
-use Rattle.std.specs.Prelude.{◌≡◌, List, [], ◌∷◌, Option, None, Some, option_map}
+use Rattle.std.specs.Prelude.{◌≡◌, Bool, List, [], ◌∷◌, Option, None, Some, map, option_map}
 use Rattle.std.specs.Borrow.{Bor, GName}
 use Rattle.hook_phases.specs.declared.answers.Exceptions.{Exceptions as Several}
 use Rattle.hook_phases.specs.declared.answers.HookFrame.{HookFrame}
@@ -13,6 +13,7 @@ use Rattle.hook_order.specs.declared.answers.Ran.TheVariants as ran
 use Rattle.hook_order.specs.declared.implementation.Impl.{Impl}
 use Rattle.hook_phases.specs.Phases.{phase_of}
 use Rattle.hook_phases.specs.Steps.{GivesUp, IsKnownWhere, item_where, place_of}
+use Rattle.session_rules.specs.Frames.{StandsWith}
 use Rattle.session_rules.specs.HookFollows.{HookView, OpenedAs, RanAs, inner_of}
 use Rattle.session_rules.specs.Hooks.{HookInner, HookRunner}
 use Rattle.session_rules.specs.Session.{HookPlace, built_of, hook_runner, in_hooks, node_of}
@@ -54,12 +55,16 @@ module _ (L : Language) {S C I : Type 0} (rules : C → Rules L) (state : S → 
   abbrev pub RunBegins : StageRun S C I → Impl → Opened (HookFrame L.Rest) (Several L.Thrown) → StageRun S C I → Type 0
   RunBegins before which answer now = OpenedAs (run_view L state) ((hook_runner (rules before.setting.now) (run_place before)).begin which (state before.stage.now)) before answer now × (site_of now ≡ site_of before)
 
-  abbrev pub RunResumes : StageRun S C I → HookFrame L.Rest → Inner L.Value (Several L.Thrown) → Ran L.Value (Several L.Thrown) → StageRun S C I → Type 0
-  RunResumes before frame given answer now =
+  abbrev pub RunResumes : (L.Rest → L.World → L.World) → StageRun S C I → HookFrame L.Rest → Inner L.Value (Several L.Thrown) → Ran L.Value (Several L.Thrown) → StageRun S C I → Type 0
+  RunResumes given_up before frame given answer now =
       ((inside : HookInner L.Value (Exceptions L)) → inner_of (run_view L {S = S} {C = C} {I = I} state) given ≡ Some inside
       → RanAs (run_view L state) ((hook_runner (rules before.setting.now) (run_place before)).resume (frame_kept L frame) inside (state before.stage.now)) before answer now)
       × (site_of now ≡ site_of before)
-      × GivesUp (rules before.setting.now) given frame.rest (state before.stage.now) (state now.stage.now)
+      × GivesUp {L = L} given_up given frame.rest (state before.stage.now) (state now.stage.now)
+
+-- these wrappers stand at their `yield`: their frames are out, and those of the live instances
+abbrev pub RunWaits : (L : Language) {S C I : Type 0} → (S → SessionState L) → (L.Rest → L.World → Bool) → List (HookFrame L.Rest) → StageRun S C I → Type 0
+RunWaits L state is_out frames r = StandsWith (state r.stage.now) is_out (map (λ f. f.rest) frames)
 
 -- the runner of a session, where a hook call stands
 abbrev pub site_runner : (L : Language) {C I : Type 0} → (C → Rules L) → (C → I → Item) → Site C I → HookRunner (SessionState L) L.Value (Exceptions L) (Frame L)

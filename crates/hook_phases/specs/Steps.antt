@@ -43,9 +43,9 @@ IsValue AllValues = Unit {0}
 IsValue (InnerGave value) = Unit {0}
 IsValue (InnerRaised e) = ⊥
 
--- where memory was wanted inside, the wrapper is given up, and nothing else is done
-abbrev pub GivesUp : {L : Language} {E : Type 0} → Rules L → Inner L.Value E → L.Rest → SessionState L → SessionState L → Type 0
-GivesUp rules inner.List rest s t = Unit {0}
-GivesUp rules (inner.Gave value) rest s t = Unit {0}
-GivesUp rules (inner.Raised e) rest s t = Unit {0}
-GivesUp rules inner.OutOfMemory rest s t = t ≡ in_world (rules.abandon rest s.world) s
+-- where memory was wanted inside, the wrapper is let go in a world that is spent, and nothing else is done
+abbrev pub GivesUp : {L : Language} {E : Type 0} → (L.Rest → L.World → L.World) → Inner L.Value E → L.Rest → SessionState L → SessionState L → Type 0
+GivesUp given_up inner.List rest s t = Unit {0}
+GivesUp given_up (inner.Gave value) rest s t = Unit {0}
+GivesUp given_up (inner.Raised e) rest s t = Unit {0}
+GivesUp given_up inner.OutOfMemory rest s t = t ≡ in_world (given_up rest s.world) s

@@ -12,9 +12,13 @@
 //!   (`in_hooks` around `built_of`).
 //! - [`leave`]: the same of a teardown, behind which the built-in one is done where the hook call didn't reach it (`torn_down`).
 //!
-//! After an `Err(OutOfMemory)` nothing is said of the state. A wrapper that stands at its `yield` is resumed or given up, also then: what
-//! remains of it can't be dropped. Where memory was wanted inside it, it is given up and nothing else is done (`given_up` of `resume_one`,
-//! and `RunResumes`, which the calls of `call_all` on a stage meet).
+//! - A stage is asked to resume or abandon a wrapper only while its frame is out (`out`), and to do what a built-in does only while the
+//!   frames of the live instances are out, each that of one (`StandsWith`); both calls ask for that and leave it so (`frames`), by the law
+//!   that the stage's rules keep the frames that are out (`keeps`).
+//!
+//! After an `Err(OutOfMemory)` nothing is said of the state. A wrapper that stands at its `yield` is resumed or let go, also then: what
+//! remains of it can't be dropped. Where memory was wanted inside it, it is let go in a world that is spent, and nothing else is done
+//! (`given_up` of `resume_one`, and `RunResumes`, which the calls of `call_all` on a stage meet).
 //!
 //! # What tests alone show
 //!

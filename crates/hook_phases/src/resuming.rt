@@ -1,10 +1,11 @@
 // What remains of a wrapper.
 
-ghost use Rattle.std.specs.Prelude.{◌≡◌, Option, Some, option_map};
-ghost use Rattle.hook_order.specs.Answers.{HandsOnWant};
+ghost use Rattle.std.specs.Prelude.{◌≡◌, Option, Some, option_map, true};
+ghost use Rattle.hook_order.specs.Answers.{HandsOnWant, IfInner};
 ghost use Rattle.hook_phases.specs.Phases.{phase_of};
 ghost use Rattle.hook_phases.specs.Steps.{GivesUp, IsValue, place_of};
 ghost use Rattle.hook_phases.specs.Views.{frame_kept, several, stage_view, wrapper_end};
+ghost use Rattle.session_rules.specs.Frames.{IsOutWhereYielded};
 ghost use Rattle.session_rules.specs.HookFollows.{RanAs, inner_of};
 ghost use Rattle.session_rules.specs.Hooks.{AllValues, HookInner, InnerGave, InnerRaised};
 ghost use Rattle.session_rules.specs.Session.{did_world, hook_runner, left_by, resuming};
@@ -27,6 +28,7 @@ fn yielded_again<S: HookStage>(
     rest: S::Rest,
 ) -> Ran<S::Value, Exceptions<S::Thrown>>
     requires here { S.stands setting.now stage.old }
+    requires out { S.is_out rest (S.state stage.old).world ≡ true }
     ensures run { (inside : HookInner S.Value (SessionExceptions (language S.World S.Value S.Thrown S.Rest S.Told S.is_bad))) → RanAs (stage_view (language S.World S.Value S.Thrown S.Rest S.Told S.is_bad)) (did_world (S.state stage.old) (resuming (S.rules setting.now) which.now inside (Yielded value rest) (S.state stage.old).world)) (S.state stage.old) result (S.state stage.new) }
     ensures here { S.stands setting.now stage.new }
 {
@@ -47,6 +49,7 @@ fn behind_value<S: HookStage>(
     end: WrapperEnd<S::Value, S::Thrown, S::Rest>,
 ) -> Ran<S::Value, Exceptions<S::Thrown>>
     requires here { S.stands setting.now stage.old }
+    requires out { IsOutWhereYielded (wrapper_end (language S.World S.Value S.Thrown S.Rest S.Told S.is_bad) end) S.is_out (S.state stage.old).world }
     ensures run { (inside : HookInner S.Value (SessionExceptions (language S.World S.Value S.Thrown S.Rest S.Told S.is_bad))) → IsValue inside → RanAs (stage_view (language S.World S.Value S.Thrown S.Rest S.Told S.is_bad)) (did_world (S.state stage.old) (resuming (S.rules setting.now) which.now inside (wrapper_end (language S.World S.Value S.Thrown S.Rest S.Told S.is_bad) end) (S.state stage.old).world)) (S.state stage.old) result (S.state stage.new) }
     ensures here { S.stands setting.now stage.new }
 {
@@ -86,6 +89,7 @@ fn behind_exceptions<S: HookStage>(
     end: WrapperEnd<S::Value, S::Thrown, S::Rest>,
 ) -> Ran<S::Value, Exceptions<S::Thrown>>
     requires here { S.stands setting.now stage.old }
+    requires out { IsOutWhereYielded (wrapper_end (language S.World S.Value S.Thrown S.Rest S.Told S.is_bad) end) S.is_out (S.state stage.old).world }
     ensures run { RanAs (stage_view (language S.World S.Value S.Thrown S.Rest S.Told S.is_bad)) (did_world (S.state stage.old) (resuming (S.rules setting.now) which.now (InnerRaised (several (language S.World S.Value S.Thrown S.Rest S.Told S.is_bad) got)) (wrapper_end (language S.World S.Value S.Thrown S.Rest S.Told S.is_bad) end) (S.state stage.old).world)) (S.state stage.old) result (S.state stage.new) }
     ensures here { S.stands setting.now stage.new }
 {
@@ -113,6 +117,7 @@ fn with_values<S: HookStage>(
 ) -> Ran<S::Value, Exceptions<S::Thrown>>
     requires here { S.stands setting.now stage.old }
     requires known { S.known setting.now item.now }
+    requires out { S.is_out frame.rest (S.state stage.old).world ≡ true }
     ensures run { (next : Option SessionItem) → RanAs (stage_view (language S.World S.Value S.Thrown S.Rest S.Told S.is_bad)) ((hook_runner (S.rules setting.now) (record { phase = phase_of phase; item = S.session_item setting.now item.now; next = next })).resume (frame_kept (language S.World S.Value S.Thrown S.Rest S.Told S.is_bad) frame) AllValues (S.state stage.old)) (S.state stage.old) result (S.state stage.new) }
     ensures here { S.stands setting.now stage.new }
 {
@@ -135,6 +140,7 @@ fn with_value<S: HookStage>(
 ) -> Ran<S::Value, Exceptions<S::Thrown>>
     requires here { S.stands setting.now stage.old }
     requires known { S.known setting.now item.now }
+    requires out { S.is_out frame.rest (S.state stage.old).world ≡ true }
     ensures run { (next : Option SessionItem) → RanAs (stage_view (language S.World S.Value S.Thrown S.Rest S.Told S.is_bad)) ((hook_runner (S.rules setting.now) (record { phase = phase_of phase; item = S.session_item setting.now item.now; next = next })).resume (frame_kept (language S.World S.Value S.Thrown S.Rest S.Told S.is_bad) frame) (InnerGave value) (S.state stage.old)) (S.state stage.old) result (S.state stage.new) }
     ensures here { S.stands setting.now stage.new }
 {
@@ -157,6 +163,7 @@ fn with_exceptions<S: HookStage>(
 ) -> Ran<S::Value, Exceptions<S::Thrown>>
     requires here { S.stands setting.now stage.old }
     requires known { S.known setting.now item.now }
+    requires out { S.is_out frame.rest (S.state stage.old).world ≡ true }
     ensures run { (next : Option SessionItem) → RanAs (stage_view (language S.World S.Value S.Thrown S.Rest S.Told S.is_bad)) ((hook_runner (S.rules setting.now) (record { phase = phase_of phase; item = S.session_item setting.now item.now; next = next })).resume (frame_kept (language S.World S.Value S.Thrown S.Rest S.Told S.is_bad) frame) (InnerRaised (several (language S.World S.Value S.Thrown S.Rest S.Told S.is_bad) got)) (S.state stage.old)) (S.state stage.old) result (S.state stage.new) }
     ensures here { S.stands setting.now stage.new }
 {
@@ -182,9 +189,10 @@ pub(crate) fn resume_one<S: HookStage>(
 ) -> Ran<S::Value, Exceptions<S::Thrown>>
     requires here { S.stands setting.now stage.old }
     requires known { S.known setting.now item.now }
+    requires out { IfInner inner (S.is_out frame.rest (S.state stage.old).world ≡ true) }
     ensures run { (next : Option SessionItem) (inside : HookInner S.Value (SessionExceptions (language S.World S.Value S.Thrown S.Rest S.Told S.is_bad))) → inner_of (stage_view (language S.World S.Value S.Thrown S.Rest S.Told S.is_bad)) inner ≡ Some inside
         → RanAs (stage_view (language S.World S.Value S.Thrown S.Rest S.Told S.is_bad)) ((hook_runner (S.rules setting.now) (record { phase = phase_of phase; item = S.session_item setting.now item.now; next = next })).resume (frame_kept (language S.World S.Value S.Thrown S.Rest S.Told S.is_bad) frame) inside (S.state stage.old)) (S.state stage.old) result (S.state stage.new) }
-    ensures given_up { GivesUp (S.rules setting.now) inner frame.rest (S.state stage.old) (S.state stage.new) }
+    ensures given_up { GivesUp S.given_up inner frame.rest (S.state stage.old) (S.state stage.new) }
     ensures here { S.stands setting.now stage.new }
     ensures want { HandsOnWant inner result }
 {
@@ -194,7 +202,7 @@ pub(crate) fn resume_one<S: HookStage>(
         Inner::Raised(got) => with_exceptions(alloc, stage, setting, phase, item, frame, got),
         Inner::OutOfMemory => {
             let HookFrame { which: _, rest } = frame;
-            stage.abandon(setting, rest);
+            stage.give_up(setting, rest);
             Ran::OutOfMemory
         }
     }

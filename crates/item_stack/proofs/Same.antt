@@ -1,5 +1,6 @@
 -- The state is that of the fixtures, over what they don't know.
-use Rattle.std.proofs.Common.{◌≡◌, List, [], ◌∷◌, map, refl, ap, ap₂, Option}
+use Rattle.std.proofs.Common.{◌≡◌, List, [], ◌∷◌, map, refl, sym, subst, ap, ap₂, Option}
+use Rattle.std.specs.Prelude.{Bool}
 use Rattle.fixture_instances.specs.Joined.{with_slot}
 use Rattle.fixture_instances.specs.Views.{live_instances, set_up_end}
 use Rattle.fixture_instances.specs.declared.ends.CachedResult.{CachedResult}
@@ -7,6 +8,7 @@ use Rattle.fixture_instances.specs.declared.ends.SetUpEnd.{SetUpEnd as KeptEnd}
 use Rattle.fixture_instances.specs.declared.ends.SetUpEnd.TheVariants as kept
 use Rattle.item_stack.specs.States.{end_kept, grant_noted, instance_kept, item_state}
 use Rattle.item_stack.specs.declared.holding.ItemStack.{ItemStack}
+use Rattle.session_rules.specs.Frames.{FramesStand, StandsWith, at_least}
 use Rattle.session_rules.specs.Session.{initial_state}
 use Rattle.session_rules.specs.Teardown.{Grant, SessionState}
 use Rattle.session_rules.specs.World.{Language, LiveInstance, Rules, SetUpEnd}
@@ -36,3 +38,14 @@ module _ {L : Language} (rules : Rules L) where
   pub state_same : (w : L.World) (s : ItemStack L.Value L.Thrown L.Rest) → item_state rules w s ≡ over (holding w s.request) (stack_state rules w s.stack)
   state_same w s =
       ap₂ (λ (l : List (LiveInstance L)) (g : List (Grant L)). record (item_state rules w s) { live = l; given = g }) (live_same s.stack.live.live) (given_same s.stack.given)
+
+  -- the frames that a stack holds
+  module _ (is_out : L.Rest → L.World → Bool) (w : L.World) (s : ItemStack L.Value L.Thrown L.Rest) where
+    abbrev Live : List (LiveInstance L) → Type 0
+    Live live = FramesStand {L = L} is_out (at_least []) live s.stack.live.next w
+
+    pub stand_below : StandsWith (item_state rules w s) is_out [] → StandsWith (stack_state rules w s.stack) is_out []
+    stand_below g = (subst Live (live_same s.stack.live.live) g.0, g.1)
+
+    pub stand_above : StandsWith (stack_state rules w s.stack) is_out [] → StandsWith (item_state rules w s) is_out []
+    stand_above g = (subst Live (sym (live_same s.stack.live.live)) g.0, g.1)

@@ -1,10 +1,11 @@
 // The demands of an item's set-up.
 
-ghost use Rattle.std.specs.Prelude.{◌≡◌, ◌<◌, IfOk, length};
+ghost use Rattle.std.specs.Prelude.{◌≡◌, ◌<◌, [], IfOk, OnOk, length};
 ghost use Rattle.fixture_instances.specs.Items.{item_for_session};
 ghost use Rattle.fixture_table.specs.Tree.{IsTree};
 ghost use Rattle.item_stack.specs.Plain.{plain_item};
 ghost use Rattle.item_stack.specs.States.{item_state};
+ghost use Rattle.session_rules.specs.Frames.{StandsWith};
 ghost use Rattle.session_rules.specs.Session.{demand_closure};
 ghost use Rattle.session_rules.specs.Teardown.{session_step};
 ghost use Rattle.session_rules.specs.World.{Item};
@@ -47,7 +48,9 @@ pub fn demand_all<W: Executor>(
     requires tree { IsTree table.now.nodes }
     requires node { at.now.node < length table.now.nodes }
     requires ready { AreReady (W.rules setting.now) (item_for_session table.now at.now) (length table.now.defs) (W.rules setting.now).depth defs.now }
-    ensures { IfOk result (λ raised. (item : Item) → AreAsked item (item_for_session table.now at.now) → session_step raised (item_state (W.rules setting.now) world.new held.new) ≡ demand_closure (W.rules setting.now) item defs.now (item_state (W.rules setting.now) world.old held.old)) }
+    requires frames { StandsWith (item_state (W.rules setting.now) world.old held.old) W.is_out [] }
+    ensures state { IfOk result (λ raised. (item : Item) → AreAsked item (item_for_session table.now at.now) → session_step raised (item_state (W.rules setting.now) world.new held.new) ≡ demand_closure (W.rules setting.now) item defs.now (item_state (W.rules setting.now) world.old held.old)) }
+    ensures frames { OnOk result (StandsWith (item_state (W.rules setting.now) world.new held.new) W.is_out []) }
 {
     let raised = held
         .stack

@@ -1,10 +1,11 @@
 // The teardown of an item.
 
-ghost use Rattle.std.specs.Prelude.{◌≡◌, [], IfOk};
+ghost use Rattle.std.specs.Prelude.{◌≡◌, [], IfOk, OnOk};
 ghost use Rattle.fixture_table.specs.Tree.{IsTree};
 ghost use Rattle.item_stack.specs.Leaving.{IsNextItem, chain_for, left_for};
 ghost use Rattle.item_stack.specs.Plain.{plain_next};
 ghost use Rattle.item_stack.specs.States.{item_state};
+ghost use Rattle.session_rules.specs.Frames.{StandsWith};
 ghost use Rattle.session_rules.specs.Session.{finalize_own};
 ghost use Rattle.session_rules.specs.Teardown.{down_all, session_step};
 ghost use Rattle.session_types.specs.Live.{not_on};
@@ -54,7 +55,9 @@ fn down_for<W: Executor>(
 ) -> Result<Seq<W::Thrown>, OutOfMemory>
     requires tree { IsTree table.now.nodes }
     requires next { IsNextItem table.now next }
-    ensures { IfOk result (λ raised. session_step raised (item_state (W.rules setting.now) world.new held.new) ≡ down_all (W.rules setting.now) (not_on (chain_for table.now next) (item_state (W.rules setting.now) world.old held.old).live) (record (item_state (W.rules setting.now) world.old held.old) { given = [] })) }
+    requires frames { StandsWith (item_state (W.rules setting.now) world.old held.old) W.is_out [] }
+    ensures state { IfOk result (λ raised. session_step raised (item_state (W.rules setting.now) world.new held.new) ≡ down_all (W.rules setting.now) (not_on (chain_for table.now next) (item_state (W.rules setting.now) world.old held.old).live) (record (item_state (W.rules setting.now) world.old held.old) { given = [] })) }
+    ensures frames { OnOk result (StandsWith (item_state (W.rules setting.now) world.new held.new) W.is_out []) }
 {
     let at = plain_next(alloc, next);
     let raised = held.stack.leave(alloc, world, setting, table, at.as_ref())?;
@@ -72,7 +75,9 @@ pub fn leave<W: Executor>(
 ) -> Result<Seq<W::Thrown>, OutOfMemory>
     requires tree { IsTree table.now.nodes }
     requires next { IsNextItem table.now next }
-    ensures { IfOk result (λ raised. session_step raised (item_state (W.rules setting.now) world.new held.new) ≡ left_for (W.rules setting.now) (chain_for table.now next) (item_state (W.rules setting.now) world.old held.old)) }
+    requires frames { StandsWith (item_state (W.rules setting.now) world.old held.old) W.is_out [] }
+    ensures state { IfOk result (λ raised. session_step raised (item_state (W.rules setting.now) world.new held.new) ≡ left_for (W.rules setting.now) (chain_for table.now next) (item_state (W.rules setting.now) world.old held.old)) }
+    ensures frames { OnOk result (StandsWith (item_state (W.rules setting.now) world.new held.new) W.is_out []) }
 {
     let mut raised = finalize_own(alloc, held, world, setting)?;
     let more = down_for(alloc, held, world, setting, table, next)?;
@@ -90,7 +95,9 @@ pub fn all_down<W: Executor>(
 ) -> Result<Seq<W::Thrown>, OutOfMemory>
     requires tree { IsTree table.now.nodes }
     requires left { (item_state (W.rules setting.now) world.old held.old).given ≡ [] }
-    ensures { IfOk result (λ raised. session_step raised (item_state (W.rules setting.now) world.new held.new) ≡ down_all (W.rules setting.now) (item_state (W.rules setting.now) world.old held.old).live (item_state (W.rules setting.now) world.old held.old)) }
+    requires frames { StandsWith (item_state (W.rules setting.now) world.old held.old) W.is_out [] }
+    ensures state { IfOk result (λ raised. session_step raised (item_state (W.rules setting.now) world.new held.new) ≡ down_all (W.rules setting.now) (item_state (W.rules setting.now) world.old held.old).live (item_state (W.rules setting.now) world.old held.old)) }
+    ensures frames { OnOk result (StandsWith (item_state (W.rules setting.now) world.new held.new) W.is_out []) }
 {
     let raised = down_for(alloc, held, world, setting, table, None)?;
     Ok(raised)

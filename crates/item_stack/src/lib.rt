@@ -16,6 +16,8 @@
 //! - [`leave`]: calls the finalizers of the test's own `request`, and takes down what isn't for the next item (`left_for`); [`all_down`]
 //!   takes down all that lives, where no item is at hand (`down_all`).
 //! - [`ItemStack::new`] holds nothing (`IsNew`).
+//! - [`demand_all`], [`leave`] and [`all_down`] ask that the frames of the live instances are out, each that of one (`StandsWith`), and leave
+//!   them so (`frames`).
 //!
 //! After an `Err(OutOfMemory)` nothing is said of the world and the stack.
 //!

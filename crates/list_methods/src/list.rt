@@ -243,10 +243,7 @@ fn list_called(
             let product = reverse(alloc, id, items, has_none(args, named))?;
             Ok(product_within(product, budget))
         }
-        ListMethod::Sort => {
-            let product = sort(alloc, heap, id, args, named)?;
-            Ok(product_within(product, budget))
-        }
+        ListMethod::Sort => sort(alloc, heap, id, args, named, budget),
     }
 }
 

@@ -11,7 +11,7 @@ use py_text::{OutOfMemory, PyText};
 use py_values::builtin::{Builtin, PytestCall};
 use py_values::heap::Heap;
 use py_values::object::{FixtureObj, FixtureScope, MarkObj, Obj};
-use py_values::rows::{Texts, Values};
+use py_values::rows::Values;
 use py_values::value::Value;
 use std::alloc::Global;
 
@@ -79,25 +79,6 @@ fn copy_values(alloc: Global, values: &Option<Values>) -> Result<Option<Values>,
     }
 }
 
-fn copy_all(alloc: Global, texts: &Texts) -> Result<Texts, OutOfMemory>
-    ensures { IfOk result (λ ts. ts ≡ texts.now) }
-{
-    let mut all = Vec::new(alloc);
-    for text in texts.items() {
-        all.push(PyText::from_chars(alloc, text.chars())?)?;
-    }
-    Ok(Texts::from_vec(all))
-}
-
-fn copy_texts(alloc: Global, texts: &Option<Texts>) -> Result<Option<Texts>, OutOfMemory>
-    ensures { IfOk result (λ ts. ts ≡ texts.now) }
-{
-    match texts {
-        Some(texts) => Ok(Some(copy_all(alloc, texts)?)),
-        None => Ok(None),
-    }
-}
-
 fn copy_name(alloc: Global, name: &Option<PyText>) -> Result<Option<PyText>, OutOfMemory>
     ensures { IfOk result (λ n. n ≡ name.now) }
 {
@@ -120,7 +101,7 @@ fn fixture_of(alloc: Global, fixture: &FixtureObj, v: Value) -> Result<Obj, OutO
         scope: fixture.scope,
         params: copy_values(alloc, &fixture.params)?,
         autouse: fixture.autouse,
-        ids: copy_texts(alloc, &fixture.ids)?,
+        ids: copy_values(alloc, &fixture.ids)?,
         name: copy_name(alloc, &fixture.name)?,
     }))
 }

@@ -1,8 +1,8 @@
 -- The pairs of a dict's display.
-use Rattle.std.proofs.Common.{ℕ, suc, ◌+◌, ◌-◌, ◌*◌, ◌/◌, ◌^◌, ◌<◌, ◌≤◌, ◌≡◌, ◌∙◌, Bool, true, false, List, [], ◌∷◌, length, drop, get_or, nat_le, not, ◌&&◌, is_some, if◌then◌else◌, Some, None, refl, ap, arith, drop-cons}
-use Rattle.std.proofs.lemmas.Bool.{lt-ltb}
+use Rattle.std.proofs.Common.{ℕ, suc, ◌+◌, ◌-◌, ◌*◌, ◌/◌, ◌<◌, nat_lt, ◌≤◌, ◌≡◌, ◌∙◌, Bool, true, false, List, [], ◌∷◌, length, drop, get_or, nat_le, not, ◌&&◌, is_some, if◌then◌else◌, Some, None, refl, ap, arith, drop-cons}
+use Rattle.std.proofs.lemmas.Bool.{lt-ltb, ltb-true}
 use Rattle.py_values.specs.Ends.{cost_of, payable}
-use Rattle.py_kinds.specs.Keys.{key_of, key_steps}
+use Rattle.py_kinds.specs.Keys.{key_of, key_payable, key_steps}
 use Rattle.py_values.specs.Limits.{most_elements}
 use Rattle.py_values.specs.Pairs.{find_pair, put_pair}
 use Rattle.py_values.specs.declared.dict.Pair.{Pair}
@@ -61,12 +61,22 @@ grows heap es n (key ∷ (v ∷ rest)) =
 above : (budget : ℕ) (m : Effect) → budget < cost_of m → payable budget m ≡ None
 above budget m h = ap (λ (b : Bool). if b then None else Some m) (lt-ltb budget (cost_of m) h)
 
--- no budget has the steps of a pair
+-- a budget that hasn't the steps of a pair
 pub beyond : (budget : ℕ) (heap : List Obj) (es : List (List Atom × Pair)) (n : ℕ) (key v : Value) (rest : List Value)
-    → budget < 2 ^ 64 → 2 ^ 64 ≤ n + key_steps (key_of heap key) → payable budget (pairs_stored heap es n (key ∷ (v ∷ rest))) ≡ None
-beyond budget heap es n key v rest b h =
+    → budget < n + key_steps (key_of heap key) → payable budget (pairs_stored heap es n (key ∷ (v ∷ rest))) ≡ None
+beyond budget heap es n key v rest h =
     let g : n + key_steps (key_of heap key) ≤ cost_of (pairs_stored heap es n (key ∷ (v ∷ rest))) = pair_grows heap es n key v (key_of heap key) (λ fs m. pairs_stored heap fs m rest) (λ fs m. grows heap fs m rest) in
     above budget (pairs_stored heap es n (key ∷ (v ∷ rest))) (omega arith)
+
+-- a key under what is left of a budget
+spent_by : (b : Bool) (k : KeyResult) → None ≡ (if b then None else Some k) → b ≡ true
+spent_by true k e = refl
+spent_by false k e = absurd (cc)
+
+pub key_beyond : (budget before left : ℕ) (k : KeyResult) → budget ≡ before + left → None ≡ key_payable left k → budget < before + key_steps k
+key_beyond budget before left k h e =
+    let over : left < key_steps k = ltb-true left (key_steps k) (spent_by (nat_lt left (key_steps k)) k e) in
+    omega arith
 
 -- behind the last pair
 pub last_pair : (heap : List Obj) (es : List (List Atom × Pair)) (n : ℕ) (vs : List Value) → length vs < 2 → pairs_stored heap es n vs ≡ New (obj.Dict es) n

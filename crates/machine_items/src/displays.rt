@@ -7,7 +7,7 @@ ghost use Rattle.py_values.specs.declared.object.Obj.TheVariants as obj;
 ghost use Rattle.py_world.specs.Displays as world;
 ghost use Rattle.machine_items.specs.Storing.{pair_told};
 
-use py_kinds::keys::{KeyResult, key};
+use py_kinds::keys::{KeyResult, key_within};
 use py_operands::faults::{key_fault, too_long};
 use py_values::OutOfMemory;
 use py_values::dict::Dict;
@@ -50,22 +50,23 @@ pub enum PairResult {
     Steps(u64),
     /// The display ends with this.
     Refused(Effect),
-    /// The steps are more than any budget has.
+    /// The steps are more than the budget's.
     Beyond,
 }
 
-/// Stores a pair behind those so far, whose steps are given.
-fn store_pair(
+/// Stores a pair, whose key is given, behind those so far, whose steps are given.
+fn store_keyed(
     alloc: Global,
     heap: &Heap,
     dict: &mut Dict,
     before: u64,
     at: Value,
     v: Value,
+    keyed: KeyResult,
+    budget: u64,
 ) -> Result<PairResult, OutOfMemory>
-    ensures { IfOk result (λ r. pair_told r heap.now dict.old dict.new before at v (key_of heap.now at)) }
+    ensures { IfOk result (λ r. pair_told budget r heap.now dict.old dict.new before at v keyed) }
 {
-    let keyed = key(alloc, heap, at)?;
     let Some(steps) = before.checked_add(keyed.cost()) else {
         return Ok(PairResult::Beyond);
     };
@@ -84,6 +85,27 @@ fn store_pair(
     }
 }
 
+/// Stores a pair behind those so far, whose steps are given, within a budget of steps.
+fn store_pair(
+    alloc: Global,
+    heap: &Heap,
+    dict: &mut Dict,
+    before: u64,
+    at: Value,
+    v: Value,
+    budget: u64,
+) -> Result<PairResult, OutOfMemory>
+    ensures { IfOk result (λ r. pair_told budget r heap.now dict.old dict.new before at v (key_of heap.now at)) }
+{
+    let Some(left) = budget.checked_sub(before) else {
+        return Ok(PairResult::Beyond);
+    };
+    match key_within(alloc, heap, at, left)? {
+        Some(keyed) => store_keyed(alloc, heap, dict, before, at, v, keyed, budget),
+        None => Ok(PairResult::Beyond),
+    }
+}
+
 /// A dict of keys, each with its value behind it, within a budget of steps (Language Reference, dictionary displays).
 pub fn dict_displayed(
     alloc: Global,
@@ -99,7 +121,7 @@ pub fn dict_displayed(
     for i in 0..pairs {
         let at = values[2 * i];
         let v = values[2 * i + 1];
-        match store_pair(alloc, heap, &mut dict, steps, at, v)? {
+        match store_pair(alloc, heap, &mut dict, steps, at, v, budget)? {
             PairResult::Steps(n) => steps = n,
             PairResult::Refused(made) => return Ok(made_within(made, budget)),
             PairResult::Beyond => return Ok(None),

@@ -3,7 +3,6 @@
 ghost use Rattle.std.specs.Prelude.{◌≡◌, ℕ, IfOk};
 ghost use Rattle.py_items.specs.Items.{delete_of, store_of};
 ghost use Rattle.py_ops.specs.Binary.{augmented_of};
-ghost use Rattle.py_values.specs.Ends.{payable};
 ghost use Rattle.machine_assign.specs.py_world.Outcome.{operated};
 ghost use Rattle.machine_assign.specs.machine_state.Frames.{machine_rest, site_now, state_of, Follows};
 ghost use Rattle.machine_assign.specs.machine_state.Work.{Falls};
@@ -13,25 +12,7 @@ use py_core::BinOp;
 use py_items::store::{delete_made, store_made};
 use py_ops::binary::augmented_made;
 use py_text::OutOfMemory;
-use py_values::end::{Effect, made_within};
-use py_values::heap::Heap;
 use py_values::value::Value;
-use std::alloc::Global;
-
-/// What the store of an item makes, under a budget.
-fn store_within(
-    alloc: Global,
-    heap: &Heap,
-    x: Value,
-    i: Value,
-    v: Value,
-    budget: u64,
-) -> Result<Option<Effect>, OutOfMemory>
-    ensures { IfOk result (λ m. m ≡ payable budget (store_of heap.now x i v)) }
-{
-    let made = store_made(alloc, heap, x, i, v)?;
-    Ok(made_within(made, budget))
-}
 
 /// The store of an item.
 pub fn put(m: &mut Machine, x: Value, i: Value, v: Value) -> Result<TurnEnd, OutOfMemory>
@@ -41,22 +22,8 @@ pub fn put(m: &mut Machine, x: Value, i: Value, v: Value) -> Result<TurnEnd, Out
     if !m.spend() {
         return Ok(TurnEnd::Exhausted(m.trace(Origin::Code)?));
     }
-    let made = store_within(m.alloc, &m.heap, x, i, v, m.left)?;
+    let made = store_made(m.alloc, &m.heap, x, i, v, m.left)?;
     m.pay(made, Origin::Code)
-}
-
-/// What the deletion of an item makes, under a budget.
-fn delete_within(
-    alloc: Global,
-    heap: &Heap,
-    x: Value,
-    i: Value,
-    budget: u64,
-) -> Result<Option<Effect>, OutOfMemory>
-    ensures { IfOk result (λ m. m ≡ payable budget (delete_of heap.now x i)) }
-{
-    let made = delete_made(alloc, heap, x, i)?;
-    Ok(made_within(made, budget))
 }
 
 /// The deletion of an item.
@@ -67,7 +34,7 @@ pub fn take_away(m: &mut Machine, x: Value, i: Value) -> Result<TurnEnd, OutOfMe
     if !m.spend() {
         return Ok(TurnEnd::Exhausted(m.trace(Origin::Code)?));
     }
-    let made = delete_within(m.alloc, &m.heap, x, i, m.left)?;
+    let made = delete_made(m.alloc, &m.heap, x, i, m.left)?;
     m.pay(made, Origin::Code)
 }
 

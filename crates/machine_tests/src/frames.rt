@@ -2,15 +2,26 @@
 
 use crate::act::values_at;
 use crate::told::{MemoryResult, copied, ended_told, repr_told};
-use py_machine::{Begun, BegunOut, Frozen, Sent, World, abandon, begin, call, heap, resume};
+use py_machine::{
+    Begun, BegunOut, Frozen, Sent, World, abandon, begin, call, heap, is_out, resume,
+};
 use py_values::value::Value;
 use py_world::{Ended, Outcome, Thrown};
 use std::alloc::Global;
 
+/// Gives up a frame that should be out; a world without it is spent, and the rows behind tell it.
+fn give_up_one(world: &mut World, frozen: Frozen) {
+    if is_out(world, &frozen) {
+        abandon(world, frozen);
+    } else {
+        py_machine::give_up(world, frozen);
+    }
+}
+
 /// Gives a frame up, where there is one.
 pub fn give_up(world: &mut World, frame: Option<Frozen>) {
     match frame {
-        Some(frozen) => abandon(world, frozen),
+        Some(frozen) => give_up_one(world, frozen),
         None => {}
     }
 }
@@ -66,15 +77,30 @@ fn resume_told(
     budget: u64,
 ) -> MemoryResult<String> {
     match frame.take() {
-        Some(frozen) => {
-            let begun = resume(world, frozen, sent, budget)?;
-            begun_told(alloc, world, frame, begun)
-        }
+        Some(frozen) => resumed_told(alloc, world, frame, frozen, sent, budget),
         None => {
             drop(sent);
             copied(alloc, "no frame")
         }
     }
+}
+
+/// What is told of a frame that should be out when it goes on.
+fn resumed_told(
+    alloc: Global,
+    world: &mut World,
+    frame: &mut Option<Frozen>,
+    frozen: Frozen,
+    sent: Sent,
+    budget: u64,
+) -> MemoryResult<String> {
+    if is_out(world, &frozen) {
+        let begun = resume(world, frozen, sent, budget)?;
+        return begun_told(alloc, world, frame, begun);
+    }
+    drop(sent);
+    py_machine::give_up(world, frozen);
+    copied(alloc, "not out")
 }
 
 /// What is told where a value is sent, which is spelled as a path and a name or a number, or `None` without it.
@@ -125,7 +151,7 @@ pub fn abandon_told(
 ) -> MemoryResult<String> {
     match frame.take() {
         Some(frozen) => {
-            abandon(world, frozen);
+            give_up_one(world, frozen);
             copied(alloc, "given up")
         }
         None => copied(alloc, "no frame"),

@@ -74,10 +74,7 @@ pub fn called(
             let product = str_made(alloc, heap, sole(args, named))?;
             Ok(product_within(product, budget))
         }
-        Builtin::Sequence(call) => {
-            let product = sequence_call(alloc, heap, call, args, named)?;
-            Ok(product_within(product, budget))
-        }
+        Builtin::Sequence(call) => sequence_call(alloc, heap, call, args, named, budget),
         Builtin::Number(call) => number_call(alloc, heap, call, args, named, budget),
         Builtin::Object(call) => {
             let product = object_call(alloc, heap, call, args, named)?;
@@ -89,10 +86,7 @@ pub fn called(
         }
         Builtin::List(method) => list_call(alloc, heap, method, args, named, budget),
         Builtin::Tuple(method) => tuple_call(alloc, heap, method, args, named, budget),
-        Builtin::Dict(method) => {
-            let product = dict_call(alloc, heap, method, args, named)?;
-            Ok(product_within(product, budget))
-        }
+        Builtin::Dict(method) => dict_call(alloc, heap, method, args, named, budget),
         Builtin::Pytest(call) => {
             let product = pytest_called(alloc, heap, call, args, named)?;
             Ok(product_within(product, budget))

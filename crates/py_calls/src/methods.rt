@@ -76,21 +76,24 @@ pub(crate) fn tuple_call(
     }
 }
 
-/// A call of a method of a dict.
+/// A call of a method of a dict, under a budget.
 pub(crate) fn dict_call(
     alloc: Global,
     heap: &Heap,
     which: DictMethod,
     args: &[Value],
     named: &[(PyText, Value)],
-) -> Result<Product, OutOfMemory>
-    ensures { IfOk result (λ p. p ≡ methods.dict_call_of which heap.now args.now named.now) }
+    budget: u64,
+) -> Result<Option<Product>, OutOfMemory>
+    ensures { IfOk result (λ p. p ≡ within_steps budget (methods.dict_call_of which heap.now args.now named.now)) }
 {
     let Some((v, rest)) = args.split_first() else {
-        return wrong(alloc, dict_method_name(which), 0);
+        return wrong_within(alloc, dict_method_name(which), 0, budget);
     };
     match *v {
-        Value::Ref(id) => dict_method(alloc, heap, which, id, rest, named),
-        Value::None | Value::Bool(_) | Value::Int(_) => wrong(alloc, dict_method_name(which), 0),
+        Value::Ref(id) => dict_method(alloc, heap, which, id, rest, named, budget),
+        Value::None | Value::Bool(_) | Value::Int(_) => {
+            wrong_within(alloc, dict_method_name(which), 0, budget)
+        }
     }
 }

@@ -8,7 +8,7 @@
 //! # What is proved
 //!
 //! - `subscript`, `store_item` and `delete_item` end as their definitions say under the budget, in the heap that they leave (`end`), and take
-//!   at most the budget's steps (`cost`).
+//!   at most the budget's steps (`cost`). `subscript_made`, `store_made` and `delete_made` decide the same on a heap that is only read.
 //! - `iterate` says where the turns of a value begin, or that it has none. `turn` gives the element at the next place, with a new text for a
 //!   character (`turn`), and goes on exactly where it gave one (`next`); a dict whose length changed is a `RuntimeError`.
 //!
@@ -18,7 +18,7 @@
 //!
 //! # What neither shows
 //!
-//! How long a call takes.
+//! How long a call takes; a key is made only as far as the budget goes (py_kinds).
 #![tactic(auto)]
 
 pub mod index;

@@ -1,6 +1,6 @@
 // Stores and deletions of items.
 
-ghost use Rattle.std.specs.Prelude.{◌≡◌, ◌≤◌, IfOk, length, slice_get};
+ghost use Rattle.std.specs.Prelude.{◌≡◌, ◌≤◌, IfOk, length, option_map, slice_get};
 ghost use Rattle.py_values.specs.Ends.{finished, payable, steps_of};
 ghost use Rattle.py_operands.specs.py_kinds.Keys.{key_of};
 ghost use Rattle.py_operands.specs.py_kinds.Kinds as kinds;
@@ -11,7 +11,7 @@ ghost use Rattle.py_operands.specs.Faults as faults;
 ghost use Rattle.py_items.specs.Items as items;
 
 use crate::index::{IndexPlace, find_place};
-use py_kinds::keys::{KeyResult, key};
+use py_kinds::keys::{KeyResult, key_within};
 use py_operands::faults::{key_fault, no_index, no_key, not_subscriptable, out_of_range, too_long};
 use py_values::OutOfMemory;
 use py_values::change::Change;
@@ -43,6 +43,7 @@ fn pair_put(
     Ok(Effect::Put(id, Change::Pair(k, at, v), Value::None, cost))
 }
 
+/// A value stored in a dict under a key that is made under a budget.
 fn store_key(
     alloc: Global,
     heap: &Heap,
@@ -50,16 +51,38 @@ fn store_key(
     dict: &Dict,
     at: Value,
     v: Value,
-) -> Result<Effect, OutOfMemory>
-    ensures { IfOk result (λ m. m ≡ items.store_key heap.now id dict.now at v (key_of heap.now at)) }
+    keyed: Option<KeyResult>,
+) -> Result<Option<Effect>, OutOfMemory>
+    ensures { IfOk result (λ m. m ≡ option_map (items.store_key heap.now id dict.now at v) keyed) }
 {
-    match key(alloc, heap, at)? {
-        KeyResult::Key(k) => pair_put(alloc, id, dict, k, at, v),
-        KeyResult::Fault(fault, cost) => {
-            let raise = key_fault(alloc, heap, fault)?;
-            Ok(Effect::Fail(raise, cost))
+    match keyed {
+        Some(KeyResult::Key(k)) => {
+            let made = pair_put(alloc, id, dict, k, at, v)?;
+            Ok(Some(made))
         }
+        Some(KeyResult::Fault(fault, cost)) => {
+            let raise = key_fault(alloc, heap, fault)?;
+            Ok(Some(Effect::Fail(raise, cost)))
+        }
+        None => Ok(None),
     }
+}
+
+/// A value stored in a dict under what another is as a key.
+#[tactic(auto, using(crate::proofs::Keyed::store_key_within))]
+fn store_under(
+    alloc: Global,
+    heap: &Heap,
+    id: ObjId,
+    dict: &Dict,
+    at: Value,
+    v: Value,
+    budget: u64,
+) -> Result<Option<Effect>, OutOfMemory>
+    ensures { IfOk result (λ m. m ≡ payable budget (items.store_key heap.now id dict.now at v (key_of heap.now at))) }
+{
+    let keyed = key_within(alloc, heap, at, budget)?;
+    store_key(alloc, heap, id, dict, at, v, keyed)
 }
 
 fn store_at(
@@ -91,17 +114,24 @@ fn store_in(
     id: ObjId,
     at: Value,
     v: Value,
-) -> Result<Effect, OutOfMemory>
-    ensures { IfOk result (λ m. m ≡ items.store_in heap.now (faults.not_subscriptable (kinds.kind_name heap.now (val.Ref id))) id (slice_get heap.now id.at) at v) }
+    budget: u64,
+) -> Result<Option<Effect>, OutOfMemory>
+    ensures { IfOk result (λ m. m ≡ payable budget (items.store_in heap.now (faults.not_subscriptable (kinds.kind_name heap.now (val.Ref id))) id (slice_get heap.now id.at) at v)) }
 {
     match heap.get(id) {
-        Some(Obj::List(vs)) => store_at(alloc, id, vs.items().len(), number(at), v),
-        Some(Obj::Dict(d)) => store_key(alloc, heap, id, d, at, v),
-        _ => refused(alloc, heap, Value::Ref(id)),
+        Some(Obj::List(vs)) => {
+            let made = store_at(alloc, id, vs.items().len(), number(at), v)?;
+            Ok(made_within(made, budget))
+        }
+        Some(Obj::Dict(d)) => store_under(alloc, heap, id, d, at, v, budget),
+        _ => {
+            let made = refused(alloc, heap, Value::Ref(id))?;
+            Ok(made_within(made, budget))
+        }
     }
 }
 
-/// What the store of an item makes.
+/// What the store of an item makes, under a budget.
 #[tactic(auto, unfolding(crate::specs::Items::store_of))]
 pub fn store_made(
     alloc: Global,
@@ -109,12 +139,16 @@ pub fn store_made(
     a: Value,
     at: Value,
     v: Value,
-) -> Result<Effect, OutOfMemory>
-    ensures { IfOk result (λ m. m ≡ items.store_of heap.now a at v) }
+    budget: u64,
+) -> Result<Option<Effect>, OutOfMemory>
+    ensures { IfOk result (λ m. m ≡ payable budget (items.store_of heap.now a at v)) }
 {
     match a {
-        Value::Ref(id) => store_in(alloc, heap, id, at, v),
-        Value::None | Value::Bool(_) | Value::Int(_) => refused(alloc, heap, a),
+        Value::Ref(id) => store_in(alloc, heap, id, at, v, budget),
+        Value::None | Value::Bool(_) | Value::Int(_) => {
+            let made = refused(alloc, heap, a)?;
+            Ok(made_within(made, budget))
+        }
     }
 }
 
@@ -131,8 +165,8 @@ pub fn store_item(
     ensures end { IfOk result (λ e. (e, heap.new) ≡ finished heap.old (payable budget (items.store_of heap.old a index v))) }
     ensures cost { IfOk result (λ e. steps_of e ≤ budget) }
 {
-    let made = store_made(alloc, heap, a, index, v)?;
-    finish(heap, made_within(made, budget))
+    let made = store_made(alloc, heap, a, index, v, budget)?;
+    finish(heap, made)
 }
 
 /// A pair taken from a dict.
@@ -153,22 +187,44 @@ fn pair_taken(
     Ok(Effect::Put(id, Change::WithoutPair(k), Value::None, cost))
 }
 
+/// A key, made under a budget, that is deleted from a dict.
 fn delete_key(
     alloc: Global,
     heap: &Heap,
     id: ObjId,
     dict: &Dict,
     at: Value,
-) -> Result<Effect, OutOfMemory>
-    ensures { IfOk result (λ m. m ≡ items.delete_key heap.now id dict.now at (key_of heap.now at)) }
+    keyed: Option<KeyResult>,
+) -> Result<Option<Effect>, OutOfMemory>
+    ensures { IfOk result (λ m. m ≡ option_map (items.delete_key heap.now id dict.now at) keyed) }
 {
-    match key(alloc, heap, at)? {
-        KeyResult::Key(k) => pair_taken(alloc, id, dict, k, at),
-        KeyResult::Fault(fault, cost) => {
-            let raise = key_fault(alloc, heap, fault)?;
-            Ok(Effect::Fail(raise, cost))
+    match keyed {
+        Some(KeyResult::Key(k)) => {
+            let made = pair_taken(alloc, id, dict, k, at)?;
+            Ok(Some(made))
         }
+        Some(KeyResult::Fault(fault, cost)) => {
+            let raise = key_fault(alloc, heap, fault)?;
+            Ok(Some(Effect::Fail(raise, cost)))
+        }
+        None => Ok(None),
     }
+}
+
+/// What a value is as a key, deleted from a dict.
+#[tactic(auto, using(crate::proofs::Keyed::delete_key_within))]
+fn delete_under(
+    alloc: Global,
+    heap: &Heap,
+    id: ObjId,
+    dict: &Dict,
+    at: Value,
+    budget: u64,
+) -> Result<Option<Effect>, OutOfMemory>
+    ensures { IfOk result (λ m. m ≡ payable budget (items.delete_key heap.now id dict.now at (key_of heap.now at))) }
+{
+    let keyed = key_within(alloc, heap, at, budget)?;
+    delete_key(alloc, heap, id, dict, at, keyed)
 }
 
 fn delete_at(
@@ -186,24 +242,45 @@ fn delete_at(
     }
 }
 
-fn delete_in(alloc: Global, heap: &Heap, id: ObjId, at: Value) -> Result<Effect, OutOfMemory>
-    ensures { IfOk result (λ m. m ≡ items.delete_in heap.now (faults.not_subscriptable (kinds.kind_name heap.now (val.Ref id))) id (slice_get heap.now id.at) at) }
+fn delete_in(
+    alloc: Global,
+    heap: &Heap,
+    id: ObjId,
+    at: Value,
+    budget: u64,
+) -> Result<Option<Effect>, OutOfMemory>
+    ensures { IfOk result (λ m. m ≡ payable budget (items.delete_in heap.now (faults.not_subscriptable (kinds.kind_name heap.now (val.Ref id))) id (slice_get heap.now id.at) at)) }
 {
     match heap.get(id) {
-        Some(Obj::List(vs)) => delete_at(alloc, id, vs.items().len(), number(at)),
-        Some(Obj::Dict(d)) => delete_key(alloc, heap, id, d, at),
-        _ => refused(alloc, heap, Value::Ref(id)),
+        Some(Obj::List(vs)) => {
+            let made = delete_at(alloc, id, vs.items().len(), number(at))?;
+            Ok(made_within(made, budget))
+        }
+        Some(Obj::Dict(d)) => delete_under(alloc, heap, id, d, at, budget),
+        _ => {
+            let made = refused(alloc, heap, Value::Ref(id))?;
+            Ok(made_within(made, budget))
+        }
     }
 }
 
-/// What the deletion of an item makes.
+/// What the deletion of an item makes, under a budget.
 #[tactic(auto, unfolding(crate::specs::Items::delete_of))]
-pub fn delete_made(alloc: Global, heap: &Heap, a: Value, at: Value) -> Result<Effect, OutOfMemory>
-    ensures { IfOk result (λ m. m ≡ items.delete_of heap.now a at) }
+pub fn delete_made(
+    alloc: Global,
+    heap: &Heap,
+    a: Value,
+    at: Value,
+    budget: u64,
+) -> Result<Option<Effect>, OutOfMemory>
+    ensures { IfOk result (λ m. m ≡ payable budget (items.delete_of heap.now a at)) }
 {
     match a {
-        Value::Ref(id) => delete_in(alloc, heap, id, at),
-        Value::None | Value::Bool(_) | Value::Int(_) => refused(alloc, heap, a),
+        Value::Ref(id) => delete_in(alloc, heap, id, at, budget),
+        Value::None | Value::Bool(_) | Value::Int(_) => {
+            let made = refused(alloc, heap, a)?;
+            Ok(made_within(made, budget))
+        }
     }
 }
 
@@ -219,6 +296,6 @@ pub fn delete_item(
     ensures end { IfOk result (λ e. (e, heap.new) ≡ finished heap.old (payable budget (items.delete_of heap.old a index))) }
     ensures cost { IfOk result (λ e. steps_of e ≤ budget) }
 {
-    let made = delete_made(alloc, heap, a, index)?;
-    finish(heap, made_within(made, budget))
+    let made = delete_made(alloc, heap, a, index, budget)?;
+    finish(heap, made)
 }

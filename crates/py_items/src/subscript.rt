@@ -1,6 +1,6 @@
 // Subscripts.
 
-ghost use Rattle.std.specs.Prelude.{◌≡◌, ◌≤◌, IfOk, option_copied};
+ghost use Rattle.std.specs.Prelude.{◌≡◌, ◌≤◌, IfOk, option_copied, option_map};
 ghost use Rattle.py_values.specs.Ends.{finished, payable, steps_of};
 ghost use Rattle.py_operands.specs.py_kinds.Keys.{key_of};
 ghost use Rattle.py_operands.specs.py_kinds.Kinds as kinds;
@@ -10,7 +10,7 @@ ghost use Rattle.py_operands.specs.Faults as faults;
 
 use crate::index::{char_item, range_item, value_item};
 use crate::slice::{list_slice, parts_of, text_slice, tuple_slice};
-use py_kinds::keys::{KeyResult, key};
+use py_kinds::keys::{KeyResult, key_within};
 use py_operands::faults::{key_fault, no_key, not_subscriptable};
 use py_values::OutOfMemory;
 use py_values::dict::{Dict, Pair};
@@ -50,17 +50,42 @@ fn pair_given(
     }
 }
 
-/// What stands in a dict under a key.
-fn under_key(alloc: Global, heap: &Heap, dict: &Dict, at: Value) -> Result<Effect, OutOfMemory>
-    ensures { IfOk result (λ m. m ≡ items.under_key heap.now dict.now at (key_of heap.now at)) }
+/// What stands in a dict under a key that is made under a budget.
+fn under_key(
+    alloc: Global,
+    heap: &Heap,
+    dict: &Dict,
+    at: Value,
+    keyed: Option<KeyResult>,
+) -> Result<Option<Effect>, OutOfMemory>
+    ensures { IfOk result (λ m. m ≡ option_map (items.under_key heap.now dict.now at) keyed) }
 {
-    match key(alloc, heap, at)? {
-        KeyResult::Key(key) => pair_given(alloc, at, key.cost(), dict.get(&key)),
-        KeyResult::Fault(fault, cost) => {
-            let raise = key_fault(alloc, heap, fault)?;
-            Ok(Effect::Fail(raise, cost))
+    match keyed {
+        Some(KeyResult::Key(key)) => {
+            let made = pair_given(alloc, at, key.cost(), dict.get(&key))?;
+            Ok(Some(made))
         }
+        Some(KeyResult::Fault(fault, cost)) => {
+            let raise = key_fault(alloc, heap, fault)?;
+            Ok(Some(Effect::Fail(raise, cost)))
+        }
+        None => Ok(None),
     }
+}
+
+/// What stands in a dict under what a value is as a key.
+#[tactic(auto, using(crate::proofs::Keyed::under_key_within))]
+fn under_value(
+    alloc: Global,
+    heap: &Heap,
+    dict: &Dict,
+    at: Value,
+    budget: u64,
+) -> Result<Option<Effect>, OutOfMemory>
+    ensures { IfOk result (λ m. m ≡ payable budget (items.under_key heap.now dict.now at (key_of heap.now at))) }
+{
+    let keyed = key_within(alloc, heap, at, budget)?;
+    under_key(alloc, heap, dict, at, keyed)
 }
 
 fn refused(alloc: Global, heap: &Heap, a: Value) -> Result<Effect, OutOfMemory>
@@ -71,16 +96,33 @@ fn refused(alloc: Global, heap: &Heap, a: Value) -> Result<Effect, OutOfMemory>
 }
 
 /// An element by its index, a value by its key.
-fn item_made(alloc: Global, heap: &Heap, a: Value, at: Value) -> Result<Effect, OutOfMemory>
-    ensures { IfOk result (λ m. m ≡ items.item_of heap.now (faults.not_subscriptable (kinds.kind_name heap.now a)) (items.object_at heap.now a) at) }
+fn item_made(
+    alloc: Global,
+    heap: &Heap,
+    a: Value,
+    at: Value,
+    budget: u64,
+) -> Result<Option<Effect>, OutOfMemory>
+    ensures { IfOk result (λ m. m ≡ payable budget (items.item_of heap.now (faults.not_subscriptable (kinds.kind_name heap.now a)) (items.object_at heap.now a) at)) }
 {
     match object_at(heap, a) {
-        Some(Obj::Text(t)) => char_item(alloc, t.chars(), number(at)),
-        Some(Obj::List(vs)) => value_item(alloc, vs.items(), number(at)),
-        Some(Obj::Tuple(vs)) => value_item(alloc, vs.items(), number(at)),
-        Some(Obj::Range(r)) => range_item(alloc, r, number(at)),
-        Some(Obj::Dict(d)) => under_key(alloc, heap, d, at),
-        _ => refused(alloc, heap, a),
+        Some(Obj::Text(t)) => {
+            let made = char_item(alloc, t.chars(), number(at))?;
+            Ok(made_within(made, budget))
+        }
+        Some(Obj::List(vs) | Obj::Tuple(vs)) => {
+            let made = value_item(alloc, vs.items(), number(at))?;
+            Ok(made_within(made, budget))
+        }
+        Some(Obj::Range(r)) => {
+            let made = range_item(alloc, r, number(at))?;
+            Ok(made_within(made, budget))
+        }
+        Some(Obj::Dict(d)) => under_value(alloc, heap, d, at, budget),
+        _ => {
+            let made = refused(alloc, heap, a)?;
+            Ok(made_within(made, budget))
+        }
     }
 }
 
@@ -103,19 +145,23 @@ fn slice_made(
     }
 }
 
-/// What a subscript makes.
+/// What a subscript makes, under a budget.
 #[tactic(auto, unfolding(crate::specs::Items::subscript_of))]
 pub fn subscript_made(
     alloc: Global,
     heap: &Heap,
     a: Value,
     index: &Index,
-) -> Result<Effect, OutOfMemory>
-    ensures { IfOk result (λ m. m ≡ items.subscript_of heap.now a index.now) }
+    budget: u64,
+) -> Result<Option<Effect>, OutOfMemory>
+    ensures { IfOk result (λ m. m ≡ payable budget (items.subscript_of heap.now a index.now)) }
 {
     match index {
-        Index::At(at) => item_made(alloc, heap, a, *at),
-        Index::Slice(start, stop, step) => slice_made(alloc, heap, a, *start, *stop, *step),
+        Index::At(at) => item_made(alloc, heap, a, *at, budget),
+        Index::Slice(start, stop, step) => {
+            let made = slice_made(alloc, heap, a, *start, *stop, *step)?;
+            Ok(made_within(made, budget))
+        }
     }
 }
 
@@ -131,6 +177,6 @@ pub fn subscript(
     ensures end { IfOk result (λ e. (e, heap.new) ≡ finished heap.old (payable budget (items.subscript_of heap.old a index.now))) }
     ensures cost { IfOk result (λ e. steps_of e ≤ budget) }
 {
-    let made = subscript_made(alloc, heap, a, index)?;
-    finish(heap, made_within(made, budget))
+    let made = subscript_made(alloc, heap, a, index, budget)?;
+    finish(heap, made)
 }

@@ -1,5 +1,5 @@
 -- The key of a value as plain data (Language Reference, the standard type hierarchy: mappings), with its steps.
-use Rattle.std.specs.Prelude.{ℕ, zero, suc, ◌+◌, ◌-◌, pos, List, [], ◌∷◌, ◌++◌, Option, Some, None, length, slice_get, if◌then◌else◌}
+use Rattle.std.specs.Prelude.{ℕ, zero, suc, ◌+◌, ◌-◌, ◌<◌, ◌≡◌, pos, List, [], ◌∷◌, ◌++◌, Option, Some, None, length, nat_lt, slice_get, if◌then◌else◌}
 use Rattle.py_values.specs.Limits.{most_value_levels}
 use Rattle.py_values.specs.declared.object.Obj.{Obj}
 use Rattle.py_values.specs.declared.object.Obj.TheVariants as obj
@@ -12,6 +12,8 @@ use Rattle.py_kinds.specs.declared.keys.KeyFault.{KeyFault}
 use Rattle.py_kinds.specs.declared.keys.KeyFault.TheVariants.{Unhashable, TooDeep}
 use Rattle.py_kinds.specs.declared.keys.KeyResult.{KeyResult}
 use Rattle.py_kinds.specs.declared.keys.KeyResult.TheVariants as keyed
+use Rattle.py_kinds.specs.declared.keys.Pushed.{Pushed}
+use Rattle.py_kinds.specs.declared.keys.Pushed.TheVariants as pushed
 
 -- the parts of keys one behind another, up to the first fault
 pub data Parts : Type 0 where
@@ -69,12 +71,17 @@ keyed_by (Fault x n) = keyed.Fault x n
 unfoldable pub key_of : List Obj → Value → KeyResult
 key_of heap v = keyed_by (parts_to most_value_levels heap v)
 
--- what is told of parts that are being made
-abbrev pub told_parts : Option KeyFault → List Atom → Parts
-told_parts None a = Atoms a
-told_parts (Some x) a = Fault x (length a)
-
 -- the steps of a key, or of the way to its fault
 abbrev pub key_steps : KeyResult → ℕ
 key_steps (keyed.Key a) = length a - 1
 key_steps (keyed.Fault x n) = n
+
+-- a key under a budget, if anything
+abbrev pub key_payable : ℕ → KeyResult → Option KeyResult
+key_payable budget k = if nat_lt budget (key_steps k) then None else Some k
+
+-- what is told of parts that are being made under a budget: they are whole, or end with a fault, or their steps are more than the budget's
+abbrev pub PartsTold : ℕ → Pushed → List Atom → Parts → Type 0
+PartsTold budget pushed.Whole a p = p ≡ Atoms a
+PartsTold budget (pushed.Fault x) a p = p ≡ Fault x (length a)
+PartsTold budget pushed.Exhausted a p = budget < key_steps (keyed_by p)

@@ -1,7 +1,7 @@
 // The key of a value.
 
-ghost use Rattle.std.specs.Prelude.{◌≡◌, ◌∷◌, [], IfOk, slice_get};
-ghost use Rattle.py_kinds.specs.Keys.{Atoms, joined_parts, row_parts, obj_parts, parts_to, told_parts, key_of, key_steps};
+ghost use Rattle.std.specs.Prelude.{◌≡◌, ◌-◌, IfOk, length, nat_lt, slice_get};
+ghost use Rattle.py_kinds.specs.Keys.{Atoms, joined_parts, row_parts, obj_parts, parts_to, PartsTold, key_of, key_steps, key_payable};
 
 use py_values::OutOfMemory;
 use py_values::heap::Heap;
@@ -38,7 +38,23 @@ impl KeyResult {
     }
 }
 
-/// Puts the parts of a value's key behind others.
+/// How the parts of keys that are put behind others end.
+#[derive(Clone, Copy)]
+enum Pushed {
+    Whole,
+    Fault(KeyFault),
+    /// The steps of the parts so far are more than the budget's.
+    Exhausted,
+}
+
+/// Whether the steps of parts that are being made are more than a budget's, whatever follows.
+fn is_over(atoms: &Vec<Atom>, budget: u64) -> bool
+    ensures { result ≡ nat_lt budget (length atoms.now.items - 1) }
+{
+    budget < (atoms.len() as u64).saturating_sub(1)
+}
+
+/// Puts the parts of a value's key behind others, while their steps are within a budget.
 #[cycle(parts)]
 #[tactic(auto, using(crate::proofs::Joining::joins))]
 fn push_parts(
@@ -47,11 +63,15 @@ fn push_parts(
     atoms: &mut Vec<Atom>,
     v: Value,
     depth: usize,
-) -> Result<Option<KeyFault>, OutOfMemory>
-    ensures { IfOk result (λ o. joined_parts (Atoms atoms.old.items) (parts_to depth heap.now v) ≡ told_parts o atoms.new.items) }
+    budget: u64,
+) -> Result<Pushed, OutOfMemory>
+    ensures { IfOk result (λ o. PartsTold budget o atoms.new.items (joined_parts (Atoms atoms.old.items) (parts_to depth heap.now v))) }
 {
+    if is_over(atoms, budget) {
+        return Ok(Pushed::Exhausted);
+    }
     if depth == 0 {
-        return Ok(Some(KeyFault::TooDeep));
+        return Ok(Pushed::Fault(KeyFault::TooDeep));
     }
     match v {
         Value::None => atoms.push(Atom::None)?,
@@ -59,11 +79,11 @@ fn push_parts(
         Value::Bool(false) => atoms.push(Atom::Number(0))?,
         Value::Int(n) => atoms.push(Atom::Number(n))?,
         Value::Ref(id) => {
-            let fault = push_obj(alloc, heap, atoms, id, depth - 1)?;
-            return Ok(fault);
+            let pushed = push_obj(alloc, heap, atoms, id, depth - 1, budget)?;
+            return Ok(pushed);
         }
     }
-    Ok(None)
+    Ok(Pushed::Whole)
 }
 
 /// Puts the parts of an object's key behind others.
@@ -75,22 +95,23 @@ fn push_obj(
     atoms: &mut Vec<Atom>,
     id: ObjId,
     depth: usize,
-) -> Result<Option<KeyFault>, OutOfMemory>
-    ensures { IfOk result (λ o. joined_parts (Atoms atoms.old.items) (obj_parts (parts_to depth heap.now) id (slice_get heap.now id.at)) ≡ told_parts o atoms.new.items) }
+    budget: u64,
+) -> Result<Pushed, OutOfMemory>
+    ensures { IfOk result (λ o. PartsTold budget o atoms.new.items (joined_parts (Atoms atoms.old.items) (obj_parts (parts_to depth heap.now) id (slice_get heap.now id.at)))) }
 {
     match heap.get(id) {
         Some(Obj::Text(t)) => {
             atoms.push(Atom::Text(Name::from_chars(alloc, t.chars())?))?;
-            Ok(None)
+            Ok(Pushed::Whole)
         }
         Some(Obj::Tuple(vs)) => {
             atoms.push(Atom::Tuple(vs.items().len()))?;
-            let fault = push_row(alloc, heap, atoms, vs.items(), depth)?;
-            Ok(fault)
+            let pushed = push_row(alloc, heap, atoms, vs.items(), depth, budget)?;
+            Ok(pushed)
         }
         Some(Obj::Function(_) | Obj::Class(_) | Obj::Instance(_) | Obj::Exception(_)) => {
             atoms.push(Atom::Object(id))?;
-            Ok(None)
+            Ok(Pushed::Whole)
         }
         Some(
             Obj::List(_)
@@ -109,7 +130,7 @@ fn push_obj(
             | Obj::Info(_)
             | Obj::Item(_),
         )
-        | None => Ok(Some(KeyFault::Unhashable(Value::Ref(id)))),
+        | None => Ok(Pushed::Fault(KeyFault::Unhashable(Value::Ref(id)))),
     }
 }
 
@@ -122,27 +143,52 @@ fn push_row(
     atoms: &mut Vec<Atom>,
     vs: &[Value],
     depth: usize,
-) -> Result<Option<KeyFault>, OutOfMemory>
-    ensures { IfOk result (λ o. joined_parts (Atoms atoms.old.items) (row_parts (parts_to depth heap.now) vs.now) ≡ told_parts o atoms.new.items) }
+    budget: u64,
+) -> Result<Pushed, OutOfMemory>
+    ensures { IfOk result (λ o. PartsTold budget o atoms.new.items (joined_parts (Atoms atoms.old.items) (row_parts (parts_to depth heap.now) vs.now))) }
 {
     for v in vs {
-        let fault = push_parts(alloc, heap, atoms, *v, depth)?;
-        if let Some(fault) = fault {
-            return Ok(Some(fault));
+        let pushed = push_parts(alloc, heap, atoms, *v, depth, budget)?;
+        match pushed {
+            Pushed::Whole => {}
+            Pushed::Fault(fault) => return Ok(Pushed::Fault(fault)),
+            Pushed::Exhausted => return Ok(Pushed::Exhausted),
         }
     }
-    Ok(None)
+    Ok(Pushed::Whole)
 }
 
-/// The key of a value (Language Reference, the standard type hierarchy: mappings).
+/// A key whose steps are within a budget.
+fn affordable(keyed: KeyResult, budget: u64) -> Option<KeyResult>
+    ensures { result ≡ key_payable budget keyed }
+{
+    if budget < keyed.cost() {
+        drop(keyed);
+        None
+    } else {
+        Some(keyed)
+    }
+}
+
+/// The key of a value (Language Reference, the standard type hierarchy: mappings), or why it is none; nothing where the steps of the key,
+/// or of the way to its fault, are more than a budget's.
 #[tactic(auto, unfolding(crate::specs::Keys::key_of))]
-pub fn key(alloc: Global, heap: &Heap, v: Value) -> Result<KeyResult, OutOfMemory>
-    ensures { IfOk result (λ k. k ≡ key_of heap.now v) }
+pub fn key_within(
+    alloc: Global,
+    heap: &Heap,
+    v: Value,
+    budget: u64,
+) -> Result<Option<KeyResult>, OutOfMemory>
+    ensures { IfOk result (λ k. k ≡ key_payable budget (key_of heap.now v)) }
 {
     let mut atoms = Vec::new(alloc);
-    let fault = push_parts(alloc, heap, &mut atoms, v, MOST_LEVELS)?;
-    match fault {
-        Some(fault) => Ok(KeyResult::Fault(fault, atoms.len() as u64)),
-        None => Ok(KeyResult::Key(Key::from_vec(atoms))),
+    let pushed = push_parts(alloc, heap, &mut atoms, v, MOST_LEVELS, budget)?;
+    match pushed {
+        Pushed::Whole => Ok(affordable(KeyResult::Key(Key::from_vec(atoms)), budget)),
+        Pushed::Fault(fault) => {
+            let cost = atoms.len() as u64;
+            Ok(affordable(KeyResult::Fault(fault, cost), budget))
+        }
+        Pushed::Exhausted => Ok(None),
     }
 }

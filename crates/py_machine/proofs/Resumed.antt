@@ -3,12 +3,11 @@ use Rattle.std.proofs.Common.{◌≡◌, ◌∙◌, ℕ, List, [], Some, None, O
 use Rattle.run_tree.specs.Todo.{Done}
 use Rattle.py_core.specs.declared.stmt.CoreFn.{CoreFn}
 use Rattle.py_values.specs.declared.value.Value.{Value}
-use Rattle.py_values.specs.declared.value.Value.TheVariants as val
 use Rattle.lower_law.specs.py_world.Arguments.{positional_arguments}
 use Rattle.lower_law.specs.py_world.Calls.{entered, invoke}
 use Rattle.lower_law.specs.py_world.Outcome.{call_end, raised}
 use Rattle.lower_law.specs.py_world.Resuming.{BegunBody, Sent, begun_by, begun_over, opened_by_runner, resumed, sent_end}
-use Rattle.lower_law.specs.py_world.Runs.{begun_by_runner, ended_by, ended_value, start}
+use Rattle.lower_law.specs.py_world.Runs.{begun_by_runner, ended_by, start}
 use Rattle.lower_law.specs.py_world.Site.{no_call}
 use Rattle.lower_law.specs.py_world.World.{Locals, FunctionCode, state}
 use Rattle.lower_law.specs.core_meaning.Meaning.{CoreWorld, core, core_begin, core_resume}
@@ -74,10 +73,7 @@ wakes budget m x e sent w ending left is rest end run =
     ap (λ (n : ℕ). ends n (resumed core (frozen_some x) sent w)) (sym left)
     ∙ ap (ends m.left) (sym (rest (outcome e (state_of m)) ∙ ap (λ (o : CoreOutcome). remains (layers_of x.stack) (site_of x.here [] None) o (λ o. Done (call_end (start w) o))) (end (state_of m) ∙ ap (sent_end sent) is))) ∙ run
 
--- a frame that is out, and a number under which none is
+-- a frame that is out
 pub frame_resumes : (n : ℕ) (sent : Sent) (budget : ℕ) (w w1 w' : CoreWorld) (x : FrozenFrame) (b : BegunBody) → FoundIn (Some x) n w w1
     → begun_by budget (ends budget (resumed core (frozen_some x) sent w1)) ≡ (b, w') → core_resume n sent budget w ≡ (b, w')
 frame_resumes n sent budget w w1 w' x b found told = rw (found.0, ← found.1) told
-
-pub nothing_resumes : (n : ℕ) (sent : Sent) (budget : ℕ) (w w1 : CoreWorld) (b : BegunBody) → FoundIn None n w w1 → b ≡ (begun_over (ended_value val.None 0 w)).0 → core_resume n sent budget w ≡ (b, w1)
-nothing_resumes n sent budget w w1 b found told = rw (found.0, found.1, told) refl

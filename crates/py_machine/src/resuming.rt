@@ -6,7 +6,8 @@ use machine_load::{Outcome, Thrown};
 use py_values::value::Value;
 use std::marker::Model;
 
-/// The frame of a body that has stopped at a `yield`, seen as its number. It must be spent, by `resume` or by `abandon`.
+/// The frame of a body that has stopped at a `yield`, seen as its number. It must be spent: by `resume` or
+/// `abandon`, where it is out, or by `give_up`, with which its world is spent too.
 pub struct Frozen {
     number: usize,
 }
@@ -25,6 +26,12 @@ impl Frozen {
         ensures { result ≡ number }
     {
         Frozen { number }
+    }
+
+    pub(crate) fn number(&self) -> usize
+        ensures { result ≡ self.now }
+    {
+        self.number
     }
 
     /// Spends a frame; its number.

@@ -1,11 +1,12 @@
 // The world.
 
 ghost use Rattle.std.specs.Prelude.{◌≡◌, ◌≤◌, [], None, IfOk, OnOk, chars, length, slice_get, option_map};
+ghost use Rattle.core_rules.specs.Keeps.{FramesBehind};
 ghost use Rattle.lower_law.specs.py_world.Names.{names_in};
 ghost use Rattle.lower_law.specs.py_world.Runs.{source_at};
 ghost use Rattle.lower_law.specs.py_world.World as seen;
 ghost use Rattle.lower_law.specs.source_meaning.Meaning.{source_begin, source_call, source_module, source_resume};
-ghost use Rattle.py_machine.specs.Worlds.{empty, fault_in, fault_of, carried_source, with_source, IsLowered};
+ghost use Rattle.py_machine.specs.Worlds.{empty, fault_in, fault_of, carried_source, spent_world, with_source, IsLowered};
 
 use crate::resuming::{Begun, Frozen, Sent};
 use crate::{calls, load, yields};
@@ -13,6 +14,7 @@ use machine_frames::frozen;
 use machine_load::Ended;
 use machine_runner::sources::text_of;
 use machine_runner::{lines, sources};
+use machine_state::frozen::FrozenFrame;
 use machine_state::locals::Locals;
 use machine_state::machine::Machine;
 use machine_state::place::{Location, Place};
@@ -209,6 +211,7 @@ ghost use Rattle.py_machine.specs.Worlds.{IsModule, told_name};
 pub fn call(world: &mut World, f: Value, args: &[Value], budget: u64) -> Result<Ended, OutOfMemory>
     ensures told { IfOk result (λ e. (e, world.new) ≡ source_call f args.now budget world.old) }
     ensures steps { IfOk result (λ e. e.steps ≤ budget) }
+    ensures frames { OnOk result (world.new.frozen ≡ world.old.frozen) }
 {
     match calls::call(&mut world.machine, f, args, budget) {
         Ok(ended) => Ok(ended),
@@ -224,6 +227,7 @@ pub fn call(world: &mut World, f: Value, args: &[Value], budget: u64) -> Result<
 pub fn begin(world: &mut World, f: Value, args: &[Value], budget: u64) -> Result<Begun, OutOfMemory>
     ensures told { IfOk result (λ b. (told_begun b, world.new) ≡ source_begin f args.now budget world.old) }
     ensures steps { IfOk result (λ b. b.steps ≤ budget) }
+    ensures frames { IfOk result (λ b. FramesBehind (told_begun b).out world.old.frozen world.new.frozen) }
 {
     match yields::begin(&mut world.machine, f, args, budget) {
         Ok(begun) => Ok(begun),
@@ -234,16 +238,17 @@ pub fn begin(world: &mut World, f: Value, args: &[Value], budget: u64) -> Result
     }
 }
 
-/// Goes on with a body that has stopped at a `yield`, with what it is given there, within a new budget of steps. A frame that isn't out in
-/// this world gives `None` at no step.
+/// Goes on with a body that has stopped at a `yield` and is out, with what it is given there, within a new budget of steps.
 pub fn resume(
     world: &mut World,
     frozen: Frozen,
     sent: Sent,
     budget: u64,
 ) -> Result<Begun, OutOfMemory>
+    requires out { is_out frozen world.old ≡ true }
     ensures told { IfOk result (λ b. (told_begun b, world.new) ≡ source_resume frozen (sent_of sent) budget world.old) }
     ensures steps { IfOk result (λ b. b.steps ≤ budget) }
+    ensures frames { IfOk result (λ b. FramesBehind (told_begun b).out (abandon_of frozen world.old).frozen world.new.frozen) }
 {
     let number = frozen.spend();
     match yields::resume(&mut world.machine, number, sent, budget) {
@@ -255,19 +260,50 @@ pub fn resume(
     }
 }
 
-/// Gives up a body that has stopped at a `yield`: nothing of it runs any more.
+/// Whether a frozen frame is out in this world.
+pub fn is_out(world: &World, frozen: &Frozen) -> bool
+    ensures { result ≡ is_out frozen.now world.now }
+{
+    is_out_among(&world.machine.frozen, frozen.number())
+}
+
+/// Whether a machine keeps the frame of this number.
+fn is_out_among(frozen: &[Option<FrozenFrame>], number: usize) -> bool
+    ensures { result ≡ is_kept (slice_get frozen.now number) }
+{
+    match frozen.get(number) {
+        Some(Some(_)) => true,
+        Some(None) => false,
+        None => false,
+    }
+}
+
+ghost use Rattle.py_machine.specs.Worlds.{is_kept};
+
+/// Gives up a body that has stopped at a `yield` and is out: nothing of it runs any more.
 pub fn abandon(world: &mut World, frozen: Frozen)
+    requires out { is_out frozen world.old ≡ true }
     ensures { world.new ≡ abandon_of frozen world.old }
 {
     let number = frozen.spend();
     frozen::abandon(&mut world.machine, number);
 }
 
-ghost use Rattle.lower_law.specs.py_world.Resuming.{abandon_of};
+ghost use Rattle.std.specs.Prelude.{true};
+ghost use Rattle.lower_law.specs.py_world.Resuming.{abandon_of, is_out};
 ghost use Rattle.py_machine.specs.Yields.{sent_of, told_begun};
+
+/// Lets a frozen frame go behind want of memory: the world is spent, nothing of its code runs any more, and no frame is out. Takes no memory.
+pub fn give_up(world: &mut World, frozen: Frozen)
+    ensures { world.new ≡ spent_world world.old }
+{
+    let _number = frozen.spend();
+    forget_code(&mut world.machine);
+}
 
 /// Gives up all code, in a machine that want of memory stopped.
 fn forget_code(m: &mut Machine)
+    ensures same { m.new ≡ record m.old { sources = m.new.sources; codes = m.new.codes; frozen = m.new.frozen } }
     ensures sources { m.new.sources.items ≡ [] }
     ensures codes { m.new.codes.items ≡ [] }
     ensures frozen { m.new.frozen.items ≡ [] }
@@ -281,6 +317,7 @@ fn forget_code(m: &mut Machine)
 pub fn run_module(world: &mut World, path: &str, budget: u64) -> Result<Ended, OutOfMemory>
     ensures told { IfOk result (λ e. (e, world.new) ≡ source_module (chars path.now) budget world.old) }
     ensures steps { IfOk result (λ e. e.steps ≤ budget) }
+    ensures frames { OnOk result (world.new.frozen ≡ world.old.frozen) }
 {
     match load::load(&mut world.machine, path, budget) {
         Ok(ended) => Ok(ended),

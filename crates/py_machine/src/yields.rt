@@ -190,25 +190,22 @@ fn go_on(m: &mut Machine, frame: FrozenFrame, sent: Sent, budget: u64) -> Result
     Ok(begun)
 }
 
-/// What is told where a frame isn't out.
-fn nothing() -> Begun
-    ensures { told_begun result ≡ resuming.begun_with (resuming.Over (Outcome.Value Value.None)) 0 }
+/// Takes the frame of a number, which is out.
+fn take_out(m: &mut Machine, number: usize) -> FrozenFrame
+    requires { resuming.is_out number (world_of m.old) ≡ true }
+    ensures { FoundIn (Some result) number (world_of m.old) (world_of m.new) }
 {
-    Begun {
-        out: BegunOut::Over(Outcome::Value(Value::None)),
-        steps: 0,
-    }
+    take(m, number).unwrap()
 }
 
-/// A resumption of a frozen frame, by its number.
+ghost use Rattle.std.specs.Prelude.{true, Some};
+ghost use Rattle.machine_frames.specs.Frozen.{FoundIn};
+
+/// A resumption of a frozen frame that is out, by its number.
 pub fn resume(m: &mut Machine, number: usize, sent: Sent, budget: u64) -> Result<Begun, OutOfMemory>
+    requires { resuming.is_out number (world_of m.old) ≡ true }
     ensures { IfOk result (λ b. core_resume number (sent_of sent) budget (world_of m.old) ≡ (told_begun b, world_of m.new)) }
 {
-    match take(m, number) {
-        Some(frame) => go_on(m, frame, sent, budget),
-        None => {
-            drop(sent);
-            Ok(nothing())
-        }
-    }
+    let frame = take_out(m, number);
+    go_on(m, frame, sent, budget)
 }

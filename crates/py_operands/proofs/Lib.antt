@@ -3,3 +3,4 @@ pub mod Dividing
 pub mod Powers
 pub mod Ranging
 pub mod Repeating
+pub mod Searching

@@ -3,11 +3,10 @@ use Rattle.std.proofs.Common.{ℕ, zero, suc, ◌+◌, ◌-◌, ◌*◌, ◌/◌
 use Rattle.std.specs.Int.{int_pow}
 use Rattle.std.specs.Prelude.{unsigned_abs}
 use Rattle.std.proofs.lemmas.Grind.{common_steps}
-use Rattle.std.proofs.lemmas.Int.{ints, unsigned_abs-mul}
 use Rattle.std.proofs.Math.Nat.{pow-le-pow_left, div-eq_of_lt, pow-suc, mul-zero, mul-one, zero-mul, mul_comm, mul_assoc}
 use Rattle.std.proofs.lemmas.Nat.{pow_pos}
 use Rattle.std.proofs.Math.Pow.{pow_mono}
-use Rattle.py_operands.specs.Numbers.{fits_bits, fitting, quotient}
+use Rattle.py_operands.specs.Numbers.{fits_bits, fitting}
 
 pub fits_not : (z : ℤ) → 2 ^ 127 < unsigned_abs z → fits_bits z ≡ false
 fits_not (pos n) h = grind (arith, common_steps)

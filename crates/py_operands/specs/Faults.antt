@@ -1,10 +1,8 @@
 -- The errors of operators.
-use Rattle.std.specs.Prelude.{ℕ, List, [], ◌++◌, Option, Some, None, codes}
+use Rattle.std.specs.Prelude.{ℕ, List, [], ◌++◌, Some, codes}
 use Rattle.py_kinds.specs.Kinds.{kind_name}
 use Rattle.py_values.specs.Raises.{text_raise}
 use Rattle.py_values.specs.declared.class.ExcClass.TheVariants.{TypeError, RecursionError, KeyError, IndexError}
-use Rattle.py_values.specs.declared.end.Effect.{Effect}
-use Rattle.py_values.specs.declared.end.Effect.TheVariants.{Fail}
 use Rattle.py_values.specs.declared.end.Raise.{Raise}
 use Rattle.py_kinds.specs.declared.keys.KeyFault.{KeyFault}
 use Rattle.py_kinds.specs.declared.keys.KeyFault.TheVariants.{Unhashable, TooDeep}

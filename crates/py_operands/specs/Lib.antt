@@ -5,3 +5,4 @@ pub mod Attempts
 pub mod Faults
 pub mod Ranges
 pub mod Texts
+pub mod Search

@@ -12,7 +12,7 @@
 //!   (`rest`).
 //! - Sequences are joined and repeated as the definitions say, or are too long, before they are made; a number of a range is that of its
 //!   progression.
-//! - `text_of` gives the text that a value is, and nothing for any other value.
+//! - `text_of` gives the text that a value is, and nothing for any other value. `first_place` gives where a part stands first in a text.
 //!
 //! # What tests alone show
 //!
@@ -28,5 +28,6 @@ pub mod faults;
 pub mod laws;
 pub mod numbers;
 pub mod ranges;
+pub mod search;
 pub mod sequences;
 pub mod texts;

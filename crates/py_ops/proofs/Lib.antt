@@ -1,4 +1,5 @@
 pub mod Judging
+pub mod Keyed
 pub mod Parting
 pub mod Ranging
 pub mod Searching

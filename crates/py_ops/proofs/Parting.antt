@@ -1,24 +1,22 @@
--- Parts of texts.
-use Rattle.std.proofs.Common.{ℕ, zero, suc, ◌+◌, ◌-◌, ◌<◌, Bool, false, ◌||◌, ◌∙◌, List, [], ◌∷◌, ◌≡◌, refl, arith, length, take, drop, add-one}
-use Rattle.std.proofs.lemmas.List.{take_all, length-drop}
-use Rattle.std.specs.Prelude.{nat_eq}
+-- A text has a part that stands somewhere in it.
+use Rattle.std.proofs.Common.{ℕ, suc, Bool, true, false, ◌||◌, List, [], ◌∷◌, ◌≡◌, is_some, Option, Some, None, refl, if◌then◌else◌}
 use Rattle.std.specs.List.{starts_with}
+use Rattle.std.specs.Prelude.{nat_eq}
+use Rattle.py_operands.specs.Search.{first_place}
 use Rattle.py_ops.specs.Compare.{has_part}
 
-pub part_step : (part text : List ℕ) (i : ℕ) → i < length text
-    → has_part part (drop i text) ≡ (starts_with nat_eq (drop i text) part || has_part part (drop (i + 1) text))
-part_step part [] i h = absurd (omega arith)
-part_step part (c ∷ cs) zero h = refl
-part_step part (c ∷ cs) (suc i) h = rw (add-one (suc i)) (rw (add-one i) at (part_step part cs i (omega arith)))
+by_head : (b : Bool) (at : ℕ) (later : Option ℕ) → is_some (if b then Some at else later) ≡ (b || is_some later)
+by_head true at later = refl
+by_head false at later = refl
 
-rest : (text : List ℕ) (i : ℕ) → take (length text - i) (drop i text) ≡ drop i text
-rest text i =
-    let e : length (drop i text) ≡ length text - i = length-drop i text in
-    take_all (length text - i) (drop i text) (omega arith)
+or_none : (b : Bool) → (b || false) ≡ b
+or_none true = refl
+or_none false = refl
 
--- where a text doesn't begin with the part, the search goes on
-pub part_turn : (part text : List ℕ) (i : ℕ) (b : Bool) → i < length text → b ≡ starts_with nat_eq (take (length text - i) (drop i text)) part → b ≡ false
-    → has_part part (drop i text) ≡ has_part part (drop (i + 1) text)
-part_turn part text i b h v e =
-    let w : b ≡ starts_with nat_eq (drop i text) part = rw (rest text i) at v in
-    part_step part text i h ∙ rw (← w, e) refl
+found_from : (part text : List ℕ) (at : ℕ) → is_some (first_place part at text) ≡ has_part part text
+found_from part [] at = rw (by_head (starts_with nat_eq [] part) at None) (or_none (starts_with nat_eq [] part))
+found_from part (c ∷ cs) at =
+    rw (by_head (starts_with nat_eq (c ∷ cs) part) at (first_place part (suc at) cs), found_from part cs (suc at)) refl
+
+pub part_found : (part text : List ℕ) → is_some (first_place part 0 text) ≡ has_part part text
+part_found part text = found_from part text 0

@@ -1,17 +1,15 @@
 -- The numbers of ranges.
-use Rattle.std.proofs.Common.{ℕ, zero, suc, ◌+◌, ◌-◌, ◌^◌, ◌<◌, ◌≤◌, ◌≡◌, ◌≢◌, Bool, true, false, ◌||◌, ℤ, pos, negsuc, neg_ℤ, ◌*◌, ◌+ℤ◌, ◌-ℤ◌, ◌*ℤ◌, ◌≤ℤ◌, ◌<ℤ◌, refl, ap, subst, arith, Option, Some, None, ◌∙◌}
+use Rattle.std.proofs.Common.{ℕ, zero, suc, ◌+◌, ◌/◌, ◌^◌, ◌<◌, ◌≤◌, ◌≡◌, ◌≢◌, Bool, true, false, ◌||◌, ℤ, pos, negsuc, neg_ℤ, ◌*◌, ◌+ℤ◌, ◌-ℤ◌, ◌*ℤ◌, ◌≤ℤ◌, ◌<ℤ◌, refl, ap, sym, subst, arith, add-one, None, ◌∙◌}
 use Rattle.std.specs.Ordering.{int_eq}
 use Rattle.std.specs.Prelude.{unsigned_abs}
 use Rattle.std.proofs.lemmas.Bool.{false_from_ne_true}
 use Rattle.std.proofs.lemmas.Bool.Decides.{Decides-int_eq}
 use Rattle.std.proofs.lemmas.Grind.{common_steps}
 use Rattle.std.proofs.lemmas.Int.{ints}
-use Rattle.std.proofs.Math.Nat.{mul-zero}
-use Rattle.py_values.specs.Ranges.{progression, range_items}
-use Rattle.py_values.specs.declared.range.RangeObj.{RangeObj}
-use Rattle.py_ops.specs.Compare.{in_range, is_number}
-use Rattle.py_operands.specs.Ranges.{nth_of}
-use Rattle.py_operands.specs.Numbers.{fits_bits, fitting}
+use Rattle.std.proofs.Math.Nat.{mul-zero, zero-mul, mul_comm, div-zero, mul-div_cancel}
+use Rattle.py_values.specs.Ranges.{progression}
+use Rattle.py_ops.specs.Compare.{in_numbers}
+use Rattle.py_operands.specs.Numbers.{fitting}
 
 differs : (x y : ℤ) → x ≢ y → int_eq x y ≡ false
 differs x y h = false_from_ne_true (int_eq x y) (λ e. h ((Decides-int_eq x y).0 e))
@@ -53,32 +51,90 @@ plus_nothing z m h = omega (arith, ints)
 less_nothing : (z : ℤ) (m : ℕ) → m ≡ 0 → z +ℤ neg_ℤ (pos m) ≡ z
 less_nothing z m h = omega (arith, ints)
 
+swap : (z d x : ℤ) → (z +ℤ d) +ℤ x ≡ (z +ℤ x) +ℤ d
+swap z d x = omega (arith, ints)
+
 first_by : (z d : ℤ) → z +ℤ d *ℤ pos 0 ≡ z
 first_by z (pos a) = plus_nothing z (a * 0) (mul-zero a)
 first_by z (negsuc a) = less_nothing z (suc a * 0) (mul-zero (suc a))
 
-pub first_of : (r : RangeObj) (n : Option ℤ) → in_range (range_items r) n ≡ in_range (progression (nth_of r 0) r.step (r.length - 0)) n
-first_of r n =
-    let e : r.length - 0 ≡ r.length = omega arith in
-    rw (first_by r.start r.step, e) refl
+shift : (z d : ℤ) (i : ℕ) → (z +ℤ d) +ℤ d *ℤ pos i ≡ z +ℤ d *ℤ pos (suc i)
+shift z d i = swap z d (d *ℤ pos i) ∙ (next_of z d i ∙ ap (λ (m : ℕ). z +ℤ d *ℤ pos m) (add-one i))
 
-by_number : (z d y : ℤ) (m : ℕ) (n : Option ℤ) → z +ℤ d ≡ y → in_range (progression z d (suc m)) n ≡ (is_number z n || in_range (progression y d m) n)
-by_number z d y m (Some x) h = rw h refl
-by_number z d y m None h = refl
+-- a number that none of a progression is
+none_in : (z d n : ℤ) (m : ℕ) → ((i : ℕ) → i < m → int_eq (z +ℤ d *ℤ pos i) n ≡ false) → in_numbers (progression z d m) n ≡ false
+none_in z d n zero h = refl
+none_in z d n (suc m) h =
+    let head : int_eq z n ≡ false = rw (first_by z d) at (h 0 (omega arith)) in
+    let tail : in_numbers (progression (z +ℤ d) d m) n ≡ false = none_in (z +ℤ d) d n m (λ i lt. rw (shift z d i) (h (suc i) (omega arith))) in
+    rw (head, tail) refl
 
--- a turn of the search
-pub range_turn : (r : RangeObj) (i : ℕ) (n : Option ℤ) → i < r.length
-    → in_range (progression (nth_of r i) r.step (r.length - i)) n
-    ≡ (is_number (nth_of r i) n || in_range (progression (nth_of r (i + 1)) r.step (r.length - (i + 1))) n)
-range_turn r i n lt =
-    let e : r.length - i ≡ suc (r.length - (i + 1)) = omega arith in
-    ap (λ (m : ℕ). in_range (progression (nth_of r i) r.step m) n) e
-    ∙ by_number (nth_of r i) r.step (nth_of r (i + 1)) (r.length - (i + 1)) n (next_of r.start r.step i)
+or_true : (b : Bool) → (b || true) ≡ true
+or_true true = refl
+or_true false = refl
 
-nothing_left : (z d : ℤ) (m : ℕ) (n : Option ℤ) → m ≡ 0 → in_range (progression z d m) n ≡ false
-nothing_left z d zero (Some x) h = refl
-nothing_left z d zero None h = refl
-nothing_left z d (suc m) n h = absurd (omega arith)
+-- a number that one of a progression is
+one_in : (z d n : ℤ) (m p : ℕ) → p < m → int_eq (z +ℤ d *ℤ pos p) n ≡ true → in_numbers (progression z d m) n ≡ true
+one_in z d n zero p lt e = absurd (omega arith)
+one_in z d n (suc m) zero lt e = let head : int_eq z n ≡ true = rw (first_by z d) at e in rw head refl
+one_in z d n (suc m) (suc p) lt e =
+    let tail : in_numbers (progression (z +ℤ d) d m) n ≡ true = one_in (z +ℤ d) d n m p (omega arith) (rw (shift z d p) e) in
+    rw tail (or_true (int_eq z n))
 
-pub range_over : (r : RangeObj) (i : ℕ) (n : Option ℤ) → i ≡ r.length → in_range (progression (nth_of r i) r.step (r.length - i)) n ≡ false
-range_over r i n h = nothing_left (nth_of r i) r.step (r.length - i) n (omega arith)
+-- how far a number of a progression is from its start
+abs_neg : (m : ℕ) → unsigned_abs (neg_ℤ (pos m)) ≡ m
+abs_neg zero = refl
+abs_neg (suc m) = refl
+
+far_up : (z n : ℤ) (m : ℕ) → z +ℤ pos m ≡ n → unsigned_abs (n -ℤ z) ≡ m
+far_up z n m h = let e : n -ℤ z ≡ pos m = omega (arith, ints) in ap unsigned_abs e
+
+far_down : (z n : ℤ) (m : ℕ) → z +ℤ neg_ℤ (pos m) ≡ n → unsigned_abs (n -ℤ z) ≡ m
+far_down z n m h = let e : n -ℤ z ≡ neg_ℤ (pos m) = omega (arith, ints) in ap unsigned_abs e ∙ abs_neg m
+
+far_of : (z d n : ℤ) (i : ℕ) → z +ℤ d *ℤ pos i ≡ n → unsigned_abs (n -ℤ z) ≡ i * unsigned_abs d
+far_of z (pos a) n i h = far_up z n (a * i) h ∙ mul_comm a i
+far_of z (negsuc a) n i h = far_down z n (suc a * i) h ∙ mul_comm (suc a) i
+
+-- the only place where a number can stand
+abbrev pub place_of : ℤ → ℤ → ℤ → ℕ
+place_of z d n = unsigned_abs (n -ℤ z) / unsigned_abs d
+
+-- without a step there is the first place alone
+pub no_step : (x y : ℕ) → y ≡ 0 → 0 ≡ x / y
+no_step x y h = rw h (sym (div-zero x))
+
+by_place : (z d n : ℤ) (i b : ℕ) → unsigned_abs d ≡ suc b → z +ℤ d *ℤ pos i ≡ n → place_of z d n ≡ i
+by_place z d n i b s h =
+    let some : 0 < unsigned_abs d = omega arith in
+    ap (λ (m : ℕ). m / unsigned_abs d) (far_of z d n i h) ∙ mul-div_cancel i some
+
+still : (z n : ℤ) (i j : ℕ) → z +ℤ pos (0 * i) ≡ n → z +ℤ pos (0 * j) ≡ n
+still z n i j h = ap (λ (m : ℕ). z +ℤ pos m) (zero-mul j ∙ sym (zero-mul i)) ∙ h
+
+stands : (z d n : ℤ) (i m : ℕ) → i < m → z +ℤ d *ℤ pos i ≡ n → (place_of z d n < m) × (z +ℤ d *ℤ pos (place_of z d n) ≡ n)
+stands z (pos zero) n i m lt h = (omega arith, still z n i (place_of z (pos zero) n) h)
+stands z (pos (suc a)) n i m lt h =
+    let e : place_of z (pos (suc a)) n ≡ i = by_place z (pos (suc a)) n i a refl h in
+    rw e (lt, h)
+stands z (negsuc a) n i m lt h =
+    let e : place_of z (negsuc a) n ≡ i = by_place z (negsuc a) n i a refl h in
+    rw e (lt, h)
+
+not_both : {b : Bool} → b ≡ true → b ≡ false → ⊥
+not_both {b} e g = absurd (cc)
+
+absent : (z d n : ℤ) (m : ℕ) → (place_of z d n < m → int_eq (z +ℤ d *ℤ pos (place_of z d n)) n ≡ false)
+    → (i : ℕ) → i < m → int_eq (z +ℤ d *ℤ pos i) n ≡ false
+absent z d n m h i lt =
+    differs (z +ℤ d *ℤ pos i) n
+    (λ e. let s : (place_of z d n < m) × (z +ℤ d *ℤ pos (place_of z d n) ≡ n) = stands z d n i m lt e in
+    not_both {b = int_eq (z +ℤ d *ℤ pos (place_of z d n)) n} ((Decides-int_eq (z +ℤ d *ℤ pos (place_of z d n)) n).1 s.1) (h s.0))
+
+-- what the look at that place tells
+pub found : (z d n : ℤ) (m : ℕ) (b : Bool) → place_of z d n < m → b ≡ int_eq (z +ℤ d *ℤ pos (place_of z d n)) n → b ≡ in_numbers (progression z d m) n
+found z d n m true lt e = sym (one_in z d n m (place_of z d n) lt (sym e))
+found z d n m false lt e = sym (none_in z d n m (absent z d n m (λ k. sym e)))
+
+pub beyond : (z d n : ℤ) (m : ℕ) → m ≤ place_of z d n → false ≡ in_numbers (progression z d m) n
+beyond z d n m le = sym (none_in z d n m (absent z d n m (λ k. absurd (omega arith))))

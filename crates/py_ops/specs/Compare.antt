@@ -1,5 +1,5 @@
 -- Comparisons (Language Reference, comparisons).
-use Rattle.std.specs.Prelude.{ℕ, ◌+◌, ◌-◌, Bool, true, false, not, ℤ, List, [], ◌∷◌, length, Option, Some, None, codes, slice_get, is_some, nat_eq, ◌||◌, if◌then◌else◌}
+use Rattle.std.specs.Prelude.{ℕ, ◌-◌, Bool, true, false, not, ℤ, List, [], ◌∷◌, length, Option, Some, None, codes, slice_get, is_some, nat_eq, ◌||◌}
 use Rattle.std.specs.List.{list_any, starts_with}
 use Rattle.std.specs.Ordering.{int_eq}
 use Rattle.py_tree.specs.declared.op.CmpOp.{CmpOp}
@@ -104,10 +104,6 @@ found_is false finding = not finding
 
 abbrev pub in_numbers : List ℤ → ℤ → Bool
 in_numbers zs x = list_any (λ z. int_eq z x) zs
-
-abbrev pub is_number : ℤ → Option ℤ → Bool
-is_number z (Some x) = int_eq z x
-is_number z None = false
 
 -- a number of a range; all else isn't in it
 abbrev pub in_range : List ℤ → Option ℤ → Bool

@@ -1,6 +1,6 @@
 // Membership.
 
-ghost use Rattle.std.specs.Prelude.{◌≡◌, ℕ, IfOk, slice_get, codes, pos, ◌+ℤ◌, ◌*ℤ◌};
+ghost use Rattle.std.specs.Prelude.{◌≡◌, ℕ, IfOk, option_map, slice_get, codes, pos, unsigned_abs, ◌/◌, ◌+ℤ◌, ◌-ℤ◌, ◌*ℤ◌};
 ghost use Rattle.std.specs.Ordering.{int_eq};
 ghost use Rattle.py_compare.specs.Equal.{told, equal_of};
 ghost use Rattle.py_values.specs.Ends.{payable};
@@ -16,10 +16,11 @@ ghost use Rattle.py_operands.specs.Texts as texts;
 
 use py_compare::equal::equal;
 use py_compare::tested::Tested;
-use py_kinds::keys::{KeyResult, key};
+use py_kinds::keys::{KeyResult, key_within};
 use py_kinds::kinds::kind_name;
 use py_operands::faults::{key_fault, kinds_error, not_iterable, too_deep};
 use py_operands::ranges::nth;
+use py_operands::search::first_place;
 use py_operands::texts::text_of;
 use py_values::OutOfMemory;
 use py_values::dict::Dict;
@@ -52,18 +53,15 @@ fn search_in(heap: &Heap, a: Value, vs: &[Value], budget: u64) -> Tested
 }
 
 /// Whether a text has another as a part.
-fn has_part(part: &[char], text: &[char]) -> bool
-    ensures { result ≡ compare.has_part part.now text.now }
+#[tactic(auto, using(crate::proofs::Parting::part_found))]
+fn has_part(alloc: Global, part: &[char], text: &[char]) -> Result<bool, OutOfMemory>
+    ensures { IfOk result (λ b. b ≡ compare.has_part part.now text.now) }
 {
-    for i in 0..text.len() {
-        if text[i..].starts_with(part) {
-            return true;
-        }
-    }
-    part.is_empty()
+    let place = first_place(alloc, part, text)?;
+    Ok(place.is_some())
 }
 
-/// Whether a number is that of a range at a place.
+/// Whether a number is that of a progression at a place.
 fn is_nth(start: i128, step: i128, at: usize, n: i128) -> bool
     ensures { result ≡ int_eq (start +ℤ step *ℤ pos at) n }
 {
@@ -73,25 +71,45 @@ fn is_nth(start: i128, step: i128, at: usize, n: i128) -> bool
     }
 }
 
-fn is_nth_number(range: &RangeObj, at: usize, n: Option<i128>) -> bool
-    ensures { result ≡ compare.is_number (ranges.nth_of range.now at) n }
+/// Whether a number is that of a range at a place.
+fn is_at(range: &RangeObj, at: usize, n: i128) -> bool
+    ensures { result ≡ int_eq (ranges.nth_of range.now at) n }
 {
-    match n {
-        Some(n) => is_nth(range.start, range.step, at, n),
-        None => false,
+    is_nth(range.start, range.step, at, n)
+}
+
+/// The only place of a range at which a number can stand: how far it is from the start, divided by the step.
+#[tactic(auto, using(crate::proofs::Ranging::no_step))]
+fn place_of(range: &RangeObj, n: i128) -> u128
+    ensures { result ≡ unsigned_abs (n -ℤ range.now.start) / unsigned_abs range.now.step }
+{
+    let far = n.abs_diff(range.start);
+    let step = range.step.unsigned_abs();
+    if step == 0 {
+        return 0;
     }
+    far / step
+}
+
+/// Whether a number is one of a range: it is the one at the only place where it can stand.
+fn has_number(range: &RangeObj, n: i128) -> bool
+    ensures { result ≡ compare.in_numbers (range_items range.now) n }
+{
+    let place = place_of(range, n);
+    if place < range.length as u128 {
+        return is_at(range, place as usize, n);
+    }
+    false
 }
 
 /// Whether a number is one of a range.
 fn in_range(range: &RangeObj, n: Option<i128>) -> bool
     ensures { result ≡ compare.in_range (range_items range.now) n }
 {
-    for i in 0..range.length {
-        if is_nth_number(range, i, n) {
-            return true;
-        }
+    match n {
+        Some(n) => has_number(range, n),
+        None => false,
     }
-    false
 }
 
 /// What a verdict gives where no order is asked for.
@@ -116,26 +134,44 @@ fn found_is(wanted: bool, found: bool) -> bool
     if wanted { found } else { !found }
 }
 
-/// A key of a dict.
+/// What is made of a key under a budget that is looked for in a dict.
 fn in_pairs(
     alloc: Global,
     heap: &Heap,
     dict: &Dict,
     wanted: bool,
-    a: Value,
-) -> Result<Effect, OutOfMemory>
-    ensures { IfOk result (λ m. m ≡ compare.in_pairs heap.now dict.now wanted (key_of heap.now a)) }
+    keyed: Option<KeyResult>,
+) -> Result<Option<Effect>, OutOfMemory>
+    ensures { IfOk result (λ m. m ≡ option_map (compare.in_pairs heap.now dict.now wanted) keyed) }
 {
-    match key(alloc, heap, a)? {
-        KeyResult::Key(k) => {
+    match keyed {
+        Some(KeyResult::Key(k)) => {
             let found = dict.get(&k).is_some();
-            Ok(Effect::Give(Value::Bool(found_is(wanted, found)), k.cost()))
+            let given = Value::Bool(found_is(wanted, found));
+            Ok(Some(Effect::Give(given, k.cost())))
         }
-        KeyResult::Fault(fault, cost) => {
+        Some(KeyResult::Fault(fault, cost)) => {
             let raise = key_fault(alloc, heap, fault)?;
-            Ok(Effect::Fail(raise, cost))
+            Ok(Some(Effect::Fail(raise, cost)))
         }
+        None => Ok(None),
     }
+}
+
+/// A key of a dict.
+#[tactic(auto, using(crate::proofs::Keyed::in_pairs_within))]
+fn in_dict(
+    alloc: Global,
+    heap: &Heap,
+    dict: &Dict,
+    wanted: bool,
+    a: Value,
+    budget: u64,
+) -> Result<Option<Effect>, OutOfMemory>
+    ensures { IfOk result (λ m. m ≡ payable budget (compare.in_pairs heap.now dict.now wanted (key_of heap.now a))) }
+{
+    let keyed = key_within(alloc, heap, a, budget)?;
+    in_pairs(alloc, heap, dict, wanted, keyed)
 }
 
 fn no_text(alloc: Global, heap: &Heap, op: &str, a: Value) -> Result<Effect, OutOfMemory>
@@ -166,7 +202,7 @@ fn in_text(
 {
     match text_of(heap, a) {
         Some(part) => {
-            let found = has_part(part.chars(), text);
+            let found = has_part(alloc, part.chars(), text)?;
             Ok(Effect::Give(Value::Bool(found_is(wanted, found)), text.len() as u64))
         }
         None => no_text(alloc, heap, op, a),
@@ -210,10 +246,7 @@ fn in_object(
     match heap.get(id) {
         Some(Obj::List(vs)) => in_values(alloc, heap, wanted, a, vs.items(), budget),
         Some(Obj::Tuple(vs)) => in_values(alloc, heap, wanted, a, vs.items(), budget),
-        Some(Obj::Dict(d)) => {
-            let made = in_pairs(alloc, heap, d, wanted, a)?;
-            Ok(made_within(made, budget))
-        }
+        Some(Obj::Dict(d)) => in_dict(alloc, heap, d, wanted, a, budget),
         Some(Obj::Range(r)) => {
             let found = in_range(r, number(a));
             Ok(Some(Effect::Give(Value::Bool(found_is(wanted, found)), 0)))

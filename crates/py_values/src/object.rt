@@ -5,7 +5,7 @@ use crate::class::{ClassForm, ClassRef};
 use crate::dict::Dict;
 use crate::names::Names;
 use crate::range::RangeObj;
-use crate::rows::{Params, Texts, Values};
+use crate::rows::{Params, Values};
 use crate::value::{ObjId, Value};
 use py_text::PyText;
 
@@ -134,7 +134,7 @@ pub struct FixtureObj {
     pub scope: FixtureScope,
     pub params: Option<Values>,
     pub autouse: bool,
-    pub ids: Option<Texts>,
+    pub ids: Option<Values>,
     pub name: Option<PyText>,
 }
 

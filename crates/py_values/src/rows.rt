@@ -78,9 +78,6 @@ impl Values {
     }
 }
 
-/// Texts in a row.
-pub type Texts = Seq<PyText>;
-
 /// A parameter of a function, and its default where it has one.
 pub struct Param {
     pub name: PyText,

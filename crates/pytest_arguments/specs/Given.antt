@@ -1,5 +1,5 @@
 -- Arguments by their kinds.
-use Rattle.std.specs.Prelude.{ℕ, Bool, true, false, List, [], map, Option, Some, None, option_map, is_some, slice_get}
+use Rattle.std.specs.Prelude.{ℕ, Bool, true, false, List, [], Option, Some, None, is_some, slice_get}
 use Rattle.std.specs.List.{list_all}
 use Rattle.call_products.specs.py_operands.Texts.{text_of}
 use Rattle.py_values.specs.declared.object.Obj.{Obj}
@@ -51,6 +51,14 @@ all_texts heap None = false
 abbrev pub are_texts : List Obj → Value → Bool
 are_texts heap v = all_texts heap (row_at heap v)
 
+abbrev pub all_ids : List Obj → Option (List Value) → Bool
+all_ids heap (Some vs) = list_all (unless_none (is_text_value heap)) vs
+all_ids heap None = false
+
+-- a list or tuple of ids, of which None is none
+abbrev pub are_ids : List Obj → Value → Bool
+are_ids heap v = all_ids heap (row_at heap v)
+
 -- what is given, where its kind is the one that is wanted
 abbrev pub boolean_given : Option Value → Bool
 boolean_given (Some (val.Bool b)) = b
@@ -66,13 +74,3 @@ text_given heap None = None
 abbrev pub row_given : List Obj → Option Value → Option (List Value)
 row_given heap (Some v) = row_at heap v
 row_given heap None = None
-
-abbrev pub text_or_empty : Option (List ℕ) → List ℕ
-text_or_empty (Some t) = t
-text_or_empty None = []
-
-abbrev pub text_at : List Obj → Value → List ℕ
-text_at heap v = text_or_empty (text_of heap v)
-
-abbrev pub texts_given : List Obj → Option Value → Option (List (List ℕ))
-texts_given heap o = option_map (λ vs. map (text_at heap) vs) (row_given heap o)

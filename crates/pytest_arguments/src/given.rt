@@ -1,13 +1,13 @@
 // Arguments by their kinds.
 
-ghost use Rattle.std.specs.Prelude.{◌≡◌, IfOk, map, option_copied};
+ghost use Rattle.std.specs.Prelude.{◌≡◌, IfOk, option_copied};
 ghost use Rattle.std.specs.List.{list_all};
 ghost use Rattle.pytest_arguments.specs.Given as given;
 
 use py_operands::texts::text_of;
 use py_values::heap::Heap;
 use py_values::object::Obj;
-use py_values::rows::{Texts, Values};
+use py_values::rows::Values;
 use py_values::value::Value;
 use py_values::{OutOfMemory, PyText};
 use std::alloc::Global;
@@ -124,21 +124,38 @@ pub fn are_texts(heap: &Heap, v: Value) -> bool
     }
 }
 
-fn texts_or_none(heap: &Heap, v: Value) -> bool
-    ensures { result ≡ given.unless_none (given.are_texts heap.now) v }
+/// Whether each value is a text, or `None`.
+fn each_is_id(heap: &Heap, ids: &[Value]) -> bool
+    ensures { result ≡ list_all (given.unless_none (given.is_text_value heap.now)) ids.now }
 {
-    match v {
-        Value::None => true,
-        Value::Bool(_) | Value::Int(_) | Value::Ref(_) => are_texts(heap, v),
+    ids.iter().all(|v| text_or_none(heap, *v))
+}
+
+/// Whether a value is a list or tuple of ids, of which `None` is none.
+fn are_ids(heap: &Heap, v: Value) -> bool
+    ensures { result ≡ given.are_ids heap.now v }
+{
+    match row_at(heap, v) {
+        Some(ids) => each_is_id(heap, ids.items()),
+        None => false,
     }
 }
 
-/// Whether a list or tuple of texts is given, or `None`, or nothing.
-pub fn no_other_than_texts(heap: &Heap, v: Option<Value>) -> bool
-    ensures { result ≡ given.if_given (given.unless_none (given.are_texts heap.now)) v }
+fn ids_or_none(heap: &Heap, v: Value) -> bool
+    ensures { result ≡ given.unless_none (given.are_ids heap.now) v }
 {
     match v {
-        Some(v) => texts_or_none(heap, v),
+        Value::None => true,
+        Value::Bool(_) | Value::Int(_) | Value::Ref(_) => are_ids(heap, v),
+    }
+}
+
+/// Whether a list or tuple of ids is given, or `None`, or nothing.
+pub fn no_other_than_ids(heap: &Heap, v: Option<Value>) -> bool
+    ensures { result ≡ given.if_given (given.unless_none (given.are_ids heap.now)) v }
+{
+    match v {
+        Some(v) => ids_or_none(heap, v),
         None => true,
     }
 }
@@ -204,40 +221,6 @@ pub fn row_given(
 {
     match v {
         Some(v) => row_copied(alloc, row_at(heap, v)),
-        None => Ok(None),
-    }
-}
-
-fn text_at(alloc: Global, heap: &Heap, v: Value) -> Result<PyText, OutOfMemory>
-    ensures { IfOk result (λ t. t ≡ given.text_at heap.now v) }
-{
-    match text_of(heap, v) {
-        Some(text) => PyText::from_chars(alloc, text.chars()),
-        None => PyText::from_chars(alloc, &[]),
-    }
-}
-
-fn texts_of(alloc: Global, heap: &Heap, values: &[Value]) -> Result<Texts, OutOfMemory>
-    ensures { IfOk result (λ ts. ts ≡ map (given.text_at heap.now) values.now) }
-{
-    let mut texts = Vec::new(alloc);
-    for v in values {
-        let text = text_at(alloc, heap, *v)?;
-        texts.push(text)?;
-    }
-    Ok(Texts::from_vec(texts))
-}
-
-/// The texts of the list or tuple that is given, where one is.
-pub fn texts_given(
-    alloc: Global,
-    heap: &Heap,
-    v: Option<Value>,
-) -> Result<Option<Texts>, OutOfMemory>
-    ensures { IfOk result (λ ts. ts ≡ given.texts_given heap.now v) }
-{
-    match row_given(alloc, heap, v)? {
-        Some(values) => Ok(Some(texts_of(alloc, heap, values.items())?)),
         None => Ok(None),
     }
 }

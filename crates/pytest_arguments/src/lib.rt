@@ -9,8 +9,8 @@
 //! - `function_fits` and `mark_fits` are true exactly where the form of a call is one of those of `function_counts` and `function_arguments`,
 //!   or `mark_counts` and `mark_arguments`; `named_value` is the value of an argument that is given by name.
 //! - `bad` and `bad_named` are the raise that an argument is of the wrong kind, with its name.
-//! - The tests of kinds equal the definitions of `specs/Given.antt`, with `None` as absent where its name says so, and `text_given`,
-//!   `row_given` and `texts_given` are copies of what is given.
+//! - The tests of kinds equal the definitions of `specs/Given.antt`, with `None` as absent where its name says so, and `text_given` and
+//!   `row_given` are copies of what is given.
 //!
 //! # What tests alone show
 //!

@@ -14,7 +14,7 @@ use Rattle.py_values.specs.declared.value.Value.{Value}
 use Rattle.pytest_arguments.specs.declared.form.Argument.{Argument}
 use Rattle.pytest_arguments.specs.declared.form.Argument.TheVariants as arg
 use Rattle.pytest_arguments.specs.Forms.{named_value, bad_unless, unless_bad}
-use Rattle.pytest_arguments.specs.Given.{if_given, unless_none, is_boolean, is_text_value, is_row, are_texts, boolean_given, text_given, row_given, texts_given}
+use Rattle.pytest_arguments.specs.Given.{if_given, unless_none, is_boolean, is_text_value, is_row, are_ids, boolean_given, text_given, row_given}
 
 abbrev pub scope_named : List ℕ → Option FixtureScope
 scope_named t =
@@ -48,17 +48,17 @@ fixture_bad heap named =
     bad_unless (if_given (is_scope heap) (named_value arg.Scope named)) arg.Scope
     (bad_unless (if_given (unless_none (is_row heap)) (named_value arg.Params named)) arg.Params
     (bad_unless (if_given is_boolean (named_value arg.AutoUse named)) arg.AutoUse
-    (bad_unless (if_given (unless_none (are_texts heap)) (named_value arg.Ids named)) arg.Ids
+    (bad_unless (if_given (unless_none (are_ids heap)) (named_value arg.Ids named)) arg.Ids
     (bad_unless (if_given (unless_none (is_text_value heap)) (named_value arg.Name named)) arg.Name None))))
 
--- a fixture that is applied to no function yet; the elements of its parameters are those of now
+-- a fixture that is applied to no function yet; the elements of its parameters and of its ids are those of now
 unfoldable pub fixture_object : List Obj → List (List ℕ × Value) → FixtureObj
 fixture_object heap named = record {
   function = None;
   scope = scope_given heap (named_value arg.Scope named);
   params = row_given heap (named_value arg.Params named);
   autouse = boolean_given (named_value arg.AutoUse named);
-  ids = texts_given heap (named_value arg.Ids named);
+  ids = row_given heap (named_value arg.Ids named);
   name = text_given heap (named_value arg.Name named);
 }
 

@@ -17,7 +17,7 @@ use Rattle.pytest_arguments.specs.declared.form.Argument.TheVariants as arg
 use Rattle.pytest_arguments.specs.declared.form.OwnMark.{OwnMark}
 use Rattle.pytest_arguments.specs.declared.form.OwnMark.TheVariants as mark
 use Rattle.pytest_arguments.specs.Forms.{named_value, own_mark_name, own_marks, mark_in, mark_fits, bad_unless, unless_bad}
-use Rattle.pytest_arguments.specs.Given.{if_given, unless_none, is_boolean, is_text_value, is_row, row_at, are_texts}
+use Rattle.pytest_arguments.specs.Given.{if_given, unless_none, is_boolean, is_text_value, is_row, row_at, are_texts, are_ids}
 
 -- a test of the first argument by position, where there is one
 abbrev pub if_first : (Value → Bool) → List Value → Bool
@@ -85,7 +85,7 @@ abbrev pub parametrize_bad : List Obj → List Value → List (List ℕ × Value
 parametrize_bad heap (names ∷ rows ∷ vs) named =
     bad_unless (are_names heap names) arg.Names
     (bad_unless (are_rows heap names rows) arg.Rows
-    (bad_unless (if_given (unless_none (are_texts heap)) (named_value arg.Ids named)) arg.Ids None))
+    (bad_unless (if_given (unless_none (are_ids heap)) (named_value arg.Ids named)) arg.Ids None))
 parametrize_bad heap (names ∷ []) named = None
 parametrize_bad heap [] named = None
 

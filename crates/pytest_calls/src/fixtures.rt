@@ -13,8 +13,8 @@ use py_values::value::Value;
 use py_values::{OutOfMemory, PyText};
 use pytest_arguments::form::{Argument, bad, is_word, named_value};
 use pytest_arguments::given::{
-    boolean_given, boolean_or_absent, no_other_than_row, no_other_than_text, no_other_than_texts,
-    row_given, text_given, texts_given,
+    boolean_given, boolean_or_absent, no_other_than_ids, no_other_than_row, no_other_than_text,
+    row_given, text_given,
 };
 use std::alloc::Global;
 
@@ -83,7 +83,7 @@ fn fixture_bad(heap: &Heap, named: &[(PyText, Value)]) -> Option<Argument>
     if !boolean_or_absent(named_value(Argument::AutoUse, named)) {
         return Some(Argument::AutoUse);
     }
-    if !no_other_than_texts(heap, named_value(Argument::Ids, named)) {
+    if !no_other_than_ids(heap, named_value(Argument::Ids, named)) {
         return Some(Argument::Ids);
     }
     if !no_other_than_text(heap, named_value(Argument::Name, named)) {
@@ -102,7 +102,7 @@ fn fixture_object(
     ensures { IfOk result (λ f. f ≡ fixtures.fixture_object heap.now named.now) }
 {
     let params = row_given(alloc, heap, named_value(Argument::Params, named))?;
-    let ids = texts_given(alloc, heap, named_value(Argument::Ids, named))?;
+    let ids = row_given(alloc, heap, named_value(Argument::Ids, named))?;
     let name = text_given(alloc, heap, named_value(Argument::Name, named))?;
     Ok(FixtureObj {
         function: None,

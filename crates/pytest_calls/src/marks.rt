@@ -22,7 +22,7 @@ use pytest_arguments::form::{
 };
 use pytest_arguments::given::{
     are_texts, boolean_or_absent, each_is_text, is_boolean, is_row, is_text_value,
-    no_other_than_texts, row_at, text_or_absent, values_copied,
+    no_other_than_ids, row_at, text_or_absent, values_copied,
 };
 use std::alloc::Global;
 
@@ -113,7 +113,7 @@ fn parametrize_bad(heap: &Heap, args: &[Value], named: &[(PyText, Value)]) -> Op
     if !are_rows(heap, *names, *rows) {
         return Some(Argument::Rows);
     }
-    if !no_other_than_texts(heap, named_value(Argument::Ids, named)) {
+    if !no_other_than_ids(heap, named_value(Argument::Ids, named)) {
         return Some(Argument::Ids);
     }
     None

@@ -1,8 +1,11 @@
 -- What words ask for, from what their parts say.
-use Rattle.std.proofs.Common.{◌≡◌, ℕ, List, [], Bool, true, false, Option, None, Some, Result, Ok, Err, codes, refl, sym, subst}
+use Rattle.std.proofs.Common.{◌≡◌, ℕ, List, [], Bool, true, false, cond, None, Some, Result, Ok, Err, refl, sym, subst, ap, ◌∙◌, ◌&&◌, arith}
+use Rattle.std.proofs.lemmas.Grind.{common_steps}
+use Rattle.std.specs.Prelude.{nat_lt}
 use Rattle.cli_words.specs.Faults.{usage_text}
 use Rattle.cli_words.specs.Info.{info_of}
-use Rattle.cli_words.specs.Options.{Refuses, asks_for_workers, options_of}
+use Rattle.cli_words.specs.Options.{Refuses, asks_for_workers, checked, defaults, options_of, options_or_fault}
+use Rattle.cli_words.specs.Parts.{command_parts}
 use Rattle.cli_words.specs.declared.fault.UsageFault.{UsageFault}
 use Rattle.cli_words.specs.declared.fault.UsageFault.TheVariants as usage
 use Rattle.cli_words.specs.declared.info.Info.{Info}
@@ -15,22 +18,17 @@ use Rattle.selection.specs.Exprs.{AreExprs, IsRefused, refused_expression, selec
 use Rattle.selection.specs.declared.fault.SelectionFault.{SelectionFault}
 use Rattle.selection.specs.declared.fault.SelectionFault.TheVariants as faults
 use Rattle.selection.specs.declared.exprs.Exprs.{Exprs}
-use Rattle.pytest_core.specs.Profile.{profile, refused_text}
-use Rattle.pytest_core.specs.Report.{AskForRun, IsTreeReport, OfKept}
+use Rattle.pytest_core.specs.Profile.{profile}
+use Rattle.pytest_core.specs.Report.{AskForRun, IsTreeReport, OfKept, OptionsSay}
 use Rattle.pytest_core.specs.Request.{OptionsAsk, WordsAsk, is_expression_fault, is_usage_fault}
 use Rattle.pytest_core.specs.Written.{IsResponseBy, Response, response_of}
 use Rattle.pytest_core.specs.declared.request.Request.{Request}
 use Rattle.pytest_core.specs.declared.request.Request.TheVariants.{Run, Said}
-use Rattle.pytest_core.proofs.Said.{accepts, kept_as, of_any, refuses_expression, refuses_unbuilt, says_fault, says_info, says_options, says_refused}
+use Rattle.pytest_core.proofs.Said.{kept_as, of_any, says_fault, says_info, says_options, says_refused}
 
 -- OPTIONS
-pub unbuilt_said : (o : Options) (exprs : Exprs) (r : Response) → AreExprs o exprs → asks_for_workers o ≡ true → r ≡ response_of (refusal (codes "not built"))
-    → (tree : List File) → IsResponseBy (OfKept (rules.SaysOfOptions HoldsSource profile o []) tree) r
-unbuilt_said o exprs r are asks same tree =
-    of_any (rules.SaysOfOptions HoldsSource profile o []) tree (refusal (codes "not built")) r (says_refused o (codes "not built") (refuses_unbuilt o are.fine asks)) same
-
-pub run_asked : (o : Options) (exprs : Exprs) → AreExprs o exprs → asks_for_workers o ≡ false → OptionsAsk o (Run o exprs)
-run_asked o exprs are built = (refl, are, accepts o are.fine built)
+pub run_asked : (o : Options) (exprs : Exprs) → AreExprs o exprs → OptionsAsk o (Run o exprs)
+run_asked o exprs are = (refl, are, are.fine)
 
 refused_by : (o : Options) (fault : SelectionFault) → IsRefused o fault → is_expression_fault fault ≡ true → refused_expression o ≡ Some (selection_text fault)
 refused_by o faults.OutOfMemory h other = absurd (cc)
@@ -40,7 +38,7 @@ refused_by o (faults.TooDeep flag) h other = h
 pub expression_said : (fault : SelectionFault) (r : Response) → is_expression_fault fault ≡ true → r ≡ response_of (refusal (selection_text fault))
     → (o : Options) → IsRefused o fault → (tree : List File) → IsResponseBy (OfKept (rules.SaysOfOptions HoldsSource profile o []) tree) r
 expression_said fault r wrong same o refused tree =
-    of_any (rules.SaysOfOptions HoldsSource profile o []) tree (refusal (selection_text fault)) r (says_refused o (selection_text fault) (refuses_expression o (selection_text fault) (refused_by o fault refused wrong)))
+    of_any (rules.SaysOfOptions HoldsSource profile o []) tree (refusal (selection_text fault)) r (says_refused o (selection_text fault) (refused_by o fault refused wrong))
     same
 
 refused_words : (said : Result Options UsageFault) (fault : UsageFault) → Refuses said fault → is_usage_fault fault ≡ true → said ≡ Err fault
@@ -62,14 +60,34 @@ fault_said fault r usage same words none refused tree =
 
 pub words_ask : (words : List (List ℕ)) (o : Options) (q : Request) → None ≡ info_of words → options_of words ≡ Ok o → OptionsAsk o q → WordsAsk words q
 words_ask words o (Run options exprs) none read (same, are, accepted) =
-    (sym none, subst (λ x. options_of words ≡ Ok x) (sym same) read, subst (λ x. AreExprs x exprs) (sym same) are, subst (λ x. refused_text x ≡ None) (sym same) accepted)
+    (sym none, subst (λ x. options_of words ≡ Ok x) (sym same) read, subst (λ x. AreExprs x exprs) (sym same) are, subst (λ x. refused_expression x ≡ None) (sym same) accepted)
 words_ask words o (Said response) none read said =
-    λ tree. kept_as (rules.SaysOfOptions HoldsSource profile o []) (rules.IsReport HoldsSource profile words) tree (response.0.items, response.1) (says_options words o (sym none) read) (said tree)
+    λ tree. kept_as (rules.SaysOfOptions HoldsSource profile o []) (rules.IsReport HoldsSource profile words) tree (response.0.items, response.1) (λ files answer s. says_options words o (sym none) read files answer ([], s)) (said tree)
 
 -- A RUN
 pub run_said : (words : List (List ℕ)) (options : Options) (exprs : Exprs) → WordsAsk words (Run options exprs) → (tree : List File) (answer : PrintedAnswer)
-    → OfKept (rules.SaysOfOptions HoldsSource profile options []) tree answer → IsTreeReport words tree answer
+    → OfKept (OptionsSay options) tree answer → IsTreeReport words tree answer
 run_said words options exprs (none, read, are, accepted) tree answer (files, kept, said) = (files, kept, says_options words options none read files answer said)
 
 pub run_words : (words : List (List ℕ)) (options : Options) (exprs : Exprs) → WordsAsk words (Run options exprs) → AskForRun words
 run_words words options exprs (none, read, are, accepted) = record { options = options; no_info = none; read = read; accepted = accepted }
+
+-- words that ask for workers ask for no maxfail
+checked_none : (x : Result Options UsageFault) (o : Options) → checked x ≡ Ok o → asks_for_workers o ≡ true → o.maxfail ≡ 0
+checked_none (Err fault) o e asks = absurd (let z : Err fault ≡ Ok o = e in cc)
+checked_none (Ok x) o e asks = of_test (asks_for_workers x) (nat_lt 0 x.maxfail) x o refl refl e asks
+  where
+    ok_same : (x o : Options) → ◌≡◌ {A = Result Options UsageFault} (Ok x) (Ok o) → x ≡ o
+    ok_same x o e = cc
+
+    not_above : (n : ℕ) → nat_lt 0 n ≡ false → n ≡ 0
+    not_above n e = grind (arith, common_steps)
+
+    of_test : (a b : Bool) (x o : Options) → asks_for_workers x ≡ a → nat_lt 0 x.maxfail ≡ b → cond (a && b) (Err usage.Conflict) (Ok x) ≡ Ok o → asks_for_workers o ≡ true → o.maxfail ≡ 0
+    of_test true true x o p q e asks = absurd (let z : Err usage.Conflict ≡ Ok o = e in cc)
+    of_test true false x o p q e asks = (let same : x ≡ o = ok_same x o e in subst (λ (y : Options). y.maxfail ≡ 0) same (not_above x.maxfail q))
+    of_test false b x o p q e asks = (let same : x ≡ o = ok_same x o e in absurd (let z : false ≡ true = sym p ∙ (ap asks_for_workers same ∙ asks) in cc))
+
+pub no_maxfail : (words : List (List ℕ)) (o : Options) → options_of words ≡ Ok o → asks_for_workers o ≡ true → o.maxfail ≡ 0
+unfolding options_of
+no_maxfail words o e asks = checked_none (options_or_fault defaults (command_parts words)) o e asks

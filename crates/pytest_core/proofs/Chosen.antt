@@ -1,11 +1,8 @@
 -- The items that run are the selected ones.
-use Rattle.std.proofs.Common.{◌≡◌, ◌<◌, ◌≤◌, ◌+◌, ℕ, zero, suc, Bool, false, List, [], ◌∷◌, ◌++◌, All, map, length, Option, None, Some, option_map, refl, sym, ap, subst, ◌∙◌, arith}
-use Rattle.std.specs.Prelude.{slice_get}
-use Rattle.std.specs.Option.{option_to_list}
+use Rattle.std.proofs.Common.{◌≡◌, ◌<◌, ◌≤◌, ℕ, Bool, false, List, [], ◌∷◌, All, map, length, None, refl, sym, ap, subst, ◌∙◌}
 use Rattle.cli_words.specs.declared.options.Options.{Options}
 use Rattle.collect_tree.specs.collect_items.declared.found.FoundSuite.{FoundSuite}
-use Rattle.collect_tree.specs.Collection.{item_numbered, item_or_none, selected_by}
-use Rattle.collect_tree.specs.Runnable.{IsAtHome, IsRunnable}
+use Rattle.collect_tree.specs.Collection.{item_numbered, selected_by}
 use Rattle.collect_tree.specs.file_source.Sources.{HoldsSource}
 use Rattle.run_items.specs.fixture_world.Items.{item_in_session}
 use Rattle.report_parts.specs.Limits.{most_items}
@@ -17,30 +14,22 @@ use Rattle.run_items.specs.report_rules.Fits.{chosen_item}
 use Rattle.run_items.specs.report_rules.Items.{item_report}
 use Rattle.run_items.specs.report_rules.Report as rules
 use Rattle.run_items.specs.report_rules.Rows.{ran, session_rows, task}
-use Rattle.run_items.specs.Stands.{IsPlan, IsPlannedItem, planned}
 use Rattle.run_items.specs.Texts.{fixture_texts}
-use Rattle.run_items.specs.declared.plan.Plan.{Plan}
 use Rattle.run_items.specs.Runs.{BeginsPlan}
-use Rattle.runtest_loop.specs.Course.{chosen_in}
-use Rattle.runtest_loop.specs.Fed.{AreKnown, numbers_at, numbers_in_range}
+use Rattle.runtest_loop.specs.Fed.{numbers_at, numbers_in_range}
 use Rattle.runtest_loop.specs.Received.{AreFirst}
 use Rattle.runtest_loop.specs.Run.{Begins}
 use Rattle.run_items.specs.runtest_rules.Rules.{rules as tests}
 use Rattle.session_rules.specs.Fits.{Distinct}
 use Rattle.session_rules.specs.Session.{has_stopped}
 use Rattle.session_rules.specs.World.{Item as SessionItem}
-use Rattle.share_files.specs.Deal.{Every}
 use Rattle.run_items.specs.source_meaning.Meaning.{SourceWorld}
-use Rattle.run_items.specs.test_suite.declared.item.Item.{Item}
 use Rattle.pytest_core.specs.Profile.{profile}
-use Rattle.pytest_core.specs.Run.{AreApart, IsRunAnswer, IsOneGroup, IsRunOf, RunsFirst, chosen_first, collected_of, items_known, plan_by, wants_workers}
+use Rattle.worker_sessions.proofs.Plans.{chosen_as, chosen_by, every, unfiled_as}
+use Rattle.worker_sessions.proofs.Refiled.{ran_as, reports_as}
+use Rattle.worker_sessions.specs.Sessions.{plan_by}
+use Rattle.pytest_core.specs.Run.{AreApart, IsRunAnswer, IsOneGroup, IsRunOf, RunsFirst, chosen_first, collected_of, items_known, wants_workers}
 use Rattle.pytest_core.proofs.NoWorkers.{rows_ran, single, stopped_ran}
-use Rattle.pytest_core.proofs.Refiled.{ran_as, reports_as, unfiled}
-
--- numbers in range
-pub every : {A : Type 0} (P : A → Type 0) (xs : List A) → All P xs → Every P xs
-every P [] h = tt
-every P (x ∷ xs) h = (h 0 x (omega arith), every P xs (λ k d l. h (suc k) d (omega arith)))
 
 -- the one group
 pub in_range : (count : ℕ) (ns : List ℕ) (groups : List (List ℕ)) → groups ≡ ns ∷ [] → All (λ n. n < count) ns → numbers_in_range count groups
@@ -52,43 +41,9 @@ is_one ns groups e = subst IsOneGroup (sym e) refl
 pub has_few : (ns : List ℕ) (groups : List (List ℕ)) → groups ≡ ns ∷ [] → length ns ≤ most_items → length (numbers_at groups 0) ≤ most_items
 has_few ns groups e few = subst (λ gs. length (numbers_at gs 0) ≤ most_items) (sym e) few
 
-pub below_none : (items : List Item) (n : ℕ) → n < length items → slice_get items n ≡ None → ⊥
-below_none [] n l e = absurd (omega arith)
-below_none (x ∷ xs) zero l e = absurd (cc)
-below_none (x ∷ xs) (suc n) l e = below_none xs n (omega arith) e
-
--- the plan of a suite that can run
-pub is_plan : (options : Options) (found : FoundSuite) → IsRunnable found → IsPlan (plan_by options found)
-is_plan options found r = record { tree = r.tree; many = r.many; scopes = r.scopes options.step_limit; hooks = r.hooks }
-
-is_planned : (options : Options) (found : FoundSuite) (i : Item) → IsAtHome found i → IsPlannedItem (plan_by options found) i
-is_planned options found i h = record { node = h.node; found = h.at; fits = h.fits options.step_limit }
-
-pub are_known : (options : Options) (found : FoundSuite) → IsRunnable found → AreKnown (IsPlannedItem (plan_by options found)) found.suite.items
-are_known options found r = λ n i e. is_planned options found i (r.items n i e)
-
--- its items
-abbrev chosen_by : Plan → ℕ → SelectedItem
-chosen_by plan n = planned plan (item_numbered plan.run.suite n)
-
-one_chosen : (plan : Plan) (node : ℕ) (o : Option Item) → (o ≡ None → ⊥) → option_to_list (option_map (planned plan) o) ≡ planned plan (item_or_none node o) ∷ []
-one_chosen plan node None some = absurd (some refl)
-one_chosen plan node (Some i) some = refl
-
-pub chosen_as : (plan : Plan) (ns : List ℕ) → Every (λ n. n < length plan.run.suite.items) ns → chosen_in (planned plan) plan.run.suite.items ns ≡ map (chosen_by plan) ns
-chosen_as plan [] h = refl
-chosen_as plan (n ∷ ns) (l, h) =
-    ap (λ (cs : List SelectedItem). cs ++ chosen_in (planned plan) plan.run.suite.items ns)
-    (one_chosen plan (plan.run.suite.outer + n) (slice_get plan.run.suite.items n) (below_none plan.run.suite.items n l))
-    ∙ ap (λ (cs : List SelectedItem). chosen_by plan n ∷ cs) (chosen_as plan ns h)
-
 known_as : (options : Options) (found : FoundSuite) (ns : List ℕ) → map chosen_item (map (chosen_by (plan_by options found)) ns) ≡ items_known found ns
 known_as options found [] = refl
 known_as options found (n ∷ ns) = ap (λ (is : List SessionItem). item_in_session found.table (item_numbered found.suite n) ∷ is) (known_as options found ns)
-
-unfiled_as : (options : Options) (found : FoundSuite) (places ns : List ℕ) → map (chosen_by (plan_by options found)) ns ≡ map unfiled (map (selected_by found places) ns)
-unfiled_as options found places [] = refl
-unfiled_as options found places (n ∷ ns) = ap (λ (cs : List SelectedItem). chosen_by (plan_by options found) n ∷ cs) (unfiled_as options found places ns)
 
 -- WHAT A RUN OF THE SELECTED ITEMS GIVES
 module _ (options : Options) (found : FoundSuite) (ns : List ℕ) (w : SourceWorld) (within : All (λ n. n < length found.suite.items) ns) where

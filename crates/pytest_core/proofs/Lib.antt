@@ -1,12 +1,13 @@
 pub mod Asked
+pub mod ByWorkers
 pub mod Chosen
 pub mod First
 pub mod Generated
 pub mod Kept
 pub mod NoWorkers
 pub mod Ran
-pub mod Refiled
 pub mod Reports
 pub mod Said
 pub mod Streamed
+pub mod WordsUnread
 pub mod Wrote

@@ -12,7 +12,7 @@ use Rattle.run_items.proofs.report_rules_lemmas.Placed.{no_place}
 use Rattle.run_items.specs.report_rules.Collected.{Collected}
 use Rattle.run_items.specs.report_rules.Groups.{groups}
 use Rattle.run_items.specs.report_rules.Report as rules
-use Rattle.run_items.specs.report_rules.Rows.{ReportRow, ran, report_row, session_rows}
+use Rattle.run_items.specs.report_rules.Rows.{ran, report_row, session_rows}
 use Rattle.run_items.specs.runtest_rules.Language.{python}
 use Rattle.run_items.specs.runtest_rules.Rules.{rules as tests}
 use Rattle.run_items.specs.source_meaning.Meaning.{SourceWorld}
@@ -22,10 +22,10 @@ use Rattle.share_files.specs.Deal.{Share}
 use Rattle.pytest_core.specs.Profile.{profile}
 use Rattle.pytest_core.specs.Run.{collected_of, wants_workers}
 
-picked : {X : Type 0} (b : Bool) (x y : X) → b ≡ true → cond b x y ≡ x
+pub picked : {X : Type 0} (b : Bool) (x y : X) → b ≡ true → cond b x y ≡ x
 picked b x y e = ap (λ (c : Bool). cond c x y) e
 
-passed_over : {X : Type 0} (b : Bool) (x y : X) → b ≡ false → cond b x y ≡ y
+pub passed_over : {X : Type 0} (b : Bool) (x y : X) → b ≡ false → cond b x y ≡ y
 passed_over b x y e = ap (λ (c : Bool). cond c x y) e
 
 abbrev NoGroups : List (List ℕ)
@@ -33,7 +33,7 @@ NoGroups = []
 
 -- where workers don't run, one thread does
 -- a list with an element is not empty
-some_length : (n : ℕ) → eqb (suc n) 0 ≡ false
+pub some_length : (n : ℕ) → eqb (suc n) 0 ≡ false
 some_length n = ne_eqb (suc n) 0 (λ q. omega (arith, q))
 
 no_items : (found : FoundSuite) (places ns : List ℕ) → not_empty ns ≡ false → length (groups (map (selected_by found places) ns)) ≡ 0
@@ -56,9 +56,6 @@ by_parts true listing false some workers most e none = fewest (not (listing || f
 pub single : (options : Options) (found : FoundSuite) (places ns : List ℕ) (deselected : ℕ) (errors : List CollectReport) (w : SourceWorld) → wants_workers options ns errors ≡ false → rules.workers_of options (collected_of found places ns deselected errors w) ≡ 0
 single options found places ns deselected errors w e =
     by_parts (asks_for_workers options) options.collect_only (not_empty errors) (not_empty ns) options.workers (length (groups (map (selected_by found places) ns))) e (no_items found places ns)
-
-pub wants_none : (options : Options) (ns : List ℕ) (errors : List CollectReport) → asks_for_workers options ≡ false → wants_workers options ns errors ≡ false
-wants_none options ns errors e = ap (λ (b : Bool). b && (not (not_empty errors) && not_empty ns)) e
 
 -- errors that aren't there
 pub wants_as : (options : Options) (ns : List ℕ) (errors others : List CollectReport) → not_empty errors ≡ false → not_empty others ≡ false → wants_workers options ns errors ≡ false → wants_workers options ns others ≡ false
@@ -89,9 +86,6 @@ module _ (options : Options) (c : Collected python Suite) (none : rules.workers_
   pub none_placed : rules.places_told HoldsSource profile options c [] ≡ []
   none_placed = no_place HoldsSource profile options c [] none
 
-  pub only_none : (taken : List (List ℕ)) → rules.IsTaken options c taken → taken ≡ []
-  only_none taken t = subst (λ n. MatchBool (eqb n 0) (taken ≡ []) (Share (length (groups c.selected)) n taken)) none t
-
   -- WHAT IS REPORTED of items that one thread runs
   pub rows_ran : options.collect_only ≡ false → not_empty c.errors ≡ false → rules.rows_told HoldsSource profile options c [] ≡ session_rows (tests options c.table) c.world options.maxfail (rules.single_thread c)
   rows_ran e f =
@@ -101,7 +95,3 @@ module _ (options : Options) (c : Collected python Suite) (none : rules.workers_
   stopped_ran e f =
       ap₂ (λ (a b : Bool). (a && b) && has_stopped options.maxfail (ran (tests options c.table) c.world options.maxfail (rules.single_thread c)))
       (ap₂ (λ (a b : Bool). not (a || b)) e f) (ap (λ n. eqb n 0) none)
-
--- what isn't refused asks for no workers
-pub no_worker : (options : Options) (c : Collected python Suite) → asks_for_workers options ≡ false → rules.workers_of options c ≡ 0
-no_worker options c built = passed_over (asks_for_workers options && rules.runs options c) (min options.workers (length (groups c.selected))) 0 (ap (λ (b : Bool). b && rules.runs options c) built)

@@ -33,7 +33,7 @@ use Rattle.pytest_core.specs.Profile.{profile}
 use Rattle.pytest_core.specs.Report.{AreDistinct, end_answer}
 use Rattle.pytest_core.specs.Run.{AreApart, IsRunAnswer, collected_of, items_known}
 use Rattle.pytest_core.specs.Written.{IsResponseBy, Response, response_of}
-use Rattle.pytest_core.proofs.Chosen.{below_none, every}
+use Rattle.worker_sessions.proofs.Plans.{below_none, every}
 use Rattle.pytest_core.proofs.NoWorkers.{rows_failed, rows_listed, stopped_failed, stopped_listed}
 use Rattle.pytest_core.proofs.Said.{response_as, says_collected}
 
@@ -96,7 +96,7 @@ pub of_collected : (options : Options) (files : List File) (reads : List ReadFil
     → IsResponseBy (rules.SaysOfCollection HoldsSource profile options [] end) r → IsResponseBy (rules.SaysOfFiles HoldsSource profile options [] files) r
 of_collected options files reads end r fits read is h =
     response_as (rules.SaysOfCollection HoldsSource profile options [] end) (rules.SaysOfFiles HoldsSource profile options [] files) r
-    (λ answer said. says_collected options files reads answer fits read (subst (λ e. rules.SaysOfCollection HoldsSource profile options [] e answer) is said)) h
+    (λ answer said. says_collected options [] files reads answer fits read (subst (λ e. rules.SaysOfCollection HoldsSource profile options [] e answer) is said)) h
 
 pub faulty_said : (options : Options) (files : List File) (reads : List ReadFile) (end : Option End) (r : Response) → tree_limit files ≡ None → AreRead files reads
     → IfSome end (λ e. e ≡ collect options reads) → IsSomeAnd end (λ e. option_map response_of (end_answer e) ≡ Some r) → IsResponseBy (rules.SaysOfFiles HoldsSource profile options [] files) r

@@ -1,9 +1,9 @@
 -- What is said of words, from what is said of their options and of files.
-use Rattle.std.proofs.Common.{◌≡◌, ℕ, List, [], ◌∷◌, Bool, true, false, cond, Option, None, Some, Result, Ok, Err, MatchOption, MatchResult, codes, refl, sym, subst, ap, ◌∙◌, ◌||◌}
-use Rattle.std.specs.Prelude.{IfOk, IfSome, IsSome}
+use Rattle.std.proofs.Common.{◌≡◌, ℕ, List, [], ◌∷◌, true, Option, None, Some, Result, Ok, Err, MatchOption, MatchResult, refl, sym, subst, ap, ◌∙◌}
+use Rattle.std.specs.Prelude.{IfOk, IfSome}
 use Rattle.cli_words.specs.Faults.{usage_text}
 use Rattle.cli_words.specs.Info.{info_of}
-use Rattle.cli_words.specs.Options.{asks_for_workers, options_of}
+use Rattle.cli_words.specs.Options.{options_of}
 use Rattle.cli_words.specs.declared.fault.UsageFault.{UsageFault}
 use Rattle.cli_words.specs.declared.info.Info.{Info}
 use Rattle.cli_words.specs.declared.options.Options.{Options}
@@ -14,13 +14,10 @@ use Rattle.collect_tree.specs.py_load.Reading.{AreRead, ReadFile}
 use Rattle.run_items.specs.report_rules.Answer.{PrintedAnswer, info_answer, limit_text, refusal}
 use Rattle.run_items.specs.report_rules.Answer.{Status as Ended}
 use Rattle.run_items.specs.report_rules.Answer as ends
-use Rattle.run_items.specs.report_rules.Collected.{Collection}
 use Rattle.run_items.specs.report_rules.Report as rules
-use Rattle.run_items.specs.runtest_rules.Language.{python}
-use Rattle.run_items.specs.test_suite.declared.suite.Suite.{Suite}
 use Rattle.selection.specs.Exprs.{refused_expression}
-use Rattle.pytest_core.specs.Profile.{first_text, profile, refused_text}
-use Rattle.pytest_core.specs.Report.{IsTreeReport, OfKept}
+use Rattle.pytest_core.specs.Profile.{profile}
+use Rattle.pytest_core.specs.Report.{FilesSay, OfKept, OptionsSay}
 use Rattle.pytest_core.specs.Status.{is_said, status_seen}
 use Rattle.pytest_core.specs.Written.{IsResponseBy, Response, response_of}
 use Rattle.pytest_core.proofs.Kept.{kept_files}
@@ -77,11 +74,11 @@ are_sources (file ∷ files) [] h = absurd h
 are_sources (file ∷ files) (r ∷ reads) h = (h.0, h.1, are_sources files reads h.2)
 
 -- what is said of files that pass no limit
-pub says_collected : (options : Options) (files : List File) (reads : List ReadFile) (answer : PrintedAnswer) → tree_limit files ≡ None → AreRead files reads
-    → rules.SaysOfCollection HoldsSource profile options [] (collect options reads) answer → rules.SaysOfFiles HoldsSource profile options [] files answer
-says_collected options files reads answer fits read said =
+pub says_collected : (options : Options) (taken : List (List ℕ)) (files : List File) (reads : List ReadFile) (answer : PrintedAnswer) → tree_limit files ≡ None → AreRead files reads
+    → rules.SaysOfCollection HoldsSource profile options taken (collect options reads) answer → rules.SaysOfFiles HoldsSource profile options taken files answer
+says_collected options taken files reads answer fits read said =
     let P : Option TreeLimit → Type 0 =
-    λ limit. MatchOption limit ((sources : List ReadFile) × rules.AreSources HoldsSource profile files sources × rules.SaysOfCollection HoldsSource profile options [] (collect options sources) answer) (λ l. (NoGroups ≡ NoGroups) × (answer ≡ refusal (limit_text l))) in
+    λ limit. MatchOption limit ((sources : List ReadFile) × rules.AreSources HoldsSource profile files sources × rules.SaysOfCollection HoldsSource profile options taken (collect options sources) answer) (λ l. (taken ≡ []) × (answer ≡ refusal (limit_text l))) in
     subst P (sym fits) (reads, are_sources files reads read, said)
 
 pub says_limit : (options : Options) (files : List File) (limit : TreeLimit) → tree_limit files ≡ Some limit → rules.SaysOfFiles HoldsSource profile options [] files (refusal (limit_text limit))
@@ -91,65 +88,45 @@ says_limit options files limit passes =
     subst P (sym passes) (refl, refl)
 
 -- OPTIONS
-abbrev NoText : Option (List ℕ)
-NoText = None
-
-pub no_first : (first : Option (List ℕ)) (more : Bool) (text : List ℕ) → first_text first (cond more (Some text) None) ≡ None → (first ≡ None) × (more ≡ false)
-no_first None false text e = (refl, refl)
-no_first None true text e = absurd (cc)
-no_first (Some said) more text e = absurd (cc)
-
-pub built_by : (options : Options) → refused_text options ≡ None → asks_for_workers options ≡ false
-built_by options e = (no_first (refused_expression options) (asks_for_workers options) (codes "not built") e).1
-
-pub accepts : (options : Options) → refused_expression options ≡ None → asks_for_workers options ≡ false → refused_text options ≡ None
-accepts options none built = ap (λ x. first_text x (cond (asks_for_workers options) (Some (codes "not built")) None)) none ∙ ap (λ (b : Bool). cond b (Some (codes "not built")) NoText) built
-
-pub refuses_unbuilt : (options : Options) → refused_expression options ≡ None → asks_for_workers options ≡ true → refused_text options ≡ Some (codes "not built")
-refuses_unbuilt options none asks = ap (λ x. first_text x (cond (asks_for_workers options) (Some (codes "not built")) None)) none ∙ ap (λ (b : Bool). cond b (Some (codes "not built")) NoText) asks
-
-pub refuses_expression : (options : Options) (text : List ℕ) → refused_expression options ≡ Some text → refused_text options ≡ Some text
-refuses_expression options text e = ap (λ x. first_text x (cond (asks_for_workers options) (Some (codes "not built")) None)) e
-
-pub says_refused : (options : Options) (text : List ℕ) → refused_text options ≡ Some text → (files : List File) → rules.SaysOfOptions HoldsSource profile options [] files (refusal text)
+pub says_refused : (options : Options) (text : List ℕ) → refused_expression options ≡ Some text → (files : List File) → rules.SaysOfOptions HoldsSource profile options [] files (refusal text)
 says_refused options text e files =
     let P : Option (List ℕ) → Type 0 =
     λ x. MatchOption x (rules.SaysOfFiles HoldsSource profile options [] (rules.files_for HoldsSource profile options.generated files) (refusal text)) (λ t. (NoGroups ≡ NoGroups) × (refusal text ≡ refusal t)) in
     subst P (sym e) (refl, refl)
 
-pub says_run : (options : Options) → refused_text options ≡ None → (files : List File) (answer : PrintedAnswer) → rules.SaysOfFiles HoldsSource profile options [] (rules.files_for HoldsSource profile options.generated files) answer → rules.SaysOfOptions HoldsSource profile options [] files answer
-says_run options e files answer said =
+pub says_run : (options : Options) (taken : List (List ℕ)) → refused_expression options ≡ None → (files : List File) (answer : PrintedAnswer) → rules.SaysOfFiles HoldsSource profile options taken (rules.files_for HoldsSource profile options.generated files) answer → rules.SaysOfOptions HoldsSource profile options taken files answer
+says_run options taken e files answer said =
     let P : Option (List ℕ) → Type 0 =
-    λ x. MatchOption x (rules.SaysOfFiles HoldsSource profile options [] (rules.files_for HoldsSource profile options.generated files) answer) (λ t. (NoGroups ≡ NoGroups) × (answer ≡ refusal t)) in
+    λ x. MatchOption x (rules.SaysOfFiles HoldsSource profile options taken (rules.files_for HoldsSource profile options.generated files) answer) (λ t. (taken ≡ []) × (answer ≡ refusal t)) in
     subst P (sym e) said
 
 -- of the tree's files
-pub says_tree : (options : Options) → refused_text options ≡ None → options.generated ≡ None → (files : List File) (answer : PrintedAnswer) → rules.SaysOfFiles HoldsSource profile options [] files answer → rules.SaysOfOptions HoldsSource profile options [] files answer
-says_tree options e none files answer said =
-    says_run options e files answer (subst (λ fs. rules.SaysOfFiles HoldsSource profile options [] fs answer) (sym (ap (λ x. rules.files_for HoldsSource profile x files) none)) said)
+pub says_tree : (options : Options) → refused_expression options ≡ None → options.generated ≡ None → (files : List File) (answer : PrintedAnswer) → FilesSay options files answer → OptionsSay options files answer
+says_tree options e none files answer (taken, said) =
+    (taken, says_run options taken e files answer (subst (λ fs. rules.SaysOfFiles HoldsSource profile options taken fs answer) (sym (ap (λ x. rules.files_for HoldsSource profile x files) none)) said))
 
 -- of the generated files, whatever the tree's are
-pub says_generated : (options : Options) (asked : ℕ × ℕ) → refused_text options ≡ None → options.generated ≡ Some asked → (files : List File) (answer : PrintedAnswer) → rules.SaysOfFiles HoldsSource profile options [] (profile.generated asked.0 asked.1) answer → rules.SaysOfOptions HoldsSource profile options [] files answer
-says_generated options asked e some files answer said =
-    says_run options e files answer (subst (λ fs. rules.SaysOfFiles HoldsSource profile options [] fs answer) (sym (ap (λ x. rules.files_for HoldsSource profile x files) some)) said)
+pub says_generated : (options : Options) (asked : ℕ × ℕ) → refused_expression options ≡ None → options.generated ≡ Some asked → (files : List File) (answer : PrintedAnswer) → FilesSay options (profile.generated asked.0 asked.1) answer → OptionsSay options files answer
+says_generated options asked e some files answer (taken, said) =
+    (taken, says_run options taken e files answer (subst (λ fs. rules.SaysOfFiles HoldsSource profile options taken fs answer) (sym (ap (λ x. rules.files_for HoldsSource profile x files) some)) said))
 
 -- WORDS
-by_words : (words : List (List ℕ)) (files : List File) (answer : PrintedAnswer) → info_of words ≡ None → rules.SaysOfWords HoldsSource profile [] words files answer → rules.IsReport HoldsSource profile words files answer
-by_words words files answer none said =
+by_words : (words : List (List ℕ)) (taken : List (List ℕ)) (files : List File) (answer : PrintedAnswer) → info_of words ≡ None → rules.SaysOfWords HoldsSource profile taken words files answer → rules.IsReport HoldsSource profile words files answer
+by_words words taken files answer none said =
     let P : Option Info → Type 0 =
-    λ x. MatchOption x (rules.SaysOfWords HoldsSource profile [] words files answer) (λ info. (NoGroups ≡ NoGroups) × (answer ≡ info_answer info)) in
-    ([], subst P (sym none) said)
+    λ x. MatchOption x (rules.SaysOfWords HoldsSource profile taken words files answer) (λ info. (taken ≡ []) × (answer ≡ info_answer info)) in
+    (taken, subst P (sym none) said)
 
-abbrev SaysOfRead : List File → PrintedAnswer → Result Options UsageFault → Type 0
-SaysOfRead files answer x = MatchResult x (λ options. rules.SaysOfOptions HoldsSource profile options [] files answer) (λ fault. (NoGroups ≡ NoGroups) × (answer ≡ refusal (usage_text fault)))
+abbrev SaysOfRead : List (List ℕ) → List File → PrintedAnswer → Result Options UsageFault → Type 0
+SaysOfRead taken files answer x = MatchResult x (λ options. rules.SaysOfOptions HoldsSource profile options taken files answer) (λ fault. (taken ≡ []) × (answer ≡ refusal (usage_text fault)))
 
 pub says_options : (words : List (List ℕ)) (options : Options) → info_of words ≡ None → options_of words ≡ Ok options
-    → (files : List File) (answer : PrintedAnswer) → rules.SaysOfOptions HoldsSource profile options [] files answer → rules.IsReport HoldsSource profile words files answer
-says_options words options none read files answer said = by_words words files answer none (subst (SaysOfRead files answer) (sym read) said)
+    → (files : List File) (answer : PrintedAnswer) → OptionsSay options files answer → rules.IsReport HoldsSource profile words files answer
+says_options words options none read files answer (taken, said) = by_words words taken files answer none (subst (SaysOfRead taken files answer) (sym read) said)
 
 pub says_fault : (words : List (List ℕ)) (fault : UsageFault) → info_of words ≡ None → options_of words ≡ Err fault
     → (files : List File) → rules.IsReport HoldsSource profile words files (refusal (usage_text fault))
-says_fault words fault none read files = by_words words files (refusal (usage_text fault)) none (subst (SaysOfRead files (refusal (usage_text fault))) (sym read) (refl, refl))
+says_fault words fault none read files = by_words words [] files (refusal (usage_text fault)) none (subst (SaysOfRead [] files (refusal (usage_text fault))) (sym read) (refl, refl))
 
 pub says_info : (words : List (List ℕ)) (info : Info) → info_of words ≡ Some info → (files : List File) → rules.IsReport HoldsSource profile words files (info_answer info)
 says_info words info asked files =

@@ -36,7 +36,8 @@ use Rattle.runtest_loop.specs.declared.run_end.RunFault.{RunFault as LoopFault}
 use Rattle.runtest_loop.specs.declared.run_end.RunFault.TheVariants as loop
 use Rattle.pytest_core.specs.Profile.{profile}
 use Rattle.pytest_core.specs.Report.{IsReportOf}
-use Rattle.pytest_core.specs.Run.{AreApart, IsRunAnswer, chosen_first, collected_of, plan_by, wants_workers}
+use Rattle.worker_sessions.specs.Sessions.{plan_by}
+use Rattle.pytest_core.specs.Run.{AreApart, IsRunAnswer, chosen_first, collected_of, wants_workers}
 use Rattle.pytest_core.specs.Status.{status_seen}
 use Rattle.pytest_core.specs.Streamed.{BreaksFirst, BreaksIn, Broke, ListedTo, PutBy, PutRun, Puts, RanTo, Stems, StreamedAll, StreamsFirst, WroteBy, body_of, fault_seen, rest_of, times_failed}
 use Rattle.pytest_core.specs.Written.{IsResponseBy, WroteAll, WrotePrefix, response_of}
@@ -47,7 +48,7 @@ use Rattle.pytest_core.specs.declared.session.RunAnswer.{RunAnswer}
 use Rattle.pytest_core.specs.declared.status.Status.{Status}
 use Rattle.pytest_core.specs.declared.writer.ReportWriter.{ReportWriter}
 use Rattle.pytest_core.proofs.Chosen.{answers, reports_first}
-use Rattle.pytest_core.proofs.NoWorkers.{wants_as}
+use Rattle.pytest_core.proofs.NoWorkers.{none_taken, wants_as}
 
 -- WHAT IS APPENDED
 abbrev pub Told : Type 0
@@ -69,7 +70,7 @@ pub prefix_behind : (old mid new : Told) (a b : List ℕ) → Appends old mid a 
 prefix_behind old mid new a b h k =
     record { front = a ++ k.front; rest = k.rest; whole = ap (λ (l : List ℕ). a ++ l) k.whole ∙ sym (append_assoc a k.front k.rest); told = Appends-trans old mid new a k.front h k.told }
 
-prefix_as : (old new : Told) (a b : List ℕ) → a ≡ b → AppendsPrefix old new a → AppendsPrefix old new b
+pub prefix_as : (old new : Told) (a b : List ℕ) → a ≡ b → AppendsPrefix old new a → AppendsPrefix old new b
 prefix_as old new a b e h = subst (λ (t : List ℕ). AppendsPrefix old new t) e h
 
 puts_prefix : (whole : Bool) (old new : Told) (text : List ℕ) → Puts whole old new text → AppendsPrefix old new text
@@ -372,7 +373,7 @@ module _ (options : Options) (x : Gathered) (w : SourceWorld) (none : rules.work
   pub wrote_run : (count : ℕ) (errors : List CollectReport) → count ≡ length x.selected → errors ≡ x.errors.items → (old mid new : Told) (r : Result Status RunFault)
       → Appends old mid (head_of count x.deselected (length errors) 0) → PutRun options x.found x.selected x.deselected errors w mid new r → WroteBy (IsReportOf options c) old new r
   wrote_run count errors e s old mid new r h k =
-      wrote_put (IsReportOf options c) (rules.report HoldsSource profile options c []) refl (head_at options c ++ body_of options c) (status_seen (rules.report HoldsSource profile options c []).1) (sym (joined_report options c none no_places)) refl old new r
+      wrote_put (IsReportOf options c) (rules.report HoldsSource profile options c []) ([], none_taken options c none, refl) (head_at options c ++ body_of options c) (status_seen (rules.report HoldsSource profile options c []).1) (sym (joined_report options c none no_places)) refl old new r
       (put_behind (head_at options c) (body_of options c) (status_seen (rules.report HoldsSource profile options c []).1) old mid new r (subst (λ (t : List ℕ). Appends old mid t) (head_as count errors e s) h)
       (subst (λ (es : List CollectReport). PutRun options x.found x.selected x.deselected es w mid new r) s k x.places.items))
 
@@ -383,7 +384,7 @@ module _ (options : Options) (x : Gathered) (w : SourceWorld) (none : rules.work
   head_prefix count errors e s old new h =
       inr (
         rules.report HoldsSource profile options c [],
-        refl,
+        ([], none_taken options c none, refl),
         prefix_as old new (head_at options c ++ body_of options c) (rules.report HoldsSource profile options c []).0 (sym (joined_report options c none no_places))
             (prefix_more old new (head_at options c) (body_of options c) (prefix_as old new (head_of count x.deselected (length errors) 0) (head_at options c) (head_as count errors e s) h)),
       )

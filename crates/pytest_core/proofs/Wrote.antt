@@ -14,8 +14,8 @@ use Rattle.run_items.specs.report_rules.Answer.{PrintedAnswer, limit_text, refus
 use Rattle.run_items.specs.report_rules.Collected.{Whole}
 use Rattle.run_items.specs.report_rules.Report as rules
 use Rattle.run_items.specs.source_meaning.Meaning.{SourceWorld}
-use Rattle.pytest_core.specs.Profile.{profile, refused_text}
-use Rattle.pytest_core.specs.Report.{IsReportOf, OfKept}
+use Rattle.pytest_core.specs.Profile.{profile}
+use Rattle.pytest_core.specs.Report.{FilesSay, IsReportOf, OfKept}
 use Rattle.pytest_core.specs.Status.{is_said, status_seen}
 use Rattle.pytest_core.specs.Streamed.{Broke, IsNotSink, LimitPut, PutBy, WroteBy}
 use Rattle.pytest_core.specs.Written.{Response, WroteAll, Wrote, response_of}
@@ -24,7 +24,6 @@ use Rattle.pytest_core.specs.declared.refusal.RunFault.TheVariants as fault
 use Rattle.pytest_core.specs.declared.status.Status.{Status}
 use Rattle.pytest_core.specs.declared.status.Status.TheVariants.{Passed, Failed, Interrupted, Usage, NoTests, OutOfMemory, TreeFault, SinkFault}
 use Rattle.pytest_core.proofs.Kept.{kept_files}
-use Rattle.pytest_core.proofs.NoWorkers.{none_taken}
 use Rattle.pytest_core.proofs.Said.{says_collected, says_limit}
 use Rattle.pytest_core.proofs.Streamed.{Told, wrote_as, wrote_put}
 
@@ -50,11 +49,11 @@ said_ok text status old new (Ok s) e h = said_put text status s old new e h
 said_ok text status old new (Err f) e h = tt
 
 -- WHAT WAS COLLECTED
-pub wrote_collected : (options : Options) (files : List File) (reads : List ReadFile) (x : Collected) (w : SourceWorld) → tree_limit files ≡ None → AreRead files reads → Whole (collected_told x w) ≡ collect options reads → rules.workers_of options (collected_told x w) ≡ 0
-    → (old new : Told) (r : Result Status RunFault) → WroteBy (IsReportOf options (collected_told x w)) old new r → WroteBy (rules.SaysOfFiles HoldsSource profile options [] files) old new r
-wrote_collected options files reads x w fits read is built old new r h =
-    wrote_as (IsReportOf options (collected_told x w)) (rules.SaysOfFiles HoldsSource profile options [] files) old new r
-    (λ answer e. says_collected options files reads answer fits read (subst (λ end. rules.SaysOfCollection HoldsSource profile options [] end answer) is (none_taken options (collected_told x w) built, e))) h
+pub wrote_collected : (options : Options) (files : List File) (reads : List ReadFile) (x : Collected) (w : SourceWorld) → tree_limit files ≡ None → AreRead files reads → Whole (collected_told x w) ≡ collect options reads
+    → (old new : Told) (r : Result Status RunFault) → WroteBy (IsReportOf options (collected_told x w)) old new r → WroteBy (FilesSay options files) old new r
+wrote_collected options files reads x w fits read is old new r h =
+    wrote_as (IsReportOf options (collected_told x w)) (FilesSay options files) old new r
+    (λ answer (taken, is_taken, e). (taken, says_collected options taken files reads answer fits read (subst (λ end. rules.SaysOfCollection HoldsSource profile options taken end answer) is (is_taken, e)))) h
 
 -- A TREE THAT PASSES A LIMIT
 some_and : {X : Type 0} (o : Option X) (P Q : X → Type 0) → ((x : X) → P x → Q x) → IfSome o P → IsSome o → IsSomeAnd o Q
@@ -85,11 +84,11 @@ module _ (options : Options) (fs : List File) (old new : Told) where
   Passes l = (kept : List File) × IsKept fs kept × (tree_limit kept ≡ Some l)
 
   wrote_limit : (o : Option TreeLimit) (r : Result Status RunFault) → IfSome o Passes → IsSomeAnd o (λ l. PutBy (refusal (limit_text l)).0 (status_seen (refusal (limit_text l)).1) old new r)
-      → WroteBy (OfKept (rules.SaysOfFiles HoldsSource profile options []) fs) old new r
+      → WroteBy (OfKept (FilesSay options) fs) old new r
   wrote_limit None r passes h = absurd h
-  wrote_limit (Some l) r (kept, is, e) h = wrote_put (OfKept (rules.SaysOfFiles HoldsSource profile options []) fs) (refusal (limit_text l)) (kept, is, says_limit options kept l e) _ _ refl refl old new r h
+  wrote_limit (Some l) r (kept, is, e) h = wrote_put (OfKept (FilesSay options) fs) (refusal (limit_text l)) (kept, is, ([], says_limit options kept l e)) _ _ refl refl old new r h
 
-  limit_said : (load : LoadFault) (r : Result Status RunFault) → IfSome (limit_of load) Passes → LimitPut load old new r → WroteBy (OfKept (rules.SaysOfFiles HoldsSource profile options []) fs) old new r
+  limit_said : (load : LoadFault) (r : Result Status RunFault) → IfSome (limit_of load) Passes → LimitPut load old new r → WroteBy (OfKept (FilesSay options) fs) old new r
   limit_said load (Ok s) passes h = wrote_limit (limit_of load) (Ok s) passes h
   limit_said load (Err fault.Tree) passes h = h
   limit_said load (Err fault.Sink) passes h = wrote_limit (limit_of load) (Err fault.Sink) passes h
@@ -102,7 +101,7 @@ known_limit (Some x) y P h = h
 
 pub limit_wrote : (options : Options) (tree : Option (List File)) (load : LoadFault) (old new : Told) (r : Result Status RunFault)
     → IfSome (limit_of load) (λ l. IfSome tree (λ fs. (kept : List File) × IsKept fs kept × (tree_limit kept ≡ Some l))) → LimitPut load old new r
-    → IfSome tree (λ fs. WroteBy (OfKept (rules.SaysOfFiles HoldsSource profile options []) fs) old new r)
+    → IfSome tree (λ fs. WroteBy (OfKept (FilesSay options) fs) old new r)
 limit_wrote options None load old new r passes h = tt
 limit_wrote options (Some fs) load old new r passes h = limit_said options fs old new load r (known_limit (limit_of load) fs (λ l files. (kept : List File) × IsKept files kept × (tree_limit kept ≡ Some l)) passes) h
 

@@ -1,3 +1,4 @@
+pub mod ByWorkers
 pub mod OneGroup
 pub mod Profile
 pub mod Report
@@ -5,4 +6,5 @@ pub mod Request
 pub mod Run
 pub mod Status
 pub mod Streamed
+pub mod Unread
 pub mod Written

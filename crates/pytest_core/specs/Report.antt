@@ -1,5 +1,5 @@
 -- THE REPORT OF WORDS AND FILES.
-use Rattle.std.specs.Prelude.{◌≡◌, ℕ, List, [], Option, None, Some, Ok, map}
+use Rattle.std.specs.Prelude.{◌≡◌, ℕ, List, Option, None, Some, Ok, map}
 use Rattle.cli_words.specs.Info.{info_of}
 use Rattle.cli_words.specs.Options.{options_of}
 use Rattle.cli_words.specs.declared.options.Options.{Options}
@@ -10,9 +10,10 @@ use Rattle.run_items.specs.report_rules.Collected.{Collected, Collection, Confte
 use Rattle.run_items.specs.report_rules.Fits.{chosen_item}
 use Rattle.run_items.specs.report_rules.Report as rules
 use Rattle.run_items.specs.runtest_rules.Language.{python}
+use Rattle.selection.specs.Exprs.{refused_expression}
 use Rattle.session_rules.specs.Fits.{Distinct}
 use Rattle.run_items.specs.test_suite.declared.suite.Suite.{Suite}
-use Rattle.pytest_core.specs.Profile.{profile, refused_text}
+use Rattle.pytest_core.specs.Profile.{profile}
 
 -- what is said of a tree: that of its kept files, in the order of their paths
 abbrev pub OfKept : (List File → PrintedAnswer → Type 0) → List File → PrintedAnswer → Type 0
@@ -32,13 +33,20 @@ end_answer (Whole c) = None
 abbrev pub AreDistinct : Collected python Suite → Type 0
 AreDistinct c = Distinct (map chosen_item c.selected)
 
--- the report of what was collected
+-- the report of what was collected, by some way to share the groups among workers
 abbrev pub IsReportOf : Options → Collected python Suite → PrintedAnswer → Type 0
-IsReportOf options c answer = answer ≡ rules.report HoldsSource profile options c []
+IsReportOf options c answer = (taken : List (List ℕ)) × rules.IsTaken options c taken × (answer ≡ rules.report HoldsSource profile options c taken)
+
+-- what is said of files, and of options, by such a way
+abbrev pub FilesSay : Options → List File → PrintedAnswer → Type 0
+FilesSay options files answer = (taken : List (List ℕ)) × rules.SaysOfFiles HoldsSource profile options taken files answer
+
+abbrev pub OptionsSay : Options → List File → PrintedAnswer → Type 0
+OptionsSay options files answer = (taken : List (List ℕ)) × rules.SaysOfOptions HoldsSource profile options taken files answer
 
 -- words that ask for a run: they ask for no information, and are not refused
 pub record AskForRun (words : List (List ℕ)) : Type 0 where
   pub options : Options
   pub no_info : info_of words ≡ None
   pub read : options_of words ≡ Ok options
-  pub accepted : refused_text options ≡ None
+  pub accepted : refused_expression options ≡ None

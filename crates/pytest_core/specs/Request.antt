@@ -8,10 +8,10 @@ use Rattle.cli_words.specs.declared.options.Options.{Options}
 use Rattle.edge_io.specs.Files.{File}
 use Rattle.collect_tree.specs.file_source.Sources.{HoldsSource}
 use Rattle.run_items.specs.report_rules.Report as rules
-use Rattle.selection.specs.Exprs.{AreExprs}
+use Rattle.selection.specs.Exprs.{AreExprs, refused_expression}
 use Rattle.selection.specs.declared.fault.SelectionFault.{SelectionFault}
 use Rattle.selection.specs.declared.fault.SelectionFault.TheVariants as selection
-use Rattle.pytest_core.specs.Profile.{profile, refused_text}
+use Rattle.pytest_core.specs.Profile.{profile}
 use Rattle.pytest_core.specs.Report.{IsTreeReport, OfKept}
 use Rattle.pytest_core.specs.Written.{IsResponseBy}
 use Rattle.pytest_core.specs.declared.request.Request.{Request}
@@ -34,12 +34,12 @@ is_expression_fault selection.OutOfMemory = false
 
 -- options ask for a run, unless they are refused
 abbrev pub OptionsAsk : Options → Request → Type 0
-OptionsAsk o (Run options exprs) = (options ≡ o) × AreExprs o exprs × (refused_text o ≡ None)
+OptionsAsk o (Run options exprs) = (options ≡ o) × AreExprs o exprs × (refused_expression o ≡ None)
 OptionsAsk o (Said response) = (tree : List File) → IsResponseBy (OfKept (rules.SaysOfOptions HoldsSource profile o []) tree) (response.0.items, response.1)
 
 -- words ask for a run, unless they ask for information or are refused
 abbrev pub WordsAsk : List (List ℕ) → Request → Type 0
-WordsAsk words (Run options exprs) = (info_of words ≡ None) × (options_of words ≡ Ok options) × AreExprs options exprs × (refused_text options ≡ None)
+WordsAsk words (Run options exprs) = (info_of words ≡ None) × (options_of words ≡ Ok options) × AreExprs options exprs × (refused_expression options ≡ None)
 WordsAsk words (Said response) = (tree : List File) → IsResponseBy (IsTreeReport words tree) (response.0.items, response.1)
 
 -- the bounds of `--generated`: a seed from 0 to 65,535, and 1 to 4,000 files

@@ -55,10 +55,6 @@ pub record IsRunAnswer (options : Options) (found : FoundSuite) (numbers : List 
   pub reports : (places : List ℕ) (deselected : ℕ) → told ≡ rules.reports_told HoldsSource profile options (collected_of found places numbers deselected errors w) []
   pub stopped : (places : List ℕ) (deselected : ℕ) → early ≡ rules.reached_maxfail (tests options found.suite) options (collected_of found places numbers deselected errors w)
 
--- what the run of found items depends on: their suite, its table and the limit of steps
-abbrev pub plan_by : Options → FoundSuite → Plan
-plan_by options found = record { run = record { limit = options.step_limit; suite = found.suite }; table = found.table }
-
 -- the answer of a run by a plan: the reports of its session, and whether that stopped early
 pub record IsRunOf (plan : Plan) (options : Options) (chosen : List SelectedItem) (w : SourceWorld) (told : List ItemReport) (early : Bool) : Type 0 where
   pub reports : map (item_report options (plan_rules plan).scope (plan_fixture plan)) (session_rows (plan_rules plan) w options.maxfail (map (task None) chosen)) ≡ told

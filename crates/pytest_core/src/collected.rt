@@ -1,4 +1,4 @@
-// The report of what was collected, and what is said where collection ended before.
+// The report of what was collected, without workers, and what is said where collection ended before.
 
 ghost use Rattle.std.specs.Prelude.{◌≡◌, ◌+◌, ◌<◌, ◌≤◌, All, List, true, false, IfErr, IfOk, IsSomeAnd, IsTrue, OnOk, Err as Fails, Some, length, option_map};
 ghost use Rattle.run_items.specs.source_meaning.Meaning.{SourceWorld};
@@ -123,27 +123,35 @@ fn run_of<S: Sink>(
     run_selected(alloc, options, world, found, selected, out)
 }
 
-/// Writes the head.
-fn put_head<S: Sink>(
+/// Writes the head. Without workers their number is 0.
+pub fn put_head<S: Sink>(
     alloc: Global,
     options: &Options,
     count: u32,
     deselected: u32,
     errors: &[CollectReport],
+    workers: u32,
     out: &mut S,
 ) -> Result<(), RunFault>
     requires items { count + deselected ≤ most_items }
     requires errors { length errors.now ≤ most_items }
-    ensures ok { OnOk result (Appends (S.told out.old) (S.told out.new) (head_of count deselected (length errors.now) 0)) }
-    ensures broke { IfErr result (Broke (AppendsPrefix (S.told out.old) (S.told out.new) (head_of count deselected (length errors.now) 0))) }
+    ensures ok { OnOk result (Appends (S.told out.old) (S.told out.new) (head_of count deselected (length errors.now) workers)) }
+    ensures broke { IfErr result (Broke (AppendsPrefix (S.told out.old) (S.told out.new) (head_of count deselected (length errors.now) workers))) }
     ensures sink { HasCause RunFault.Sink (S.faults out.old) (S.faults out.new) result }
 {
-    let head = head(alloc, options, count, deselected, errors.len() as u32, 0)?;
+    let head = head(
+        alloc,
+        options,
+        count,
+        deselected,
+        errors.len() as u32,
+        workers,
+    )?;
     put(head.as_slice(), out)
 }
 
 /// Writes what stands behind what is written of the progress.
-fn put_rest<S: Sink>(
+pub fn put_rest<S: Sink>(
     alloc: Global,
     options: &Options,
     count: u32,
@@ -202,8 +210,8 @@ fn put_run<S: Sink>(
 
 ghost use Rattle.pytest_core.specs.Streamed.{PutRun};
 
-/// Writes the report of collected items, which run in this world: the head, then the progress as they end, then the rest.
-pub fn put_collected<S: Sink>(
+/// Writes the report of collected items, which one thread runs in this world: the head, then the progress as they end, then the rest.
+pub fn put_single<S: Sink>(
     alloc: Global,
     options: &Options,
     world: World,
@@ -228,7 +236,7 @@ pub fn put_collected<S: Sink>(
     drop(places);
     let count = selected.items().len() as u32;
     let errors = errors.as_slice();
-    match put_head(alloc, options, count, deselected, errors, out) {
+    match put_head(alloc, options, count, deselected, errors, 0, out) {
         Ok(()) => put_run(
             alloc, options, world, found, selected, deselected, errors, out,
         ),
@@ -249,7 +257,6 @@ pub fn fault_response(alloc: Global, fault: &CollectFault) -> Result<Response, O
     ensures said { IfOk result (λ r. IsTrue (is_said r.1)) }
 {
     match fault {
-        CollectFault::NotBuilt => refuse(alloc, "not built"),
         CollectFault::NotFound(name) => refuse_word(alloc, name.text()),
         CollectFault::TooManyItems => refuse(alloc, "too many items"),
         CollectFault::Conftest(path, told) => tell_conftest(alloc, path.text(), told),

@@ -1,12 +1,13 @@
 // What the definition of the report is known to say.
 
-ghost use Rattle.std.specs.Prelude.{◌≡◌, List, ℕ, []};
+ghost use Rattle.std.specs.Prelude.{◌≡◌, List, ℕ};
 ghost use Rattle.edge_io.specs.Files.{File};
 ghost use Rattle.collect_tree.specs.file_source.Sources.{HoldsSource};
 ghost use Rattle.pytest_core.specs.Profile.{profile};
 ghost use Rattle.pytest_core.specs.Report.{IsTreeReport, OfKept};
 ghost use Rattle.run_items.specs.report_rules.Answer.{PrintedAnswer};
 ghost use Rattle.run_items.specs.report_rules.Headline.{Headline};
+ghost use Rattle.run_items.specs.report_rules.Report.{IsOfOneThread, IsReportBy};
 ghost use Rattle.run_items.specs.source_meaning.py_world.Resuming.{is_out};
 
 use collect_tree::what_is_collected_fits;
@@ -15,14 +16,21 @@ use session_frames::{
     collection_leaves_no_frame_out, hooks_have_the_built_ins, sources_keep_their_frames,
 };
 
-/// A law: the words and the tree's files have one report.
+/// A law: words that ask for no workers have one report over the files of a tree.
 pub fn one_report()
-    ensures { (words : List (List ℕ)) (tree : List File) (a b : PrintedAnswer) → IsTreeReport words tree a → IsTreeReport words tree b → a ≡ b }
+    ensures { (words : List (List ℕ)) (tree : List File) (a b : PrintedAnswer) → IsOfOneThread words → IsTreeReport words tree a → IsTreeReport words tree b → a ≡ b }
 {
     one_list_of_kept_files();
 }
 
-/// A law: they have one.
+/// A law: by the groups that workers took, words have one report over the files of a tree.
+pub fn one_report_by()
+    ensures { (taken words : List (List ℕ)) (tree : List File) (a b : PrintedAnswer) → OfKept (IsReportBy HoldsSource profile taken words) tree a → OfKept (IsReportBy HoldsSource profile taken words) tree b → a ≡ b }
+{
+    one_list_of_kept_files();
+}
+
+/// A law: words have a report over the files of a tree.
 pub fn has_report()
     ensures { (words : List (List ℕ)) (tree : List File) → (a : PrintedAnswer) × IsTreeReport words tree a }
 {}
@@ -30,10 +38,11 @@ pub fn has_report()
 /// A law, the headline: the report of words over a tree, by its kept files, is a text that the words ask for, a refusal, that of a
 /// conftest that failed, or the report of what collection selects of these files. There, the selected items are distinct and reported
 /// each once, in the stated order; in each hook call around one the built-in is called once, unless another raised before it; the journal
-/// of each session is lawful; behind each session no body stands at its `yield`, and each that stood there went on once. No groups are
-/// shared among workers.
+/// of each session is lawful; behind each session no body stands at its `yield`, and each that stood there went on once. With workers, by some way
+/// to share the groups of files among them, each report has the place of its worker, and each worker's are those of one thread on the files
+/// that it drew.
 pub fn what_a_report_tells()
-    ensures { (words : List (List ℕ)) (tree : List File) (answer : PrintedAnswer) → IsTreeReport words tree answer → OfKept (Headline HoldsSource is_out profile [] words) tree answer }
+    ensures { (words : List (List ℕ)) (tree : List File) (answer : PrintedAnswer) → IsTreeReport words tree answer → OfKept (λ files a. (taken : List (List ℕ)) × Headline HoldsSource is_out profile taken words files a) tree answer }
 {
     what_is_collected_fits();
     sources_keep_their_frames();

@@ -3,7 +3,7 @@
 ghost use Rattle.std.specs.Prelude.{◌≡◌, ℕ, List, None, IfOk, map, string_bytes};
 ghost use Rattle.pytest_core.specs.Request.{OptionsAsk, WordsAsk, is_expression_fault, is_usage_fault};
 
-use crate::refusal::{Response, refuse, refuse_expression, refuse_words, tell_info};
+use crate::refusal::{Response, refuse_expression, refuse_words, tell_info};
 use cli_words::{Options, UsageFault, asked_info, read_words};
 use report_text::OutOfMemory;
 use selection::{Exprs, SelectionFault, read_exprs};
@@ -17,19 +17,6 @@ pub enum Request {
     /// A text, whatever the tree is.
     Said(Response),
 }
-
-/// What options with these expressions ask for.
-fn built_request(alloc: Global, options: Options, exprs: Exprs) -> Result<Request, OutOfMemory>
-    requires { AreExprs options exprs }
-    ensures { IfOk result (OptionsAsk options) }
-{
-    if options.asks_for_workers() {
-        return Ok(Request::Said(refuse(alloc, "not built")?));
-    }
-    Ok(Request::Run(options, exprs))
-}
-
-ghost use Rattle.selection.specs.Exprs.{AreExprs};
 
 fn is_expression_fault(fault: SelectionFault) -> bool
     ensures { result ≡ is_expression_fault fault }
@@ -58,7 +45,7 @@ fn options_request(alloc: Global, options: Options) -> Result<Request, OutOfMemo
     ensures { IfOk result (OptionsAsk options) }
 {
     match read_exprs(alloc, &options) {
-        Ok(exprs) => built_request(alloc, options, exprs),
+        Ok(exprs) => Ok(Request::Run(options, exprs)),
         Err(fault) => expression_request(alloc, fault),
     }
 }

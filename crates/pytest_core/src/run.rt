@@ -16,12 +16,12 @@ use std::thread::Threads;
 /// The words are those of the command line behind the program's name. Nothing is written before all
 /// files were read, and nothing runs or is put behind a fault of the sink.
 pub fn pytest_main<R: Threads + Sync, T: Tree, S: Sink, G: Gate + Sync>(
-    _rt: &R,
+    rt: &R,
     alloc: Global,
     words: &[String],
     tree: &mut T,
     out: &mut S,
-    _gate: &G,
+    gate: &G,
 ) -> Status
     // The bytes written and the status are the report's: all of them, or under a fault a prefix.
     ensures report { IfSome (T.files tree.old) (λ files. Wrote (IsTreeReport (map string_bytes words.now) files) (S.told out.old) (S.told out.new) result) }
@@ -33,7 +33,7 @@ pub fn pytest_main<R: Threads + Sync, T: Tree, S: Sink, G: Gate + Sync>(
     // The sink's fault comes only where its count rose.
     ensures sink { result ≡ Status.SinkFault → Rose (S.faults out.old) (S.faults out.new) }
 {
-    match put_answer(alloc, words, tree, out) {
+    match put_answer(rt, alloc, words, tree, out, gate) {
         Ok(status) => status,
         Err(RunFault::Tree) => Status::TreeFault,
         Err(RunFault::Sink) => Status::SinkFault,

@@ -3,7 +3,8 @@
 ghost use Rattle.std.specs.Prelude.{◌≡◌, ◌<◌, ◌≤◌, [], ◌∷◌, All, List, IfErr, IfOk, false, length};
 ghost use Rattle.collect_tree.specs.Runnable.{IsRunnable};
 ghost use Rattle.edge_io.specs.Causes.{HasCause};
-ghost use Rattle.pytest_core.specs.Run.{AreApart, IsOneGroup, plan_by, wants_workers};
+ghost use Rattle.pytest_core.specs.Run.{AreApart, IsOneGroup, wants_workers};
+ghost use Rattle.worker_sessions.specs.Sessions.{plan_by};
 ghost use Rattle.pytest_core.specs.Streamed.{BreaksFirst, BreaksIn, Broke, RanTo, StreamsFirst};
 ghost use Rattle.report_parts.specs.Limits.{most_items};
 ghost use Rattle.report_parts.specs.Outcomes.{not_empty};
@@ -13,7 +14,7 @@ use crate::one_group::OneGroup;
 use crate::refusal::RunFault;
 use crate::writer::{ReportWriter, let_go};
 use cli_words::Options;
-use collect_tree::{FoundSuite, RunSetting};
+use collect_tree::FoundSuite;
 use edge_io::Sink;
 use report_parts::ItemReport;
 use report_pieces::end;
@@ -22,6 +23,7 @@ use run_items::{Plan, Stand, World, run};
 use runtest_loop::RunEnd;
 use seq::Seq;
 use std::alloc::Global;
+use worker_sessions::plan_of;
 
 /// The items that ran: their reports, in order, and whether `--maxfail` was reached.
 #[derive(Drop)]
@@ -41,20 +43,6 @@ pub struct RunAnswer {
 ghost use Rattle.run_items.specs.Stands.{IsNewStand, IsPlan, IsPlannedItem};
 ghost use Rattle.runtest_loop.specs.Fed.{AreKnown, numbers_at, numbers_in_range};
 ghost use Rattle.item_stack.specs.fixture_instances.Resting.{AreSpent};
-
-/// What the run of found items depends on: their suite, its table and the limit of steps.
-fn plan_of(options: &Options, found: FoundSuite) -> Plan
-    ensures { result ≡ plan_by options.now found }
-{
-    let FoundSuite { suite, table } = found;
-    Plan {
-        run: RunSetting {
-            limit: options.step_limit,
-            suite,
-        },
-        table,
-    }
-}
 
 /// Whether a run reached maxfail.
 fn has_stopped(end: RunEnd) -> bool

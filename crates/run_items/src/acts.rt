@@ -1,11 +1,12 @@
 // What is done in the world of a run, by the rules of sources.
 
-ghost use Rattle.std.specs.Prelude.{◌≡◌, IfOk, codes};
+ghost use Rattle.std.specs.Prelude.{◌≡◌, IfOk, codes, true};
 ghost use Rattle.fixture_calls.specs.Asking.{test_request};
 ghost use Rattle.fixture_calls.specs.Calls.{test_called};
 ghost use Rattle.fixture_calls.specs.Hooks.{hook_begun, hook_called, resumed_by, resumed_with_value, resumed_with_values};
-ghost use Rattle.fixture_calls.specs.Yields.{fixture_abandoned};
+ghost use Rattle.fixture_calls.specs.Yields.{fixture_abandoned, fixture_given_up};
 ghost use Rattle.fixture_world.specs.runtest_rules.Rules.{wrapper_fault};
+ghost use Rattle.fixture_world.specs.runtest_rules.py_world.Resuming.{is_out};
 ghost use Rattle.runtest_reports.specs.report_rules.Collected.{ends_badly};
 ghost use Rattle.fixture_world.specs.runtest_rules.Failures as failures;
 ghost use Rattle.fixture_world.specs.runtest_rules.Objects as objects;
@@ -121,11 +122,19 @@ pub(crate) fn fails_in_teardown(
     Ok(error)
 }
 
-/// Gives up what remains of a wrapper. Takes no memory.
+/// Gives up what remains of a wrapper, and is out. Takes no memory.
 pub(crate) fn abandon(world: &mut RunWorld, rest: Frozen)
+    requires out { is_out rest world.old ≡ true }
     ensures { world.new ≡ fixture_abandoned rest world.old }
 {
     fixture_calls::abandon(&mut world.world, rest);
+}
+
+/// Lets go what remains of a wrapper behind want of memory. Takes no memory.
+pub(crate) fn give_up(world: &mut RunWorld, rest: Frozen)
+    ensures { world.new ≡ fixture_given_up rest world.old }
+{
+    fixture_calls::give_up(&mut world.world, rest);
 }
 
 /// Calls the function of a hook with these objects.
@@ -163,6 +172,7 @@ pub(crate) fn resume_with_values(
     values: &[Value],
     limit: u64,
 ) -> Result<FixtureEnd, OutOfMemory>
+    requires out { is_out rest world.old ≡ true }
     ensures { IfOk result (λ end. (end, world.new) ≡ resumed_with_values limit rest values.now world.old) }
 {
     let alloc = world.alloc;
@@ -177,6 +187,7 @@ pub(crate) fn resume_with_value(
     value: Option<Value>,
     limit: u64,
 ) -> Result<FixtureEnd, OutOfMemory>
+    requires out { is_out rest world.old ≡ true }
     ensures { IfOk result (λ end. (end, world.new) ≡ resumed_with_value limit rest value world.old) }
 {
     let alloc = world.alloc;
@@ -191,6 +202,7 @@ pub(crate) fn resume_by(
     failure: &Failure,
     limit: u64,
 ) -> Result<FixtureEnd, OutOfMemory>
+    requires out { is_out rest world.old ≡ true }
     ensures { IfOk result (λ end. (end, world.new) ≡ resumed_by limit rest failure.now world.old) }
 {
     let end = fixture_calls::resume_hook_by(world.alloc, &mut world.world, rest, failure, limit)?;

@@ -6,6 +6,8 @@ ghost use Rattle.runtest_reports.specs.fixture_sessions.FixtureSession.{fixture_
 ghost use Rattle.fixture_world.specs.Items.{item_in_session};
 ghost use Rattle.run_items.specs.Stands.{IsPlan, IsPlannedItem, plan_rules, stand_state};
 ghost use Rattle.session_rules.specs.Demand.{numbers_of};
+ghost use Rattle.session_rules.specs.Frames.{StandsWith};
+ghost use Rattle.fixture_world.specs.runtest_rules.py_world.Resuming.{is_out};
 ghost use Rattle.session_rules.specs.Session.{in_hooks, pyfunc_call, test_with};
 ghost use Rattle.session_rules.specs.Teardown.{emit, session_step};
 ghost use Rattle.session_rules.specs.World.{Call};
@@ -114,7 +116,9 @@ fn end_call(stand: &mut Stand, node: u32) -> Result<(), OutOfMemory>
 fn call_hooked(stand: &mut Stand, plan: &Plan, item: &Item) -> Result<Seq<Failure>, OutOfMemory>
     requires plan { IsPlan plan.now }
     requires item { IsPlannedItem plan.now item.now }
-    ensures { IfOk result (λ raised. session_step raised (stand_state stand.new) ≡ in_hooks (plan_rules plan.now) Call (item_in_session plan.now.table item.now) None (pyfunc_call (plan_rules plan.now) (item_in_session plan.now.table item.now)) (stand_state stand.old)) }
+    requires frames { StandsWith (stand_state stand.old) is_out [] }
+    ensures state { IfOk result (λ raised. session_step raised (stand_state stand.new) ≡ in_hooks (plan_rules plan.now) Call (item_in_session plan.now.table item.now) None (pyfunc_call (plan_rules plan.now) (item_in_session plan.now.table item.now)) (stand_state stand.old)) }
+    ensures frames { OnOk result (StandsWith (stand_state stand.new) is_out []) }
 {
     let alloc = memory(&stand.world);
     let raised = hook_phases::in_hooks(alloc, stand, plan, HookPhase::Call, item, None)?;
@@ -125,7 +129,9 @@ fn call_hooked(stand: &mut Stand, plan: &Plan, item: &Item) -> Result<Seq<Failur
 pub(crate) fn call(stand: &mut Stand, plan: &Plan, item: &Item) -> Result<Seq<Failure>, OutOfMemory>
     requires plan { IsPlan plan.now }
     requires item { IsPlannedItem plan.now item.now }
-    ensures { IfOk result (λ raised. session_step raised (stand_state stand.new) ≡ fixture_call (plan_rules plan.now) (item_in_session plan.now.table item.now) (stand_state stand.old)) }
+    requires frames { StandsWith (stand_state stand.old) is_out [] }
+    ensures state { IfOk result (λ raised. session_step raised (stand_state stand.new) ≡ fixture_call (plan_rules plan.now) (item_in_session plan.now.table item.now) (stand_state stand.old)) }
+    ensures frames { OnOk result (StandsWith (stand_state stand.new) is_out []) }
 {
     begin_call(stand, item.node)?;
     let raised = call_hooked(stand, plan, item)?;

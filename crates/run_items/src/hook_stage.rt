@@ -1,6 +1,9 @@
 // The stage of a session over sources, as its hooks see it.
 
-ghost use Rattle.std.specs.Prelude.{◌≡◌, IfOk, OnOk};
+ghost use Rattle.std.specs.Prelude.{◌≡◌, IfOk, OnOk, true};
+ghost use Rattle.fixture_calls.specs.Yields.{fixture_given_up};
+ghost use Rattle.fixture_world.specs.runtest_rules.py_world.Resuming.{is_out};
+ghost use Rattle.runtest_rules.proofs.Kept.{keeps_within};
 ghost use Rattle.fixture_world.specs.Items.{item_in_session};
 ghost use Rattle.fixture_world.specs.runtest_rules.Language.{python};
 ghost use Rattle.hook_phases.specs.Phases.{phase_of};
@@ -10,7 +13,7 @@ ghost use Rattle.runtest_reports.specs.report_rules.Collected.{ends_badly};
 ghost use Rattle.session_rules.specs.Hooks.{SentValue};
 ghost use Rattle.session_rules.specs.Teardown.{in_world};
 
-use crate::acts::{abandon, memory};
+use crate::acts::{abandon, give_up, memory};
 use crate::opening::make_ready;
 use crate::plan::Plan;
 use crate::stand::Stand;
@@ -49,6 +52,12 @@ impl HookStage for Stand {
     ghost stands = { λ plan stand. IsPlan plan };
 
     ghost known = { IsPlannedItem };
+
+    ghost is_out = { is_out };
+
+    ghost given_up = { fixture_given_up };
+
+    ghost keeps = { λ plan. keeps_within plan.run.limit plan.run.suite };
 
     fn hooks(&self, plan: &Plan, phase: HookPhase, item: &Item) -> Result<Seq<Impl>, OutOfMemory> {
         let hooks = hooking::hooks_of(memory(&self.world), plan, phase, item)?;
@@ -135,6 +144,7 @@ impl HookStage for Stand {
     ) -> Result<WrapperEnd<Value, Failure, Frozen>, OutOfMemory>
         requires here { IsPlan plan.now }
         requires known { IsPlannedItem plan.now _item.now }
+        requires out { is_out rest (stand_state self.old).world ≡ true }
         ensures how { IfOk result (λ end. wrapper_end python end ≡ ((plan_rules plan.now).resume_wrapper (phase_of _phase) (item_in_session plan.now.table _item.now).node rest (SentValue value) (stand_state self.old).world).how) }
         ensures state { OnOk result (stand_state self.new ≡ in_world ((plan_rules plan.now).resume_wrapper (phase_of _phase) (item_in_session plan.now.table _item.now).node rest (SentValue value) (stand_state self.old).world).world (stand_state self.old)) }
         ensures here { IsPlan plan.now }
@@ -157,6 +167,10 @@ impl HookStage for Stand {
 
     fn abandon(&mut self, _plan: &Plan, rest: Frozen) {
         abandon(&mut self.world, rest);
+    }
+
+    fn give_up(&mut self, _plan: &Plan, rest: Frozen) {
+        give_up(&mut self.world, rest);
     }
 
     fn wrapper_yielded_again(&mut self, plan: &Plan, which: &Impl) -> Result<Failure, OutOfMemory> {

@@ -1,6 +1,6 @@
 // The hooks of the phases of an item.
 
-ghost use Rattle.std.specs.Prelude.{◌≡◌, ◌++◌, IfOk, OnOk, option_map};
+ghost use Rattle.std.specs.Prelude.{◌≡◌, ◌++◌, [], IfOk, OnOk, option_map};
 ghost use Rattle.fixture_calls.specs.Hooks.{hook_called};
 ghost use Rattle.fixture_world.specs.Items.{item_in_session};
 ghost use Rattle.hook_order.specs.HookOrder.{InHookOrder};
@@ -11,6 +11,8 @@ ghost use Rattle.run_items.specs.Hooking.{implemented_at};
 ghost use Rattle.run_items.specs.Stands.{IsPlan, IsPlannedItem, plan_rules, stand_state};
 ghost use Rattle.fixture_world.specs.runtest_rules.Language.{python};
 ghost use Rattle.fixture_world.specs.runtest_rules.Rules.{call_answer, call_end_of, hook_answer, implemented_for, impls_of};
+ghost use Rattle.fixture_world.specs.runtest_rules.py_world.Resuming.{is_out};
+ghost use Rattle.session_rules.specs.Frames.{StandsWith};
 ghost use Rattle.session_rules.specs.Session.{answered, built_of, gathered, one_raised};
 ghost use Rattle.session_rules.specs.Teardown.{session_step};
 ghost use Rattle.test_suite.specs.Hooks.{hook_at};
@@ -157,6 +159,7 @@ pub(crate) fn built(
     requires plan { IsPlan plan.now }
     requires item { IsPlannedItem plan.now item.now }
     requires next { IsKnownWhere (IsPlannedItem plan.now) (option_map (λ item. item.now) next) }
+    requires frames { StandsWith (stand_state stand.old) is_out [] }
     ensures { IfOk result (λ raised. session_step raised (stand_state stand.new) ≡ built_of (plan_rules plan.now) (phase_of phase) (item_in_session plan.now.table item.now) (item_where (item_in_session plan.now.table) (option_map (λ item. item.now) next.entry)) (stand_state stand.old)) }
 {
     match phase {

@@ -1,11 +1,13 @@
 // The teardown of an item.
 
-ghost use Rattle.std.specs.Prelude.{◌≡◌, [], IfOk, option_map};
+ghost use Rattle.std.specs.Prelude.{◌≡◌, [], IfOk, OnOk, option_map};
 ghost use Rattle.runtest_reports.specs.fixture_sessions.FixtureSession.{fixture_leave};
 ghost use Rattle.fixture_world.specs.Items.{item_in_session};
 ghost use Rattle.hook_phases.specs.Steps.{IsKnownWhere, item_where};
 ghost use Rattle.run_items.specs.Stands.{IsPlan, IsPlannedItem, node_of, plan_rules, planned, stand_state};
 ghost use Rattle.runtest_reports.specs.Stages.{IsKnownItem, session_item};
+ghost use Rattle.session_rules.specs.Frames.{StandsWith};
+ghost use Rattle.fixture_world.specs.runtest_rules.py_world.Resuming.{is_out};
 ghost use Rattle.session_rules.specs.Session.{leave};
 ghost use Rattle.session_rules.specs.Teardown.{down_all, session_step};
 
@@ -33,6 +35,7 @@ pub(crate) fn leave(
 ) -> Result<Seq<Failure>, OutOfMemory>
     requires plan { IsPlan plan.now }
     requires next { IsKnownWhere (IsPlannedItem plan.now) (option_map (λ item. item.now) next) }
+    requires frames { StandsWith (stand_state stand.old) is_out [] }
     ensures { IfOk result (λ raised. session_step raised (stand_state stand.new) ≡ leave (plan_rules plan.now) (item_where (item_in_session plan.now.table) (option_map (λ item. item.now) next.entry)) (stand_state stand.old)) }
 {
     let alloc = memory(&stand.world);
@@ -59,7 +62,9 @@ pub(crate) fn tear_down(
     requires plan { IsPlan plan.now }
     requires item { IsPlannedItem plan.now item.now }
     requires next { IsKnownItem (IsPlannedItem plan.now) (option_map (λ item. item.now) next) }
-    ensures { IfOk result (λ raised. session_step raised (stand_state stand.new) ≡ fixture_leave (plan_rules plan.now) (item_in_session plan.now.table item.now) (session_item (planned plan.now) (option_map (λ item. item.now) next.entry)) (stand_state stand.old)) }
+    requires frames { StandsWith (stand_state stand.old) is_out [] }
+    ensures state { IfOk result (λ raised. session_step raised (stand_state stand.new) ≡ fixture_leave (plan_rules plan.now) (item_in_session plan.now.table item.now) (session_item (planned plan.now) (option_map (λ item. item.now) next.entry)) (stand_state stand.old)) }
+    ensures frames { OnOk result (StandsWith (stand_state stand.new) is_out []) }
 {
     let alloc = memory(&stand.world);
     let raised = hook_phases::leave(alloc, stand, plan, item, next)?;
@@ -70,7 +75,9 @@ pub(crate) fn tear_down(
 pub(crate) fn all_down(stand: &mut Stand, plan: &Plan) -> Result<Seq<Failure>, OutOfMemory>
     requires plan { IsPlan plan.now }
     requires left { (stand_state stand.old).given ≡ [] }
-    ensures { IfOk result (λ raised. session_step raised (stand_state stand.new) ≡ down_all (plan_rules plan.now) (stand_state stand.old).live (stand_state stand.old)) }
+    requires frames { StandsWith (stand_state stand.old) is_out [] }
+    ensures state { IfOk result (λ raised. session_step raised (stand_state stand.new) ≡ down_all (plan_rules plan.now) (stand_state stand.old).live (stand_state stand.old)) }
+    ensures frames { OnOk result (StandsWith (stand_state stand.new) is_out []) }
 {
     let alloc = memory(&stand.world);
     let raised = item_stack::all_down(

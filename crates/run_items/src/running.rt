@@ -22,11 +22,11 @@ use share_files::Feed;
 use std::alloc::Global;
 use test_suite::Item;
 
-/// Gives up what remains of each fixture.
-fn give_up(stand: &mut Stand, plan: &Plan)
+/// Lets go what remains of each fixture; the world is spent.
+fn give_up(stand: &mut Stand)
     ensures { AreSpent stand.new.stack.stack.live.live }
 {
-    stand.stack.stack.abandon_all(&mut stand.world, &plan.run);
+    stand.stack.stack.abandon_all(&mut stand.world);
 }
 
 /// Runs the items of the groups that the feed gives, in order, as far as maxfail lets them, and gives the receiver their reports: those of
@@ -68,7 +68,7 @@ pub fn run<F: Feed, P: Receiver>(
     match runtest_loop::run(alloc, stand, plan, options, items, groups, feed, to) {
         Ok(end) => Ok(end),
         Err(fault) => {
-            give_up(stand, plan);
+            give_up(stand);
             Err(fault)
         }
     }

@@ -1,9 +1,11 @@
 // The set-up of an item.
 
-ghost use Rattle.std.specs.Prelude.{◌≡◌, IfOk, None, Some};
+ghost use Rattle.std.specs.Prelude.{◌≡◌, [], IfOk, None, OnOk, Some};
 ghost use Rattle.runtest_reports.specs.fixture_sessions.FixtureSession.{fixture_set_up};
 ghost use Rattle.fixture_world.specs.Items.{closure_of, item_in_session};
 ghost use Rattle.run_items.specs.Stands.{IsPlan, IsPlannedItem, plan_rules, stand_state};
+ghost use Rattle.session_rules.specs.Frames.{StandsWith};
+ghost use Rattle.fixture_world.specs.runtest_rules.py_world.Resuming.{is_out};
 ghost use Rattle.session_rules.specs.Session.{demand_closure, set_up_item};
 ghost use Rattle.session_rules.specs.Teardown.{session_step};
 
@@ -29,6 +31,7 @@ fn demand(
     requires plan { IsPlan plan.now }
     requires item { IsPlannedItem plan.now item.now }
     requires closure { closure_of item.now.closure ≡ Some defs.now }
+    requires frames { StandsWith (stand_state stand.old) is_out [] }
     ensures { IfOk result (λ raised. session_step raised (stand_state stand.new) ≡ demand_closure (plan_rules plan.now) (item_in_session plan.now.table item.now) defs.now (stand_state stand.old)) }
 {
     let alloc = memory(&stand.world);
@@ -64,6 +67,7 @@ pub(crate) fn demand_or_fault(
 ) -> Result<Seq<Failure>, OutOfMemory>
     requires plan { IsPlan plan.now }
     requires item { IsPlannedItem plan.now item.now }
+    requires frames { StandsWith (stand_state stand.old) is_out [] }
     ensures { IfOk result (λ raised. session_step raised (stand_state stand.new) ≡ set_up_item (plan_rules plan.now) (item_in_session plan.now.table item.now) (stand_state stand.old)) }
 {
     match &item.closure {
@@ -86,7 +90,9 @@ pub(crate) fn set_up(
 ) -> Result<Seq<Failure>, OutOfMemory>
     requires plan { IsPlan plan.now }
     requires item { IsPlannedItem plan.now item.now }
-    ensures { IfOk result (λ raised. session_step raised (stand_state stand.new) ≡ fixture_set_up (plan_rules plan.now) (item_in_session plan.now.table item.now) (stand_state stand.old)) }
+    requires frames { StandsWith (stand_state stand.old) is_out [] }
+    ensures state { IfOk result (λ raised. session_step raised (stand_state stand.new) ≡ fixture_set_up (plan_rules plan.now) (item_in_session plan.now.table item.now) (stand_state stand.old)) }
+    ensures frames { OnOk result (StandsWith (stand_state stand.new) is_out []) }
 {
     let alloc = memory(&stand.world);
     let raised = in_hooks(alloc, stand, plan, HookPhase::SetUp, item, None)?;

@@ -1,6 +1,8 @@
 // The stage of a session over sources.
 
-ghost use Rattle.std.specs.Prelude.{◌≡◌, IfOk, OnOk};
+ghost use Rattle.std.specs.Prelude.{◌≡◌, [], IfOk, OnOk};
+ghost use Rattle.fixture_world.specs.runtest_rules.py_world.Resuming.{is_out};
+ghost use Rattle.session_rules.specs.Frames.{StandsWith};
 ghost use Rattle.run_items.specs.Stands.{IsPlan, IsPlannedItem, plan_fixture, plan_rules, planned, stand_state};
 ghost use Rattle.runtest_reports.specs.Kept.{reported_ending, session_phase};
 ghost use Rattle.session_rules.specs.Session.{telling};
@@ -40,7 +42,7 @@ impl Stage for Stand {
 
     ghost fixture = { plan_fixture };
 
-    ghost stands = { λ plan stand. IsPlan plan };
+    ghost stands = { λ plan stand. IsPlan plan × StandsWith (stand_state stand) is_out [] };
 
     ghost known = { IsPlannedItem };
 
@@ -86,11 +88,11 @@ impl Stage for Stand {
         item: &Item,
         raised: Seq<Failure>,
     ) -> Result<PhaseEnding, OutOfMemory>
-        requires here { IsPlan plan.now }
+        requires here { IsPlan plan.now × StandsWith (stand_state self.old) is_out [] }
         requires known { IsPlannedItem plan.now item.now }
         ensures told { IfOk result (λ ending. reported_ending ending ≡ (telling (plan_rules plan.now) (session_phase phase) (planned plan.now item.now).item (session_step raised (stand_state self.old))).told) }
         ensures state { OnOk result (stand_state self.new ≡ in_world (telling (plan_rules plan.now) (session_phase phase) (planned plan.now item.now).item (session_step raised (stand_state self.old))).world (stand_state self.old)) }
-        ensures here { OnOk result (IsPlan plan.now) }
+        ensures here { OnOk result (IsPlan plan.now × StandsWith (stand_state self.new) is_out []) }
     {
         let ended = ending::end_phase(self, plan, phase, item, raised)?;
         Ok(ended)

@@ -1,9 +1,10 @@
 // The wrappers of a phase's hook.
 
-ghost use Rattle.std.specs.Prelude.{◌≡◌, IfOk, OnOk, codes, option_map};
+ghost use Rattle.std.specs.Prelude.{◌≡◌, IfOk, OnOk, codes, option_map, true};
 ghost use Rattle.fixture_calls.specs.Hooks.{hook_begun, resumed_by, resumed_with_value, resumed_with_values};
 ghost use Rattle.fixture_world.specs.runtest_rules.Language.{python};
 ghost use Rattle.fixture_world.specs.runtest_rules.Rules.{body_end_of, wrapper_fault};
+ghost use Rattle.fixture_world.specs.runtest_rules.py_world.Resuming.{is_out};
 ghost use Rattle.hook_phases.specs.Views.{wrapper_end};
 ghost use Rattle.run_items.specs.Hooking.{opened_at};
 ghost use Rattle.run_items.specs.Stands.{stand_state};
@@ -73,6 +74,7 @@ pub(crate) fn resume_with_values(
     limit: u64,
     rest: Frozen,
 ) -> Result<WrapperEnd<Value, Failure, Frozen>, OutOfMemory>
+    requires out { is_out rest (stand_state stand.old).world ≡ true }
     ensures how { IfOk result (λ end. wrapper_end python end ≡ body_end_of (resumed_with_values limit rest (stand_state stand.old).values (stand_state stand.old).world).0) }
     ensures state { OnOk result (stand_state stand.new ≡ in_world (resumed_with_values limit rest (stand_state stand.old).values (stand_state stand.old).world).1 (stand_state stand.old)) }
 {
@@ -87,6 +89,7 @@ pub(crate) fn resume_with_value(
     rest: Frozen,
     value: Option<Value>,
 ) -> Result<WrapperEnd<Value, Failure, Frozen>, OutOfMemory>
+    requires out { is_out rest (stand_state stand.old).world ≡ true }
     ensures how { IfOk result (λ end. wrapper_end python end ≡ body_end_of (resumed_with_value limit rest value (stand_state stand.old).world).0) }
     ensures state { OnOk result (stand_state stand.new ≡ in_world (resumed_with_value limit rest value (stand_state stand.old).world).1 (stand_state stand.old)) }
 {
@@ -101,6 +104,7 @@ pub(crate) fn resume_by(
     rest: Frozen,
     failure: &Failure,
 ) -> Result<WrapperEnd<Value, Failure, Frozen>, OutOfMemory>
+    requires out { is_out rest (stand_state stand.old).world ≡ true }
     ensures how { IfOk result (λ end. wrapper_end python end ≡ body_end_of (resumed_by limit rest failure.now (stand_state stand.old).world).0) }
     ensures state { OnOk result (stand_state stand.new ≡ in_world (resumed_by limit rest failure.now (stand_state stand.old).world).1 (stand_state stand.old)) }
 {

@@ -26,6 +26,9 @@
 //!
 //! Behind want of memory a world is spent: nothing is promised but the answer.
 //!
+//! These rules keep the frames that are out, for every suite and step limit (`keeps_within` of `proofs/Kept.antt`): what runs over them as an
+//! `Executor` or a `HookStage` has it as its law.
+//!
 //! # What tests alone show
 //!
 //! That the calls succeed with ample memory (`acceptance`).

@@ -1,3 +1,2 @@
 pub mod Exprs
 pub mod Reading
-pub mod Unbuilt

@@ -1,9 +1,9 @@
-//! Which items the words of a command line select by `-k` and `-m`, and what of words isn't built.
+//! Which items the words of a command line select by `-k` and `-m`.
 //!
 //! # What it is for
 //!
 //! [`read_exprs`] reads the expressions of both options before the tree is read, and [`is_selected`] says of an item's names whether both
-//! accept it. [`asks_for_unbuilt`] says whether options ask for what isn't built.
+//! accept it.
 //!
 //! # What is proved
 //!
@@ -14,7 +14,6 @@
 //! - [`is_selected`] is true exactly where the options select an item of these names: `-k` by parts of names whatever their case, `-m` by
 //!   whole names, and without an expression each item.
 //! - [`one_answer`]: the answer that these definitions compute for a text is one that its grammar allows (`is`), and the only one (`only`).
-//! - [`asks_for_unbuilt`] equals the definition of the same name.
 //!
 //! # What tests alone show
 //!
@@ -28,9 +27,7 @@
 mod exprs;
 mod fault;
 mod law;
-mod unbuilt;
 
 pub use exprs::{Exprs, is_selected, read_exprs};
 pub use fault::{Flag, SelectionFault};
 pub use law::one_answer;
-pub use unbuilt::asks_for_unbuilt;

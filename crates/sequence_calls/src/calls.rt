@@ -1,6 +1,7 @@
 // Calls that make sequences and dicts, or ask all elements.
 
 ghost use Rattle.std.specs.Prelude.{◌≡◌, IfOk};
+ghost use Rattle.call_products.specs.Products.{product_within as within_steps, wrong as wrong_call};
 ghost use Rattle.sequence_calls.specs.Calls as calls;
 
 use crate::ranges::{span_given, span_made};
@@ -8,7 +9,7 @@ use crate::sequences::{enumerate_made, list_made, reversed_made, tuple_of_value,
 use crate::truths::decided_of;
 use call_products::arguments::{has_none, pair, sole};
 use call_products::elements::elements_of;
-use call_products::product::{Product, plain, wrong};
+use call_products::product::{Product, plain, product_within, wrong};
 use dict_methods::copies::copy_made;
 use dict_methods::dict::dict_in;
 use py_values::builtin::SequenceCall;
@@ -21,64 +22,81 @@ use py_values::{OutOfMemory, PyText};
 use sorting::calls::{reversing, sorted_value};
 use std::alloc::Global;
 
-/// A call that makes a sequence or a dict, or asks all elements (Python library reference, built-in functions).
+/// What a call with wrong arguments makes, under a budget.
+fn wrong_within(alloc: Global, name: &str, budget: u64) -> Result<Option<Product>, OutOfMemory>
+    ensures { IfOk result (λ p. p ≡ within_steps budget (wrong_call name.now 0)) }
+{
+    Ok(product_within(wrong(alloc, name, 0)?, budget))
+}
+
+/// A call that makes a sequence or a dict, or asks all elements, under a budget (Python library reference, built-in functions).
 pub fn sequence_call(
     alloc: Global,
     heap: &Heap,
     which: SequenceCall,
     args: &[Value],
     named: &[(PyText, Value)],
-) -> Result<Product, OutOfMemory>
-    ensures { IfOk result (λ p. p ≡ calls.sequence_call_of which heap.now args.now named.now) }
+    budget: u64,
+) -> Result<Option<Product>, OutOfMemory>
+    ensures { IfOk result (λ p. p ≡ within_steps budget (calls.sequence_call_of which heap.now args.now named.now)) }
 {
     match which {
-        SequenceCall::All => decided_of(alloc, heap, true, "all", sole(args, named)),
-        SequenceCall::Any => decided_of(alloc, heap, false, "any", sole(args, named)),
+        SequenceCall::All => {
+            let product = decided_of(alloc, heap, true, "all", sole(args, named))?;
+            Ok(product_within(product, budget))
+        }
+        SequenceCall::Any => {
+            let product = decided_of(alloc, heap, false, "any", sole(args, named))?;
+            Ok(product_within(product, budget))
+        }
         SequenceCall::Dict => {
             if has_none(args, named) {
-                return Ok(plain(alloc, Effect::New(Obj::Dict(Dict::new(alloc)), 0)));
+                let made = Effect::New(Obj::Dict(Dict::new(alloc)), 0);
+                return Ok(product_within(plain(alloc, made), budget));
             }
             match dict_in(heap, sole(args, named)) {
-                Some(other) => copy_made(alloc, other, 0),
-                None => wrong(alloc, "dict", 0),
+                Some(other) => Ok(product_within(copy_made(alloc, other, 0)?, budget)),
+                None => wrong_within(alloc, "dict", budget),
             }
         }
         SequenceCall::Enumerate => match sole(args, named) {
             Some(v) => {
                 let gathered = elements_of(alloc, heap, heap.len(), v)?;
-                enumerate_made(alloc, heap, gathered)
+                let product = enumerate_made(alloc, heap, gathered)?;
+                Ok(product_within(product, budget))
             }
-            None => wrong(alloc, "enumerate", 0),
+            None => wrong_within(alloc, "enumerate", budget),
         },
         SequenceCall::List => match sole(args, named) {
             Some(v) => {
                 let gathered = elements_of(alloc, heap, heap.len(), v)?;
-                Ok(list_made(alloc, gathered))
+                Ok(product_within(list_made(alloc, gathered), budget))
             }
-            None => wrong(alloc, "list", 0),
+            None => wrong_within(alloc, "list", budget),
         },
         SequenceCall::Range => match span_given(args, named) {
-            Some(span) => span_made(alloc, span),
-            None => wrong(alloc, "range", 0),
+            Some(span) => Ok(product_within(span_made(alloc, span)?, budget)),
+            None => wrong_within(alloc, "range", budget),
         },
         SequenceCall::Reversed => match sole(args, named) {
             Some(v) => {
                 let gathered = elements_of(alloc, heap, heap.len(), v)?;
-                reversed_made(alloc, gathered)
+                let product = reversed_made(alloc, gathered)?;
+                Ok(product_within(product, budget))
             }
-            None => wrong(alloc, "reversed", 0),
+            None => wrong_within(alloc, "reversed", budget),
         },
         SequenceCall::Sorted => match (args, reversing(heap, named)) {
-            ([v], Some(reverse)) => sorted_value(alloc, heap, reverse, *v),
-            _ => wrong(alloc, "sorted", 0),
+            ([v], Some(reverse)) => sorted_value(alloc, heap, reverse, *v, budget),
+            _ => wrong_within(alloc, "sorted", budget),
         },
         SequenceCall::Tuple => match sole(args, named) {
-            Some(v) => tuple_of_value(alloc, heap, v),
-            None => wrong(alloc, "tuple", 0),
+            Some(v) => Ok(product_within(tuple_of_value(alloc, heap, v)?, budget)),
+            None => wrong_within(alloc, "tuple", budget),
         },
         SequenceCall::Zip => match pair(args, named) {
-            Some((x, y)) => zip_values(alloc, heap, x, y),
-            None => wrong(alloc, "zip", 0),
+            Some((x, y)) => Ok(product_within(zip_values(alloc, heap, x, y)?, budget)),
+            None => wrong_within(alloc, "zip", budget),
         },
     }
 }

@@ -8,8 +8,8 @@
 //!
 //! # What is proved
 //!
-//! - [`calls::sequence_call`]: exactly the product that `sequence_call_of` says, which has an equation for each function; arguments that
-//!   don't fit are `wrong arguments for NAME`, and what isn't iterable is a `TypeError`, both at no cost.
+//! - [`calls::sequence_call`]: under a budget exactly the product that `sequence_call_of` says, which has an equation for each function;
+//!   arguments that don't fit are `wrong arguments for NAME`, and what isn't iterable is a `TypeError`, both at no cost.
 //! - `list`, `tuple`, `enumerate`, `zip` and `reversed` cost the result's length. `range` gives its numbers' range at no cost, or the raise
 //!   for a step that is zero or a range that is too long. `all` and `any` stop at the element that decides, at the cost of those visited.
 //!   `dict` copies a dict and `sorted` sorts as the crates `dict_methods` and `sorting` say.

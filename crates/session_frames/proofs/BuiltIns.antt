@@ -1,14 +1,13 @@
 -- The hooks of what is collected are those of conftests among the runner's own.
-use Rattle.std.proofs.Common.{◌≡◌, ℕ, Bool, true, false, List, [], ◌∷◌, Ok, Err, refl, sym, ap, ◌∙◌, subst, map}
-use Rattle.std.specs.Prelude.{◌||◌, Result, codes, if◌then◌else◌}
+use Rattle.std.proofs.Common.{◌≡◌, ℕ, Bool, List, Ok, Err, refl, sym, ap, subst, map}
+use Rattle.std.specs.Prelude.{◌||◌, Result}
 use Rattle.hook_order.specs.declared.implementation.Impl.{Impl}
 use Rattle.cli_words.specs.declared.options.Options.{Options}
-use Rattle.collect_tree.specs.Collection as collection
-use Rattle.collect_tree.specs.Collection.{collect, conftest_files, findings_in_hooks, named_paths, nodes_selected, of_files, of_loaded, of_words, paths_at, read_path, selected_or_refused, with_conftests}
+use Rattle.collect_tree.specs.Collection.{collect, conftest_files, findings_in_hooks, named_paths, nodes_selected, found_loaded, of_files, of_loaded, of_words, paths_at, read_path, selected_or_refused, with_conftests}
 use Rattle.collect_tree.specs.Conftests.{ConftestsLoaded, conftests_loaded}
 use Rattle.collect_tree.specs.Loads.{LoadResults, test_loads}
 use Rattle.collect_tree.specs.Walk.{walk_of}
-use Rattle.collect_tree.specs.collect_items.Items.{Findings, findings}
+use Rattle.collect_tree.specs.collect_items.Items.{Findings}
 use Rattle.collect_tree.specs.collect_items.Nodes.{nodes_by_place}
 use Rattle.collect_tree.specs.py_load.Prepared.{with_reads}
 use Rattle.collect_tree.specs.py_load.Reading.{ReadFile}
@@ -18,7 +17,7 @@ use Rattle.collect_words.specs.declared.fault.WordFault.{WordFault}
 use Rattle.collect_words.specs.declared.named.NamedWord.{NamedWord}
 use Rattle.collection_nodes.specs.declared.test_file.TestFile.{TestFile}
 use Rattle.conftest_hooks.specs.Ordered.{HaveOwn, KeepsOwn}
-use Rattle.conftest_hooks.specs.Registered.{any_makes_ids, hook_table}
+use Rattle.conftest_hooks.specs.Registered.{hook_table}
 use Rattle.conftest_hooks.specs.declared.looking.FoundHook.{FoundHook}
 use Rattle.runtest_rules.specs.Language.{python}
 use Rattle.runtest_rules.specs.Rules.{hooks_for, impls_of, is_in_folder, rules, serves}
@@ -28,7 +27,7 @@ use Rattle.runtest_rules.specs.test_suite.Suites.{item_with_node}
 use Rattle.runtest_rules.specs.test_suite.declared.hook.HookTable.{HookTable}
 use Rattle.runtest_rules.specs.test_suite.declared.item.Item as test
 use Rattle.runtest_rules.specs.test_suite.declared.suite.Suite.{Suite}
-use Rattle.session_rules.specs.BuiltIns.{HasBuiltIns, HaveBuiltIns, is_runners_own}
+use Rattle.session_rules.specs.BuiltIns.{HasBuiltIns, HaveBuiltIns}
 use Rattle.session_rules.specs.World.{Call, Item, Phase, SetUp, Teardown}
 use Rattle.tracebacks.specs.py_machine.Worlds.{empty}
 use Rattle.tracebacks.specs.source_meaning.Meaning.{SourceWorld}
@@ -45,18 +44,15 @@ HookedEnd (ConftestFault path told) = Unit {0}
 HookedEnd (Whole c) = IsHooked c.table
 
 module _ (options : Options) where
-  built_or : (b : Bool) (text : List ℕ) (c : Collected python Suite) → IsHooked c.table → HookedEnd (if b then Refused text else Whole c)
-  built_or true text c h = tt
-  built_or false text c h = h
-
-  ended : (more : Bool) (walk : List (List ℕ)) (f : Findings) (loaded : LoadResults) (r : Result (List ℕ) WordFault) → IsHooked f.suite.suite → HookedEnd (selected_or_refused options more walk f loaded r)
-  ended more walk f loaded (Err fault) h = tt
-  ended more walk f loaded (Ok numbers) h = built_or more (codes "not built") (collection.collected_of options walk f loaded numbers) h
+  ended : (walk : List (List ℕ)) (f : Findings) (loaded : LoadResults) (r : Result (List ℕ) WordFault) → IsHooked f.suite.suite → HookedEnd (selected_or_refused options walk f loaded r)
+  ended walk f loaded (Err fault) h = tt
+  ended walk f loaded (Ok numbers) h = h
 
   loaded_hooked : (walk : List (List ℕ)) (words : List NamedWord) (hooks : List FoundHook) (above : List TestFile) (loaded : LoadResults) → HookedEnd (of_loaded options walk words hooks above loaded)
   loaded_hooked walk words hooks above loaded =
-      let f = findings_in_hooks (hook_table hooks) (findings loaded.world.heap walk above loaded.files) in
-      ended (any_makes_ids hooks) walk f loaded (nodes_selected options walk (nodes_by_place loaded.world.heap walk f.files) words) (record { found = hooks; table = refl })
+      let x = found_loaded options.step_limit (hook_table hooks) walk above loaded in
+      let f = findings_in_hooks (hook_table hooks) x.0 in
+      ended walk f x.1 (nodes_selected options walk (nodes_by_place walk f.files) words) (record { found = hooks; table = refl })
 
   conftests_hooked : (walk : List (List ℕ)) (words : List NamedWord) (files : List ℕ) (x : ConftestsLoaded × SourceWorld) → HookedEnd (with_conftests options walk words files x)
   conftests_hooked walk words files (Err (path, told), w) = tt

@@ -1,14 +1,14 @@
 -- Behind a collection no frame is out: loads leave the frames as they were, and the first world has none.
-use Rattle.std.proofs.Common.{◌≡◌, ℕ, Bool, true, false, List, [], ◌∷◌, map, Option, None, Some, Ok, Err, refl, sym, ap, ◌∙◌}
-use Rattle.std.specs.Prelude.{Result, chars, codes, if◌then◌else◌}
+use Rattle.std.proofs.Common.{◌≡◌, ℕ, false, List, [], ◌∷◌, map, None, Some, Ok, Err, refl, subst, ap, ◌∙◌}
+use Rattle.std.specs.Prelude.{Result, chars}
 use Rattle.cli_words.specs.declared.options.Options.{Options}
-use Rattle.collect_tree.specs.Collection as collection
-use Rattle.collect_tree.specs.Collection.{collect, conftest_files, findings_in_hooks, named_paths, nodes_selected, of_files, of_loaded, of_words, paths_at, read_path, selected_or_refused, with_conftests}
+use Rattle.collect_tree.specs.Collection.{collect, conftest_files, findings_in_hooks, named_paths, nodes_selected, of_files, found_by, found_loaded, of_loaded, of_words, paths_at, read_path, selected_or_refused, with_conftests}
 use Rattle.collect_tree.specs.Conftests.{ConftestsLoaded, behind_hooks, behind_load, conftests_loaded, found_before, hooks_of_module}
 use Rattle.collect_tree.specs.Loads.{LoadResults, ended_before, test_loads}
 use Rattle.collect_tree.specs.Walk.{walk_of}
-use Rattle.collect_tree.specs.collect_items.Items.{Findings, findings}
+use Rattle.collect_tree.specs.collect_items.Items.{Findings}
 use Rattle.collect_tree.specs.collect_items.Nodes.{nodes_by_place}
+use Rattle.collect_tree.specs.collect_items.Reads.{files_read}
 use Rattle.collection_nodes.specs.declared.test_file.TestFile.{TestFile}
 use Rattle.collect_tree.specs.py_load.InTurn.{FileEnd, file_load}
 use Rattle.collect_tree.specs.py_load.Loading.{load_unless}
@@ -18,29 +18,39 @@ use Rattle.collect_words.specs.Files.{conftests, test_files, walked}
 use Rattle.collect_words.specs.Words.{named_words}
 use Rattle.collect_words.specs.declared.fault.WordFault.{WordFault}
 use Rattle.collect_words.specs.declared.named.NamedWord.{NamedWord}
-use Rattle.conftest_hooks.specs.Registered.{any_makes_ids, hook_table}
+use Rattle.conftest_hooks.specs.Registered.{hook_table}
 use Rattle.conftest_hooks.specs.declared.looking.FoundHook.{FoundHook}
 use Rattle.conftest_hooks.specs.declared.looking.HookFault.{HookFault}
-use Rattle.core_rules.specs.Keeps.{IsKeptIn}
-use Rattle.core_rules.specs.source_meaning.Meaning.{SourceWorld, source_module}
+use Rattle.core_rules.specs.Keeps.{IsKeptBehind, IsKeptIn}
+use Rattle.core_rules.specs.source_meaning.Meaning.{SourceWorld, source_begin, source_call, source_module, source_resume}
+use Rattle.hook_order.specs.declared.implementation.Impl.{Impl}
 use Rattle.py_values.specs.declared.value.Value.{Value}
 use Rattle.runtest_rules.specs.Language.{python}
-use Rattle.runtest_rules.specs.py_world.Resuming.{is_out}
+use Rattle.runtest_rules.specs.py_world.Resuming.{Sent, abandon_of, is_out}
 use Rattle.runtest_rules.specs.report_rules.Collected.{Collected, Collection, ConftestFault, Refused, Whole}
+use Rattle.runtest_rules.specs.test_suite.declared.hook.HookTable.{HookTable}
 use Rattle.runtest_rules.specs.test_suite.declared.suite.Suite.{Suite}
 use Rattle.tracebacks.specs.py_machine.Worlds.{empty}
-use Rattle.session_frames.proofs.Worlds.{out_in}
+use Rattle.runtest_rules.proofs.Worlds.{out_in}
+use Rattle.session_frames.proofs.Asked.{asked_same}
+
+-- no frame is out
+abbrev NoneOut : SourceWorld → Type 0
+NoneOut w = (n : ℕ) → is_out n w ≡ false
+
+none_of : (w : SourceWorld) → w.frozen ≡ [] → NoneOut w
+none_of w e = λ n. ap (λ fs. out_in fs n) e
 
 -- what a collection leaves, where it is whole
 abbrev LeavesNone : Collection python Suite → Type 0
 LeavesNone (Refused text) = Unit {0}
 LeavesNone (ConftestFault path told) = Unit {0}
-LeavesNone (Whole c) = c.world.frozen ≡ []
+LeavesNone (Whole c) = NoneOut c.world
 
-of_whole : (x : Collection python Suite) (c : Collected python Suite) → x ≡ Whole c → LeavesNone x → c.world.frozen ≡ []
+of_whole : (x : Collection python Suite) (c : Collected python Suite) → x ≡ Whole c → LeavesNone x → NoneOut c.world
 of_whole (Refused text) c e h = cc
 of_whole (ConftestFault path told) c e h = cc
-of_whole (Whole d) c e h = (let q : d ≡ c = cc in ap (λ (x : Collected python Suite). x.world.frozen) (sym q) ∙ h)
+of_whole (Whole d) c e h = (let q : d ≡ c = cc in subst (λ (x : Collected python Suite). NoneOut x.world) q h)
 
 module _ (loads : (w : SourceWorld) (path : List ℕ) (budget : ℕ) → IsKeptIn w (source_module path budget w).1) where
   unless_same : (fault : _) (path : List ℕ) (limit : ℕ) (w : SourceWorld) → (load_unless fault path limit w).1.frozen ≡ w.frozen
@@ -80,19 +90,24 @@ module _ (loads : (w : SourceWorld) (path : List ℕ) (budget : ℕ) → IsKeptI
   tests_same limit walk [] w = refl
   tests_same limit walk (place ∷ places) w = one_more limit walk place places _ w _ (load_same limit _ w) (tests_same limit walk places)
 
-  module _ (options : Options) where
-    built_or : (b : Bool) (text : List ℕ) (c : Collected python Suite) → c.world.frozen ≡ [] → LeavesNone (if b then Refused text else Whole c)
-    built_or true text c e = tt
-    built_or false text c e = e
+  module _ (calls : (w : SourceWorld) (f : Value) (args : List Value) (budget : ℕ) → IsKeptIn w (source_call f args budget w).1)
+      (begins : (w : SourceWorld) (f : Value) (args : List Value) (budget : ℕ) → IsKeptBehind w w.frozen (source_begin f args budget w))
+      (resumes : (w : SourceWorld) (n : ℕ) (sent : Sent) (budget : ℕ) → IsKeptBehind w (abandon_of n w).frozen (source_resume n sent budget w)) (options : Options) where
+    found_leaves : (hooks : HookTable) (walk : List (List ℕ)) (above : List TestFile) (loaded : LoadResults) (impls : List Impl) → loaded.world.frozen ≡ [] → NoneOut (found_by options.step_limit hooks walk above loaded impls).1.world
+    found_leaves hooks walk above loaded [] e = none_of loaded.world e
+    found_leaves hooks walk above loaded (which ∷ others) e =
+        λ n. asked_same calls begins resumes options.step_limit hooks walk (files_read loaded.world.heap walk above loaded.files) loaded.world n ∙ none_of loaded.world e n
 
-    ended : (more : Bool) (walk : List (List ℕ)) (f : Findings) (loaded : LoadResults) (r : Result (List ℕ) WordFault) → loaded.world.frozen ≡ [] → LeavesNone (selected_or_refused options more walk f loaded r)
-    ended more walk f loaded (Err fault) e = tt
-    ended more walk f loaded (Ok numbers) e = built_or more (codes "not built") (collection.collected_of options walk f loaded numbers) e
+    ended : (walk : List (List ℕ)) (f : Findings) (loaded : LoadResults) (r : Result (List ℕ) WordFault) → NoneOut loaded.world → LeavesNone (selected_or_refused options walk f loaded r)
+    ended walk f loaded (Err fault) e = tt
+    ended walk f loaded (Ok numbers) e = e
 
     loaded_leaves : (walk : List (List ℕ)) (words : List NamedWord) (hooks : List FoundHook) (above : List TestFile) (loaded : LoadResults) → loaded.world.frozen ≡ [] → LeavesNone (of_loaded options walk words hooks above loaded)
     loaded_leaves walk words hooks above loaded e =
-        let f = findings_in_hooks (hook_table hooks) (findings loaded.world.heap walk above loaded.files) in
-        ended (any_makes_ids hooks) walk f loaded (nodes_selected options walk (nodes_by_place loaded.world.heap walk f.files) words) e
+        let table = hook_table hooks in
+        let x = found_loaded options.step_limit table walk above loaded in
+        let f = findings_in_hooks table x.0 in
+        ended walk f x.1 (nodes_selected options walk (nodes_by_place walk f.files) words) (found_leaves table walk above loaded table.ids e)
 
     behind_conftests : (walk : List (List ℕ)) (words : List NamedWord) (files : List ℕ) (x : ConftestsLoaded × SourceWorld) → x.1.frozen ≡ [] → LeavesNone (with_conftests options walk words files x)
     behind_conftests walk words files (Err (path, told), w) e = tt
@@ -113,5 +128,5 @@ module _ (loads : (w : SourceWorld) (path : List ℕ) (budget : ℕ) → IsKeptI
     unfolding collect
     leaves_none sources = (let walk = walk_of (map read_path sources) in read sources walk (named_words walk options.paths))
 
-  pub none_out : (options : Options) (sources : List ReadFile) (c : Collected python Suite) → collect options sources ≡ Whole c → (n : ℕ) → is_out n c.world ≡ false
-  none_out options sources c e n = ap (λ fs. out_in fs n) (of_whole (collect options sources) c e (leaves_none options sources))
+    pub none_out : (sources : List ReadFile) (c : Collected python Suite) → collect options sources ≡ Whole c → (n : ℕ) → is_out n c.world ≡ false
+    none_out sources c e n = of_whole (collect options sources) c e (leaves_none sources) n

@@ -1,4 +1,3 @@
-pub mod Worlds
-pub mod Kept
+pub mod Asked
 pub mod Collected
 pub mod BuiltIns

@@ -17,9 +17,7 @@ use core_rules::source_code_keeps_its_world;
 /// A law: what fixtures and tests of sources do tells which frames stand at a `yield` behind it.
 pub fn sources_keep_their_frames()
     ensures { (options : Options) (suite : Suite) → KeepsFrames (rules options suite) is_out }
-{
-    source_code_keeps_its_world();
-}
+{}
 
 /// A law: behind a collection no frame stands at a `yield`.
 pub fn collection_leaves_no_frame_out()

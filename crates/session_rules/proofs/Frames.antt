@@ -1,5 +1,5 @@
 -- The frames that are out are those of the live instances, and of the wrappers that have begun.
-use Rattle.std.proofs.Common.{◌≡◌, ℕ, zero, suc, ◌<◌, Bool, true, false, cond, not, List, [], ◌∷◌, ◌++◌, inl, inr, refl, sym, ap, ◌∙◌, subst, eqb, arith, ◌⊎◌, option_to_list, Option, None, Some}
+use Rattle.std.proofs.Common.{◌≡◌, ℕ, zero, suc, Bool, true, false, cond, not, List, [], ◌∷◌, ◌++◌, inl, inr, refl, sym, ap, ◌∙◌, subst, eqb, arith, ◌⊎◌, option_to_list, Option, None, Some}
 use Rattle.std.specs.Prelude.{◌==◌}
 use Rattle.std.proofs.lemmas.Bool.{ne_eqb}
 use Rattle.hook_order.specs.declared.implementation.Impl.{Impl}
@@ -8,23 +8,19 @@ use Rattle.session_rules.proofs.Hooked.{cond_law}
 use Rattle.session_rules.proofs.Sessions.{session_law, start_good}
 use Rattle.session_rules.specs.Demand.{AllGiven, Answer, JointAnswer, Given, NewInstance, OneRefused, Refused, Replies, Reply, answer_of, ask_all, ask_next, call_fixture_func, demand, failed_instance, fresh, is_same, instance_reply, making, making_of, numbers_of, replace, reply, set_up, set_up_after, settle, values_of, with_arguments}
 use Rattle.session_rules.specs.Fits.{HasFixtureClosure}
-use Rattle.session_rules.specs.Frames.{AddsFrame, FramesBegun, FramesResumed, KeepsFrames, ReplacesFrame, SameFrames, TakesFrame}
+use Rattle.session_rules.specs.Frames.{AddsFrame, FramesBegun, FramesResumed, FramesStand, KeepsFrames, OtherFrames, ReplacesFrame, SameFrames, TakesFrame}
 use Rattle.session_rules.specs.Hooks.{AtYield, HookAnswer, HookBeginning, HookEnd, HookGave, HookInner, HookRaised, HookRunner, HookStep, OpenRaised, around, around_all, each, each_next}
 use Rattle.session_rules.specs.Session.{all_down, bad_behind, built_in, call_after, call_phase, chain_of, demand_closure, demand_next, did_call, did_step, finalize_own, has_reached, hook_arguments, implemented, in_hooks, initial_state, leave, make_missing_object, next_unless, node_of, object_of, opening, pyfunc_call, reaches, ready, resuming, run_item, runner_of, sent_to_wrapper, session, set_up_by, set_up_item, set_up_phase, teardown_phase, telling, test_with, torn_down, values_for, with_grant, with_item_object, with_new_instance, with_nextitem}
 use Rattle.session_rules.specs.Teardown.{Grant, SessionState, Step, TeardownEnd, also_raised, closed_request, down_all, down_more, down_one, emit, finalize_all, in_world, rest_ended, rest_resumed, torn, torn_of}
 use Rattle.session_rules.specs.World.{BodyEnd, Call, Exceptions, Frame, Item, Language, LiveInstance, Phase, Raised, Returned, Rules, SetUp, Teardown, Value, Yielded}
 use Rattle.session_types.proofs.Lists.{In-append, In-left, In-right, filter-In}
-use Rattle.session_types.proofs.Order.{Rising, Rising-filter, Rising-push}
+use Rattle.session_types.proofs.Order.{Rising-filter, Rising-push}
 use Rattle.session_types.specs.declared.journal.Event.TheVariants.{CallBegins}
 use Rattle.session_types.specs.Live.{dependents, down_order, find, not_on, instance_by_number, instance_numbers, without}
 use Rattle.session_types.specs.Members.{IsMember}
 
 apart : (b : Bool) → b ≡ true → b ≡ false → ⊥
 apart b e f = (let z : true ≡ false = sym e ∙ f in cc)
-
--- a live instance holds this frame
-abbrev pub IsHeld : {L : Language} → L.Rest → List (LiveInstance L) → Type 0
-IsHeld {L} r live = (i : LiveInstance L) × IsMember i live × (i.slot.rest ≡ Some r)
 
 pub numbered_In : {L : Language} (n : ℕ) (live : List (LiveInstance L)) (i : LiveInstance L) → instance_by_number n live ≡ Some i → IsMember i live
 numbered_In n [] i e = cc
@@ -104,21 +100,14 @@ module _ {L : Language} (rules : Rules L) (is_out : L.Rest → L.World → Bool)
         only = λ r o. elim (p.only r (t.only r o)) [ inl a ↦ a | inr e ↦ absurd (apart (is_out y w) (subst (λ (z : L.Rest). is_out z w ≡ true) (sym e) o) t.gone) ];
       }
 
-  -- exactly these are out, each once: what is allowed, and what the live instances hold
-  pub record Good (allowed : L.Rest → Type 0) (live : List (LiveInstance L)) (next : ℕ) (w : L.World) : Type 0 where
-    pub rising : Rising live
-    pub low : (i : LiveInstance L) → IsMember i live → i.order < next
-    pub held : (r : L.Rest) → is_out r w ≡ true → allowed r ⊎ IsHeld {L = L} r live
-    pub there : (r : L.Rest) → allowed r → is_out r w ≡ true
-    pub out : (r : L.Rest) (i : LiveInstance L) → IsMember i live → i.slot.rest ≡ Some r → is_out r w ≡ true
-    pub one : (r : L.Rest) (i j : LiveInstance L) → IsMember i live → IsMember j live → i.slot.rest ≡ Some r → j.slot.rest ≡ Some r → i.order ≡ j.order
-    pub free : (r : L.Rest) (i : LiveInstance L) → allowed r → IsMember i live → i.slot.rest ≡ Some r → ⊥
+  abbrev pub Good : OtherFrames L.Rest → List (LiveInstance L) → ℕ → L.World → Type 0
+  Good allowed live next w = FramesStand {L = L} is_out allowed live next w
 
-  abbrev pub IsGood : (L.Rest → Type 0) → SessionState L → Type 0
+  abbrev pub IsGood : OtherFrames L.Rest → SessionState L → Type 0
   IsGood allowed s = Good allowed s.live s.next s.world
 
   -- where the same frames are out
-  pub moved : (allowed : L.Rest → Type 0) (live : List (LiveInstance L)) (next : ℕ) (w v : L.World) → Same w v → Good allowed live next w → Good allowed live next v
+  pub moved : (allowed : OtherFrames L.Rest) (live : List (LiveInstance L)) (next : ℕ) (w v : L.World) → Same w v → Good allowed live next w → Good allowed live next v
   moved allowed live next w v k g =
       record {
         rising = g.rising;
@@ -171,7 +160,7 @@ module _ {L : Language} (rules : Rules L) (is_out : L.Rest → L.World → Bool)
         | false ↦ same_gave w v h
       ]
 
-  module _ (allowed : L.Rest → Type 0) where
+  module _ (allowed : OtherFrames L.Rest) where
     pub one_good : (n : ℕ) (s : SessionState L) (o : Option (LiveInstance L)) → instance_by_number n s.live ≡ o → IsGood allowed s → IsGood allowed (down_one rules o s).state
     one_good n s None e g = g
     one_good n s (Some i) e g =
@@ -323,11 +312,11 @@ module _ {L : Language} (rules : Rules L) (is_out : L.Rest → L.World → Bool)
     ready_good item next s g = next_object_good next (with_item_object rules item.node s) (object_good item.node (object_of item.node s.objects) s g)
 
     -- a wrapper that stands at its `yield` is out besides
-    abbrev pub AlsoAllowed : L.Rest → L.Rest → Type 0
-    AlsoAllowed f r = allowed r ⊎ (f ≡ r)
+    abbrev pub AlsoAllowed : L.Rest → OtherFrames L.Rest
+    AlsoAllowed f = record { sure = λ r. allowed.sure r ⊎ (f ≡ r); possible = λ r. allowed.possible r ⊎ (f ≡ r) }
 
     abbrev pub IsBegun : HookBeginning (Frame L) (Exceptions L) → SessionState L → Type 0
-    IsBegun (AtYield frame) s = IsGood (AlsoAllowed frame.rest) s × (allowed frame.rest → ⊥)
+    IsBegun (AtYield frame) s = IsGood (AlsoAllowed frame.rest) s × (allowed.sure frame.rest → ⊥)
     IsBegun (OpenRaised e) s = IsGood allowed s
 
     pub opened_good : (which : Impl) (how : BodyEnd L) (w : L.World) (s : SessionState L) → FramesBegun is_out s.world how w → IsGood allowed s → IsBegun (opening rules which how w).answer (in_world (opening rules which how w).world s)
@@ -353,7 +342,7 @@ module _ {L : Language} (rules : Rules L) (is_out : L.Rest → L.World → Bool)
         moved allowed s.live s.next s.world t.world (then_same s.world w t.world h (keep.wrapper_did_not_yield which w)) g
 
     -- where it is taken it is out no more
-    spent_good : (rest : L.Rest) (s : SessionState L) (v : L.World) → Took (Some rest) s.world v → IsGood (AlsoAllowed rest) s → (allowed rest → ⊥) → IsGood allowed (in_world v s)
+    spent_good : (rest : L.Rest) (s : SessionState L) (v : L.World) → Took (Some rest) s.world v → IsGood (AlsoAllowed rest) s → (allowed.sure rest → ⊥) → IsGood allowed (in_world v s)
     spent_good rest s v t g not =
         let other : (r : L.Rest) → Some rest ≡ Some r → rest ≡ r = λ r e. cc in
         record {
@@ -363,13 +352,13 @@ module _ {L : Language} (rules : Rules L) (is_out : L.Rest → L.World → Bool)
             | inl a ↦ elim a [ inl b ↦ inl b | inr e ↦ absurd (apart (is_out r v) o (t.gone r (ap (λ (z : L.Rest). Some z) e))) ]
             | inr b ↦ inr b
           ];
-          there = λ r a. elim (t.kept r (g.there r (inl a))) [ inl o ↦ o | inr e ↦ absurd (not (subst allowed (sym (other r e)) a)) ];
+          there = λ r a. elim (t.kept r (g.there r (inl a))) [ inl o ↦ o | inr e ↦ absurd (not (subst allowed.sure (sym (other r e)) a)) ];
           out = λ r i m e. elim (t.kept r (g.out r i m e)) [ inl o ↦ o | inr q ↦ absurd (g.free r i (inr (other r q)) m e) ];
           one = g.one;
           free = λ r i a m e. g.free r i (inl a) m e;
         }
 
-    pub resumed_good : (which : Impl) (inner : HookInner L.Value (Exceptions L)) (rest : L.Rest) (how : BodyEnd L) (w : L.World) (s : SessionState L) → FramesResumed is_out rest s.world how w → IsGood (AlsoAllowed rest) s → (allowed rest → ⊥)
+    pub resumed_good : (which : Impl) (inner : HookInner L.Value (Exceptions L)) (rest : L.Rest) (how : BodyEnd L) (w : L.World) (s : SessionState L) → FramesResumed is_out rest s.world how w → IsGood (AlsoAllowed rest) s → (allowed.sure rest → ⊥)
         → IsGood allowed (in_world (resuming rules which inner how w).world s)
     resumed_good which inner rest (Returned v) w s h g not = spent_good rest s w (frame_took rest s.world w h) g not
     resumed_good which inner rest (Raised e) w s h g not = spent_good rest s w (frame_took rest s.world w h) g not
@@ -379,46 +368,46 @@ module _ {L : Language} (rules : Rules L) (is_out : L.Rest → L.World → Bool)
         spent_good rest s t.world
         (took_same (Some rest) s.world u t.world (frame_took rest s.world u (replaced_took rest other s.world w u h (keep.abandon other w h.is))) (keep.wrapper_yielded_again which u)) g not
 
-  module _ (phase : Phase) (item : Item) (next : Option ℕ) (built : SessionState L → Step L) (law : (allowed : L.Rest → Type 0) (s : SessionState L) → IsGood allowed s → IsGood allowed (built s).state) where
+  module _ (phase : Phase) (item : Item) (next : Option ℕ) (built : SessionState L → Step L) (law : (allowed : OtherFrames L.Rest) (s : SessionState L) → IsGood allowed s → IsGood allowed (built s).state) where
     abbrev runner : HookRunner (SessionState L) L.Value (Exceptions L) (Frame L)
     runner = runner_of rules phase item next built
 
     abbrev called : Impl → SessionState L → HookStep (SessionState L) (HookAnswer L.Value (Exceptions L))
     called which s = did_call s (implemented (rules.implement phase item.node (hook_arguments item next s) which s.world))
 
-    pub implemented_good : (allowed : L.Rest → Type 0) (which : Impl) (s : SessionState L) → IsGood allowed s → IsGood allowed (runner.call which s).state
+    pub implemented_good : (allowed : OtherFrames L.Rest) (which : Impl) (s : SessionState L) → IsGood allowed s → IsGood allowed (runner.call which s).state
     implemented_good allowed which s g =
         elim (which.registered == built_in phase) as (λ b. IsGood allowed (cond b (did_step (built s)) (called which s)).state) [
           | true ↦ law allowed s g
           | false ↦ moved allowed s.live s.next s.world (rules.implement phase item.node (hook_arguments item next s) which s.world).world (keep.implement phase item.node (hook_arguments item next s) which s.world) g
         ]
 
-    pub begun_good : (allowed : L.Rest → Type 0) (which : Impl) (s : SessionState L) → IsGood allowed s → IsBegun allowed (runner.begin which s).answer (runner.begin which s).state
+    pub begun_good : (allowed : OtherFrames L.Rest) (which : Impl) (s : SessionState L) → IsGood allowed s → IsBegun allowed (runner.begin which s).answer (runner.begin which s).state
     begun_good allowed which s g =
         let o = rules.open_wrapper phase item.node (hook_arguments item next s) which s.world in
         opened_good allowed which o.how o.world s (keep.open_wrapper phase item.node (hook_arguments item next s) which s.world) g
 
-    pub went_on_good : (allowed : L.Rest → Type 0) (frame : Frame L) (inner : HookInner L.Value (Exceptions L)) (s : SessionState L) → IsGood (AlsoAllowed allowed frame.rest) s → (allowed frame.rest → ⊥) → IsGood allowed (runner.resume frame inner s).state
+    pub went_on_good : (allowed : OtherFrames L.Rest) (frame : Frame L) (inner : HookInner L.Value (Exceptions L)) (s : SessionState L) → IsGood (AlsoAllowed allowed frame.rest) s → (allowed.sure frame.rest → ⊥) → IsGood allowed (runner.resume frame inner s).state
     went_on_good allowed frame inner s g not =
         let sent = sent_to_wrapper s.values inner in
         let o = rules.resume_wrapper phase item.node frame.rest sent s.world in
         resumed_good allowed frame.which inner frame.rest o.how o.world s (keep.resume_wrapper phase item.node frame.rest sent s.world (g.there frame.rest (inr refl))) g not
 
-    behind_good : (allowed : L.Rest → Type 0) (rest : SessionState L → HookEnd (SessionState L) L.Value (Exceptions L)) → ((s : SessionState L) → IsGood allowed s → IsGood allowed (rest s).state)
+    behind_good : (allowed : OtherFrames L.Rest) (rest : SessionState L → HookEnd (SessionState L) L.Value (Exceptions L)) → ((s : SessionState L) → IsGood allowed s → IsGood allowed (rest s).state)
         → (answer : HookAnswer L.Value (Exceptions L)) (s : SessionState L) → IsGood allowed s → IsGood allowed (each_next rest answer s).state
     behind_good allowed rest k (HookGave value) s g = k s g
     behind_good allowed rest k (HookRaised e) s g = g
 
-    pub each_good : (allowed : L.Rest → Type 0) (impls : List Impl) (s : SessionState L) → IsGood allowed s → IsGood allowed (each runner impls s).state
+    pub each_good : (allowed : OtherFrames L.Rest) (impls : List Impl) (s : SessionState L) → IsGood allowed s → IsGood allowed (each runner impls s).state
     each_good allowed [] s g = g
     each_good allowed (which ∷ rest) s g = behind_good allowed (each runner rest) (each_good allowed rest) (runner.call which s).answer (runner.call which s).state (implemented_good allowed which s g)
 
-    around_good : (allowed : L.Rest → Type 0) (rest : SessionState L → HookEnd (SessionState L) L.Value (Exceptions L)) → ((allowed : L.Rest → Type 0) (s : SessionState L) → IsGood allowed s → IsGood allowed (rest s).state)
+    around_good : (allowed : OtherFrames L.Rest) (rest : SessionState L → HookEnd (SessionState L) L.Value (Exceptions L)) → ((allowed : OtherFrames L.Rest) (s : SessionState L) → IsGood allowed s → IsGood allowed (rest s).state)
         → (answer : HookBeginning (Frame L) (Exceptions L)) (s : SessionState L) → IsBegun allowed answer s → IsGood allowed (around runner rest answer s).state
     around_good allowed rest k (AtYield frame) s g = went_on_good allowed frame (rest s).outcome (rest s).state (k (AlsoAllowed allowed frame.rest) s g.0) g.1
     around_good allowed rest k (OpenRaised e) s g = g
 
-    pub around_all_good : (impls : List Impl) (allowed : L.Rest → Type 0) (s : SessionState L) → IsGood allowed s → IsGood allowed (around_all runner (each runner) impls s).state
+    pub around_all_good : (impls : List Impl) (allowed : OtherFrames L.Rest) (s : SessionState L) → IsGood allowed s → IsGood allowed (around_all runner (each runner) impls s).state
     around_all_good [] allowed s g = g
     around_all_good (which ∷ rest) allowed s g =
         let others = around_all runner (each runner) rest in
@@ -427,13 +416,13 @@ module _ {L : Language} (rules : Rules L) (is_out : L.Rest → L.World → Bool)
           | false ↦ each_good allowed (which ∷ rest) s g
         ]
 
-    pub hooks_good : (allowed : L.Rest → Type 0) (s : SessionState L) → IsGood allowed s → IsGood allowed (in_hooks rules phase item next built s).state
+    pub hooks_good : (allowed : OtherFrames L.Rest) (s : SessionState L) → IsGood allowed s → IsGood allowed (in_hooks rules phase item next built s).state
     hooks_good allowed s g = around_all_good (rules.hooks phase item.node) allowed (ready rules item next s) (ready_good allowed item next s g)
 
   -- PHASES AND SESSIONS
 
-  module _ (allowed : L.Rest → Type 0) where
-    told_good : (phase : Phase) (item : Item) (r : Step L) → IsGood allowed r.state → Good allowed r.state.live r.state.next (telling rules phase item r).world
+  module _ (allowed : OtherFrames L.Rest) where
+    pub told_good : (phase : Phase) (item : Item) (r : Step L) → IsGood allowed r.state → Good allowed r.state.live r.state.next (telling rules phase item r).world
     told_good phase item r g = moved allowed r.state.live r.state.next r.state.world (telling rules phase item r).world (keep.end_phase phase item.node r.raised r.state.world) g
 
     pub opened_item_good : (item : Item) (s : SessionState L) → IsGood allowed s → IsGood allowed (with_new_instance rules item s)
@@ -457,7 +446,7 @@ module _ {L : Language} (rules : Rules L) (is_out : L.Rest → L.World → Bool)
           | false ↦ leave_good allowed next r.state k
         ]
 
-    all_good : (maxfail : ℕ) (item : Item) (r : Step L) → IsGood allowed r.state → IsGood allowed (all_down rules maxfail item r).state
+    pub all_good : (maxfail : ℕ) (item : Item) (r : Step L) → IsGood allowed r.state → IsGood allowed (all_down rules maxfail item r).state
     all_good maxfail item r g = cond_law (λ (x : Step L). IsGood allowed x.state) (reaches maxfail (bad_behind rules Teardown item r)) (also_raised r.raised (down_all rules r.state.live r.state)) r (down_good allowed r.state.live r.state g) g
 
     pub teardown_good : (maxfail : ℕ) (item : Item) (items : List Item) (s : SessionState L) → IsGood allowed s → IsGood allowed (teardown_phase rules maxfail item items s)
@@ -480,8 +469,8 @@ module _ {L : Language} (rules : Rules L) (is_out : L.Rest → L.World → Bool)
         cond_law (λ (x : SessionState L). IsGood allowed x) (has_reached maxfail t) t (session rules maxfail items t) h (session_good maxfail items t h)
 
   -- what was out at first
-  abbrev pub WasOut : L.World → L.Rest → Type 0
-  WasOut first r = is_out r first ≡ true
+  abbrev pub WasOut : L.World → OtherFrames L.Rest
+  WasOut first = record { sure = λ r. is_out r first ≡ true; possible = λ r. is_out r first ≡ true }
 
   pub first_good : (w : L.World) → IsGood (WasOut w) (initial_state w)
   first_good w =

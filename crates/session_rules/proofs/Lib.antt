@@ -17,3 +17,4 @@ pub mod HookCalls
 pub mod BuiltIns
 pub mod Twins
 pub mod Framed
+pub mod Standing

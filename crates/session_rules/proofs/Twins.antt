@@ -4,7 +4,7 @@ use Rattle.std.specs.Prelude.{◌==◌}
 use Rattle.hook_order.specs.declared.implementation.Impl.{Impl}
 use Rattle.session_rules.proofs.Frames.{IsGood, IsBegun, AlsoAllowed, WasOut, around_all_good, asked_good, begun_good, by_good, call_good, closed_same, demand_good, first_good, hooks_good, implemented_good, item_good, leave_good, numbered_In, one_good, opened_item_good, own_good, ready_good, set_up_phase_good, test_good, torn_good}
 use Rattle.session_rules.specs.Demand.{AllGiven, Answer, JointAnswer, Given, OneRefused, Refused, Replies, Reply, answer_of, ask_all, ask_next, demand, is_same, replace, reply, set_up_after, settle, with_arguments}
-use Rattle.session_rules.specs.Frames.{AreAlikeWhereOut, KeepsFrames, Resumptions, with_resumptions}
+use Rattle.session_rules.specs.Frames.{AreAlikeWhereOut, KeepsFrames, OtherFrames, Resumptions, with_resumptions}
 use Rattle.session_rules.specs.Hooks.{AtYield, HookAnswer, HookBeginning, HookEnd, HookGave, HookInner, HookRaised, HookRunner, HookStep, OpenRaised, around, around_all, each, each_next, hook_end, handed}
 use Rattle.session_rules.specs.Session.{all_down, bad_behind, built_in, call_after, chain_of, demand_closure, demand_next, did_call, did_step, emitted, finalize_own, has_reached, hook_arguments, hooked, implemented, in_hooks, initial_state, leave, make_missing_object, next_unless, node_of, object_of, phase_finished, pyfunc_call, reaches, ready, resuming, resuming_threw, opening, did_world, run_item, runner_of, sent_to_wrapper, session, set_up_by, set_up_item, set_up_phase, teardown_phase, test_with, torn_down, values_for, with_grant, with_item_object, with_new_instance, with_nextitem}
 use Rattle.session_rules.specs.Teardown.{Grant, SessionState, Step, TeardownEnd, also_raised, closed_request, down_all, down_more, down_one, emit, finalize_all, gone, rest_ended, rest_resumed, session_step, torn, torn_of}
@@ -17,7 +17,7 @@ module _ {L : Language} (rules : Rules L) (is_out : L.Rest → L.World → Bool)
   abbrev other : Rules L
   other = with_resumptions x rules
 
-  abbrev Fine : (L.Rest → Type 0) → SessionState L → Type 0
+  abbrev Fine : OtherFrames L.Rest → SessionState L → Type 0
   Fine allowed s = IsGood rules is_out keep allowed s
 
   -- TEARDOWN
@@ -51,7 +51,7 @@ module _ {L : Language} (rules : Rules L) (is_out : L.Rest → L.World → Bool)
       ∙ (ap (λ (u : TeardownEnd L). finalize_all other c.finalizers u) (resumed_twin i.def i.slot.rest c.world (λ r e. q r ∙ is r e))
       ∙ finalize_twin c.finalizers t)
 
-  module _ (allowed : L.Rest → Type 0) where
+  module _ (allowed : OtherFrames L.Rest) where
     one_twin : (n : ℕ) (s : SessionState L) (o : Option (LiveInstance L)) → instance_by_number n s.live ≡ o → Fine allowed s → down_one other o s ≡ down_one rules o s
     one_twin n s None e g = refl
     one_twin n s (Some i) e g = ap (λ (t : TeardownEnd L). session_step t.raised (gone i t s)) (torn_twin i s.world (λ r q. g.out r i (numbered_In n s.live i e) q))
@@ -161,23 +161,23 @@ module _ {L : Language} (rules : Rules L) (is_out : L.Rest → L.World → Bool)
     opening_twin which (Raised e) w = refl
     opening_twin which (Yielded v rest) w = refl
 
-  module _ (phase : Phase) (item : Item) (next : Option ℕ) (one two : SessionState L → Step L) (same : (allowed : L.Rest → Type 0) (s : SessionState L) → Fine allowed s → one s ≡ two s) (law : (allowed : L.Rest → Type 0) (s : SessionState L) → Fine allowed s → Fine allowed (two s).state) where
+  module _ (phase : Phase) (item : Item) (next : Option ℕ) (one two : SessionState L → Step L) (same : (allowed : OtherFrames L.Rest) (s : SessionState L) → Fine allowed s → one s ≡ two s) (law : (allowed : OtherFrames L.Rest) (s : SessionState L) → Fine allowed s → Fine allowed (two s).state) where
     abbrev first : HookRunner (SessionState L) L.Value (Exceptions L) (Frame L)
     first = runner_of other phase item next one
 
     abbrev second : HookRunner (SessionState L) L.Value (Exceptions L) (Frame L)
     second = runner_of rules phase item next two
 
-    call_twin : (allowed : L.Rest → Type 0) (which : Impl) (s : SessionState L) → Fine allowed s → first.call which s ≡ second.call which s
+    call_twin : (allowed : OtherFrames L.Rest) (which : Impl) (s : SessionState L) → Fine allowed s → first.call which s ≡ second.call which s
     call_twin allowed which s g =
         ap (λ (r : Step L). cond (which.registered == built_in phase) (did_step r) (did_call s (implemented (rules.implement phase item.node (hook_arguments item next s) which s.world)))) (same allowed s g)
 
-    begin_twin : (allowed : L.Rest → Type 0) (which : Impl) (s : SessionState L) → first.begin which s ≡ second.begin which s
+    begin_twin : (allowed : OtherFrames L.Rest) (which : Impl) (s : SessionState L) → first.begin which s ≡ second.begin which s
     begin_twin allowed which s =
         let o = rules.open_wrapper phase item.node (hook_arguments item next s) which s.world in
         ap (λ (a : WorldAnswer L (HookBeginning (Frame L) (Exceptions L))). did_world s a) (opening_twin allowed which o.how o.world)
 
-    resume_twin : (allowed : L.Rest → Type 0) (frame : Frame L) (inner : HookInner L.Value (Exceptions L)) (s : SessionState L) → is_out frame.rest s.world ≡ true → first.resume frame inner s ≡ second.resume frame inner s
+    resume_twin : (allowed : OtherFrames L.Rest) (frame : Frame L) (inner : HookInner L.Value (Exceptions L)) (s : SessionState L) → is_out frame.rest s.world ≡ true → first.resume frame inner s ≡ second.resume frame inner s
     resume_twin allowed frame inner s o =
         let sent = sent_to_wrapper s.values inner in
         let b = rules.resume_wrapper phase item.node frame.rest sent s.world in
@@ -185,12 +185,12 @@ module _ {L : Language} (rules : Rules L) (is_out : L.Rest → L.World → Bool)
         (ap (λ (c : BodyOutcome L). resuming other frame.which inner c.how c.world) (alike.resume_wrapper phase item.node frame.rest sent s.world o)
         ∙ resuming_twin allowed frame.which inner b.how b.world (λ value rest e. alike.abandon_wrapper phase item.node frame.rest sent s.world value rest o e))
 
-    each_next_twin : (allowed : L.Rest → Type 0) (rest more : SessionState L → HookEnd (SessionState L) L.Value (Exceptions L)) → ((s : SessionState L) → Fine allowed s → rest s ≡ more s)
+    each_next_twin : (allowed : OtherFrames L.Rest) (rest more : SessionState L → HookEnd (SessionState L) L.Value (Exceptions L)) → ((s : SessionState L) → Fine allowed s → rest s ≡ more s)
         → (answer : HookAnswer L.Value (Exceptions L)) (s : SessionState L) → Fine allowed s → each_next rest answer s ≡ each_next more answer s
     each_next_twin allowed rest more k (HookGave value) s g = ap (λ (h : HookEnd (SessionState L) L.Value (Exceptions L)). hook_end h.outcome (option_to_list value ++ h.values) h.state) (k s g)
     each_next_twin allowed rest more k (HookRaised e) s g = refl
 
-    each_twin : (allowed : L.Rest → Type 0) (impls : List Impl) (s : SessionState L) → Fine allowed s → each first impls s ≡ each second impls s
+    each_twin : (allowed : OtherFrames L.Rest) (impls : List Impl) (s : SessionState L) → Fine allowed s → each first impls s ≡ each second impls s
     each_twin allowed [] s g = refl
     each_twin allowed (which ∷ rest) s g =
         let d = second.call which s in
@@ -200,7 +200,7 @@ module _ {L : Language} (rules : Rules L) (is_out : L.Rest → L.World → Bool)
     abbrev End : Type 0
     End = HookEnd (SessionState L) L.Value (Exceptions L)
 
-    around_twin : (allowed : L.Rest → Type 0) (rest more : SessionState L → End) → ((allowed : L.Rest → Type 0) (s : SessionState L) → Fine allowed s → rest s ≡ more s) → ((allowed : L.Rest → Type 0) (s : SessionState L) → Fine allowed s → Fine allowed (more s).state)
+    around_twin : (allowed : OtherFrames L.Rest) (rest more : SessionState L → End) → ((allowed : OtherFrames L.Rest) (s : SessionState L) → Fine allowed s → rest s ≡ more s) → ((allowed : OtherFrames L.Rest) (s : SessionState L) → Fine allowed s → Fine allowed (more s).state)
         → (answer : HookBeginning (Frame L) (Exceptions L)) (s : SessionState L) → IsBegun rules is_out keep allowed answer s → around first rest answer s ≡ around second more answer s
     around_twin allowed rest more k good (AtYield frame) s g =
         let m = more s in
@@ -209,7 +209,7 @@ module _ {L : Language} (rules : Rules L) (is_out : L.Rest → L.World → Bool)
         ∙ ap (λ (d : HookStep (SessionState L) (HookAnswer L.Value (Exceptions L))). hook_end (handed d.answer) m.values d.state) (resume_twin allowed frame m.outcome m.state o)
     around_twin allowed rest more k good (OpenRaised e) s g = refl
 
-    around_all_twin : (impls : List Impl) (allowed : L.Rest → Type 0) (s : SessionState L) → Fine allowed s → around_all first (each first) impls s ≡ around_all second (each second) impls s
+    around_all_twin : (impls : List Impl) (allowed : OtherFrames L.Rest) (s : SessionState L) → Fine allowed s → around_all first (each first) impls s ≡ around_all second (each second) impls s
     around_all_twin [] allowed s g = refl
     around_all_twin (which ∷ rest) allowed s g =
         let b = second.begin which s in
@@ -218,14 +218,14 @@ module _ {L : Language} (rules : Rules L) (is_out : L.Rest → L.World → Bool)
         ∙ around_twin allowed (around_all first (each first) rest) (around_all second (each second) rest) (around_all_twin rest) (around_all_good rules is_out keep phase item next two law rest) b.answer b.state (begun_good rules is_out keep phase item next two law allowed which s g))
         ∙ ap (λ (h : End). cond which.wrapper (around second (around_all second (each second) rest) b.answer b.state) h) (each_twin allowed (which ∷ rest) s g)
 
-    hooks_twin : (allowed : L.Rest → Type 0) (s : SessionState L) → Fine allowed s → in_hooks other phase item next one s ≡ in_hooks rules phase item next two s
+    hooks_twin : (allowed : OtherFrames L.Rest) (s : SessionState L) → Fine allowed s → in_hooks other phase item next one s ≡ in_hooks rules phase item next two s
     hooks_twin allowed s g =
         ap (λ (t : SessionState L). hooked (around_all first (each first) (rules.hooks phase item.node) t)) (ready_twin allowed item next s)
         ∙ ap (λ (h : End). hooked h) (around_all_twin (rules.hooks phase item.node) allowed (ready rules item next s) (ready_good rules is_out keep allowed item next s g))
 
   -- PHASES AND SESSIONS
 
-  module _ (allowed : L.Rest → Type 0) where
+  module _ (allowed : OtherFrames L.Rest) where
     set_up_phase_twin : (item : Item) (s : SessionState L) → Fine allowed s → set_up_phase other item s ≡ set_up_phase rules item s
     set_up_phase_twin item s g =
         ap (λ (r : Step L). phase_finished rules SetUp item r)

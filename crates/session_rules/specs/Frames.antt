@@ -1,9 +1,12 @@
 -- The frozen frames that are out: bodies of fixtures and of hook wrappers that stand at their `yield` (Language Reference, yield
 -- expressions). Each act of the rules says which are out behind it, both ways: those that are, and those that aren't.
-use Rattle.std.specs.Prelude.{◌≡◌, ◌⊎◌, ℕ, Bool, true, false, List, Option}
+use Rattle.std.specs.Prelude.{◌≡◌, ◌<◌, ◌⊎◌, ℕ, Bool, true, false, List, [], ◌∷◌, Option, Some}
 use Rattle.hook_order.specs.declared.implementation.Impl.{Impl}
 use Rattle.session_rules.specs.Hooks.{HookMessage}
-use Rattle.session_rules.specs.World.{BodyEnd, BodyOutcome, HookArguments, Language, Phase, Raised, Returned, Rules, Yielded}
+use Rattle.session_rules.specs.Teardown.{SessionState}
+use Rattle.session_rules.specs.World.{BodyEnd, BodyOutcome, HookArguments, Language, LiveInstance, Phase, Raised, Returned, Rules, Yielded}
+use Rattle.session_types.proofs.Order.{Rising}
+use Rattle.session_types.specs.Members.{IsMember}
 
 -- the same frames are out
 abbrev pub SameFrames : {R W : Type 0} → (R → W → Bool) → W → W → Type 0
@@ -71,6 +74,50 @@ pub record KeepsFrames {L : Language} (rules : Rules L) (is_out : L.Rest → L.W
   pub resume_wrapper : (phase : Phase) (item : ℕ) (rest : L.Rest) (sent : HookMessage L.Value L.Thrown) (w : L.World) → is_out rest w ≡ true → ResumesFrame is_out rest w (rules.resume_wrapper phase item rest sent w)
   pub wrapper_yielded_again : (which : Impl) (w : L.World) → SameFrames is_out w (rules.wrapper_yielded_again which w).world
   pub end_phase : (phase : Phase) (item : ℕ) (raised : List L.Thrown) (w : L.World) → SameFrames is_out w (rules.end_phase phase item raised w).world
+
+-- a live instance holds this frame
+abbrev pub IsHeld : {L : Language} → L.Rest → List (LiveInstance L) → Type 0
+IsHeld {L} r live = (i : LiveInstance L) × IsMember i live × (i.slot.rest ≡ Some r)
+
+-- frames that no instance holds: those that are out for sure, and those that may be
+pub record OtherFrames (R : Type 0) : Type 1 where
+  pub sure : R → Type 0
+  pub possible : R → Type 0
+
+-- THE FRAMES OF A SESSION STAND: those of the live instances are out, each is that of one, and so are the others; no frame is out but
+-- these and what is possible besides
+pub record FramesStand {L : Language} (is_out : L.Rest → L.World → Bool) (others : OtherFrames L.Rest) (live : List (LiveInstance L)) (next : ℕ) (w : L.World) : Type 0 where
+  pub rising : Rising live
+  pub low : (i : LiveInstance L) → IsMember i live → i.order < next
+  pub held : (r : L.Rest) → is_out r w ≡ true → others.possible r ⊎ IsHeld {L = L} r live
+  pub there : (r : L.Rest) → others.sure r → is_out r w ≡ true
+  pub out : (r : L.Rest) (i : LiveInstance L) → IsMember i live → i.slot.rest ≡ Some r → is_out r w ≡ true
+  pub one : (r : L.Rest) (i j : LiveInstance L) → IsMember i live → IsMember j live → i.slot.rest ≡ Some r → j.slot.rest ≡ Some r → i.order ≡ j.order
+  pub free : (r : L.Rest) (i : LiveInstance L) → others.sure r → IsMember i live → i.slot.rest ≡ Some r → ⊥
+
+-- a frame is one of these
+abbrev pub Waits : {R : Type 0} → List R → R → Type 0
+Waits [] r = ⊥
+Waits (f ∷ fs) r = Waits fs r ⊎ (f ≡ r)
+
+-- none stands among these twice
+abbrev pub AreApart : {R : Type 0} → List R → Type 0
+AreApart [] = Unit {0}
+AreApart (f ∷ fs) = (Waits fs f → ⊥) × AreApart fs
+
+-- these are out, and any other may be
+abbrev pub at_least : {R : Type 0} → List R → OtherFrames R
+at_least waiting = record { sure = Waits waiting; possible = λ r. Unit {0} }
+
+-- the frames of a state are out, each once: those of its live instances, and these, of wrappers that stand at their `yield`
+abbrev pub StandsWith : {L : Language} → SessionState L → (L.Rest → L.World → Bool) → List L.Rest → Type 0
+StandsWith {L} s is_out waiting = FramesStand {L = L} is_out (at_least waiting) s.live s.next s.world × AreApart waiting
+
+-- where a body has yielded, its frame is out
+abbrev pub IsOutWhereYielded : {L : Language} → BodyEnd L → (L.Rest → L.World → Bool) → L.World → Type 0
+IsOutWhereYielded (Returned v) is_out w = Unit {0}
+IsOutWhereYielded (Yielded v rest) is_out w = is_out rest w ≡ true
+IsOutWhereYielded (Raised e) is_out w = Unit {0}
 
 -- other ways for frames to go on and to be given up
 pub record Resumptions (L : Language) : Type 0 where

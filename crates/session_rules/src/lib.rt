@@ -39,7 +39,7 @@
 //! set-up, call, teardown, finalizers and hooks, changed parameters, wrappers, maxfail) and `proofs/Unlawful.antt` (lists of events
 //! that `Lawful` refuses, each by the point that it breaks). `proofs/Framed.antt` has what `KeepsFrames` refuses: that no frame is ever out
 //! where a function yields, a hook that clears a frame, a wrapper that stands in a frame that is out. The rules of any suite over sources
-//! meet it (`session_frames`).
+//! meet it (`runtest_rules`). `proofs/Standing.antt` has that what a session does keeps the frames that stand (`StandsWith`).
 //!
 //! # What tests alone show
 //!

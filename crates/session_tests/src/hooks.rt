@@ -1,5 +1,5 @@
-ghost use Rattle.std.specs.Prelude.{⊤};
-ghost use Rattle.hook_order.specs.Answers.{HandsOnWant};
+ghost use Rattle.std.specs.Prelude.{ℕ, List, ⊤};
+ghost use Rattle.hook_order.specs.Answers.{HandsOnWant, IfEnded, IfInner};
 
 use hook_order::{Impl, Inner, Opened, Ran, Runner, call_all, call_first, order};
 use std::alloc::{AllocError, Global};
@@ -66,6 +66,8 @@ impl Runner for Fake {
 
     ghost runs = { λ _. ⊤ };
 
+    ghost waits = { λ _ _. ⊤ };
+
     ghost calls = { λ _ _ _ _. ⊤ };
 
     ghost begins = { λ _ _ _ _. ⊤ };
@@ -95,6 +97,7 @@ impl Runner for Fake {
     }
 
     fn resume(&mut self, frozen: u32, inner: Inner<u32, u32>) -> Ran<u32, u32>
+        ensures frames { IfInner inner (IfEnded result ((frames : List ℕ) → ⊤ → ⊤)) }
         ensures want { HandsOnWant inner result }
     {
         self.leave(frozen);

@@ -7,6 +7,8 @@ use Rattle.session_types.specs.Members.{IsMember}
 use Rattle.session_types.specs.declared.instance.Instance.{Instance}
 use Rattle.session_types.specs.declared.journal.Event.TheVariants.{DownBegins, Down}
 use Rattle.session_types.specs.Live.{dependents, down_order, not_on, instance_by_number, instance_numbers, without}
+use Rattle.session_rules.proofs.Standing.{one_stands}
+use Rattle.session_rules.specs.Frames.{KeepsFrames, StandsWith}
 use Rattle.session_rules.specs.World.{Language, Rules, LiveInstance, ClosedRequest}
 use Rattle.session_rules.specs.Teardown.{SessionState, TeardownEnd, torn, torn_of, torn_behind, finalize_all, rest_resumed, closed_request, down_all, down_more, down_one, some_raised, session_step}
 use Rattle.session_types.proofs.Lists.{filter-In}
@@ -84,21 +86,22 @@ there_next id rest ids there apart j h =
     filter-In (λ (k : LiveId). not (eqb id.order k.order)) j ids (there j (inr h)) (ap not e)
 
 -- one more went down
-pub record DownStep {L : Language} (rules : Rules L) (ids0 : List LiveId) (raised0 : List L.Thrown) (s0 : SessionState L) (live0 : List (Instance (CachedResult L.Value L.Thrown L.Rest))) (rest : List LiveId) (raised : List L.Thrown) (w : L.World) (s : SetupStack L.Value L.Thrown L.Rest) : Type 0 where
+pub record DownStep {L : Language} (rules : Rules L) (is_out : L.Rest → L.World → Bool) (ids0 : List LiveId) (raised0 : List L.Thrown) (s0 : SessionState L) (live0 : List (Instance (CachedResult L.Value L.Thrown L.Rest))) (rest : List LiveId) (raised : List L.Thrown) (w : L.World) (s : SetupStack L.Value L.Thrown L.Rest) : Type 0 where
   pub down : down_more rules (map id_order rest) raised (stack_state rules w s) ≡ down_more rules (map id_order ids0) raised0 s0
   pub live : without_all (map id_order rest) s.live.live ≡ without_all (map id_order ids0) live0
   pub there : (id : LiveId) → IsMember id rest → IsMember id s.live.ids
   pub once : Apart id_order rest
+  pub frames : StandsWith (stack_state rules w s) is_out []
 
-pub down_step : {L : Language} (rules : Rules L) (ids0 : List LiveId) (raised0 : List L.Thrown) (s0 : SessionState L) (live0 : List (Instance (CachedResult L.Value L.Thrown L.Rest))) (now rest : List LiveId) (id : LiveId) (raised raised1 : List L.Thrown) (w w1 : L.World) (s s1 : SetupStack L.Value L.Thrown L.Rest)
+pub down_step : {L : Language} (rules : Rules L) (is_out : L.Rest → L.World → Bool) (keep : KeepsFrames rules is_out) (ids0 : List LiveId) (raised0 : List L.Thrown) (s0 : SessionState L) (live0 : List (Instance (CachedResult L.Value L.Thrown L.Rest))) (now rest : List LiveId) (id : LiveId) (raised raised1 : List L.Thrown) (w w1 : L.World) (s s1 : SetupStack L.Value L.Thrown L.Rest)
     → now ≡ id ∷ rest
-    → DownStep rules ids0 raised0 s0 live0 now raised w s
+    → DownStep rules is_out ids0 raised0 s0 live0 now raised w s
     → stack_state rules w1 s1 ≡ (down_one rules (instance_by_number id.order (live_instances rules s.live.live)) (stack_state rules w s)).state
     → raised1 ≡ raised ++ (down_one rules (instance_by_number id.order (live_instances rules s.live.live)) (stack_state rules w s)).raised
     → s1.live.ids ≡ ids_without id.order s.live.ids
     → s1.live.live ≡ without id.order s.live.live
-    → DownStep rules ids0 raised0 s0 live0 rest raised1 w1 s1
-down_step {L} rules ids0 raised0 s0 live0 now rest id raised raised1 w w1 s s1 cut h es er ei el =
+    → DownStep rules is_out ids0 raised0 s0 live0 rest raised1 w1 s1
+down_step {L} rules is_out keep ids0 raised0 s0 live0 now rest id raised raised1 w w1 s s1 cut h es er ei el =
     let there : (j : LiveId) → IsMember j (id ∷ rest) → IsMember j s.live.ids = λ j m. h.there j (subst (λ (l : List LiveId). IsMember j l) (sym cut) m) in
     let once : Apart id_order (id ∷ rest) = subst (λ (l : List LiveId). Apart id_order l) cut h.once in
     record {
@@ -109,11 +112,12 @@ down_step {L} rules ids0 raised0 s0 live0 now rest id raised raised1 w w1 s s1 c
           ∙ (ap (λ (l : List LiveId). without_all (map id_order l) s.live.live) (sym cut) ∙ h.live);
       there = λ j m. subst (λ (l : List LiveId). IsMember j l) (sym ei) (there_next id rest s.live.ids there once j m);
       once = once.1;
+      frames = subst (λ (x : SessionState L). StandsWith x is_out []) (sym es) (one_stands {L = L} is_out rules keep [] id.order (stack_state rules w s) h.frames);
     }
 
 -- all went down
-pub down_done : {L : Language} (rules : Rules L) (ids0 : List LiveId) (raised0 : List L.Thrown) (s0 : SessionState L) (live0 : List (Instance (CachedResult L.Value L.Thrown L.Rest))) (i : ℕ) (raised : List L.Thrown) (w : L.World) (s : SetupStack L.Value L.Thrown L.Rest) → length ids0 ≤ i → DownStep rules ids0 raised0 s0 live0 (drop i ids0) raised w s → (session_step raised (stack_state rules w s) ≡ down_more rules (map id_order ids0) raised0 s0) × (s.live.live ≡ without_all (map id_order ids0) live0)
-down_done {L} rules ids0 raised0 s0 live0 i raised w s past h = (
+pub down_done : {L : Language} (rules : Rules L) (is_out : L.Rest → L.World → Bool) (ids0 : List LiveId) (raised0 : List L.Thrown) (s0 : SessionState L) (live0 : List (Instance (CachedResult L.Value L.Thrown L.Rest))) (i : ℕ) (raised : List L.Thrown) (w : L.World) (s : SetupStack L.Value L.Thrown L.Rest) → length ids0 ≤ i → DownStep rules is_out ids0 raised0 s0 live0 (drop i ids0) raised w s → (session_step raised (stack_state rules w s) ≡ down_more rules (map id_order ids0) raised0 s0) × (s.live.live ≡ without_all (map id_order ids0) live0)
+down_done {L} rules is_out ids0 raised0 s0 live0 i raised w s past h = (
   sym (at_drop_all (λ (l : List LiveId). down_more rules (map id_order l) raised (stack_state rules w s)) ids0 i past) ∙ h.down,
   sym (at_drop_all (λ (l : List LiveId). without_all (map id_order l) s.live.live) ids0 i past) ∙ h.live,
 )
@@ -122,16 +126,16 @@ down_done {L} rules ids0 raised0 s0 live0 i raised w s past h = (
 pub there_at : {A : Type 0} (xs : List A) (i : ℕ) (d : A) (held : List A) → i < length xs → ((x : A) → IsMember x (drop i xs) → IsMember x held) → IsMember (get_or xs i d) held
 there_at {A} xs i d held lt h = h (get_or xs i d) (subst (λ (l : List A). IsMember (get_or xs i d) l) (sym (drop_more xs i d lt)) (inl refl))
 
-pub down_step_at : {L : Language} (rules : Rules L) (ids0 : List LiveId) (raised0 : List L.Thrown) (s0 : SessionState L) (live0 : List (Instance (CachedResult L.Value L.Thrown L.Rest))) (i : ℕ) (d : LiveId) (raised raised1 : List L.Thrown) (w w1 : L.World) (s s1 : SetupStack L.Value L.Thrown L.Rest)
+pub down_step_at : {L : Language} (rules : Rules L) (is_out : L.Rest → L.World → Bool) (keep : KeepsFrames rules is_out) (ids0 : List LiveId) (raised0 : List L.Thrown) (s0 : SessionState L) (live0 : List (Instance (CachedResult L.Value L.Thrown L.Rest))) (i : ℕ) (d : LiveId) (raised raised1 : List L.Thrown) (w w1 : L.World) (s s1 : SetupStack L.Value L.Thrown L.Rest)
     → i < length ids0
-    → DownStep rules ids0 raised0 s0 live0 (drop i ids0) raised w s
+    → DownStep rules is_out ids0 raised0 s0 live0 (drop i ids0) raised w s
     → stack_state rules w1 s1 ≡ (down_one rules (instance_by_number (get_or ids0 i d).order (live_instances rules s.live.live)) (stack_state rules w s)).state
     → raised1 ≡ raised ++ (down_one rules (instance_by_number (get_or ids0 i d).order (live_instances rules s.live.live)) (stack_state rules w s)).raised
     → s1.live.ids ≡ ids_without (get_or ids0 i d).order s.live.ids
     → s1.live.live ≡ without (get_or ids0 i d).order s.live.live
-    → DownStep rules ids0 raised0 s0 live0 (drop (i + 1) ids0) raised1 w1 s1
-down_step_at rules ids0 raised0 s0 live0 i d raised raised1 w w1 s s1 lt h es er ei el =
-    down_step rules ids0 raised0 s0 live0 (drop i ids0) (drop (i + 1) ids0) (get_or ids0 i d) raised raised1 w w1 s s1 (drop_more ids0 i d lt) h es er ei el
+    → DownStep rules is_out ids0 raised0 s0 live0 (drop (i + 1) ids0) raised1 w1 s1
+down_step_at rules is_out keep ids0 raised0 s0 live0 i d raised raised1 w w1 s s1 lt h es er ei el =
+    down_step rules is_out keep ids0 raised0 s0 live0 (drop i ids0) (drop (i + 1) ids0) (get_or ids0 i d) raised raised1 w w1 s s1 (drop_more ids0 i d lt) h es er ei el
 
 -- what isn't for the next item went down, and what was given is forgotten
 pub left_for : {L : Language} (rules : Rules L) (chain ns : List ℕ) (raised : List L.Thrown) (given : List (CodeGrant L.Value)) (w : L.World) (s : SetupStack L.Value L.Thrown L.Rest) → raised ≡ [] → given ≡ [] → ns ≡ instance_numbers (down_order (not_on chain s.live.live)) → down_more rules ns raised (stack_state rules w (record s { given = given })) ≡ down_all rules (not_on chain (live_instances rules s.live.live)) (stack_state rules w (record s { given = [] }))

@@ -12,3 +12,4 @@ pub mod Ready
 pub mod Marked
 pub mod Stands
 pub mod Demands
+pub mod Outs

@@ -16,6 +16,12 @@ IsDemanded {L} rules (Ok value) r t = (grant : Grant L) × (r.answer ≡ Given g
 IsDemanded rules (Err (Told es)) r t = (r.answer ≡ Refused es) × (t ≡ r.state)
 IsDemanded rules (Err OutOfMemory) r t = Unit {0}
 
+-- what holds where no memory was wanted
+abbrev pub IfAnswered : {V E : Type 0} → Result V (SetupError E) → Type 0 → Type 0
+IfAnswered (Ok value) P = P
+IfAnswered (Err (Told es)) P = P
+IfAnswered (Err OutOfMemory) P = Unit {0}
+
 -- the node of the next item and those above it, or none
 abbrev pub next_chain : {V : Type 0} → TableValue → Option (ItemRef V) → List ℕ
 next_chain table None = []

@@ -20,8 +20,10 @@
 //!   the exceptions are told in order.
 //! - `new` has no instance and no event. `call_begins` and `call_ends` append their events (`events`) and change nothing else
 //!   (`stack`); `journal` lends all events, which are those of the state.
-//! - `abandon_all` gives up every frozen frame that the stack holds, in order of set-up (`world`, `stack`), and none is left
-//!   (`spent`); `close` ends a stack that holds none, and a stack ends in no other way.
+//! - What remains of a body is resumed, or abandoned where it yields again, only where its frame is out: `demand`, `demand_all` and `leave`
+//!   ask that the frames of the live instances are out, each that of one (`StandsWith`), and leave them so (`frames`).
+//! - `abandon_all` lets every frozen frame go that the stack holds, in order of set-up, behind want of memory (`world`, `stack`), and none
+//!   is left (`spent`); the world is spent. `close` ends a stack that holds none, and a stack ends in no other way.
 //! - `close_request`, `finalize_each` and `push_all` are the parts of a teardown that the `request` of a test takes too.
 //! - Laws of definitions: demands and teardowns leave the rest of a session's state as it is (`the_rest_of_a_state_stays`), look at
 //!   no more of an item than `AreAsked` says (`the_rest_of_an_item_does_not_matter`), and what a table answers as a closure may be

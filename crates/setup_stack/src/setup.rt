@@ -3,15 +3,16 @@ ghost use Rattle.std.specs.Option.{option_map};
 ghost use Rattle.session_types.specs.declared.journal.Event.TheVariants.{CallBegins, CallEnds};
 ghost use Rattle.session_types.specs.Live.{not_on};
 ghost use Rattle.session_rules.specs.Demand.{demand};
+ghost use Rattle.session_rules.specs.Frames.{StandsWith};
 ghost use Rattle.session_rules.specs.Session.{demand_closure};
 ghost use Rattle.session_rules.specs.Teardown.{down_all, session_step};
 ghost use Rattle.fixture_table.specs.Tree.{IsTree};
 ghost use Rattle.setup_stack.specs.Asking.{AreReady, IsReady};
 ghost use Rattle.setup_stack.specs.Grants.{orders_of};
 ghost use Rattle.fixture_instances.specs.Items.{item_for_session};
-ghost use Rattle.fixture_instances.specs.Resting.{AreSpent, abandoned, spent_instance};
+ghost use Rattle.fixture_instances.specs.Resting.{AreSpent, all_given_up, spent_instance};
 ghost use Rattle.setup_stack.specs.Scopes.{HasScopes};
-ghost use Rattle.setup_stack.specs.SetUps.{IsDemanded, IsNode, next_chain};
+ghost use Rattle.setup_stack.specs.SetUps.{IfAnswered, IsDemanded, IsNode, next_chain};
 ghost use Rattle.setup_stack.specs.Views.{stack_state};
 ghost use Rattle.fixture_instances.specs.Views.{live_instances};
 
@@ -19,7 +20,7 @@ use crate::answers::Answer;
 use crate::error::SetupError;
 use crate::lists::orders_of;
 use crate::stack::{SetupStack, demand, demand_noted, leave};
-use fixture_instances::{Executor, ItemRef, LiveFixtures, abandon_all, chain_of};
+use fixture_instances::{Executor, ItemRef, LiveFixtures, chain_of, give_up_all};
 use fixture_table::Table;
 use seq::{OutOfMemory, Seq};
 use session_types::{DefId, Event};
@@ -80,7 +81,9 @@ impl<V: Copy, E: Drop, R> SetupStack<V, E, R> {
         requires tree { IsTree table.now.nodes }
         requires node { item.now.node < length table.now.nodes }
         requires ready { IsReady (W.rules setting.now) (item_for_session table.now item.now) (length table.now.defs) (W.rules setting.now).depth def }
-        ensures { IsDemanded (W.rules setting.now) result (demand (W.rules setting.now) (item_for_session table.now item.now) (W.rules setting.now).depth def (stack_state (W.rules setting.now) world.old (record self.old { own = item.now.own }))) (stack_state (W.rules setting.now) world.new self.new) }
+        requires frames { StandsWith (stack_state (W.rules setting.now) world.old self.old) W.is_out [] }
+        ensures demanded { IsDemanded (W.rules setting.now) result (demand (W.rules setting.now) (item_for_session table.now item.now) (W.rules setting.now).depth def (stack_state (W.rules setting.now) world.old (record self.old { own = item.now.own }))) (stack_state (W.rules setting.now) world.new self.new) }
+        ensures frames { IfAnswered result (StandsWith (stack_state (W.rules setting.now) world.new self.new) W.is_out []) }
     {
         self.own = item.own;
         let mut marks = Vec::new(alloc);
@@ -111,7 +114,9 @@ impl<V: Copy, E: Drop, R> SetupStack<V, E, R> {
         requires tree { IsTree table.now.nodes }
         requires node { item.now.node < length table.now.nodes }
         requires ready { AreReady (W.rules setting.now) (item_for_session table.now item.now) (length table.now.defs) (W.rules setting.now).depth defs.now }
-        ensures { IfOk result (λ raised. session_step raised (stack_state (W.rules setting.now) world.new self.new) ≡ demand_closure (W.rules setting.now) (item_for_session table.now item.now) defs.now (stack_state (W.rules setting.now) world.old (record self.old { own = item.now.own }))) }
+        requires frames { StandsWith (stack_state (W.rules setting.now) world.old self.old) W.is_out [] }
+        ensures state { IfOk result (λ raised. session_step raised (stack_state (W.rules setting.now) world.new self.new) ≡ demand_closure (W.rules setting.now) (item_for_session table.now item.now) defs.now (stack_state (W.rules setting.now) world.old (record self.old { own = item.now.own }))) }
+        ensures frames { OnOk result (StandsWith (stack_state (W.rules setting.now) world.new self.new) W.is_out []) }
     {
         self.own = item.own;
         let mut marks = Vec::new(alloc);
@@ -137,7 +142,9 @@ impl<V: Copy, E: Drop, R> SetupStack<V, E, R> {
     ) -> Result<Seq<E>, OutOfMemory>
         requires tree { IsTree table.now.nodes }
         requires next { IsNode table.now (option_map (λ item. item.now) next) }
-        ensures { IfOk result (λ raised. session_step raised (stack_state (W.rules setting.now) world.new self.new) ≡ down_all (W.rules setting.now) (not_on (next_chain table.now (option_map (λ item. item.now) next.entry)) (live_instances (W.rules setting.now) self.old.live.live)) (stack_state (W.rules setting.now) world.old (record self.old { given = [] }))) }
+        requires frames { StandsWith (stack_state (W.rules setting.now) world.old self.old) W.is_out [] }
+        ensures state { IfOk result (λ raised. session_step raised (stack_state (W.rules setting.now) world.new self.new) ≡ down_all (W.rules setting.now) (not_on (next_chain table.now (option_map (λ item. item.now) next.entry)) (live_instances (W.rules setting.now) self.old.live.live)) (stack_state (W.rules setting.now) world.old (record self.old { given = [] }))) }
+        ensures frames { OnOk result (StandsWith (stack_state (W.rules setting.now) world.new self.new) W.is_out []) }
     {
         let chain = next_chain(alloc, table, next)?;
         let raised = leave(alloc, self, world, setting, &chain)?;
@@ -163,17 +170,13 @@ impl<V: Copy, E: Drop, R> SetupStack<V, E, R> {
         Ok(())
     }
 
-    /// Gives up every frozen frame that the stack holds, in order of set-up. Takes no memory.
-    pub fn abandon_all<W: Executor<Value = V, Thrown = E, Rest = R>>(
-        &mut self,
-        world: &mut W,
-        setting: &W::Setting,
-    )
-        ensures world { world.new ≡ abandoned (W.rules setting.now) self.old.live.live world.old }
+    /// Lets every frozen frame go that the stack holds, in order of set-up, behind want of memory: the world is spent. Takes no memory.
+    pub fn abandon_all<W: Executor<Value = V, Thrown = E, Rest = R>>(&mut self, world: &mut W)
+        ensures world { world.new ≡ all_given_up W.given_up self.old.live.live world.old }
         ensures stack { self.new ≡ record self.old { live = record self.old.live { live = map spent_instance self.old.live.live } } }
         ensures spent { AreSpent self.new.live.live }
     {
-        abandon_all(&mut self.live, world, setting);
+        give_up_all(&mut self.live, world);
     }
 
     /// Ends the stack, which holds no frozen frame.

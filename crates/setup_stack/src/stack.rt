@@ -6,6 +6,7 @@ ghost use Rattle.session_types.specs.declared.instance.Instance.{Instance};
 ghost use Rattle.session_rules.specs.Teardown.{down_all, down_more, down_one, some_raised, session_step};
 ghost use Rattle.session_rules.specs.Demand.{answer_of, call_fixture_func, demand, replace, reply, set_up, settle};
 ghost use Rattle.session_rules.specs.Fits.{IsWellScoped};
+ghost use Rattle.session_rules.specs.Frames.{StandsWith};
 ghost use Rattle.session_rules.specs.Session.{demand_closure};
 ghost use Rattle.fixture_table.specs.Tree.{IsTree};
 ghost use Rattle.fixture_table.specs.Nearest.{def_at};
@@ -64,7 +65,8 @@ fn down<W: Executor>(
     id: LiveId,
     raised: &mut Seq<W::Thrown>,
 ) -> Result<(), OutOfMemory>
-    requires { IsMember id stack.old.live.ids }
+    requires live { IsMember id stack.old.live.ids }
+    requires frames { StandsWith (stack_state (W.rules setting.now) world.old stack.old) W.is_out [] }
     ensures state { OnOk result (stack_state (W.rules setting.now) world.new stack.new ≡ (down_one (W.rules setting.now) (instance_by_number id.order (live_instances (W.rules setting.now) stack.old.live.live)) (stack_state (W.rules setting.now) world.old stack.old)).state) }
     ensures raised { OnOk result (raised.new ≡ raised.old ++ (down_one (W.rules setting.now) (instance_by_number id.order (live_instances (W.rules setting.now) stack.old.live.live)) (stack_state (W.rules setting.now) world.old stack.old)).raised) }
     ensures ids { OnOk result (stack.new.live.ids ≡ ids_without id.order stack.old.live.ids) }
@@ -105,8 +107,10 @@ fn down_each<W: Executor>(
 ) -> Result<(), OutOfMemory>
     requires live { (id : LiveId) → IsMember id ids.now → IsMember id stack.old.live.ids }
     requires once { Apart id_order ids.now }
+    requires frames { StandsWith (stack_state (W.rules setting.now) world.old stack.old) W.is_out [] }
     ensures down { OnOk result (session_step raised.new (stack_state (W.rules setting.now) world.new stack.new) ≡ down_more (W.rules setting.now) (map id_order ids.now) raised.old (stack_state (W.rules setting.now) world.old stack.old)) }
     ensures live { OnOk result (stack.new.live.live ≡ without_all (map id_order ids.now) stack.old.live.live) }
+    ensures frames { OnOk result (StandsWith (stack_state (W.rules setting.now) world.new stack.new) W.is_out []) }
 {
     for id in ids {
         down(alloc, stack, world, setting, *id, raised)?;
@@ -122,7 +126,9 @@ pub(crate) fn leave<W: Executor>(
     setting: &W::Setting,
     chain: &[u32],
 ) -> Result<Seq<W::Thrown>, OutOfMemory>
-    ensures { IfOk result (λ raised. session_step raised (stack_state (W.rules setting.now) world.new stack.new) ≡ down_all (W.rules setting.now) (not_on chain.now (live_instances (W.rules setting.now) stack.old.live.live)) (stack_state (W.rules setting.now) world.old (record stack.old { given = [] }))) }
+    requires frames { StandsWith (stack_state (W.rules setting.now) world.old stack.old) W.is_out [] }
+    ensures down { IfOk result (λ raised. session_step raised (stack_state (W.rules setting.now) world.new stack.new) ≡ down_all (W.rules setting.now) (not_on chain.now (live_instances (W.rules setting.now) stack.old.live.live)) (stack_state (W.rules setting.now) world.old (record stack.old { given = [] }))) }
+    ensures frames { OnOk result (StandsWith (stack_state (W.rules setting.now) world.new stack.new) W.is_out []) }
 {
     let going = stack.live.off_of(alloc, chain)?;
     stack.given = Seq::new(alloc);
@@ -230,8 +236,10 @@ fn set_up<W: Executor>(
     requires def { def < length table.now.defs }
     requires node { item.now.node < length table.now.nodes }
     requires free { find def (def_scope_node table.now item.now def) stack.old.live.live ≡ None }
+    requires frames { StandsWith (stack_state (W.rules setting.now) world.old stack.old) W.is_out [] }
     ensures answer { IfOk result (λ answer. answer_in (W.rules setting.now) answer ≡ (set_up (W.rules setting.now) (item_for_session table.now item.now) def (grants_of (W.rules setting.now) given.now) (stack_state (W.rules setting.now) world.old stack.old)).answer) }
     ensures state { OnOk result (stack_state (W.rules setting.now) world.new stack.new ≡ (set_up (W.rules setting.now) (item_for_session table.now item.now) def (grants_of (W.rules setting.now) given.now) (stack_state (W.rules setting.now) world.old stack.old)).state) }
+    ensures frames { OnOk result (StandsWith (stack_state (W.rules setting.now) world.new stack.new) W.is_out []) }
 {
     let direct = orders_of(alloc, given)?;
     let bases = bases_of(alloc, given)?;
@@ -288,8 +296,10 @@ fn replace<W: Executor>(
     requires def { def < length table.now.defs }
     requires node { item.now.node < length table.now.nodes }
     requires there { option_map instance_number (find def (def_scope_node table.now item.now def) stack.old.live.live) ≡ Some id.order }
+    requires frames { StandsWith (stack_state (W.rules setting.now) world.old stack.old) W.is_out [] }
     ensures answer { IfOk result (λ answer. answer_in (W.rules setting.now) answer ≡ (replace (W.rules setting.now) (item_for_session table.now item.now) def (grants_of (W.rules setting.now) given.now) (down_all (W.rules setting.now) (dependents id.order (live_instances (W.rules setting.now) stack.old.live.live)) (stack_state (W.rules setting.now) world.old stack.old))).answer) }
     ensures state { OnOk result (stack_state (W.rules setting.now) world.new stack.new ≡ (replace (W.rules setting.now) (item_for_session table.now item.now) def (grants_of (W.rules setting.now) given.now) (down_all (W.rules setting.now) (dependents id.order (live_instances (W.rules setting.now) stack.old.live.live)) (stack_state (W.rules setting.now) world.old stack.old))).state) }
+    ensures frames { OnOk result (StandsWith (stack_state (W.rules setting.now) world.new stack.new) W.is_out []) }
 {
     stack.live.is_in_order();
     let ids = stack.live.dependents_of(alloc, id)?;
@@ -321,8 +331,10 @@ fn settle_found<W: Executor>(
     requires node { item.now.node < length table.now.nodes }
     requires live { IsMember id stack.old.live.ids }
     requires there { option_map instance_number (find def (def_scope_node table.now item.now def) stack.old.live.live) ≡ Some id.order }
+    requires frames { StandsWith (stack_state (W.rules setting.now) world.old stack.old) W.is_out [] }
     ensures answer { IfOk result (λ answer. answer_in (W.rules setting.now) answer ≡ (settle (W.rules setting.now) (item_for_session table.now item.now) def (grants_of (W.rules setting.now) given.now) (find def (def_scope_node table.now item.now def) (live_instances (W.rules setting.now) stack.old.live.live)) (stack_state (W.rules setting.now) world.old stack.old)).answer) }
     ensures state { OnOk result (stack_state (W.rules setting.now) world.new stack.new ≡ (settle (W.rules setting.now) (item_for_session table.now item.now) def (grants_of (W.rules setting.now) given.now) (find def (def_scope_node table.now item.now def) (live_instances (W.rules setting.now) stack.old.live.live)) (stack_state (W.rules setting.now) world.old stack.old)).state) }
+    ensures frames { OnOk result (StandsWith (stack_state (W.rules setting.now) world.new stack.new) W.is_out []) }
 {
     stack.live.is_in_order();
     if is_same(
@@ -352,8 +364,10 @@ fn settle<W: Executor>(
     requires tree { IsTree table.now.nodes }
     requires def { def < length table.now.defs }
     requires node { item.now.node < length table.now.nodes }
+    requires frames { StandsWith (stack_state (W.rules setting.now) world.old stack.old) W.is_out [] }
     ensures answer { IfOk result (λ answer. answer_in (W.rules setting.now) answer ≡ (settle (W.rules setting.now) (item_for_session table.now item.now) def (grants_of (W.rules setting.now) given.now) (find def (def_scope_node table.now item.now def) (live_instances (W.rules setting.now) stack.old.live.live)) (stack_state (W.rules setting.now) world.old stack.old)).answer) }
     ensures state { OnOk result (stack_state (W.rules setting.now) world.new stack.new ≡ (settle (W.rules setting.now) (item_for_session table.now item.now) def (grants_of (W.rules setting.now) given.now) (find def (def_scope_node table.now item.now def) (live_instances (W.rules setting.now) stack.old.live.live)) (stack_state (W.rules setting.now) world.old stack.old)).state) }
+    ensures frames { OnOk result (StandsWith (stack_state (W.rules setting.now) world.new stack.new) W.is_out []) }
 {
     match stack.live.find(def, place_of(table, item, def)) {
         None => {
@@ -382,8 +396,10 @@ fn settle_bare<W: Executor>(
     requires tree { IsTree table.now.nodes }
     requires def { def < length table.now.defs }
     requires node { item.now.node < length table.now.nodes }
+    requires frames { StandsWith (stack_state (W.rules setting.now) world.old stack.old) W.is_out [] }
     ensures answer { IfOk result (λ answer. answer_in (W.rules setting.now) answer ≡ (settle (W.rules setting.now) (item_for_session table.now item.now) def [] (find def (def_scope_node table.now item.now def) (live_instances (W.rules setting.now) stack.old.live.live)) (stack_state (W.rules setting.now) world.old stack.old)).answer) }
     ensures state { OnOk result (stack_state (W.rules setting.now) world.new stack.new ≡ (settle (W.rules setting.now) (item_for_session table.now item.now) def [] (find def (def_scope_node table.now item.now def) (live_instances (W.rules setting.now) stack.old.live.live)) (stack_state (W.rules setting.now) world.old stack.old)).state) }
+    ensures frames { OnOk result (StandsWith (stack_state (W.rules setting.now) world.new stack.new) W.is_out []) }
 {
     let none = Seq::new(alloc);
     let answer = settle(alloc, stack, world, setting, table, item, def, none.items())?;
@@ -408,9 +424,11 @@ fn settle_noted<W: Executor>(
     requires def { def < length table.now.defs }
     requires node { item.now.node < length table.now.nodes }
     requires stand { AllStand (W.rules setting.now) (item_for_session table.now item.now) (live_instances (W.rules setting.now) stack.old.live.live) marks.old.items }
+    requires frames { StandsWith (stack_state (W.rules setting.now) world.old stack.old) W.is_out [] }
     ensures answer { IfOk result (λ answer. answer_in (W.rules setting.now) answer ≡ (settle (W.rules setting.now) (item_for_session table.now item.now) def (grants_of (W.rules setting.now) given.now) (find def (def_scope_node table.now item.now def) (live_instances (W.rules setting.now) stack.old.live.live)) (stack_state (W.rules setting.now) world.old stack.old)).answer) }
     ensures state { OnOk result (stack_state (W.rules setting.now) world.new stack.new ≡ (settle (W.rules setting.now) (item_for_session table.now item.now) def (grants_of (W.rules setting.now) given.now) (find def (def_scope_node table.now item.now def) (live_instances (W.rules setting.now) stack.old.live.live)) (stack_state (W.rules setting.now) world.old stack.old)).state) }
     ensures stand { OnOk result (AllStand (W.rules setting.now) (item_for_session table.now item.now) (live_instances (W.rules setting.now) stack.new.live.live) marks.new.items) }
+    ensures frames { OnOk result (StandsWith (stack_state (W.rules setting.now) world.new stack.new) W.is_out []) }
 {
     let keeps = stays(&stack.live, table, item, def);
     let answer = settle(alloc, stack, world, setting, table, item, def, given)?;
@@ -441,8 +459,10 @@ fn again<W: Executor>(
     requires deep { IsWithinDepth (W.rules setting.now) (item_for_session table.now item.now) (length table.now.defs) (W.rules setting.now).depth below.old.items top }
     requires next { wants top ≡ next ∷ wants_then top }
     requires stands { IsCached (W.rules setting.now) (item_for_session table.now item.now) (live_instances (W.rules setting.now) stack.old.live.live) next }
+    requires frames { StandsWith (stack_state (W.rules setting.now) world.old stack.old) W.is_out [] }
     ensures turn { IfOk result (λ turn. IsTurn (W.rules setting.now) (item_for_session table.now item.now) (length table.now.defs) below.old.items top (stack_state (W.rules setting.now) world.old stack.old) turn below.new.items (stack_state (W.rules setting.now) world.new stack.new)) }
     ensures state { OnOk result (stack_state (W.rules setting.now) world.new stack.new ≡ stack_state (W.rules setting.now) world.old stack.old) }
+    ensures frames { OnOk result (StandsWith (stack_state (W.rules setting.now) world.new stack.new) W.is_out []) }
 {
     let answer = settle_bare(alloc, stack, world, setting, table, item, next)?;
     below.push(top)?;
@@ -468,8 +488,10 @@ fn turn<W: Executor>(
     requires node { item.now.node < length table.now.nodes }
     requires deep { IsWithinDepth (W.rules setting.now) (item_for_session table.now item.now) (length table.now.defs) (W.rules setting.now).depth below.old.items top }
     requires stand { AllStand (W.rules setting.now) (item_for_session table.now item.now) (live_instances (W.rules setting.now) stack.old.live.live) marks.old.items }
+    requires frames { StandsWith (stack_state (W.rules setting.now) world.old stack.old) W.is_out [] }
     ensures turn { IfOk result (λ turn. IsTurn (W.rules setting.now) (item_for_session table.now item.now) (length table.now.defs) below.old.items top (stack_state (W.rules setting.now) world.old stack.old) turn below.new.items (stack_state (W.rules setting.now) world.new stack.new)) }
     ensures stand { OnOk result (AllStand (W.rules setting.now) (item_for_session table.now item.now) (live_instances (W.rules setting.now) stack.new.live.live) marks.new.items) }
+    ensures frames { OnOk result (StandsWith (stack_state (W.rules setting.now) world.new stack.new) W.is_out []) }
 {
     match next_of(&top) {
         Some(next) => {
@@ -517,8 +539,10 @@ pub(crate) fn demand<W: Executor>(
     requires node { item.now.node < length table.now.nodes }
     requires ready { IsReady (W.rules setting.now) (item_for_session table.now item.now) (length table.now.defs) (W.rules setting.now).depth def }
     requires stand { AllStand (W.rules setting.now) (item_for_session table.now item.now) (live_instances (W.rules setting.now) stack.old.live.live) marks.old.items }
+    requires frames { StandsWith (stack_state (W.rules setting.now) world.old stack.old) W.is_out [] }
     ensures stand { OnOk result (AllStand (W.rules setting.now) (item_for_session table.now item.now) (live_instances (W.rules setting.now) stack.new.live.live) marks.new.items) }
     ensures answer { IfOk result (λ answer. demand (W.rules setting.now) (item_for_session table.now item.now) (W.rules setting.now).depth def (stack_state (W.rules setting.now) world.old stack.old) ≡ reply (answer_in (W.rules setting.now) answer) (stack_state (W.rules setting.now) world.new stack.new)) }
+    ensures frames { OnOk result (StandsWith (stack_state (W.rules setting.now) world.new stack.new) W.is_out []) }
 {
     if is_marked(marks.as_slice(), def.number() as usize) {
         let answer = settle_bare(alloc, stack, world, setting, table, item, def)?;
@@ -553,8 +577,10 @@ pub(crate) fn demand_noted<W: Executor>(
     requires node { item.now.node < length table.now.nodes }
     requires ready { IsReady (W.rules setting.now) (item_for_session table.now item.now) (length table.now.defs) (W.rules setting.now).depth def }
     requires stand { AllStand (W.rules setting.now) (item_for_session table.now item.now) (live_instances (W.rules setting.now) stack.old.live.live) marks.old.items }
+    requires frames { StandsWith (stack_state (W.rules setting.now) world.old stack.old) W.is_out [] }
     ensures stand { OnOk result (AllStand (W.rules setting.now) (item_for_session table.now item.now) (live_instances (W.rules setting.now) stack.new.live.live) marks.new.items) }
     ensures noted { IfOk result (λ refused. (ds : List ℕ) → demand_closure (W.rules setting.now) (item_for_session table.now item.now) (def ∷ ds) (stack_state (W.rules setting.now) world.old stack.old) ≡ goes_or_ends (demand_closure (W.rules setting.now) (item_for_session table.now item.now) ds) refused (stack_state (W.rules setting.now) world.new stack.new)) }
+    ensures frames { OnOk result (StandsWith (stack_state (W.rules setting.now) world.new stack.new) W.is_out []) }
 {
     let answer = demand(alloc, stack, world, setting, table, item, def, marks)?;
     match answer {

@@ -1,4 +1,5 @@
-ghost use Rattle.std.specs.Prelude.{◌≡◌, List, [], ◌∷◌, ◌++◌, Some, None, IfOk, OnOk};
+ghost use Rattle.std.specs.Prelude.{◌≡◌, List, [], ◌∷◌, ◌++◌, Some, None, IfOk, OnOk, true};
+ghost use Rattle.session_rules.specs.Frames.{IsOutWhereYielded};
 ghost use Rattle.session_rules.specs.Teardown.{TeardownEnd, torn, finalize_all, rest_ended, rest_resumed, closed_request};
 ghost use Rattle.fixture_instances.specs.Views.{body_end, closed_with};
 
@@ -16,6 +17,7 @@ fn end_rest<W: Executor>(
     def: DefId,
     end: BodyEnd<W::Value, W::Thrown, W::Rest>,
 ) -> Result<Seq<W::Thrown>, OutOfMemory>
+    requires out { IsOutWhereYielded (body_end (W.rules setting.now) end) W.is_out world.old }
     ensures { IfOk result (λ raised. torn raised world.new ≡ rest_ended (W.rules setting.now) def (body_end (W.rules setting.now) end) world.old) }
 {
     match end {
@@ -41,6 +43,7 @@ pub fn resume_rest<W: Executor>(
     def: DefId,
     rest: Option<W::Rest>,
 ) -> Result<Seq<W::Thrown>, OutOfMemory>
+    requires out { (r : W.Rest) → rest ≡ Some r → W.is_out r world.old ≡ true }
     ensures { IfOk result (λ raised. torn raised world.new ≡ rest_resumed (W.rules setting.now) def rest world.old) }
 {
     match rest {
@@ -96,6 +99,7 @@ pub fn tear<W: Executor>(
     rest: Option<W::Rest>,
     finalizers: &[W::Value],
 ) -> Result<Seq<W::Thrown>, OutOfMemory>
+    requires out { (r : W.Rest) → rest ≡ Some r → W.is_out r world.old ≡ true }
     ensures { IfOk result (λ raised. torn raised world.new ≡ finalize_all (W.rules setting.now) finalizers.now (rest_resumed (W.rules setting.now) def rest world.old)) }
 {
     let mut raised = resume_rest(alloc, world, setting, def, rest)?;

@@ -1,3 +1,4 @@
 pub mod Cutting
 pub mod Joining
+pub mod Rooms
 pub mod Trimming

@@ -4,3 +4,4 @@ pub use Rattle.call_products.specs.py_operands
 pub mod Characters
 pub mod Pieces
 pub mod Methods
+pub mod Joins

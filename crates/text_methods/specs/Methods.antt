@@ -7,6 +7,7 @@ use Rattle.call_products.specs.Arguments.{has_none, sole, pair, sole_text}
 use Rattle.call_products.specs.Elements.{keys_of}
 use Rattle.call_products.specs.Products.{plain, failed, wrong, refs_from}
 use Rattle.call_products.specs.declared.product.Product.{Product}
+use Rattle.call_products.specs.py_operands.Search.{first_place}
 use Rattle.call_products.specs.py_operands.Texts.{text_of}
 use Rattle.call_products.specs.py_operands.Faults.{not_iterable}
 use Rattle.call_products.specs.py_kinds.Builtins.{text_method_name}
@@ -21,9 +22,7 @@ use Rattle.py_values.specs.declared.object.Obj.TheVariants as obj
 use Rattle.py_values.specs.declared.value.Value.{Value}
 use Rattle.py_values.specs.declared.value.Value.TheVariants as val
 use Rattle.text_methods.specs.Characters.{is_digits, stripped}
-use Rattle.text_methods.specs.Pieces.{singles, pieces, occurrences, words, joined, short_text, first_place}
-use Rattle.text_methods.specs.declared.joined.Parts.{Parts}
-use Rattle.text_methods.specs.declared.joined.Parts.TheVariants as parts
+use Rattle.text_methods.specs.Pieces.{singles, pieces, occurrences, words, joined, short_text}
 
 -- a value that has no length, behind n steps
 abbrev pub given : ℕ → Value → Product
@@ -85,46 +84,52 @@ abbrev pub texts_of : List Obj → List Value → Option (List (List ℕ))
 texts_of heap [] = Some []
 texts_of heap (v ∷ vs) = text_before (text_of heap v) (texts_of heap vs)
 
+-- the texts that the elements of a value are, or why there are none
+pub data Parts : Type 0 where
+  Texts : List (List ℕ) → Parts
+  OtherElements : Parts
+  NoElements : Parts
+
 abbrev pub texts_to_join : Option (List (List ℕ)) → Parts
-texts_to_join (Some ts) = parts.Texts ts
-texts_to_join None = parts.OtherElements
+texts_to_join (Some ts) = Texts ts
+texts_to_join None = OtherElements
 
 -- what `join` joins: the texts that the elements of an argument are
 abbrev pub parts_in : List Obj → Option Obj → Parts
-parts_in heap (Some (obj.Text t)) = parts.Texts (singles t)
+parts_in heap (Some (obj.Text t)) = Texts (singles t)
 parts_in heap (Some (obj.List vs)) = texts_to_join (texts_of heap vs)
 parts_in heap (Some (obj.Tuple vs)) = texts_to_join (texts_of heap vs)
 parts_in heap (Some (obj.Dict es)) = texts_to_join (texts_of heap (keys_of es))
-parts_in heap (Some (obj.Range r)) = if eqb r.length 0 then parts.Texts [] else parts.OtherElements
-parts_in heap (Some (obj.Function x)) = parts.NoElements
-parts_in heap (Some (obj.Method x)) = parts.NoElements
-parts_in heap (Some (obj.Builtin x)) = parts.NoElements
-parts_in heap (Some (obj.Class x)) = parts.NoElements
-parts_in heap (Some (obj.Instance x)) = parts.NoElements
-parts_in heap (Some (obj.Exception x)) = parts.NoElements
-parts_in heap (Some (obj.Module x)) = parts.NoElements
-parts_in heap (Some (obj.Fixture x)) = parts.NoElements
-parts_in heap (Some obj.MarkMaker) = parts.NoElements
-parts_in heap (Some (obj.Mark x)) = parts.NoElements
-parts_in heap (Some (obj.Hook x)) = parts.NoElements
-parts_in heap (Some (obj.Param x)) = parts.NoElements
-parts_in heap (Some (obj.Request x)) = parts.NoElements
-parts_in heap (Some (obj.Raises x)) = parts.NoElements
-parts_in heap (Some (obj.Info x)) = parts.NoElements
-parts_in heap (Some (obj.Item x)) = parts.NoElements
-parts_in heap None = parts.NoElements
+parts_in heap (Some (obj.Range r)) = if eqb r.length 0 then Texts [] else OtherElements
+parts_in heap (Some (obj.Function x)) = NoElements
+parts_in heap (Some (obj.Method x)) = NoElements
+parts_in heap (Some (obj.Builtin x)) = NoElements
+parts_in heap (Some (obj.Class x)) = NoElements
+parts_in heap (Some (obj.Instance x)) = NoElements
+parts_in heap (Some (obj.Exception x)) = NoElements
+parts_in heap (Some (obj.Module x)) = NoElements
+parts_in heap (Some (obj.Fixture x)) = NoElements
+parts_in heap (Some obj.MarkMaker) = NoElements
+parts_in heap (Some (obj.Mark x)) = NoElements
+parts_in heap (Some (obj.Hook x)) = NoElements
+parts_in heap (Some (obj.Param x)) = NoElements
+parts_in heap (Some (obj.Request x)) = NoElements
+parts_in heap (Some (obj.Raises x)) = NoElements
+parts_in heap (Some (obj.Info x)) = NoElements
+parts_in heap (Some (obj.Item x)) = NoElements
+parts_in heap None = NoElements
 
 abbrev pub parts_of_value : List Obj → Value → Parts
 parts_of_value heap (val.Ref id) = parts_in heap (slice_get heap id.at)
-parts_of_value heap val.None = parts.NoElements
-parts_of_value heap (val.Bool b) = parts.NoElements
-parts_of_value heap (val.Int z) = parts.NoElements
+parts_of_value heap val.None = NoElements
+parts_of_value heap (val.Bool b) = NoElements
+parts_of_value heap (val.Int z) = NoElements
 
 -- `t.join(x)`
 abbrev pub join_parts : List ℕ → List ℕ → Parts → Product
-join_parts kind t (parts.Texts ps) = text_or_long (length t) (short_text (joined t ps))
-join_parts kind t parts.OtherElements = wrong (codes "join") (length t)
-join_parts kind t parts.NoElements = plain (Fail (not_iterable kind) (length t))
+join_parts kind t (Texts ps) = text_or_long (length t) (short_text (joined t ps))
+join_parts kind t OtherElements = wrong (codes "join") (length t)
+join_parts kind t NoElements = plain (Fail (not_iterable kind) (length t))
 
 abbrev pub join_of : List Obj → List ℕ → Option Value → Product
 join_of heap t (Some v) = join_parts (kind_name heap v) t (parts_of_value heap v)

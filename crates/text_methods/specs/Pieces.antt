@@ -62,8 +62,3 @@ short_text t = if nat_lt most_elements (length t) then None else Some t
 -- whether three texts behind one another aren't too long
 abbrev pub has_room : List ℕ → List ℕ → List ℕ → Bool
 has_room a b c = not (nat_lt most_elements (length a + length b + length c))
-
--- the place from which on a part stands first, counted on from a number
-abbrev pub first_place : List ℕ → ℕ → List ℕ → Option ℕ
-first_place part at [] = if starts_with nat_eq [] part then Some at else None
-first_place part at (c ∷ cs) = if starts_with nat_eq (c ∷ cs) part then Some at else first_place part (suc at) cs

@@ -2,16 +2,19 @@
 
 ghost use Rattle.std.specs.Prelude.{◌≡◌, ◌+◌, IfOk, length, map, option_copied};
 ghost use Rattle.py_values.specs.declared.object.Obj.TheVariants as obj;
+ghost use Rattle.call_products.specs.py_kinds.Kinds as kinds;
+ghost use Rattle.text_methods.specs.Joins as joins;
 ghost use Rattle.text_methods.specs.Methods as methods;
 ghost use Rattle.text_methods.specs.Pieces as pieces;
 
 use crate::chars::{is_digits, lower, stripped, upper};
-use crate::joined::{Parts, parts_of};
-use crate::pieces::{first_place, joined, pieces, words};
+use crate::joined::{Joined, join_elements};
+use crate::pieces::{joined, pieces, words};
 use call_products::arguments::{has_none, pair, sole, sole_text};
 use call_products::product::{Product, failed, plain, refs, wrong};
 use py_kinds::builtins::text_method_name;
 use py_operands::faults::not_iterable;
+use py_operands::search::first_place;
 use py_operands::texts::text_of;
 use py_values::builtin::TextMethod;
 use py_values::class::ExcClass;
@@ -166,6 +169,28 @@ fn replace(
     }
 }
 
+/// What a call of `join` makes of elements that were joined.
+fn join_made(
+    alloc: Global,
+    heap: &Heap,
+    v: Value,
+    text: &[char],
+    all: Joined,
+) -> Result<Product, OutOfMemory>
+    ensures { IfOk result (λ p. p ≡ joins.join_made (kinds.kind_name heap.now v) text.now all) }
+{
+    match all {
+        Joined::Text(all) => new_text(alloc, text.len(), all.chars()),
+        Joined::TooLong => too_long(alloc, text.len()),
+        Joined::OtherElements => wrong(alloc, "join", text.len() as u64),
+        Joined::NoElements => {
+            let raise = not_iterable(alloc, heap, v)?;
+            Ok(plain(alloc, Effect::Fail(raise, text.len() as u64)))
+        }
+    }
+}
+
+#[tactic(auto, using(crate::proofs::Joining::join_told))]
 fn join(
     alloc: Global,
     heap: &Heap,
@@ -177,17 +202,8 @@ fn join(
     let Some(v) = arg else {
         return wrong(alloc, "join", text.len() as u64);
     };
-    match parts_of(alloc, heap, v)? {
-        Parts::Texts(texts) => {
-            let all = joined(alloc, text, texts.items())?;
-            text_or_long(alloc, text.len(), all)
-        }
-        Parts::OtherElements => wrong(alloc, "join", text.len() as u64),
-        Parts::NoElements => {
-            let raise = not_iterable(alloc, heap, v)?;
-            Ok(plain(alloc, Effect::Fail(raise, text.len() as u64)))
-        }
-    }
+    let all = join_elements(alloc, heap, text, v)?;
+    join_made(alloc, heap, v, text, all)
 }
 
 fn place_value(at: Option<usize>) -> Value
@@ -223,7 +239,7 @@ fn find(alloc: Global, text: &[char], part: Option<&PyText>) -> Result<Product, 
 {
     match part {
         Some(part) => {
-            let v = place_value(first_place(part.chars(), text));
+            let v = place_value(first_place(alloc, part.chars(), text)?);
             Ok(given(alloc, text.len(), v))
         }
         None => wrong(alloc, "find", text.len() as u64),

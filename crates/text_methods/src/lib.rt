@@ -11,7 +11,7 @@
 //!   that of what is given), or its raise with class, text and cost.
 //! - `split` keeps the empty pieces between separators, and without one gives the words between blanks, of which none is empty (`pieces`,
 //!   `words`); `replace` is pieces joined by another text, and `count` is their number less one (`joined`, `occurrences`). A text or a list
-//!   past the greatest length is a `MemoryError`, before it is made.
+//!   past the greatest length is a `MemoryError`, before it is made; `join` copies no element by itself.
 //!
 //! # What tests alone show
 //!
@@ -19,7 +19,7 @@
 //!
 //! # What neither shows
 //!
-//! How long a call takes: the search for a part looks at each place anew.
+//! How long a call takes. A reader sees that a part is looked for in the text's bytes, by the search of `memchr`.
 #![tactic(auto)]
 
 pub mod call;

@@ -1,9 +1,10 @@
 // Pieces of texts.
 
-ghost use Rattle.std.specs.Prelude.{◌≡◌, ◌++◌, ◌∷◌, [], IfOk, OnOk};
+ghost use Rattle.std.specs.Prelude.{◌≡◌, ◌++◌, ◌∷◌, ◌<◌, [], IfOk, OnOk, length};
 ghost use Rattle.text_methods.specs.Pieces as cuts;
 
 use crate::chars::is_blank;
+use py_operands::search::{encoded, first_behind};
 use py_values::limits::MOST_ELEMENTS;
 use py_values::{OutOfMemory, PyText};
 use std::alloc::Global;
@@ -20,28 +21,18 @@ fn close(alloc: Global, pieces: &mut Vec<PyText>, last: &mut Vec<char>) -> Resul
 
 /// The pieces between the places where a part stands, which has characters.
 fn cut(alloc: Global, part: &[char], text: &[char]) -> Result<Vec<PyText>, OutOfMemory>
+    requires some { 0 < length part.now }
     ensures { IfOk result (λ v. v.items ≡ cuts.cut_behind part.now 0 text.now) }
 {
+    let bytes = encoded(alloc, text)?;
+    let sought = encoded(alloc, part)?;
     let mut pieces = Vec::new(alloc);
-    let mut last = Vec::new(alloc);
-    let mut left = 0usize;
-    let mut rest = text;
-    while let Some((c, behind)) = rest.split_first() {
-        if left > 0 {
-            left -= 1;
-            rest = behind;
-            continue;
-        }
-        if rest.starts_with(part) {
-            close(alloc, &mut pieces, &mut last)?;
-            left = part.len().saturating_sub(1);
-            rest = behind;
-            continue;
-        }
-        last.push(*c)?;
-        rest = behind;
+    let mut from = 0;
+    while let Some(far) = first_behind(&bytes, &sought, from) {
+        pieces.push(PyText::from_chars(alloc, &text[from..from + far])?)?;
+        from = from + far + part.len();
     }
-    close(alloc, &mut pieces, &mut last)?;
+    pieces.push(PyText::from_chars(alloc, &text[from..])?)?;
     Ok(pieces)
 }
 
@@ -110,7 +101,7 @@ pub fn words(alloc: Global, text: &[char]) -> Result<Vec<PyText>, OutOfMemory>
 }
 
 /// Whether a text stays short with another and a third behind it.
-fn has_room(chars: &[char], sep: &[char], piece: &[char]) -> bool
+pub fn has_room(chars: &[char], sep: &[char], piece: &[char]) -> bool
     ensures { result ≡ cuts.has_room chars.now sep.now piece.now }
 {
     chars.len() as u128 + sep.len() as u128 + piece.len() as u128 <= MOST_ELEMENTS as u128
@@ -147,26 +138,5 @@ pub fn joined(alloc: Global, sep: &[char], pieces: &[PyText]) -> Result<Option<P
     match pieces.split_first() {
         Some((first, rest)) => joined_behind(alloc, first.chars(), sep, rest),
         None => Ok(Some(PyText::from_chars(alloc, &[])?)),
-    }
-}
-
-/// The place from which on a part stands first.
-pub fn first_place(part: &[char], text: &[char]) -> Option<usize>
-    ensures { result ≡ cuts.first_place part.now 0 text.now }
-{
-    let mut rest = text;
-    for at in 0..text.len() {
-        if rest.starts_with(part) {
-            return Some(at);
-        }
-        rest = match rest.split_first() {
-            Some((_, behind)) => behind,
-            None => rest,
-        };
-    }
-    if part.is_empty() {
-        Some(text.len())
-    } else {
-        None
     }
 }

@@ -4,7 +4,7 @@ use crate::objects::{
     added, builtin_class, builtin_function, class_by, exception_without_args, function, module,
 };
 use crate::special::{full_dict, nested, nested_exception, numbers, own_list, repeated, spaces};
-use py_kinds::keys::{KeyResult, key};
+use py_kinds::keys::{KeyResult, key_within};
 use py_values::class::ClassRef;
 use py_values::dict::Dict;
 use py_values::heap::Heap;
@@ -94,9 +94,9 @@ pub fn put(
     from: Value,
     to: Value,
 ) -> MemoryResult<()> {
-    match key(alloc, heap, from)? {
-        KeyResult::Key(plain) => dict.put(plain, from, to),
-        KeyResult::Fault(_, _) => Ok(()),
+    match key_within(alloc, heap, from, u64::MAX)? {
+        Some(KeyResult::Key(plain)) => dict.put(plain, from, to),
+        Some(KeyResult::Fault(_, _)) | None => Ok(()),
     }
 }
 

@@ -1,8 +1,7 @@
 use crate::info::{ASKED, asked};
 use crate::options::{PATHS_AND_SWITCHES, TEXTS_AND_NUMBERS, WORKERS, WORKERS_AND_FORMS, shown};
-use crate::selecting::{FAULTS, UNBUILT, fault_text};
+use crate::selecting::{FAULTS, fault_text};
 use cli_words::{Options, read_words};
-use selection::asks_for_unbuilt;
 use std::alloc::{AllocError, Global};
 
 /// What is told of words.
@@ -12,7 +11,6 @@ enum Act {
     Options,
     Workers,
     Fault,
-    Unbuilt,
 }
 
 /// The words of a line with `|` between them.
@@ -29,7 +27,6 @@ fn options_told(alloc: Global, act: Act, options: &Options) -> Result<String, Al
         Act::Info | Act::Options => shown(alloc, options),
         Act::Workers => format!(in alloc; "{}", options.asks_for_workers()),
         Act::Fault => fault_text(alloc, options),
-        Act::Unbuilt => format!(in alloc; "{}", asks_for_unbuilt(options)),
     }
 }
 
@@ -45,18 +42,17 @@ fn told(alloc: Global, act: Act, line: &str) -> Result<String, AllocError> {
     let words = words_of(alloc, line)?;
     match act {
         Act::Info => String::from_str(alloc, asked(&words)),
-        Act::Options | Act::Workers | Act::Fault | Act::Unbuilt => read(alloc, act, &words),
+        Act::Options | Act::Workers | Act::Fault => read(alloc, act, &words),
     }
 }
 
-const TABLES: [(Act, &[(&str, &str)]); 7] = [
+const TABLES: [(Act, &[(&str, &str)]); 6] = [
     (Act::Info, &ASKED),
     (Act::Options, &PATHS_AND_SWITCHES),
     (Act::Options, &TEXTS_AND_NUMBERS),
     (Act::Options, &WORKERS_AND_FORMS),
     (Act::Workers, &WORKERS),
     (Act::Fault, &FAULTS),
-    (Act::Unbuilt, &UNBUILT),
 ];
 
 /// The first line of a table of which something else is told, with what is told.

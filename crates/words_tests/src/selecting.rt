@@ -37,19 +37,6 @@ pub fn fault_text(alloc: Global, options: &Options) -> Result<String, AllocError
     }
 }
 
-/// Words, with `|` between them, and whether they ask for what isn't built.
-pub const UNBUILT: [(&str, &str); 9] = [
-    ("", "false"),
-    ("-k|a|-m|b|-x|--tb=no|-v|--co|--ignore=c", "false"),
-    ("--setup-show", "false"),
-    ("-n2", "true"),
-    ("-n0", "false"),
-    ("-n2|--dist=no", "false"),
-    ("-n2|--co", "true"),
-    ("--dist=loadfile", "false"),
-    ("--generated=1,4", "true"),
-];
-
 /// Words, with `|` between them, the names of an item and its marks, and whether it is selected.
 const SELECTED: [(&str, &str, &str, bool); 19] = [
     ("", "test_a.py test_c", "", true),

@@ -8,6 +8,6 @@ invariant-loop-one l =
     let f = fixtures_with l.table l.names l.definitions in
     record {
       items : l.listed.items.items ++ all_items (files_found l.heap f l.node (drop l.one-index l.placed)) ≡ all_items (files_found l.heap f l.first l.placed);
-      nodes : l.listed.nodes.items ++ all_nodes l.heap (length l.listed.items.items) (files_found l.heap f l.node (drop l.one-index l.placed)) ≡ all_nodes l.heap 0 (files_found l.heap f l.first l.placed);
+      nodes : l.listed.nodes.items ++ all_nodes (length l.listed.items.items) (files_found l.heap f l.node (drop l.one-index l.placed)) ≡ all_nodes 0 (files_found l.heap f l.first l.placed);
       faults : l.listed.faults.items ++ map fault_of_file (files_found l.heap f l.node (drop l.one-index l.placed)) ≡ map fault_of_file (files_found l.heap f l.first l.placed);
     }

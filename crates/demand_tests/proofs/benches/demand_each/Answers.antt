@@ -4,7 +4,7 @@ use Rattle.demand_tests.proofs.Rows.{ready_there}
 use Rattle.demand_tests.proofs.benches.demand_each.Goals as goal
 
 pub defs-init : goal.defs-init
-defs-init c = record { script = refl; table = refl; ready = c.requires.ready }
+defs-init c = record { frames = c.requires.frames; script = refl; table = refl; ready = c.requires.ready }
 
 pub demand-requires-clause-ready : goal.demand-requires-clause-ready
 demand-requires-clause-ready c =
@@ -13,6 +13,7 @@ demand-requires-clause-ready c =
 
 pub defs-preserved : goal.defs-preserved
 defs-preserved c = record {
+  frames = c.in_ok-raised.ensures.frames;
   script = c.demand.ensures.script ∙ c.defs.invariant.script;
   table = c.demand.ensures.table ∙ c.defs.invariant.table;
   ready = λ d m. c.defs.invariant.ready d (subst (λ (l : List ℕ). IsMember d l) (sym c.in-Some.ensures.cases.0) (inr m));

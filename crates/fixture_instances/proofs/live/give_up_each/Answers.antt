@@ -1,5 +1,5 @@
 use Rattle.std.proofs.Common.{arith, slice_index_or}
-use Rattle.fixture_instances.proofs.Spent.{abandoned_more, front_more, one_spent, spent_more}
+use Rattle.fixture_instances.proofs.Spent.{given_up_more, front_more, one_spent, spent_more}
 use Rattle.fixture_instances.proofs.live.give_up_each.Goals as goal
 
 pub loop-one-preserved : goal.loop-one-preserved
@@ -8,5 +8,5 @@ loop-one-preserved g c =
     record {
       same = spent_more c.loop-one.kept c.args.kept.now c.loop-one.one-index c.one-item.result _ (omega arith) e c.loop-one.invariant.same;
       front = front_more c.loop-one.kept c.loop-one.one-index c.one-item.result _ (omega arith) e c.loop-one.invariant.front;
-      world = abandoned_more (g.W.Executor.rules c.args.setting.now) c.loop-one.kept c.loop-one.one-index c.one-item.result _ c.take.result c.loop-one.world c.give_up.new.world _ (omega arith) c.take.ensures.value c.give_up.ensures c.loop-one.invariant.world;
+      world = given_up_more g.W.Executor.given_up c.loop-one.kept c.loop-one.one-index c.one-item.result _ c.take.result c.loop-one.world c.give_up.new.world _ (omega arith) c.take.ensures.value c.give_up.ensures c.loop-one.invariant.world;
     }

@@ -1,4 +1,4 @@
-use Rattle.std.proofs.Common.{◌≤◌, ◌<◌, ◌∙◌, ◌*◌, ◌+◌, ◌/◌, ◌^◌, ℕ, List, [], ap, sym, length, drop, get_or, arith, length-drop}
+use Rattle.std.proofs.Common.{◌<◌, ◌∙◌, ◌*◌, ◌+◌, ◌/◌, ℕ, List, [], ap, sym, length, drop, get_or, arith, length-drop}
 use Rattle.py_values.specs.Ends.{payable}
 use Rattle.py_kinds.specs.Keys.{key_of, key_steps}
 use Rattle.py_values.specs.declared.dict.Pair.{Pair}
@@ -25,7 +25,7 @@ loop-i-preserved c =
     let x = get_or vs (2 * i) val.None in
     let y = get_or vs (2 * i + 1) val.None in
     let room : 2 * i + 1 < length vs = omega (arith, c.loop-i-test.true) in
-    let told : pair_told (Steps c.in-Steps.n) heap c.loop-i.dict c.store_pair.new.dict c.loop-i.steps x y (key_of heap x) = rw c.in-Steps.is at c.in_ok-n.ensures in
+    let told : pair_told c.args.budget (Steps c.in-Steps.n) heap c.loop-i.dict c.store_pair.new.dict c.loop-i.steps x y (key_of heap x) = rw c.in-Steps.is at c.in_ok-n.ensures in
     c.loop-i.invariant
     ∙ ap (world.pairs_stored heap c.loop-i.dict c.loop-i.steps) (next_pair vs i room)
     ∙ told (λ fs m. world.pairs_stored heap fs m (drop (2 * (i + 1)) vs))
@@ -38,11 +38,10 @@ returns-in-Beyond c =
     let x = get_or vs (2 * i) val.None in
     let y = get_or vs (2 * i + 1) val.None in
     let room : 2 * i + 1 < length vs = omega (arith, c.loop-i-test.true) in
-    let far : 2 ^ 64 ≤ c.loop-i.steps + key_steps (key_of heap x) = rw c.in-Beyond.is at c.in_ok-n.ensures in
-    let fits : c.args.budget < 2 ^ 64 = omega (arith, c.ranges.budget.fits) in
+    let far : c.args.budget < c.loop-i.steps + key_steps (key_of heap x) = rw c.in-Beyond.is at c.in_ok-n.ensures in
     sym
     (ap (payable c.args.budget) (c.loop-i.invariant ∙ ap (world.pairs_stored heap c.loop-i.dict c.loop-i.steps) (next_pair vs i room))
-    ∙ beyond c.args.budget heap c.loop-i.dict c.loop-i.steps x y (drop (2 * (i + 1)) vs) fits far)
+    ∙ beyond c.args.budget heap c.loop-i.dict c.loop-i.steps x y (drop (2 * (i + 1)) vs) far)
 
 pub returns : goal.returns
 returns c =

@@ -1,4 +1,4 @@
-use Rattle.std.proofs.Common.{◌≤◌, map, ap, subst, ◌∙◌}
+use Rattle.std.proofs.Common.{◌≡◌, ◌≤◌, map, ap, subst, sym, ◌∙◌}
 use Rattle.std.specs.Str.{chars}
 use Rattle.machine_state.specs.Frames.{frozen_of, world_of}
 use Rattle.lower_law.specs.core_meaning.Meaning.{core}
@@ -7,6 +7,8 @@ use Rattle.lower_law.specs.source_meaning.Meaning.{source_module}
 use Rattle.lower_law.specs.py_world.Runs.{Told}
 use Rattle.py_machine.proofs.Seen.{load_told, load_kept, bare_sound}
 use Rattle.py_machine.proofs.Steps.{module_within}
+use Rattle.core_rules.proofs.SourceRuns.{loads_keep}
+use Rattle.lower_law.specs.source_meaning.Requests.{source_kinds}
 use Rattle.py_machine.proofs.world.run_module.Goals as goal
 
 pub invariant_of-world : goal.invariant_of-world
@@ -24,3 +26,10 @@ returns-in-Ok-clause-told c =
 
 pub returns-in-Ok-clause-steps : goal.returns-in-Ok-clause-steps
 returns-in-Ok-clause-steps c = subst (λ (t : Told core_kinds). t.0.steps ≤ c.args.budget) c.in-Ok.ensures (module_within core (chars c.args.path.now) c.args.budget (world_of c.world.inside.machine))
+
+pub returns-in-Ok-clause-frames : goal.returns-in-Ok-clause-frames
+returns-in-Ok-clause-frames c =
+    let path = chars c.args.path.now in
+    subst (λ (t : Told source_kinds). t.1.frozen ≡ c.args.world.now.frozen)
+    (sym (load_told (world_of c.world.inside.machine) (world_of c.load.new.m) path c.args.budget c.in-Ok.ended c.world.invariant c.in-Ok.ensures ∙ ap (source_module path c.args.budget) c.world.view_is))
+    (loads_keep c.args.world.now path c.args.budget).frozen

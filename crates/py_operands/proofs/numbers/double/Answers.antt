@@ -1,4 +1,4 @@
-use Rattle.std.proofs.Common.{arith, ◌<◌, ◌≡◌, ◌-◌, ◌+◌, ◌^◌, ℤ, pos, ◌*ℤ◌, to_z}
+use Rattle.std.proofs.Common.{arith, ◌<◌, ◌≡◌, ◌-◌, ◌+◌, ◌^◌, pos, ◌*ℤ◌, to_z}
 use Rattle.std.specs.Int.{w128}
 use Rattle.std.proofs.lemmas.Int.{to_z-of_z}
 use Rattle.py_operands.proofs.Powers.{double, overflow}

@@ -1,6 +1,5 @@
-use Rattle.std.proofs.Common.{arith, ap, sym, ◌∙◌}
-use Rattle.py_operands.specs.Numbers.{fitting}
-use Rattle.py_operands.proofs.Ranging.{up_some, up_none}
+use Rattle.std.proofs.Common.{arith}
+use Rattle.py_operands.proofs.Ranging.{up_none}
 use Rattle.py_operands.proofs.ranges.up.Goals as goal
 
 pub returns-in-None : goal.returns-in-None

@@ -2,7 +2,7 @@ use Rattle.std.proofs.Common.{[], arith, map, string_bytes, subst}
 use Rattle.pytest_core.specs.Report.{IsTreeReport}
 use Rattle.pytest_core.specs.Request.{WordsAsk}
 use Rattle.pytest_core.specs.declared.request.Request.TheVariants.{Run, Said}
-use Rattle.pytest_core.proofs.Asked.{run_said, run_words}
+use Rattle.pytest_core.proofs.Asked.{no_maxfail, run_said, run_words}
 use Rattle.pytest_core.proofs.Generated.{generated_fits}
 use Rattle.pytest_core.proofs.Said.{said_by, some_of, some_as}
 use Rattle.pytest_core.proofs.Streamed.{wrote_as, wrote_response}
@@ -39,7 +39,12 @@ returns-in-Run-clause-read g c =
     let asks : WordsAsk (map string_bytes c.args.words.now) (Run c.in-Run.options c.in-Run.exprs) = subst (WordsAsk (map string_bytes c.args.words.now)) c.in-Run.is c.in_ok-request.ensures in
     λ e. run_words (map string_bytes c.args.words.now) c.in-Run.options c.in-Run.exprs asks
 
+pub put_run-requires-clause-conflict : goal.put_run-requires-clause-conflict
+put_run-requires-clause-conflict g c κs within =
+    let asks : WordsAsk (map string_bytes c.args.words.now) (Run c.in-Run.options c.in-Run.exprs) = subst (WordsAsk (map string_bytes c.args.words.now)) c.in-Run.is c.in_ok-request.ensures in
+    no_maxfail (map string_bytes c.args.words.now) c.in-Run.options asks.1
+
 pub put_run-requires-clause-bounds : goal.put_run-requires-clause-bounds
-put_run-requires-clause-bounds g c =
+put_run-requires-clause-bounds g c κs within =
     let asks : WordsAsk (map string_bytes c.args.words.now) (Run c.in-Run.options c.in-Run.exprs) = subst (WordsAsk (map string_bytes c.args.words.now)) c.in-Run.is c.in_ok-request.ensures in
     generated_fits (map string_bytes c.args.words.now) c.in-Run.options asks.1

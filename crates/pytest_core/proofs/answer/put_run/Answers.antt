@@ -20,4 +20,4 @@ returns-in-None-clause-wrote g c =
     some_as (g.T.Tree.files c.args.tree.now) _ _ (λ fs h. wrote_as_kept _ _ fs (g.S.Sink.told c.args.out.now) (g.S.Sink.told c.put_tree.new.out) c.put_tree.result (says_tree c.args.options.now c.requires.accepted c.in-None.is) h) c.put_tree.ensures.wrote
 
 pub put_generated-requires-clause-bounds : goal.put_generated-requires-clause-bounds
-put_generated-requires-clause-bounds g c = subst (λ (o : Option (ℕ × ℕ)). IsInBounds o) c.in-Some.is c.requires.bounds
+put_generated-requires-clause-bounds g c κs within = subst (λ (o : Option (ℕ × ℕ)). IsInBounds o) c.in-Some.is c.requires.bounds

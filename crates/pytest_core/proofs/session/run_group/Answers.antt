@@ -2,9 +2,9 @@ use Rattle.std.proofs.Common.{subst, sym}
 use Rattle.run_items.specs.Stands.{IsPlan, IsPlannedItem}
 use Rattle.run_items.specs.declared.plan.Plan.{Plan}
 use Rattle.runtest_loop.specs.Fed.{AreKnown}
-use Rattle.pytest_core.proofs.Chosen.{are_known, is_plan}
+use Rattle.worker_sessions.proofs.Plans.{are_known, is_plan}
+use Rattle.worker_sessions.specs.Sessions.{plan_by}
 use Rattle.pytest_core.proofs.Streamed.{none_broke}
-use Rattle.pytest_core.specs.Run.{plan_by}
 use Rattle.pytest_core.proofs.session.run_group.Goals as goal
 
 pub run_whole-requires-clause-plan : goal.run_whole-requires-clause-plan

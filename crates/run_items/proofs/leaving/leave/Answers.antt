@@ -23,5 +23,8 @@ returns c =
     let stand = c.args.stand.now in
     let next = option_map (λ item. item.now) c.args.next in
     left_in_course rules (item_where (item_in_session plan.table) next) (stand_state stand) c.in_ok-raised.raised (item_state rules stand.world stand.stack) (item_state rules c.leave.new.world c.leave.new.held)
-    (c.in_ok-raised.ensures
+    (c.in_ok-raised.ensures.state
     ∙ ap (λ (chain : List ℕ). left_for rules chain (item_state rules stand.world stand.stack)) (ap (λ (o : Option ℕ). chain_for plan.table o) c.node_of-node.ensures ∙ next_chain plan next))
+
+pub leave-requires-clause-frames : goal.leave-requires-clause-frames
+leave-requires-clause-frames c = c.requires.frames

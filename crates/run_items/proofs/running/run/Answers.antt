@@ -1,12 +1,16 @@
-use Rattle.std.proofs.Common.{subst, sym, List, length}
+use Rattle.std.proofs.Common.{ap, subst, sym, List, length}
 use Rattle.run_items.proofs.Given.{all_spent, lent_front, lent_run, starts}
-use Rattle.run_items.specs.Stands.{IsPlannedItem}
+use Rattle.fixture_world.specs.runtest_rules.py_world.Resuming.{is_out}
+use Rattle.fixture_world.specs.runtest_rules.Language.{python}
+use Rattle.session_rules.proofs.Standing.{at_start}
+use Rattle.session_rules.specs.Teardown.{SessionState}
+use Rattle.run_items.specs.Stands.{IsPlannedItem, stand_state}
 use Rattle.runtest_loop.specs.Fed.{AreKnown, numbers_fed, numbers_in_range}
 use Rattle.test_suite.specs.declared.item.Item.{Item}
 use Rattle.run_items.proofs.running.run.Goals as goal
 
 pub run-requires-clause-here : goal.run-requires-clause-here
-run-requires-clause-here g c = c.requires.plan
+run-requires-clause-here g c = (c.requires.plan, at_start {L = python} is_out (stand_state c.args.stand.now) (ap (λ (s : SessionState python). s.live) (starts c.args.stand.now c.requires.start)))
 
 pub run-requires-clause-start : goal.run-requires-clause-start
 run-requires-clause-start g c = starts c.args.stand.now c.requires.start

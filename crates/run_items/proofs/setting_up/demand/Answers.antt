@@ -39,5 +39,8 @@ returns c =
     let known = item_in_session plan.table item in
     let stand = c.args.stand.now in
     demanded_in_course (plan_rules plan) (stand_state stand) known c.args.defs.now c.in_ok-raised.raised (item_state (plan_rules plan) stand.world stand.stack) (item_state (plan_rules plan) c.demand_all.new.world c.demand_all.new.held)
-    (c.in_ok-raised.ensures known
+    (c.in_ok-raised.ensures.state known
     (subst (λ (at : ItemRef Value). AreAsked known (item_for_session plan.table at)) (sym c.in_ok-at.ensures) (plan_asked plan item stand.stack.stack.own)))
+
+pub demand_all-requires-clause-frames : goal.demand_all-requires-clause-frames
+demand_all-requires-clause-frames c = c.requires.frames

@@ -16,6 +16,7 @@ asking-init g c =
       deep = first_deep rules item (length table.defs) c.args.def c.new-below.result.items c.in_ok-top.top (requests_in table c.args.item.now c.args.def) (requests_low table c.args.item.now) c.requires.ready c.new-below.ensures.items c.in_ok-top.ensures refl;
       same = first_same rules item c.args.def c.new-below.result.items c.in_ok-top.top (requests_in table c.args.item.now c.args.def) (stack_state rules c.args.world.now c.args.stack.now) c.new-below.ensures.items c.in_ok-top.ensures refl;
       stand = c.requires.stand;
+      frames = c.requires.frames;
     }
 
 pub asking-preserved : goal.asking-preserved
@@ -29,6 +30,7 @@ asking-preserved g c =
       deep = goes_deep rules item (length table.defs) c.asking.below.items c.asking.top s c.in_ok-next.field-0 c.turn.new.below.items t c.in-Goes.next c.in-Goes.is c.in_ok-next.ensures.turn;
       same = c.asking.invariant.same ∙ goes_same rules item (length table.defs) c.asking.below.items c.asking.top s c.in_ok-next.field-0 c.turn.new.below.items t c.in-Goes.next c.in-Goes.is c.in_ok-next.ensures.turn;
       stand = c.in_ok-next.ensures.stand;
+      frames = c.in_ok-next.ensures.frames;
     }
 
 pub returns-in-Done-clause-answer : goal.returns-in-Done-clause-answer

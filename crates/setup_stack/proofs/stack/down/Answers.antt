@@ -3,6 +3,7 @@ use Rattle.session_types.specs.declared.journal.Event.{Event}
 use Rattle.session_types.specs.declared.journal.Event.TheVariants.{Down}
 use Rattle.session_rules.specs.Teardown.{finalize_all, rest_resumed, some_raised}
 use Rattle.setup_stack.proofs.Downs.{went_down}
+use Rattle.setup_stack.proofs.Outs.{closed_held}
 use Rattle.setup_stack.proofs.stack.down.Goals as goal
 
 pub returns-clause-state : goal.returns-clause-state
@@ -24,3 +25,9 @@ returns-clause-raised g c =
     (c.has_any-any.ensures ∙ ap some_raised c.items-2.ensures)
     (ap (λ v. v.live) c.take-def.ensures.taken) (ap (λ v. v.next) c.take-def.ensures.taken)
     (c.in_ok-push-2.ensures.ok ∙ ap (λ (l : List Event). l ++ Down c.take-def.result.order c.has_any-any.result ∷ []) c.in_ok-push.ensures.ok) refl refl).raised
+
+pub tear-requires : goal.tear-requires
+tear-requires g c = record {
+  out = λ r e. closed_held (g.W.Executor.rules c.args.setting.now) g.W.Executor.is_out (g.met.W.Executor.keeps c.args.setting.now) c.args.world.now c.close_request.new.world c.args.stack.now c.args.id.order c.take-def.result c.held.result.now.request c.in_ok-finalizers.finalizers r
+      c.requires.frames c.take-def.ensures.value c.in_ok-finalizers.ensures e;
+}

@@ -4,8 +4,8 @@ use Rattle.setup_stack.proofs.Demands.{given_noted}
 use Rattle.setup_stack.proofs.Stands.{none_stand}
 use Rattle.setup_stack.proofs.stack.SetupStack.demand.Goals as goal
 
-pub returns : goal.returns
-returns g c =
+pub returns-clause-demanded : goal.returns-clause-demanded
+returns-clause-demanded g c =
     given_noted (g.W.Executor.rules c.args.setting.now) c.in_ok-answer.answer c.in-Given.grant c.demand.new.world c.demand.new.stack c.push.new.self _ c.in_ok-answer.ensures.answer c.in-Given.is c.in_ok-push-in-Given.ensures.ok
 
 pub demand-requires-clause-stand : goal.demand-requires-clause-stand

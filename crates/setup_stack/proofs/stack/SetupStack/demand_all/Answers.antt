@@ -13,14 +13,15 @@ defs-init g c = record {
   same = refl;
   ready = c.requires.ready;
   stand = none_stand (g.W.Executor.rules c.args.setting.now) (item_for_session c.args.table.now c.args.item.now) (live_instances (g.W.Executor.rules c.args.setting.now) c.args.self.now.live.live) c.new-marks.result.items c.new-marks.ensures.items;
+  frames = c.requires.frames;
 }
 
 pub demand_noted-requires-clause-ready : goal.demand_noted-requires-clause-ready
 demand_noted-requires-clause-ready g c =
     c.defs.invariant.ready c.in-Some.def.now (subst (λ (l : List ℕ). IsMember c.in-Some.def.now l) (sym c.in-Some.ensures.cases.0) (inl refl))
 
-pub returns-in-Some-refused : goal.returns-in-Some-refused
-returns-in-Some-refused g c =
+pub returns-in-Some-refused-clause-state : goal.returns-in-Some-refused-clause-state
+returns-in-Some-refused-clause-state g c =
     let rules = g.W.Executor.rules c.args.setting.now in
     let item = item_for_session c.args.table.now c.args.item.now in
     let before = stack_state rules c.defs.world c.defs.self in
@@ -41,4 +42,5 @@ defs-preserved g c =
           ∙ (ap (λ (l : List ℕ). demand_closure rules item l before) (sym c.in-Some.ensures.cases.0) ∙ c.defs.invariant.same));
       ready = λ d m. c.defs.invariant.ready d (subst (λ (l : List ℕ). IsMember d l) (sym c.in-Some.ensures.cases.0) (inr m));
       stand = c.in_ok-refused.ensures.stand;
+      frames = c.in_ok-refused.ensures.frames;
     }

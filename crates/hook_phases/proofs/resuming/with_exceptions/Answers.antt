@@ -1,0 +1,16 @@
+use Rattle.hook_phases.proofs.Waiting.{wrapper_out}
+use Rattle.hook_phases.specs.Phases.{phase_of}
+use Rattle.hook_phases.specs.Views.{wrapper_end}
+use Rattle.session_rules.specs.Hooks.{SentRaise}
+use Rattle.session_rules.specs.World.{language}
+use Rattle.hook_phases.proofs.resuming.with_exceptions.Goals as goal
+
+pub behind_exceptions-requires-clause-out : goal.behind_exceptions-requires-clause-out
+behind_exceptions-requires-clause-out g c =
+    let L = language g.row.S-World.Denot g.row.S-Value.Denot g.row.S-Thrown.Denot g.row.S-Rest.Denot g.row.S-Told.Denot g.S.HookStage.is_bad in
+    let rules = g.S.HookStage.rules c.args.setting.now in
+    let node = (g.S.HookStage.session_item c.args.setting.now c.args.item.now).node in
+    let s = g.S.HookStage.state c.args.stage.now in
+    let sent = SentRaise c.args.got.first in
+    wrapper_out L g.S.HookStage.is_out c.args.frame.rest s.world (rules.resume_wrapper (phase_of c.args.phase) node c.args.frame.rest sent s.world) (wrapper_end L c.in-Ok.end) s (g.S.HookStage.state c.resume_with_exception.new.self)
+    c.in-Ok.ensures.how c.in-Ok.ensures.state ((g.met.S.HookStage.keeps c.args.setting.now).resume_wrapper (phase_of c.args.phase) node c.args.frame.rest sent s.world c.requires.out)

@@ -1,0 +1,2 @@
+pub mod OneGroup
+pub mod Plans
