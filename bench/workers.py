@@ -1,10 +1,12 @@
 #!/usr/bin/env python3
-"""Times workers beside one thread on the made-up tree, and beside pytest and pytest-xdist on the same files written out, where these are installed.
+"""Times workers beside one thread on the made-up tree and on files whose tests take long, and beside pytest and pytest-xdist on the made-up
+files written out, where these are installed.
 
 python3 bench/workers.py [PROGRAM [FILES [WORKERS]]]    (crates/pytest_run/out/pytest_run, 4,000 files and 4 workers where they aren't named)
 
-Time is what a clock on the wall tells, the best of five runs in turn, so nothing else should run. Fails where the workers take more than 0.6 of
-one thread's time, or write another status or another last line.
+Time is what a clock on the wall tells, the best of five runs in turn, so nothing else should run. Fails where on one of the two the workers take
+more than 0.6 of one thread's time, or write another status or another last line. On the made-up tree, whose tests take no time, they do: each
+collects all files again.
 """
 import importlib.util
 import os
@@ -33,6 +35,32 @@ def best(words, folder, runs=RUNS):
     return min(run(words, folder) for _ in range(runs))
 
 
+LONG_TEST = """def test_%d():
+    total = 0
+    for i in range(40000):
+        total = total + i * 3 - i // 2
+    assert total > 0
+"""
+
+
+def write_long_tests(folder):
+    """16 files of ten tests that take some 20 milliseconds each."""
+    for number in range(16):
+        with open(os.path.join(folder, "test_%02d.py" % number), "w", encoding="utf-8") as it:
+            it.write("\n\n".join(LONG_TEST % test for test in range(10)))
+
+
+def compared(program, words, workers, folder):
+    """Whether the workers do as one thread does, in at most 0.6 of its time."""
+    alone = best([program, *words], folder)
+    shared = best([program, "-n", str(workers), *words], folder)
+    print("%8.2f s  one thread: %s" % (alone[0], alone[1]))
+    print("%8.2f s  %d workers: %s" % (shared[0], workers, shared[1]))
+    ratio = shared[0] / alone[0]
+    print("%8.2f    of one thread's time, on %d processors" % (ratio, os.cpu_count()))
+    return alone[1:] == shared[1:] and ratio <= 0.6
+
+
 def beside_pytest(files, workers):
     if importlib.util.find_spec("pytest") is None:
         return print("pytest isn't installed here")
@@ -48,16 +76,12 @@ def beside_pytest(files, workers):
 
 def main(program, files, workers):
     program = os.path.abspath(program)
-    tree = "--generated=%d,%d" % (SEED, files)
     with tempfile.TemporaryDirectory() as folder:
-        alone = best([program, tree], folder)
-        shared = best([program, "-n", str(workers), tree], folder)
-    print("%8.2f s  one thread: %s" % (alone[0], alone[1]))
-    print("%8.2f s  %d workers: %s" % (shared[0], workers, shared[1]))
-    ratio = shared[0] / alone[0]
-    print("%8.2f    of one thread's time, on %d processors" % (ratio, os.cpu_count()))
+        made_up = compared(program, ["--generated=%d,%d" % (SEED, files)], workers, folder)
+        write_long_tests(folder)
+        long = compared(program, [], workers, folder)
     beside_pytest(files, workers)
-    return 0 if alone[1:] == shared[1:] and ratio <= 0.6 else 1
+    return 0 if made_up and long else 1
 
 
 if __name__ == "__main__":

@@ -6,10 +6,9 @@ compare_projects.py COUNT SEED --tell            what the projects have, by the 
 compare_projects.py 1 SEED --show                one project, its words and the model's report
     --kind fixtures|hooks|model|plain
                                     projects of fixture_projects.py (fixtures), of hook_projects.py (hooks), of the model's own generator
-                                    without what isn't built (model), of plain_projects.py, without fixtures (plain); fixtures where it
-                                    isn't given
+                                    without workers (model), of plain_projects.py, without fixtures (plain); fixtures where it isn't given
 
-What isn't built is told `not built` by both. Workers, whose assignment is open, are compared by `python3 -m model.fuzz`.
+Workers, whose assignment is open, are compared by `python3 -m model.fuzz`.
 """
 import argparse
 import collections
@@ -22,7 +21,7 @@ import fixture_projects
 import hook_projects
 import plain_projects
 import room
-from model.runner import Features, Run, deep
+from model.runner import Features, Run, check_report, deep
 
 MOST_TRIES = 1500
 
@@ -54,9 +53,18 @@ def by_model(words, files):
 by_program = room.by_program
 
 
+def is_told(program, words, files):
+    """Whether the model can tell what the program told; with workers by some way to share the files among them."""
+    output, status = by_program(program, words, files)
+    try:
+        return check_report(words, files, output, status, Features())[0]
+    except Exception:
+        raise ModelFault(traceback.format_exc())
+
+
 def differs(program, words, files):
     try:
-        return by_model(words, files) != by_program(program, words, files)
+        return not is_told(program, words, files)
     except ModelFault:
         return False
 
@@ -182,7 +190,7 @@ def go():
             show(words, files)
             print(wanted[0].decode("utf-8"), end="")
             print("status", wanted[1])
-        if program is not None and by_program(program, words, files) != wanted:
+        if program is not None and not is_told(program, words, files):
             bad += 1
             if bad <= given.most:
                 tell_difference(program, seed, words, files)

@@ -400,15 +400,9 @@ def project(seed):
     return made.words(files), files
 
 
-class Built(Gen):
-    """The model's own generator; what it writes of the hook for ids and of workers is taken out again."""
-
-    def hook(self, name):
-        return [""] if name == "pytest_make_parametrize_id" else super().hook(name)
-
-
 def by_model_fuzz(seed):
-    gen = Built(seed, Features())
+    """Of the model's own generator; what it writes of workers is taken out again."""
+    gen = Gen(seed, Features())
     texts = gen.project()
     words = gen.words(texts)
     while "-n" in words:

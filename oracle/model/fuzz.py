@@ -1,7 +1,7 @@
-"""python3 -m model.fuzz COUNT SEED [--program PATH] [--features a,b] [--unbuilt WORDS] [--show]
+"""python3 -m model.fuzz COUNT SEED [--program PATH] [--features a,b] [--unbuilt WORDS] [--workers] [--show]
 
 `--unbuilt workers`: these are refused by `ERROR: not built` (by default what the program refuses today;
-`--unbuilt ""`: nothing is).
+`--unbuilt ""`: nothing is). `--workers`: each project has more files, and asks for 1 to 8 workers.
 
 Random projects for the runner: fixtures of all scopes with overriding, parameters, yields and faults, hooks and
 wrappers, marks, classes, words. Each is run through the model, which asserts the journal laws; with `--program`
@@ -377,6 +377,22 @@ class Gen:
         return words
 
 
+def on_workers(gen, files, words):
+    """More files, and words that ask for 1 to 8 workers and for no maxfail."""
+    for d in sorted({p.rsplit("/", 1)[0] + "/" if "/" in p else "" for p in files}):
+        for k in range(gen.r.choice([0, 1, 3])):
+            files["%stest_e%d.py" % (d, k)] = "\n".join(gen.module()) + "\n"
+    kept = []
+    for word in words:
+        if word == "-x" or word.startswith("--maxfail") or word == "--collect-only":
+            continue
+        if kept and kept[-1] == "-n":
+            kept.pop()
+            continue
+        kept.append(word)
+    return ["-n", str(gen.r.randint(1, 8))] + kept
+
+
 def compare_program(program, words, files, features, more):
     folder = tempfile.mkdtemp(prefix="fuzz")
     try:
@@ -400,7 +416,7 @@ def compare_program(program, words, files, features, more):
 
 
 def go(args):
-    program, names, show, plain, unbuilt = None, [], False, [], UNBUILT
+    program, names, show, workers, plain, unbuilt = None, [], False, False, [], UNBUILT
     at = 0
     while at < len(args):
         if args[at] == "--program":
@@ -415,6 +431,9 @@ def go(args):
         elif args[at] == "--show":
             show = True
             at += 1
+        elif args[at] == "--workers":
+            workers = True
+            at += 1
         else:
             plain.append(int(args[at]))
             at += 1
@@ -425,6 +444,8 @@ def go(args):
         gen = Gen(k, features)
         texts = gen.project()
         words = gen.words(texts)
+        if workers:
+            words = on_workers(gen, texts, words)
         files = {p: t.encode("utf-8") for p, t in texts.items()}
         try:
             more = {"unbuilt": unbuilt}

@@ -1,0 +1,4 @@
+pub mod Looks
+pub mod Numbers
+pub mod Answered
+pub mod Shown

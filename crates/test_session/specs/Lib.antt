@@ -1,0 +1,5 @@
+pub mod Bodies
+pub mod Stacks
+pub mod Demands
+pub mod Collections
+pub mod Runs
