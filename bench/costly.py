@@ -36,6 +36,12 @@ def levels(n):
     return x
 """
 
+NEARLY = """\
+def test():
+    t = "a" * 65536
+    p = "a" * 32767 + "b"
+"""
+
 # what it shows: (the words before the file's name, the file, a piece of what is written)
 CASES = {
     "a key of 60 shared levels is stored": ([], LEVELS + """\
@@ -164,43 +170,28 @@ def test():
         assert 655350 in r
         i += 1
 """, "1 passed"),
-    "a part that a text nearly has": ([], """\
-def test():
-    t = "a" * 65536
-    p = "a" * 32767 + "b"
+    "a part that a text nearly has": ([], NEARLY + """\
     i = 0
     while i < 10:
         assert p not in t
         i += 1
 """, "1 passed"),
-    "a part that a text nearly has, found": ([], """\
-def test():
-    t = "a" * 65536
-    p = "a" * 32767 + "b"
+    "a part that a text nearly has, found": ([], NEARLY + """\
     i = 0
     while i < 10:
         assert t.find(p) == -1
         i += 1
 """, "1 passed"),
-    "a part that a text nearly has, counted": ([], """\
-def test():
-    t = "a" * 65536
-    p = "a" * 32767 + "b"
+    "a part that a text nearly has, counted": ([], NEARLY + """\
     i = 0
     while i < 10:
         assert t.count(p) == 0
         i += 1
 """, "1 passed"),
-    "a part that a text nearly has, replaced": ([], """\
-def test():
-    t = "a" * 65536
-    p = "a" * 32767 + "b"
+    "a part that a text nearly has, replaced": ([], NEARLY + """\
     t.replace(p, "")
 """, "1 passed"),
-    "a part that a text nearly has, split by": ([], """\
-def test():
-    t = "a" * 65536
-    p = "a" * 32767 + "b"
+    "a part that a text nearly has, split by": ([], NEARLY + """\
     t.split(p)
 """, "1 passed"),
     "a tuple of one long text as a key": ([], """\
