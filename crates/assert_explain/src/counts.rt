@@ -4,8 +4,8 @@ ghost use Rattle.std.specs.Prelude.{◌≡◌, ◌+◌, IfOk};
 ghost use Rattle.py_tree.specs.Trees.{tree, trees};
 ghost use Rattle.py_world.specs.Explained.{kept_count, kept_count_all};
 
-use py_text::OutOfMemory;
 use py_tree::{Expr, ExprKind};
+use seq::OutOfMemory;
 use std::rc::Rc;
 
 /// The place behind so many. No memory holds more parts than there are places.

@@ -13,10 +13,10 @@ use crate::values::{evaluated, is_shown_by_name, kept_text, kept_value};
 use py_ops::binary::binary_text;
 use py_ops::compare::compare_text;
 use py_ops::unary::unary_text;
-use py_text::OutOfMemory;
 use py_tree::{ArgName, BinOp, CmpOp, Expr, ExprKind, SrcText, UnOp};
 use py_values::heap::Heap;
 use py_values::value::Value;
+use seq::OutOfMemory;
 use std::alloc::Global;
 use std::rc::Rc;
 

@@ -6,8 +6,8 @@ ghost use Rattle.py_world.specs.Explained.{shows};
 ghost use Rattle.assert_explain.specs.Texts.{called_with, in_parens, joined_with};
 
 use crate::counts::behind;
-use py_text::{OutOfMemory, PyText};
 use py_values::end::push_ascii;
+use seq::{OutOfMemory, PyText};
 use std::alloc::Global;
 use std::marker::Model;
 

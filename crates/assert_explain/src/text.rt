@@ -7,12 +7,12 @@ ghost use Rattle.py_world.specs.Explained as world;
 use crate::parts::show_part;
 use crate::shows::Fact;
 use crate::values::value_text;
-use py_text::{OutOfMemory, PyText};
 use py_tree::Expr;
 use py_values::end::push_ascii;
 use py_values::heap::Heap;
 use py_values::object::Obj;
 use py_values::value::Value;
+use seq::{OutOfMemory, PyText};
 use std::alloc::Global;
 
 /// Puts the space before a fact behind others.

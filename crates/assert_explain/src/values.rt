@@ -6,12 +6,12 @@ ghost use Rattle.py_world.specs.Explained as world;
 
 use py_repr::repr::repr;
 use py_repr::shown::Shown;
-use py_text::OutOfMemory;
 use py_tree::{Expr, ExprKind};
 use py_values::end::push_ascii;
 use py_values::heap::Heap;
 use py_values::object::Obj;
 use py_values::value::Value;
+use seq::OutOfMemory;
 use std::alloc::Global;
 
 /// The most characters of a value's text.

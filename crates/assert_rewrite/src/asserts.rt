@@ -8,8 +8,8 @@ ghost use Rattle.py_core.specs.declared.stmt.CoreStmtKind.TheVariants as core;
 use crate::expressions::{lower_expr, lower_some};
 use crate::watched::watch_expr;
 use py_core::{CoreBlock, CoreBranch, CoreExpr, CoreStmt, CoreStmtKind, Template};
-use py_text::OutOfMemory;
 use py_tree::{Expr, Pos};
+use seq::OutOfMemory;
 use std::alloc::Global;
 use std::rc::Rc;
 

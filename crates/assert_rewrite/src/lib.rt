@@ -42,8 +42,8 @@ ghost use Rattle.lower_law.specs.Lowered.{LoweredModule};
 ghost use Rattle.lower_law.specs.Sourced.{module_of};
 
 use py_core::Core;
-use py_text::OutOfMemory;
 use py_tree::Module;
+use seq::OutOfMemory;
 use std::alloc::Global;
 
 /// The core code of a source, whose asserts are explained or show nothing beside their messages.

@@ -8,8 +8,8 @@ ghost use Rattle.assert_rewrite.specs.Lowers.{LowersDefaults};
 
 use crate::expressions::lower_expr;
 use py_core::{CoreExpr, CoreParam};
-use py_text::OutOfMemory;
 use py_tree::Param;
+use seq::OutOfMemory;
 use std::alloc::Global;
 use std::rc::Rc;
 

@@ -7,8 +7,8 @@ use crate::expressions::{lower_expr, lower_some};
 use crate::groups::StmtGroup;
 use crate::targets::{lower_single, lower_targets};
 use py_core::CoreStmtKind;
-use py_text::OutOfMemory;
 use py_tree::{SrcText, Stmt, StmtKind};
+use seq::OutOfMemory;
 use std::alloc::Global;
 
 /// A name, if there is one.

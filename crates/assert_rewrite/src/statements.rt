@@ -11,8 +11,8 @@ use crate::yields::lower_yield;
 use py_core::{
     CoreBlock, CoreBranch, CoreClass, CoreFn, CoreGuard, CoreHandler, CoreStmt, CoreStmtKind,
 };
-use py_text::OutOfMemory;
 use py_tree::{Branch, Class, Function, Handler, Stmt, StmtKind, bindings_of};
+use seq::OutOfMemory;
 use std::alloc::Global;
 use std::rc::Rc;
 

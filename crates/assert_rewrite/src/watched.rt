@@ -7,8 +7,8 @@ ghost use Rattle.assert_rewrite.specs.Lowers.{Keeps, WatchesForm, Watches, Watch
 use crate::expressions::lower_expr;
 use crate::groups::{WatchGroup, watch_group};
 use py_core::{CoreExpr, CoreExprKind};
-use py_text::OutOfMemory;
 use py_tree::{Expr, ExprKind, Pos};
+use seq::OutOfMemory;
 use std::alloc::Global;
 use std::rc::Rc;
 

@@ -8,8 +8,8 @@ use crate::expressions::lower_some;
 use crate::groups::StmtGroup;
 use crate::targets::lower_targets;
 use py_core::{CoreStmtKind, CoreUse};
-use py_text::OutOfMemory;
 use py_tree::{Stmt, StmtKind, Target};
+use seq::OutOfMemory;
 use std::alloc::Global;
 use std::rc::Rc;
 

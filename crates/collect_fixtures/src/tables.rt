@@ -10,9 +10,8 @@ use collection_nodes::{Mentions, plus};
 use fixture_definitions::{Definition, FoundTest, but_request};
 use fixture_table::{CollectionNode, CollectionTree, FixtureDef, NodeKind, Table};
 use param_rows::ParamSets;
-use py_text::{OutOfMemory, PyText};
 use py_values::value::Value;
-use seq::Seq;
+use seq::{OutOfMemory, PyText, Seq};
 use std::alloc::Global;
 
 /// Mentions the names of a definition.

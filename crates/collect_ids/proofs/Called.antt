@@ -1,10 +1,10 @@
 -- The hook call of a run is that of its world.
 use Rattle.std.proofs.Common.{◌≡◌, ℕ, Bool, true, false, List, [], ◌∷◌, inl, inr, refl, ap, ap₂, ◌∙◌, Option, None, Some, subst, sym}
 use Rattle.std.specs.Prelude.{MatchBool, Result}
-use Rattle.fixture_calls.specs.declared.hooks.CallEnd.{CallEnd}
-use Rattle.fixture_calls.specs.declared.yields.FixtureEnd.{FixtureEnd}
-use Rattle.fixture_calls.specs.declared.yields.FixtureEnd.TheVariants as end
-use Rattle.fixture_calls.specs.declared.failure.Failure.{Failure}
+use Rattle.runtest_rules.specs.fixture_calls.declared.hooks.CallEnd.{CallEnd}
+use Rattle.runtest_rules.specs.fixture_calls.declared.yields.FixtureEnd.{FixtureEnd}
+use Rattle.runtest_rules.specs.fixture_calls.declared.yields.FixtureEnd.TheVariants as end
+use Rattle.runtest_rules.specs.fixture_calls.declared.failure.Failure.{Failure}
 use Rattle.hook_order.specs.HookCall.{AnswersFirst, AroundAfter, FindsFirst, FirstAfter, HookCall, first_of}
 use Rattle.hook_order.specs.declared.answers.Inner.{Inner}
 use Rattle.hook_order.specs.declared.answers.Inner.TheVariants as inner
@@ -20,7 +20,7 @@ use Rattle.test_suite.specs.declared.hook.HookTable.{HookTable}
 use Rattle.session_rules.proofs.HookCalls.{first_call_agrees}
 use Rattle.session_rules.specs.HookFollows.{OpenedAs, RanAs, RunnerFollows, inner_of}
 use Rattle.session_rules.specs.Hooks.{HookAnswer, HookBeginning, HookGave, HookInner, HookStep, AllValues, InnerGave, InnerRaised, first_call}
-use Rattle.tracebacks.specs.source_meaning.Meaning.{SourceWorld}
+use Rattle.runtest_rules.specs.tracebacks.source_meaning.Meaning.{SourceWorld}
 use Rattle.collect_ids.specs.Hook.{hook_step, id_called, id_opened, id_raised, id_resumed, made_by, made_of, open_raised}
 use Rattle.collect_ids.specs.Runs.{IdSite, IsValue, RunBegins, RunCalls, RunResumes, made_told, ran_told, run_view, site_of, site_runner, world_view}
 use Rattle.collect_ids.specs.declared.hook.IdFrame.{IdFrame}

@@ -11,7 +11,7 @@ use Rattle.hook_order.specs.HookOrder.{InHookOrder, RunsBefore}
 use Rattle.hook_order.specs.declared.implementation.Impl.{Impl}
 use Rattle.py_world.specs.World.{world_with_printed}
 use Rattle.test_suite.specs.declared.hook.HookTable.{HookTable}
-use Rattle.tracebacks.specs.source_meaning.Meaning.{SourceWorld}
+use Rattle.runtest_rules.specs.tracebacks.source_meaning.Meaning.{SourceWorld}
 use Rattle.collect_ids.specs.Files.{all_asked, file_asked, file_with_printed, found_of, serves_file, serving_file, tests_asked}
 use Rattle.collect_ids.specs.declared.files.AskedFile.{AskedFile}
 

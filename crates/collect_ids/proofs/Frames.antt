@@ -1,11 +1,11 @@
 -- The wrappers that stand at their `yield` while the hook is called: their frames are out.
 use Rattle.std.proofs.Common.{◌≡◌, ℕ, Bool, true, false, List, [], ◌∷◌, inl, inr, refl, sym, subst, ◌∙◌, None, Some}
 use Rattle.std.specs.Prelude.{codes}
-use Rattle.fixture_calls.specs.Hooks.{hook_begun, hook_called}
-use Rattle.fixture_calls.specs.Yields.{fixture_abandoned}
-use Rattle.fixture_calls.specs.declared.failure.Failure.{Failure}
-use Rattle.fixture_calls.specs.declared.yields.FixtureEnd.{FixtureEnd}
-use Rattle.fixture_calls.specs.declared.yields.FixtureEnd.TheVariants as end
+use Rattle.runtest_rules.specs.fixture_calls.Hooks.{hook_begun, hook_called}
+use Rattle.runtest_rules.specs.fixture_calls.Yields.{fixture_abandoned}
+use Rattle.runtest_rules.specs.fixture_calls.declared.failure.Failure.{Failure}
+use Rattle.runtest_rules.specs.fixture_calls.declared.yields.FixtureEnd.{FixtureEnd}
+use Rattle.runtest_rules.specs.fixture_calls.declared.yields.FixtureEnd.TheVariants as end
 use Rattle.hook_order.specs.Answers.{IfEnded, IfInner, WaitsBesides}
 use Rattle.hook_order.specs.declared.answers.Inner.{Inner}
 use Rattle.hook_order.specs.declared.answers.Inner.TheVariants as inner
@@ -27,7 +27,7 @@ use Rattle.session_rules.specs.World.{HookArguments, SetUp}
 use Rattle.test_suite.specs.Hooks.{hook_at}
 use Rattle.test_suite.specs.declared.hook.HookTable.{HookTable}
 use Rattle.test_suite.specs.declared.suite.Suite.{Suite}
-use Rattle.tracebacks.specs.source_meaning.Meaning.{SourceWorld}
+use Rattle.runtest_rules.specs.tracebacks.source_meaning.Meaning.{SourceWorld}
 use Rattle.collect_ids.proofs.Called.{given_value}
 use Rattle.collect_ids.specs.Hook.{id_frame, id_opened, id_resumed, id_runner, id_sent}
 use Rattle.collect_ids.specs.Runs.{AreOut, AreWaiting, IsOutBehind, rests, world_view}

@@ -10,7 +10,7 @@ use Rattle.collect_rows.specs.declared.items.RowsFault.{RowsFault}
 use Rattle.fixture_definitions.specs.declared.found.FoundTest.{FoundTest}
 use Rattle.hook_order.specs.declared.implementation.Impl.{Impl}
 use Rattle.test_suite.specs.declared.hook.HookTable.{HookTable}
-use Rattle.tracebacks.specs.source_meaning.Meaning.{SourceWorld}
+use Rattle.runtest_rules.specs.tracebacks.source_meaning.Meaning.{SourceWorld}
 use Rattle.collect_ids.specs.Asking.{rows_asked}
 use Rattle.collect_ids.specs.Files.{FileAsked, before_others, items_behind, tests_asked}
 use Rattle.collect_ids.specs.Told.{items_told}

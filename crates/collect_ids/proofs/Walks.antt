@@ -12,7 +12,7 @@ use Rattle.param_rows.specs.declared.param.ParamMark.{ParamMark}
 use Rattle.param_rows.specs.declared.param.ParamSet.{ParamSet}
 use Rattle.py_values.specs.declared.value.Value.{Value}
 use Rattle.test_suite.specs.declared.hook.HookTable.{HookTable}
-use Rattle.tracebacks.specs.source_meaning.Meaning.{SourceWorld}
+use Rattle.runtest_rules.specs.tracebacks.source_meaning.Meaning.{SourceWorld}
 use Rattle.collect_ids.specs.Asking.{Asked, asked_behind, asked_then, list_of, lists_asked, mark_asked, marks_asked, one_asked, params_asked, set_asked, sets_asked, value_asked, values_asked}
 use Rattle.collect_ids.specs.Told.{told}
 

@@ -12,8 +12,8 @@ use Rattle.collect_rows.specs.Rows.{closure_or_none, fault_text, mark_of, names_
 use Rattle.collect_rows.specs.declared.items.RowsFault.{RowsFault}
 use Rattle.collect_rows.specs.declared.row.TestRows.{TestRows}
 use Rattle.collect_rows.specs.declared.row.TestRows.TheVariants as rows
-use Rattle.fixture_calls.specs.Failing.{exception_of, failure_trace}
-use Rattle.fixture_calls.specs.declared.failure.Failure.{Failure}
+use Rattle.runtest_rules.specs.fixture_calls.Failing.{exception_of, failure_trace}
+use Rattle.runtest_rules.specs.fixture_calls.declared.failure.Failure.{Failure}
 use Rattle.fixture_definitions.specs.Arguments.{defined_at}
 use Rattle.fixture_definitions.specs.declared.found.Definition.{Definition}
 use Rattle.fixture_definitions.specs.declared.found.FoundTest.{FoundTest}
@@ -27,8 +27,8 @@ use Rattle.py_operands.specs.Texts.{text_of}
 use Rattle.py_values.specs.declared.value.Value.{Value}
 use Rattle.runtest_rules.specs.collect_names.Objects.{function_at, object_in}
 use Rattle.test_suite.specs.declared.hook.HookTable.{HookTable}
-use Rattle.tracebacks.specs.Texts.{exception_text}
-use Rattle.tracebacks.specs.source_meaning.Meaning.{SourceWorld}
+use Rattle.runtest_rules.specs.tracebacks.Texts.{exception_text}
+use Rattle.runtest_rules.specs.tracebacks.source_meaning.Meaning.{SourceWorld}
 use Rattle.collect_ids.specs.Hook.{id_hook_call}
 
 -- what is made while ids are asked for, or the fault that ended it, and the world behind it

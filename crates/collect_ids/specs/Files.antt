@@ -22,7 +22,7 @@ use Rattle.py_world.specs.World.{world_with_printed}
 use Rattle.test_suite.specs.Hooks.{hook_with_code}
 use Rattle.test_suite.specs.declared.hook.Hook.{Hook}
 use Rattle.test_suite.specs.declared.hook.HookTable.{HookTable}
-use Rattle.tracebacks.specs.source_meaning.Meaning.{SourceWorld}
+use Rattle.runtest_rules.specs.tracebacks.source_meaning.Meaning.{SourceWorld}
 use Rattle.collect_ids.specs.Asking.{Asked, fault_of_test, rows_asked}
 use Rattle.collect_ids.specs.declared.files.AskedFile.{AskedFile}
 

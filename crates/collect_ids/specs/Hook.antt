@@ -2,13 +2,13 @@
 -- "First result only", "Wrappers"): its implementations are called in hook order up to the first that gives something other than None, inside
 -- of the wrappers. Each call, beginning and resumption has the whole step limit.
 use Rattle.std.specs.Prelude.{ℕ, List, Option, Some, None, Result, Ok, Err, codes, if◌then◌else◌}
-use Rattle.fixture_calls.specs.Failing.{exception_of, in_heap}
-use Rattle.fixture_calls.specs.Hooks.{hook_begun, hook_called, resumed_by, resumed_with_value}
-use Rattle.fixture_calls.specs.Yields.{fixture_abandoned}
-use Rattle.fixture_calls.specs.declared.failure.Failure.{Failure}
-use Rattle.fixture_calls.specs.declared.hooks.CallEnd.{CallEnd}
-use Rattle.fixture_calls.specs.declared.yields.FixtureEnd.{FixtureEnd}
-use Rattle.fixture_calls.specs.declared.yields.FixtureEnd.TheVariants as end
+use Rattle.runtest_rules.specs.fixture_calls.Failing.{exception_of, in_heap}
+use Rattle.runtest_rules.specs.fixture_calls.Hooks.{hook_begun, hook_called, resumed_by, resumed_with_value}
+use Rattle.runtest_rules.specs.fixture_calls.Yields.{fixture_abandoned}
+use Rattle.runtest_rules.specs.fixture_calls.declared.failure.Failure.{Failure}
+use Rattle.runtest_rules.specs.fixture_calls.declared.hooks.CallEnd.{CallEnd}
+use Rattle.runtest_rules.specs.fixture_calls.declared.yields.FixtureEnd.{FixtureEnd}
+use Rattle.runtest_rules.specs.fixture_calls.declared.yields.FixtureEnd.TheVariants as end
 use Rattle.hook_order.specs.declared.implementation.Impl.{Impl}
 use Rattle.py_values.specs.declared.object.Obj.TheVariants as obj
 use Rattle.py_values.specs.declared.value.Value.{Value}
@@ -16,8 +16,8 @@ use Rattle.runtest_rules.specs.Rules.{call_answer, is_same_value, not_none, wrap
 use Rattle.session_rules.specs.Hooks.{HookAnswer, HookBeginning, HookEnd, HookGave, HookInner, HookRaised, HookRunner, HookStep, AllValues, AtYield, InnerGave, InnerRaised, OpenRaised, first_call}
 use Rattle.test_suite.specs.Hooks.{hook_at}
 use Rattle.test_suite.specs.declared.hook.HookTable.{HookTable}
-use Rattle.tracebacks.specs.runner_values.Given.{added_object}
-use Rattle.tracebacks.specs.source_meaning.Meaning.{SourceWorld}
+use Rattle.runtest_rules.specs.tracebacks.runner_values.Given.{added_object}
+use Rattle.runtest_rules.specs.tracebacks.source_meaning.Meaning.{SourceWorld}
 use Rattle.collect_ids.specs.declared.hook.IdFrame.{IdFrame}
 
 abbrev pub hook_step : {A : Type 0} → A × SourceWorld → HookStep SourceWorld A

@@ -1,9 +1,9 @@
 -- A world while the hook is called for a value, as the runner of its hook call.
 use Rattle.std.specs.Prelude.{◌≡◌, ℕ, true, List, [], ◌∷◌, Option, Some, None, Result, Ok, Err, map}
 use Rattle.std.specs.Borrow.{GName}
-use Rattle.fixture_calls.specs.declared.failure.Failure.{Failure}
-use Rattle.fixture_calls.specs.declared.yields.FixtureEnd.{FixtureEnd}
-use Rattle.fixture_calls.specs.declared.yields.FixtureEnd.TheVariants as end
+use Rattle.runtest_rules.specs.fixture_calls.declared.failure.Failure.{Failure}
+use Rattle.runtest_rules.specs.fixture_calls.declared.yields.FixtureEnd.{FixtureEnd}
+use Rattle.runtest_rules.specs.fixture_calls.declared.yields.FixtureEnd.TheVariants as end
 use Rattle.hook_order.specs.declared.answers.Inner.{Inner}
 use Rattle.hook_order.specs.declared.answers.Opened.{Opened}
 use Rattle.hook_order.specs.declared.answers.Ran.{Ran}
@@ -15,7 +15,7 @@ use Rattle.session_rules.specs.Frames.{AreApart}
 use Rattle.session_rules.specs.HookFollows.{HookView, OpenedAs, RanAs, inner_of, ran_of}
 use Rattle.session_rules.specs.Hooks.{HookAnswer, HookInner, HookRunner, AllValues, InnerGave, InnerRaised}
 use Rattle.test_suite.specs.declared.hook.HookTable.{HookTable}
-use Rattle.tracebacks.specs.source_meaning.Meaning.{SourceWorld}
+use Rattle.runtest_rules.specs.tracebacks.source_meaning.Meaning.{SourceWorld}
 use Rattle.collect_ids.specs.Hook.{id_runner}
 use Rattle.collect_ids.specs.declared.hook.IdFrame.{IdFrame}
 use Rattle.collect_ids.specs.declared.hook.IdRun.{IdRun}

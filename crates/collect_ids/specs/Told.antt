@@ -7,7 +7,7 @@ use Rattle.collect_rows.specs.declared.items.FileItems.TheVariants as file
 use Rattle.collect_rows.specs.declared.items.FoundItem.{FoundItem}
 use Rattle.collect_rows.specs.declared.items.RowsFault.{RowsFault}
 use Rattle.param_rows.specs.Ids.{Id}
-use Rattle.tracebacks.specs.source_meaning.Meaning.{SourceWorld}
+use Rattle.runtest_rules.specs.tracebacks.source_meaning.Meaning.{SourceWorld}
 use Rattle.collect_ids.specs.Asking.{Asked}
 use Rattle.collect_ids.specs.Files.{FileAsked, before_others}
 

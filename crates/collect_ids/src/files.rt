@@ -12,12 +12,11 @@ use collection_nodes::{Mentions, path_text, plus};
 use fixture_definitions::Definition;
 use fixture_table::Table;
 use hook_order::Impl;
-use py_text::OutOfMemory;
 use report_parts::Text;
-use seq::Seq;
+use runtest_rules::{World, take_printed};
+use seq::{OutOfMemory, Seq};
 use std::alloc::Global;
 use test_suite::{Hook, HookTable};
-use tracebacks::{World, take_printed};
 
 /// A file with its items, and what the hook printed for it.
 #[derive(Drop)]

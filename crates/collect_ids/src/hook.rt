@@ -1,9 +1,9 @@
 // The hook call for a value.
 
 ghost use Rattle.std.specs.Prelude.{◌≡◌, ◌∷◌, List, IfOk, Some, codes, true};
-ghost use Rattle.fixture_calls.specs.Yields.{fixture_abandoned};
-ghost use Rattle.fixture_calls.specs.declared.failure.Failure.{Failure as Failed};
-ghost use Rattle.fixture_calls.specs.Hooks.{resumed_with_value};
+ghost use Rattle.runtest_rules.specs.fixture_calls.Yields.{fixture_abandoned};
+ghost use Rattle.runtest_rules.specs.fixture_calls.declared.failure.Failure.{Failure as Failed};
+ghost use Rattle.runtest_rules.specs.fixture_calls.Hooks.{resumed_with_value};
 ghost use Rattle.hook_order.specs.Answers.{HandsOnWant, IfEnded, IfInner};
 ghost use Rattle.hook_order.specs.HookOrder.{InHookOrder};
 ghost use Rattle.py_values.specs.declared.value.Value.{Value as PyValue};
@@ -17,17 +17,16 @@ ghost use Rattle.collect_ids.specs.Runs as runs;
 ghost use Rattle.collect_ids.specs.Runs.{IsOutBehind, IsValue, RunBegins, RunCalls, RunResumes, RunWaits, Runs, site_of, site_runner, world_view};
 ghost use Rattle.collect_ids.specs.declared.hook.IdFrame.{IdFrame as Waiting};
 
-use fixture_calls::{
-    CallEnd, Failure, FixtureEnd, Frozen, abandon, begin_hook, call_hook, give_up, resume_hook_by,
-    resume_hook_with_value,
-};
 use hook_order::{Impl, Inner, Opened, Ran, Runner, call_first};
-use py_text::{OutOfMemory, PyText};
 use py_values::value::Value;
-use runtest_rules::{is_same_exception, not_none, wrapper_did_not_yield, wrapper_yielded_again};
+use runtest_rules::{
+    CallEnd, Failure, FixtureEnd, Frozen, New, World, abandon, begin_hook, call_hook, give_up,
+    is_same_exception, make, not_none, resume_hook_by, resume_hook_with_value,
+    wrapper_did_not_yield, wrapper_yielded_again,
+};
+use seq::{OutOfMemory, PyText};
 use std::alloc::Global;
 use test_suite::{Hook, HookTable};
-use tracebacks::{New, World, make};
 
 /// A wrapper that stands at its `yield`; it must be resumed or given up.
 pub(crate) struct IdFrame {
@@ -349,9 +348,9 @@ fn new_text(world: &mut World, text: PyText) -> Result<Value, OutOfMemory>
     make(world, &New::Text(text))
 }
 
-ghost use Rattle.fixture_calls.specs.Failing.{in_heap};
+ghost use Rattle.runtest_rules.specs.fixture_calls.Failing.{in_heap};
 ghost use Rattle.py_values.specs.declared.object.Obj.TheVariants as obj;
-ghost use Rattle.tracebacks.specs.runner_values.Given.{added_object};
+ghost use Rattle.runtest_rules.specs.tracebacks.runner_values.Given.{added_object};
 
 /// Asks these implementations for the id of a value; the name of its argument is this text of the language.
 fn asked_named(

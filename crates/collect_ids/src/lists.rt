@@ -6,7 +6,7 @@ ghost use Rattle.collect_rows.specs.Seen.{seen_list};
 ghost use Rattle.hook_order.specs.HookOrder.{InHookOrder};
 ghost use Rattle.collect_ids.specs.Asking as asking;
 ghost use Rattle.collect_ids.specs.Told.{lists_told, told};
-ghost use Rattle.tracebacks.specs.source_meaning.Meaning.{SourceWorld};
+ghost use Rattle.runtest_rules.specs.tracebacks.source_meaning.Meaning.{SourceWorld};
 
 use crate::values::{params_asked, sets_asked};
 use collect_params::{Parametrization, param_ids, set_ids};
@@ -15,14 +15,13 @@ use collection_nodes::Mentions;
 use fixture_definitions::{Definition, FoundTest};
 use hook_order::Impl;
 use param_rows::{ParamMark, ParamSet, PyId};
-use py_text::{OutOfMemory, PyText};
 use py_values::heap::Heap;
 use py_values::value::Value;
-use seq::Seq;
+use runtest_rules::{World, heap};
+use seq::{OutOfMemory, PyText, Seq};
 use session_types::DefId;
 use std::alloc::Global;
 use test_suite::HookTable;
-use tracebacks::{World, heap};
 
 /// A `parametrize` whose sets have these ids.
 fn mark_with(

@@ -15,13 +15,12 @@ use fixture_definitions::{Definition, FoundTest};
 use fixture_table::Table;
 use hook_order::Impl;
 use param_rows::PyId;
-use py_text::{OutOfMemory, PyText};
 use py_values::heap::Heap;
-use seq::Seq;
+use runtest_rules::{World, heap};
+use seq::{OutOfMemory, PyText, Seq};
 use session_types::DefId;
 use std::alloc::Global;
 use test_suite::HookTable;
-use tracebacks::{World, heap};
 
 /// The text of the first fault of the `parametrize` marks of a test.
 fn fault_of_marks(

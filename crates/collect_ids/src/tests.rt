@@ -3,7 +3,7 @@
 ghost use Rattle.std.specs.Prelude.{◌≡◌, ◌+◌, ◌<◌, ◌≤◌, IfOk, length};
 ghost use Rattle.collect_items.specs.Items.{fixtures_with};
 ghost use Rattle.hook_order.specs.HookOrder.{InHookOrder};
-ghost use Rattle.tracebacks.specs.source_meaning.Meaning.{SourceWorld};
+ghost use Rattle.runtest_rules.specs.tracebacks.source_meaning.Meaning.{SourceWorld};
 ghost use Rattle.collect_ids.specs.Asking as asking;
 ghost use Rattle.collect_ids.specs.Files as by_file;
 ghost use Rattle.collect_ids.specs.Files.{FileAsked};
@@ -15,11 +15,10 @@ use collection_nodes::{Mentions, plus};
 use fixture_definitions::{Definition, FoundTest};
 use fixture_table::Table;
 use hook_order::Impl;
-use py_text::OutOfMemory;
-use seq::Seq;
+use runtest_rules::{World, heap};
+use seq::{OutOfMemory, Seq};
 use std::alloc::Global;
 use test_suite::HookTable;
-use tracebacks::{World, heap};
 
 /// Pushes the items of a test with these rows, or gives its fault.
 fn push_rows(

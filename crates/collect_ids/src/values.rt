@@ -9,19 +9,17 @@ ghost use Rattle.collect_ids.specs.Told.{told};
 use crate::hook::asked;
 use collect_params::{dashed, value_id};
 use collect_rows::{RowsFault, fault_at_def};
-use fixture_calls::Failure;
 use fixture_definitions::FoundTest;
 use hook_order::Impl;
 use param_rows::{ParamSet, PyId};
 use py_operands::texts::text_of;
-use py_text::{OutOfMemory, PyText};
 use py_values::end::push_ascii;
 use py_values::value::Value;
 use py_world::Thrown;
-use seq::Seq;
+use runtest_rules::{Failure, World, exception_text, heap};
+use seq::{OutOfMemory, PyText, Seq};
 use std::alloc::Global;
 use test_suite::HookTable;
-use tracebacks::{World, exception_text, heap};
 
 /// What is told of an exception, with its open calls.
 fn thrown_fault(alloc: Global, world: &World, thrown: Thrown) -> Result<RowsFault, OutOfMemory>
@@ -37,7 +35,7 @@ fn thrown_fault(alloc: Global, world: &World, thrown: Thrown) -> Result<RowsFaul
     }
 }
 
-ghost use Rattle.tracebacks.specs.Texts.{exception_text};
+ghost use Rattle.runtest_rules.specs.tracebacks.Texts.{exception_text};
 
 /// The fault that an exception of the hook is.
 fn id_exception(alloc: Global, world: &World, failure: Failure) -> Result<RowsFault, OutOfMemory>
@@ -144,7 +142,7 @@ fn push_asked(
     }
 }
 
-ghost use Rattle.tracebacks.specs.source_meaning.Meaning.{SourceWorld};
+ghost use Rattle.runtest_rules.specs.tracebacks.source_meaning.Meaning.{SourceWorld};
 
 /// Asks for the ids of values, each with the name of its argument.
 fn values_asked(

@@ -8,10 +8,9 @@ ghost use Rattle.collect_items.specs.Chosen as choice;
 
 use cli_words::Options;
 use collect_marks::names::{keyword_names, mark_names};
-use py_text::{OutOfMemory, PyText};
 use py_values::heap::Heap;
 use selection::{Exprs, is_selected};
-use seq::Seq;
+use seq::{OutOfMemory, PyText, Seq};
 use std::alloc::Global;
 use test_suite::Item;
 

@@ -5,12 +5,11 @@ ghost use Rattle.collect_items.specs.Items.{defined_fixture};
 
 use collect_names::found::{TestClass, TestFunction};
 use fixture_definitions::Definition;
-use py_text::{OutOfMemory, PyText};
 use py_values::rows::Values;
 use py_values::value::Value;
 use py_world::TraceFrame;
 use report_parts::Text;
-use seq::Seq;
+use seq::{OutOfMemory, PyText, Seq};
 use std::alloc::Global;
 use test_suite::{BoundArgument, Fixture, FixtureParam};
 

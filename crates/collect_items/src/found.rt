@@ -19,10 +19,9 @@ use collection_nodes::{
 use fixture_definitions::{Definition, FoundTest, all_definitions, tests_of};
 use fixture_table::{CollectionNode, Table};
 use param_rows::ItemKeys;
-use py_text::OutOfMemory;
 use py_values::heap::Heap;
 use report_parts::Text;
-use seq::Seq;
+use seq::{OutOfMemory, Seq};
 use std::alloc::Global;
 use test_suite::{HookTable, Suite};
 

@@ -8,9 +8,8 @@ use collect_names::found::TestClass;
 use collect_rows::FoundItem;
 use collect_words::{FileNodes, ItemNames};
 use collection_nodes::TestFile;
-use py_text::{OutOfMemory, PyText};
 use report_parts::Text;
-use seq::Seq;
+use seq::{OutOfMemory, PyText, Seq};
 use std::alloc::Global;
 
 fn class_name(alloc: Global, class: &Option<TestClass>) -> Result<Option<Text>, OutOfMemory>

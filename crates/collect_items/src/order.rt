@@ -8,7 +8,7 @@ use collect_names::found::TestClass;
 use collect_rows::FoundItem;
 use fixture_definitions::Definition;
 use param_rows::{ItemKeys, Params, regroup};
-use py_text::OutOfMemory;
+use seq::OutOfMemory;
 use session_types::{DefId, Scope};
 use std::alloc::Global;
 use test_suite::FixtureParam;

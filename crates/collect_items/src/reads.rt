@@ -15,10 +15,9 @@ use collect_words::Walk;
 use collection_nodes::{Mentions, PlacedFile, TestFile, all_folders, outer_nodes, placed_files};
 use fixture_definitions::{Definition, FoundTest, all_definitions, tests_of};
 use fixture_table::{CollectionNode, Table};
-use py_text::OutOfMemory;
 use py_values::heap::Heap;
 use report_parts::Text;
-use seq::Seq;
+use seq::{OutOfMemory, Seq};
 use std::alloc::Global;
 
 /// A test file with its tests.

@@ -8,11 +8,11 @@ ghost use Rattle.collect_marks.specs.Given as given;
 
 use collect_names::found::{TestClass, TestFunction};
 use collect_names::objects::{class_at, function_at, object_in};
-use py_text::OutOfMemory;
 use py_values::heap::Heap;
 use py_values::names::{Name, Names};
 use py_values::object::{ClassObj, FunctionObj, MarkObj, Obj};
 use py_values::value::Value;
+use seq::OutOfMemory;
 use std::alloc::Global;
 
 /// The mark that an object is, where it is one.

@@ -7,9 +7,9 @@ ghost use Rattle.collect_marks.specs.Names as keys;
 use crate::given::mark_in;
 use collect_names::found::{TestClass, TestFunction};
 use collect_names::ids::item_name;
-use py_text::{OutOfMemory, PyText};
 use py_values::heap::Heap;
 use py_values::value::Value;
+use seq::{OutOfMemory, PyText};
 use std::alloc::Global;
 
 fn push_mark(

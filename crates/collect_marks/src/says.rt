@@ -9,11 +9,11 @@ use crate::given::mark_in;
 use crate::xfail::Xfail;
 use collect_names::objects::object_in;
 use py_kinds::truth::truth;
-use py_text::{OutOfMemory, PyText};
 use py_values::heap::Heap;
 use py_values::names::Name;
 use py_values::object::{MarkObj, Obj};
 use py_values::value::Value;
+use seq::{OutOfMemory, PyText};
 use std::alloc::Global;
 
 /// The text that an object is, and empty where it is none.

@@ -1,7 +1,7 @@
 // What an `xfail` mark says.
 
-use py_text::PyText;
 use py_values::value::Value;
+use seq::PyText;
 
 /// What an `xfail` mark says of its item: why, which exceptions it covers (all, where it names none), and whether the item must not pass.
 #[derive(Drop)]

@@ -1,7 +1,7 @@
 // What collection finds among the names of a module.
 
-use py_text::PyText;
 use py_values::value::Value;
+use seq::PyText;
 
 /// A class of tests: the name to which it is bound, and its object.
 pub struct TestClass {

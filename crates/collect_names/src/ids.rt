@@ -4,8 +4,8 @@ ghost use Rattle.std.specs.Prelude.{◌≡◌, ◌++◌, IfOk, OnOk, codes, opti
 ghost use Rattle.collect_names.specs.Ids as ids;
 
 use crate::found::{TestClass, TestFunction};
-use py_text::{OutOfMemory, PyText};
 use py_values::end::push_ascii;
+use seq::{OutOfMemory, PyText};
 use std::alloc::Global;
 
 fn push_class(

@@ -5,10 +5,10 @@ ghost use Rattle.collect_names.specs.Found as tests;
 
 use crate::found::{TestClass, TestFunction};
 use crate::objects::{class_at, function_at, holds_tests, object_in};
-use py_text::{OutOfMemory, PyText};
 use py_values::heap::Heap;
 use py_values::names::Names;
 use py_values::value::Value;
+use seq::{OutOfMemory, PyText};
 use std::alloc::Global;
 
 fn copied(alloc: Global, text: &PyText) -> Result<PyText, OutOfMemory>

@@ -5,12 +5,12 @@ ghost use Rattle.py_values.specs.Names.{find_name};
 ghost use Rattle.collect_names.specs.Objects as objects;
 
 use py_kinds::classes::is_exc_class;
-use py_text::OutOfMemory;
 use py_values::class::ClassForm;
 use py_values::heap::Heap;
 use py_values::names::{Name, Names};
 use py_values::object::{ClassObj, FunctionObj, Obj};
 use py_values::value::Value;
+use seq::OutOfMemory;
 use std::alloc::Global;
 
 /// The object of a value, where it has one.

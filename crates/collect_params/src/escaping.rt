@@ -3,8 +3,8 @@
 ghost use Rattle.std.specs.Prelude.{◌≡◌, ◌++◌, ◌<◌, IfOk, OnOk};
 ghost use Rattle.collect_params.specs.Values as values;
 
-use py_text::{OutOfMemory, PyText};
 use py_values::end::push_ascii;
+use seq::{OutOfMemory, PyText};
 use std::alloc::Global;
 
 fn hex_digit(n: u32) -> char

@@ -1,9 +1,8 @@
 // What a `parametrize` gives.
 
 use param_rows::ParamSets;
-use py_text::PyText;
 use py_values::value::Value;
-use seq::Seq;
+use seq::{PyText, Seq};
 
 /// What a `parametrize` mark gives (pytest's reference, `pytest.mark.parametrize`).
 #[derive(Drop)]

@@ -6,11 +6,11 @@ ghost use Rattle.collect_params.specs.Values as written;
 
 use crate::escaping::escaped;
 use param_rows::{ParamSet, PyId, unique_ids};
-use py_text::{OutOfMemory, PyText};
 use py_values::end::push_ascii;
 use py_values::heap::Heap;
 use py_values::object::Obj;
 use py_values::value::Value;
+use seq::{OutOfMemory, PyText};
 use std::alloc::Global;
 
 fn copied(alloc: Global, text: &PyText) -> Result<PyText, OutOfMemory>

@@ -8,12 +8,11 @@ ghost use Rattle.text_methods.specs.Characters.{stripped};
 ghost use Rattle.collect_params.specs.Given as given;
 
 use py_operands::texts::text_of;
-use py_text::{OutOfMemory, PyText};
 use py_values::heap::Heap;
 use py_values::rows::Values;
 use py_values::value::Value;
 use pytest_arguments::given::row_at;
-use seq::Seq;
+use seq::{OutOfMemory, PyText, Seq};
 use std::alloc::Global;
 use text_methods::chars::stripped;
 

@@ -14,14 +14,13 @@ use crate::names::{is_single, names_given};
 use crate::sets::{sets_of, texts_at};
 use collect_marks::given::mark_in;
 use param_rows::ParamSets;
-use py_text::{OutOfMemory, PyText};
 use py_values::heap::Heap;
 use py_values::names::Name;
 use py_values::object::MarkObj;
 use py_values::rows::Values;
 use py_values::value::Value;
 use pytest_arguments::given::row_at;
-use seq::Seq;
+use seq::{OutOfMemory, PyText, Seq};
 use std::alloc::Global;
 
 fn named_ids(alloc: Global, mark: &MarkObj) -> Result<Option<Value>, OutOfMemory>

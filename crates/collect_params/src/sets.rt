@@ -10,13 +10,12 @@ ghost use Rattle.collect_params.specs.Given as given;
 use collect_names::objects::object_in;
 use param_rows::{ParamSet, ParamSets};
 use py_operands::texts::text_of;
-use py_text::{OutOfMemory, PyText};
 use py_values::heap::Heap;
 use py_values::object::{FixtureObj, Obj, ParamObj};
 use py_values::rows::Values;
 use py_values::value::Value;
 use pytest_arguments::given::row_at;
-use seq::Seq;
+use seq::{OutOfMemory, PyText, Seq};
 use std::alloc::Global;
 
 /// What `param` made, where an object is that.

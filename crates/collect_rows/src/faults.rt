@@ -7,8 +7,8 @@ ghost use Rattle.collect_rows.specs.Rows as rows;
 
 use collection_nodes::Mentions;
 use param_rows::RowFault;
-use py_text::{OutOfMemory, PyText};
 use py_values::end::push_ascii;
+use seq::{OutOfMemory, PyText};
 use std::alloc::Global;
 
 fn push_number(alloc: Global, text: &mut Vec<char>, number: usize) -> Result<(), OutOfMemory>

@@ -13,11 +13,10 @@ use collect_names::objects::{function_at, object_in};
 use collection_nodes::{Mentions, TraceFrame, plus};
 use fixture_definitions::{Definition, FoundTest, defined_at};
 use fixture_table::Table;
-use py_text::{OutOfMemory, PyText};
 use py_values::heap::Heap;
 use py_values::rows::Values;
 use py_values::value::Value;
-use seq::Seq;
+use seq::{OutOfMemory, PyText, Seq};
 use std::alloc::Global;
 
 /// A test with one of its rows: an item, before it has its node.

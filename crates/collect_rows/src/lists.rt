@@ -12,10 +12,9 @@ use collection_nodes::Mentions;
 use fixture_definitions::{Definition, FoundTest};
 use fixture_table::{FixtureDef, Table};
 use param_rows::{ParamMark, ParamSet, ParamSets, PyId};
-use py_text::{OutOfMemory, PyText};
 use py_values::heap::Heap;
 use py_values::value::Value;
-use seq::Seq;
+use seq::{OutOfMemory, PyText, Seq};
 use session_types::DefId;
 use std::alloc::Global;
 

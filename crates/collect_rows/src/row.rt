@@ -1,8 +1,7 @@
 // Rows of tests.
 
-use py_text::PyText;
 use py_values::value::Value;
-use seq::Seq;
+use seq::{PyText, Seq};
 use test_suite::{BoundArgument, FixtureParam};
 
 /// What a row gives an item.

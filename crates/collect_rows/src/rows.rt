@@ -14,10 +14,9 @@ use collection_nodes::Mentions;
 use fixture_definitions::{Definition, FoundTest};
 use fixture_table::Table;
 use param_rows::{ParamMark, ParamRow, PyId, RowFault};
-use py_text::{OutOfMemory, PyText};
 use py_values::heap::Heap;
 use py_values::value::Value;
-use seq::Seq;
+use seq::{OutOfMemory, PyText, Seq};
 use std::alloc::Global;
 
 /// Rows that were made, as items have them; or what stands for an empty list.

@@ -11,7 +11,7 @@ use Rattle.collect_words.specs.declared.named.NamedWord.{NamedWord}
 use Rattle.collect_words.specs.declared.nodes.FileNodes.{FileNodes}
 use Rattle.edge_io.specs.Files.{File, paths_of}
 use Rattle.py_load.specs.Reading.{AreRead, ReadFile}
-use Rattle.tracebacks.specs.source_meaning.Meaning.{SourceWorld}
+use Rattle.fixture_world.specs.tracebacks.source_meaning.Meaning.{SourceWorld}
 use Rattle.collect_tree.specs.Collection.{End, collect, of_words, read_path}
 use Rattle.collect_tree.specs.Told.{collection_end, collect_fault}
 use Rattle.collect_tree.specs.Walk.{walk_of}

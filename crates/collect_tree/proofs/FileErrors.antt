@@ -6,7 +6,7 @@ use Rattle.std.proofs.lemmas.List.{append_assoc, append-nil, drop_all, drop_more
 use Rattle.collect_items.specs.collect_rows.declared.items.RowsFault.{RowsFault}
 use Rattle.collection_nodes.specs.declared.test_file.TestFile.{TestFile}
 use Rattle.report_parts.specs.declared.report.CollectReport.{CollectReport}
-use Rattle.tracebacks.specs.source_meaning.Meaning.{SourceWorld}
+use Rattle.fixture_world.specs.tracebacks.source_meaning.Meaning.{SourceWorld}
 use Rattle.collect_tree.specs.Errors.{all_errors, file_errors}
 use Rattle.collect_tree.specs.declared.loads.LoadEnd.{LoadEnd}
 

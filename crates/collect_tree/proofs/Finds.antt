@@ -19,7 +19,7 @@ use Rattle.collect_words.specs.declared.fault.WordFault.{WordFault}
 use Rattle.collect_words.specs.declared.fault.WordFault.TheVariants as word
 use Rattle.collect_words.specs.declared.nodes.FileNodes.{FileNodes}
 use Rattle.fixture_world.specs.report_rules.Collected.{Whole}
-use Rattle.tracebacks.specs.source_meaning.Meaning.{SourceWorld}
+use Rattle.fixture_world.specs.tracebacks.source_meaning.Meaning.{SourceWorld}
 use Rattle.collect_words.specs.declared.named.NamedWord.{NamedWord}
 use Rattle.collection_nodes.specs.declared.test_file.TestFile.{TestFile}
 use Rattle.conftest_hooks.specs.Registered.{hook_table}

@@ -25,7 +25,7 @@ use Rattle.fixture_world.specs.runtest_rules.Language.{python}
 use Rattle.session_rules.specs.Fits.{Distinct, HasFixtureClosure}
 use Rattle.session_rules.specs.World as session
 use Rattle.session_types.specs.Members.{IsMember}
-use Rattle.tracebacks.specs.source_meaning.Meaning.{SourceWorld}
+use Rattle.fixture_world.specs.tracebacks.source_meaning.Meaning.{SourceWorld}
 use Rattle.test_suite.specs.Suites.{fixture_at, numbered_item}
 use Rattle.test_suite.specs.declared.item.Item.{Item}
 use Rattle.test_suite.specs.declared.suite.Suite.{Suite}

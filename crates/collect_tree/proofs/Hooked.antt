@@ -8,7 +8,7 @@ use Rattle.py_load.specs.InTurn.{FileEnd, file_load}
 use Rattle.py_load.specs.declared.error.LoadError.{LoadError}
 use Rattle.py_values.specs.declared.value.Value.{Value}
 use Rattle.report_parts.specs.declared.report.Told.{Told}
-use Rattle.tracebacks.specs.source_meaning.Meaning.{SourceWorld}
+use Rattle.fixture_world.specs.tracebacks.source_meaning.Meaning.{SourceWorld}
 use Rattle.collect_tree.specs.Conftests.{ConftestsLoaded, behind_hooks, behind_load, conftests_found, conftests_loaded, hook_fault_told}
 use Rattle.collect_tree.specs.ConftestsTold.{after_found, found_or_failed}
 use Rattle.collect_tree.specs.declared.conftests.FailedConftest.{FailedConftest}

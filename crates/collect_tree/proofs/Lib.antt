@@ -1,4 +1,6 @@
 pub use Rattle.py_load.proofs.file_source_lemmas
+pub use Rattle.fixture_world.proofs.runtest_rules_lemmas
+pub use Rattle.py_load.proofs as py_load_lemmas
 pub mod Walks
 pub mod Turns
 pub mod ReadPaths

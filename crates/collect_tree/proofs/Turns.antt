@@ -4,7 +4,7 @@ use Rattle.std.proofs.lemmas.List.{append_assoc, append-nil, drop_all, drop_more
 use Rattle.collect_words.specs.Walks.{path_at}
 use Rattle.collection_nodes.specs.declared.test_file.TestFile.{TestFile}
 use Rattle.py_load.specs.InTurn.{FileEnd, file_load}
-use Rattle.tracebacks.specs.source_meaning.Meaning.{SourceWorld}
+use Rattle.fixture_world.specs.tracebacks.source_meaning.Meaning.{SourceWorld}
 use Rattle.collect_tree.specs.Loads.{LoadResults, ended_before, loaded_before, test_loads}
 use Rattle.collect_tree.specs.declared.loads.LoadEnd.{LoadEnd}
 

@@ -26,13 +26,13 @@ use Rattle.conftest_hooks.specs.declared.looking.FoundHook.{FoundHook}
 use Rattle.fixture_world.specs.Items.{selected_item}
 use Rattle.py_load.specs.Prepared.{with_reads}
 use Rattle.py_load.specs.Reading.{ReadFile}
-use Rattle.tracebacks.specs.py_machine.Worlds.{empty}
+use Rattle.fixture_world.specs.tracebacks.py_machine.Worlds.{empty}
 use Rattle.py_values.specs.declared.value.Value.{Value}
 use Rattle.report_parts.specs.Limits.{most_items}
 use Rattle.report_parts.specs.declared.report.CollectReport.{CollectReport}
 use Rattle.fixture_world.specs.report_rules.Collected.{Collected, Collection, ConftestFault, Refused, SelectedItem, Whole}
 use Rattle.fixture_world.specs.runtest_rules.Language.{python}
-use Rattle.tracebacks.specs.source_meaning.Meaning.{SourceWorld}
+use Rattle.fixture_world.specs.tracebacks.source_meaning.Meaning.{SourceWorld}
 use Rattle.conftest_hooks.specs.hook_order.declared.implementation.Impl.{Impl}
 use Rattle.collect_items.specs.fixture_definitions.collect_params.param_rows.declared.keys.ItemKeys.{ItemKeys}
 use Rattle.test_suite.specs.Suites.{no_item}

@@ -8,8 +8,8 @@ use Rattle.conftest_hooks.specs.declared.looking.HookFault.{HookFault}
 use Rattle.py_load.specs.InTurn.{FileEnd, file_load}
 use Rattle.py_values.specs.declared.value.Value.{Value}
 use Rattle.report_parts.specs.declared.report.Told.{Told}
-use Rattle.tracebacks.specs.source_meaning.Meaning.{SourceWorld}
-use Rattle.tracebacks.specs.Frames.{told}
+use Rattle.fixture_world.specs.tracebacks.source_meaning.Meaning.{SourceWorld}
+use Rattle.fixture_world.specs.tracebacks.Frames.{told}
 use Rattle.collect_tree.specs.Loads.{load_told, test_file}
 
 -- the modules of conftests, and their hooks, in order of loading

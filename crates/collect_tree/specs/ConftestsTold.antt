@@ -1,6 +1,6 @@
 -- What the code's answers tell of loaded conftests.
 use Rattle.std.specs.Prelude.{◌++◌, Option, Some, None, Result, Ok, Err}
-use Rattle.tracebacks.specs.source_meaning.Meaning.{SourceWorld}
+use Rattle.fixture_world.specs.tracebacks.source_meaning.Meaning.{SourceWorld}
 use Rattle.collect_tree.specs.Conftests.{ConftestsLoaded, conftests_found}
 use Rattle.collect_tree.specs.declared.conftests.FailedConftest.{FailedConftest}
 use Rattle.collect_tree.specs.declared.conftests.LoadedConftests.{LoadedConftests}

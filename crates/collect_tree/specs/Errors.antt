@@ -5,8 +5,8 @@ use Rattle.collect_items.specs.collect_rows.declared.items.RowsFault.{RowsFault}
 use Rattle.collect_words.specs.Walks.{path_at}
 use Rattle.collection_nodes.specs.declared.test_file.TestFile.{TestFile}
 use Rattle.report_parts.specs.declared.report.CollectReport.{CollectReport}
-use Rattle.tracebacks.specs.Frames.{told}
-use Rattle.tracebacks.specs.source_meaning.Meaning.{SourceWorld}
+use Rattle.fixture_world.specs.tracebacks.Frames.{told}
+use Rattle.fixture_world.specs.tracebacks.source_meaning.Meaning.{SourceWorld}
 use Rattle.collect_tree.specs.declared.loads.LoadEnd.{LoadEnd}
 
 -- what is told of a fault of rows; what was printed is that of the load

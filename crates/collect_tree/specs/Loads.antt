@@ -14,10 +14,10 @@ use Rattle.py_values.specs.declared.value.Value.{Value}
 use Rattle.py_world.specs.Site.{frame}
 use Rattle.report_parts.specs.declared.report.CollectReport.{CollectReport}
 use Rattle.report_parts.specs.declared.report.Told.{Told}
-use Rattle.tracebacks.specs.source_meaning.Meaning.{SourceWorld}
-use Rattle.tracebacks.specs.Faults.{fault_text}
-use Rattle.tracebacks.specs.Frames.{told}
-use Rattle.tracebacks.specs.Texts.{exception_text, limit_text}
+use Rattle.fixture_world.specs.tracebacks.source_meaning.Meaning.{SourceWorld}
+use Rattle.fixture_world.specs.tracebacks.Faults.{fault_text}
+use Rattle.fixture_world.specs.tracebacks.Frames.{told}
+use Rattle.fixture_world.specs.tracebacks.Texts.{exception_text, limit_text}
 use Rattle.collect_tree.specs.declared.loads.LoadEnd.{LoadEnd}
 
 -- a source's fault, at its place in the module

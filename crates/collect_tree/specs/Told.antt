@@ -9,7 +9,7 @@ use Rattle.collect_words.specs.declared.fault.WordFault.TheVariants as word
 use Rattle.report_parts.specs.Limits.{most_items}
 use Rattle.fixture_world.specs.report_rules.Collected.{Collected as Collection, ConftestFault, Refused, Whole}
 use Rattle.fixture_world.specs.runtest_rules.Language.{python}
-use Rattle.tracebacks.specs.source_meaning.Meaning.{SourceWorld}
+use Rattle.fixture_world.specs.tracebacks.source_meaning.Meaning.{SourceWorld}
 use Rattle.test_suite.specs.declared.suite.Suite.{Suite}
 use Rattle.collect_tree.specs.Collection.{End, selected_by}
 use Rattle.collect_tree.specs.Loads.{LoadResults, loaded_before}

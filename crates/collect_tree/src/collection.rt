@@ -3,7 +3,7 @@
 ghost use Rattle.std.specs.Prelude.{◌≡◌, [], IfOk, IfSome, Ok as Meant};
 ghost use Rattle.edge_io.specs.Files.{InOrder, paths_of};
 ghost use Rattle.py_load.specs.Reading.{AreRead, ReadFile};
-ghost use Rattle.tracebacks.specs.py_machine.Worlds.{empty};
+ghost use Rattle.fixture_world.specs.tracebacks.py_machine.Worlds.{empty};
 ghost use Rattle.selection.specs.Exprs.{AreExprs};
 ghost use Rattle.collect_words.specs.Files as files;
 ghost use Rattle.collect_tree.specs.Collection as collection;
@@ -27,13 +27,13 @@ use collect_words::{
 use collection_nodes::TestFile;
 use conftest_hooks::{FoundHook, hook_table};
 use edge_io::Files;
+use fixture_world::{World, heap};
 use py_load::{has_reading, prepare};
 use py_values::value::Value;
 use report_parts::{CollectReport, MOST_ITEMS, OutOfMemory};
 use selection::Exprs;
 use std::alloc::Global;
 use test_suite::HookTable;
-use tracebacks::{World, heap};
 
 /// A number of items as it is reported.
 fn counted(count: usize) -> Result<u32, OutOfMemory>

@@ -6,19 +6,19 @@ ghost use Rattle.collect_tree.specs.Conftests as conftests;
 ghost use Rattle.collect_tree.specs.Conftests.{ConftestsLoaded};
 ghost use Rattle.collect_tree.specs.ConftestsTold.{after_found, conftests_told, found_or_failed};
 ghost use Rattle.collect_tree.specs.Loads as loads;
-ghost use Rattle.tracebacks.specs.source_meaning.Meaning.{SourceWorld};
+ghost use Rattle.fixture_world.specs.tracebacks.source_meaning.Meaning.{SourceWorld};
 
 use crate::loads::load_told;
 use collection_nodes::{TestFile, names_of_file};
 use conftest_hooks::{FoundHook, HookFault, conftest_folder, hooks_among};
+use fixture_world::{World, heap, told};
 use py_load::{LoadError, LoadedFile, load_file};
-use py_text::PyText;
 use py_values::end::push_ascii;
 use py_values::value::Value;
 use py_world::Trace;
 use report_parts::{OutOfMemory, Text, Told};
+use seq::PyText;
 use std::alloc::Global;
-use tracebacks::{World, heap, told};
 
 /// Conftests that were loaded.
 #[derive(Drop)]

@@ -8,10 +8,10 @@ use crate::walk::path_text;
 use collect_items::RowsFault;
 use collect_words::Walk;
 use collection_nodes::TestFile;
-use py_text::PyText;
+use fixture_world::{World, told};
 use report_parts::{CollectReport, OutOfMemory, Text};
+use seq::PyText;
 use std::alloc::Global;
-use tracebacks::{World, told};
 
 fn copied_text(alloc: Global, text: &PyText) -> Result<PyText, OutOfMemory>
     ensures { IfOk result (λ t. t ≡ text.now) }

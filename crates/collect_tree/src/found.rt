@@ -12,11 +12,11 @@ use collect_ids::{AskedFile, asked_files};
 use collect_items::{FilesRead, FoundFile, FoundItems, found_in, found_items, read_files};
 use collect_words::Walk;
 use collection_nodes::TestFile;
+use fixture_world::{World, heap};
 use report_parts::{OutOfMemory, Text};
 use seq::Seq;
 use std::alloc::Global;
 use test_suite::HookTable;
-use tracebacks::{World, heap};
 
 /// What is found in loaded files, and the loads behind it.
 #[derive(Drop)]

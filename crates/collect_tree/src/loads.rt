@@ -6,13 +6,13 @@ ghost use Rattle.collect_tree.specs.Loads as loads;
 use crate::walk::path_text;
 use collect_words::Walk;
 use collection_nodes::TestFile;
+use fixture_world::{World, exception_text, fault_text, heap, limit_text, told};
 use py_load::{LoadError, LoadedFile, load_file};
 use py_source::SourceFault;
-use py_text::PyText;
 use py_world::{Trace, TraceFrame};
 use report_parts::{CollectReport, OutOfMemory, Text, Told};
+use seq::PyText;
 use std::alloc::Global;
-use tracebacks::{World, exception_text, fault_text, heap, limit_text, told};
 
 /// A source's fault, at its place in the module.
 fn fault_here(

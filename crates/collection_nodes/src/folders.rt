@@ -9,7 +9,7 @@ ghost use Rattle.collection_nodes.specs.Tree as tree;
 use crate::mentions::Mentions;
 use crate::test_file::TestFile;
 use collect_words::Walk;
-use py_text::{OutOfMemory, PyText};
+use seq::{OutOfMemory, PyText};
 use std::alloc::Global;
 
 /// The path at a place of the walk, or an empty one.

@@ -4,9 +4,8 @@ ghost use Rattle.std.specs.Prelude.{◌≡◌, [], IfOk, OnOk, map};
 ghost use Rattle.collection_nodes.specs.Texts as texts;
 
 use indexmap::IndexSet;
-use py_text::{OutOfMemory, PyText};
 use py_values::names::Name;
-use seq::Seq;
+use seq::{OutOfMemory, PyText, Seq};
 use std::alloc::Global;
 use std::marker::Model;
 

@@ -14,11 +14,11 @@ use collect_names::names::class_nodes;
 use collect_names::objects::object_in;
 use collect_words::Walk;
 use fixture_table::{CollectionNode, NodeKind};
-use py_text::OutOfMemory;
 use py_values::heap::Heap;
 use py_values::names::Names;
 use py_values::object::Obj;
 use py_values::value::Value;
+use seq::OutOfMemory;
 use std::alloc::Global;
 
 /// The names of the module that an object is.

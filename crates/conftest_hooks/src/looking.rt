@@ -10,13 +10,12 @@ use crate::hook_name::HookName;
 use crate::names::{first_untaken, hook_arguments, hook_named, is_plugin_name};
 use collect_names::objects::{function_at, object_in};
 use fixture_definitions::{asked_params, def_place};
-use py_text::{OutOfMemory, PyText};
 use py_values::end::push_ascii;
 use py_values::heap::Heap;
 use py_values::object::{FunctionObj, HookObj, Obj};
 use py_values::value::Value;
 use py_world::TraceFrame;
-use seq::Seq;
+use seq::{OutOfMemory, PyText, Seq};
 use std::alloc::Global;
 use test_suite::Hook;
 

@@ -5,8 +5,7 @@ ghost use Rattle.py_values.specs.Names.{name_eq};
 ghost use Rattle.conftest_hooks.specs.Names as names;
 
 use crate::hook_name::HookName;
-use py_text::{OutOfMemory, PyText};
-use seq::Seq;
+use seq::{OutOfMemory, PyText, Seq};
 use std::alloc::Global;
 use test_suite::HookArgument;
 

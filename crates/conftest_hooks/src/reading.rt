@@ -5,10 +5,10 @@ ghost use Rattle.conftest_hooks.specs.Reading as reading;
 ghost use Rattle.conftest_hooks.specs.Told.{hooks_told};
 
 use crate::looking::{FoundHook, HookFault, Looked, looked_at};
-use py_text::{OutOfMemory, PyText};
 use py_values::heap::Heap;
 use py_values::names::Names;
 use py_values::value::Value;
+use seq::{OutOfMemory, PyText};
 use std::alloc::Global;
 
 /// The hooks of a conftest among its names, for the items in its folder, or the first fault; the names of a conftest without module

@@ -9,8 +9,7 @@ ghost use Rattle.conftest_hooks.specs.Registered as registered;
 use crate::hook_name::HookName;
 use crate::looking::FoundHook;
 use hook_order::Impl;
-use py_text::OutOfMemory;
-use seq::Seq;
+use seq::{OutOfMemory, Seq};
 use std::alloc::Global;
 use test_suite::HookTable;
 

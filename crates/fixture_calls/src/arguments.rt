@@ -5,8 +5,8 @@ ghost use Rattle.std.specs.List.{list_any};
 ghost use Rattle.std.specs.Option.{option_to_list};
 ghost use Rattle.fixture_calls.specs.Arguments as arguments;
 
-use py_text::{OutOfMemory, PyText};
 use py_values::value::Value;
+use seq::{OutOfMemory, PyText};
 use std::alloc::Global;
 use test_suite::BoundArgument;
 

@@ -7,9 +7,9 @@ use crate::arguments::positional;
 use crate::exceptions::exhausted;
 use crate::failure::Failure;
 use py_machine::{World, call};
-use py_text::OutOfMemory;
 use py_values::value::Value;
 use py_world::Outcome;
+use seq::OutOfMemory;
 use std::alloc::Global;
 use test_suite::Item;
 

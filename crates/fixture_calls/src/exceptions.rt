@@ -7,11 +7,11 @@ ghost use Rattle.fixture_calls.specs.Failing as failing;
 
 use crate::failure::{Failure, copied_frame};
 use py_machine::{New, World, make};
-use py_text::{OutOfMemory, PyText};
 use py_values::class::ExcClass;
 use py_values::end::push_ascii;
 use py_values::value::Value;
 use py_world::{Thrown, Trace, TraceFrame};
+use seq::{OutOfMemory, PyText};
 use std::alloc::Global;
 
 fn new_exception(world: &mut World, class: ExcClass, text: PyText) -> Result<Value, OutOfMemory>

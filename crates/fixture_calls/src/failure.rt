@@ -2,8 +2,8 @@
 
 ghost use Rattle.std.specs.Prelude.{◌≡◌, IfOk};
 
-use py_text::{OutOfMemory, PyText};
 use py_world::{Thrown, Trace, TraceFrame};
+use seq::{OutOfMemory, PyText};
 use std::alloc::Global;
 
 /// Why a phase of an item did not pass.

@@ -12,9 +12,9 @@ use crate::exceptions::exhausted;
 use crate::failure::{Failure, copied_thrown};
 use crate::yields::{FixtureEnd, body_end, give_up};
 use py_machine::{Begun, Frozen, New, Sent, World, call, make};
-use py_text::OutOfMemory;
 use py_values::value::Value;
 use py_world::{Outcome, Thrown, Trace};
+use seq::OutOfMemory;
 use std::alloc::Global;
 use test_suite::{Hook, HookArgument};
 

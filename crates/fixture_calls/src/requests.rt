@@ -8,10 +8,9 @@ ghost use Rattle.fixture_calls.specs.Failing as failing;
 
 use crate::arguments::asks_request;
 use py_machine::{New, World, close_request, make, take_finalizer};
-use py_text::{OutOfMemory, PyText};
 use py_values::end::push_ascii;
 use py_values::value::Value;
-use seq::Seq;
+use seq::{OutOfMemory, PyText, Seq};
 use session_types::Scope;
 use std::alloc::Global;
 use test_suite::{Fixture, Item};

@@ -10,11 +10,11 @@ use crate::arguments::positional;
 use crate::exceptions::{exception_for, exhausted};
 use crate::failure::Failure;
 use py_machine::{Begun, BegunOut, Frozen, Sent, World};
-use py_text::{OutOfMemory, PyText};
 use py_values::class::ExcClass;
 use py_values::end::push_ascii;
 use py_values::value::Value;
 use py_world::{Outcome, Trace};
+use seq::{OutOfMemory, PyText};
 use std::alloc::Global;
 use test_suite::{BoundArgument, Fixture};
 

@@ -4,10 +4,9 @@ ghost use Rattle.std.specs.Prelude.{◌≡◌, ◌++◌, ◌∷◌, [], IfOk, On
 ghost use Rattle.fixture_definitions.specs.Arguments as arguments;
 
 use collection_nodes::TraceFrame;
-use py_text::{OutOfMemory, PyText};
 use py_values::object::FunctionObj;
 use py_values::rows::Param;
-use seq::Seq;
+use seq::{OutOfMemory, PyText, Seq};
 use std::alloc::Global;
 
 /// A copy of a text.

@@ -16,11 +16,11 @@ use collection_nodes::{
     Mentions, PlacedFile, TestFile, class_node, classes_of, file_path, names_of_file, outer_node,
     path_text,
 };
-use py_text::{OutOfMemory, PyText};
 use py_values::heap::Heap;
 use py_values::names::Names;
 use py_values::object::{FixtureObj, FixtureScope, FunctionObj, Obj};
 use py_values::value::{ObjId, Value};
+use seq::{OutOfMemory, PyText};
 use session_types::Scope;
 use std::alloc::Global;
 use test_suite::Fixture;

@@ -3,10 +3,9 @@
 use collect_names::found::TestFunction;
 use collect_params::Parametrization;
 use param_rows::ParamSets;
-use py_text::PyText;
 use py_values::rows::Values;
 use py_values::value::Value;
-use seq::Seq;
+use seq::{PyText, Seq};
 use test_suite::Fixture;
 
 /// A definition of a fixture, with the node at which it stands.

@@ -19,13 +19,12 @@ use collect_names::names::test_functions;
 use collect_names::objects::{function_at, object_in};
 use collect_params::parametrizations;
 use collection_nodes::{Mentions, PlacedFile, class_node, classes_of, names_of_file};
-use py_text::{OutOfMemory, PyText};
 use py_values::heap::Heap;
 use py_values::names::Names;
 use py_values::object::{FunctionObj, MarkObj, Obj};
 use py_values::rows::Values;
 use py_values::value::Value;
-use seq::Seq;
+use seq::{OutOfMemory, PyText, Seq};
 use std::alloc::Global;
 
 /// The text that an object is, where it is one.

@@ -9,15 +9,14 @@ ghost use Rattle.runtest_rules.specs.Language.{python};
 ghost use Rattle.runtest_rules.specs.Rules.{body_end_of, rules_within};
 ghost use Rattle.runtest_rules.specs.py_world.Resuming.{is_out};
 ghost use Rattle.runtest_rules.proofs.Kept.{keeps_within};
-ghost use Rattle.fixture_calls.specs.Yields as yields;
+ghost use Rattle.runtest_rules.specs.fixture_calls.Yields as yields;
 ghost use Rattle.test_suite.specs.Suites.{fixture_at, no_fixture};
 
 use crate::setting::{RunSetting, bound_at, fixture_of, nameless, param_at};
-use fixture_calls::{Failure, FixtureEnd, Frozen, World};
 use fixture_instances::{BodyEnd, Executor, ItemRef};
 use fixture_table::Table;
 use py_values::value::Value;
-use runtest_rules::Ending;
+use runtest_rules::{Ending, Failure, FixtureEnd, Frozen, World};
 use seq::{OutOfMemory, Seq};
 use session_types::DefId;
 use std::alloc::Global;
@@ -30,7 +29,7 @@ pub struct RunWorld {
 }
 
 impl Model for RunWorld {
-    ghost use Rattle.fixture_calls.specs.source_meaning.Meaning.{SourceWorld};
+    ghost use Rattle.runtest_rules.specs.fixture_calls.source_meaning.Meaning.{SourceWorld};
     ghost use Rattle.source_meaning.proofs.Codes.{world_code};
 
     ghost Value = { SourceWorld };
@@ -62,7 +61,7 @@ fn yielded_again(
 {
     match setting.suite.fixture(def) {
         Some(fixture) => {
-            let failure = fixture_calls::yielded_again(alloc, world, fixture)?;
+            let failure = runtest_rules::yielded_again(alloc, world, fixture)?;
             Ok(failure)
         }
         None => {
@@ -77,7 +76,7 @@ fn yielded_nameless(alloc: Global, world: &mut World) -> Result<Failure, OutOfMe
     ensures { IfOk result (λ f. (f, world.new) ≡ yields.yielded_again no_fixture world.old) }
 {
     let fixture = nameless(alloc);
-    let failure = fixture_calls::yielded_again(alloc, world, &fixture)?;
+    let failure = runtest_rules::yielded_again(alloc, world, &fixture)?;
     Ok(failure)
 }
 
@@ -123,7 +122,7 @@ impl Executor for RunWorld {
     ) -> Result<Option<Value>, OutOfMemory> {
         let fixture = fixture_of(setting, def);
         let param = param_at(setting, item.node, def);
-        let request = fixture_calls::ask(self.alloc, &mut self.world, fixture, param)?;
+        let request = runtest_rules::ask(self.alloc, &mut self.world, fixture, param)?;
         Ok(request)
     }
 
@@ -144,7 +143,7 @@ impl Executor for RunWorld {
     {
         let fixture = fixture_of(setting, def);
         let bound = bound_at(setting, item.node);
-        let end = fixture_calls::begin(
+        let end = runtest_rules::begin(
             self.alloc,
             &mut self.world,
             fixture,
@@ -165,7 +164,7 @@ impl Executor for RunWorld {
         def: DefId,
     ) -> Result<Failure, OutOfMemory> {
         let fixture = fixture_of(setting, def);
-        let failure = fixture_calls::did_not_yield(self.alloc, &mut self.world, fixture)?;
+        let failure = runtest_rules::did_not_yield(self.alloc, &mut self.world, fixture)?;
         Ok(failure)
     }
 
@@ -174,16 +173,16 @@ impl Executor for RunWorld {
         setting: &RunSetting,
         rest: Frozen,
     ) -> Result<BodyEnd<Value, Failure, Frozen>, OutOfMemory> {
-        let end = fixture_calls::resume(self.alloc, &mut self.world, rest, setting.limit)?;
+        let end = runtest_rules::resume(self.alloc, &mut self.world, rest, setting.limit)?;
         Ok(body_end(end))
     }
 
     fn abandon(&mut self, _setting: &RunSetting, rest: Frozen) {
-        fixture_calls::abandon(&mut self.world, rest);
+        runtest_rules::abandon(&mut self.world, rest);
     }
 
     fn give_up(&mut self, rest: Frozen) {
-        fixture_calls::give_up(&mut self.world, rest);
+        runtest_rules::give_up(&mut self.world, rest);
     }
 
     fn yielded_again(&mut self, setting: &RunSetting, def: DefId) -> Result<Failure, OutOfMemory> {
@@ -192,7 +191,7 @@ impl Executor for RunWorld {
     }
 
     fn close(&mut self, _setting: &RunSetting, request: Value) -> Result<Seq<Value>, OutOfMemory> {
-        let finalizers = fixture_calls::close(self.alloc, &mut self.world, request)?;
+        let finalizers = runtest_rules::close(self.alloc, &mut self.world, request)?;
         Ok(finalizers)
     }
 
@@ -202,12 +201,12 @@ impl Executor for RunWorld {
         finalizer: Value,
     ) -> Result<Option<Failure>, OutOfMemory> {
         let limit = setting.limit;
-        let raised = fixture_calls::call_finalizer(self.alloc, &mut self.world, finalizer, limit)?;
+        let raised = runtest_rules::call_finalizer(self.alloc, &mut self.world, finalizer, limit)?;
         Ok(raised)
     }
 
     fn copied(&self, thrown: &Failure) -> Result<Failure, OutOfMemory> {
-        let copy = fixture_calls::copied(self.alloc, thrown)?;
+        let copy = runtest_rules::copied(self.alloc, thrown)?;
         Ok(copy)
     }
 }

@@ -23,9 +23,11 @@
 #![tactic(auto)]
 
 pub use runtest_rules::{
-    Ending, end_phase, fails_in_teardown, fixture_fault, hooks_for, is_same_exception,
-    make_instance, make_item, not_none, skip, wrapper_did_not_yield, wrapper_yielded_again,
-    wrong_arguments,
+    CallEnd, Ending, Failure, FixtureEnd, Frozen, World, abandon, ask_test, begin_hook, call_hook,
+    call_test, end_phase, exception_text, fails_in_teardown, fault_text, fixture_fault, give_up,
+    heap, hooks_for, is_same_exception, limit_text, make_instance, make_item, not_none,
+    resume_hook_by, resume_hook_with_value, resume_hook_with_values, skip, told,
+    wrapper_did_not_yield, wrapper_yielded_again, wrong_arguments,
 };
 
 mod executing;

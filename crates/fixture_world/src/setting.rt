@@ -4,10 +4,9 @@ ghost use Rattle.std.specs.Prelude.{◌≡◌, ◌<◌, [], length, false};
 ghost use Rattle.runtest_rules.specs.Rules.{param_value};
 ghost use Rattle.test_suite.specs.Suites.{fixture_at, item_with_node, no_fixture};
 
-use py_text::PyText;
 use py_values::value::Value;
 use py_world::TraceFrame;
-use seq::Seq;
+use seq::{PyText, Seq};
 use session_types::{DefId, Scope};
 use std::alloc::Global;
 use test_suite::{BoundArgument, Fixture, FixtureParam, Suite};

@@ -9,12 +9,12 @@ ghost use Rattle.machine_arguments.specs.Given.{given_at};
 
 use machine_state::arguments::CallArguments;
 use machine_state::locals::Locals;
-use py_text::{OutOfMemory, PyText};
 use py_values::class::ExcClass;
 use py_values::end::{Raise, push_ascii};
 use py_values::object::FunctionObj;
 use py_values::rows::Param;
 use py_values::value::Value;
+use seq::{OutOfMemory, PyText};
 use std::alloc::Global;
 
 /// The value of a parameter: the argument at its place, or else that with its name, which is used up, or else its default.

@@ -8,8 +8,8 @@ ghost use Rattle.machine_arguments.specs.Shapes.{name_given, with_given};
 
 use machine_state::arguments::CallArguments;
 use py_core::{ArgName, SrcText};
-use py_text::OutOfMemory;
 use py_values::value::Value;
+use seq::OutOfMemory;
 use std::alloc::Global;
 
 /// Whether an argument of a call has a name.

@@ -13,8 +13,8 @@ use machine_turns::{End, Frame, Machine, NextAction, Origin, TargetFrame};
 use py_core::{CoreExpr, CoreSingle, CoreSingleKind, CoreTarget, SrcText};
 use py_kinds::length::length_of;
 use py_operands::faults::not_iterable;
-use py_text::OutOfMemory;
 use py_values::value::Value;
+use seq::OutOfMemory;
 use std::rc::Rc;
 
 /// Begins the store of an attribute: its object comes first.

@@ -6,11 +6,11 @@ ghost use Rattle.machine_turns.specs.py_world.Targets as world;
 
 use py_items::iter::{IterAt, Turn};
 use py_items::turn::turn;
-use py_text::OutOfMemory;
 use py_values::class::ExcClass;
 use py_values::end::{Raise, push_ascii};
 use py_values::heap::Heap;
 use py_values::value::Value;
+use seq::OutOfMemory;
 use std::alloc::Global;
 
 /// So many elements of a value from the first one on, each as a `for` gives it, and the heap with the characters of a text as texts.

@@ -18,12 +18,12 @@ use machine_state::arguments::CallArguments;
 use machine_state::locals::Locals;
 use machine_state::machine::{Machine, NextAction, Origin, TurnEnd};
 use py_calls::call::called;
-use py_text::OutOfMemory;
 use py_values::builtin::Builtin;
 use py_values::heap::Heap;
 use py_values::object::{BuiltinObj, MarkObj};
 use py_values::value::Value;
 use pytest_calls::marks::mark_called;
+use seq::OutOfMemory;
 use std::alloc::Global;
 
 /// Goes on with what a call makes, whose cost is paid.

@@ -20,8 +20,8 @@ use machine_state::arguments::CallArguments;
 use machine_state::frame::{CallerFrame, End};
 use machine_state::machine::{Machine, NextAction, Origin, TurnEnd};
 use machine_state::place::Location;
-use py_text::OutOfMemory;
 use py_values::value::Value;
+use seq::OutOfMemory;
 
 /// A call, up to a class that is the `__init__` of a new instance.
 fn call_once(

@@ -20,7 +20,6 @@ use machine_state::frame::{End, Frame};
 use machine_state::machine::{Machine, NextAction, Origin, TurnEnd};
 use py_attributes::classes::init_of;
 use py_kinds::classes::is_exc_class;
-use py_text::OutOfMemory;
 use py_values::class::ClassForm;
 use py_values::end::Raise;
 use py_values::heap::Heap;
@@ -29,6 +28,7 @@ use py_values::object::{ClassObj, InstanceObj, Obj};
 use py_values::rows::Values;
 use py_values::throw::throw_with;
 use py_values::value::{ObjId, Value};
+use seq::OutOfMemory;
 use std::alloc::Global;
 
 /// How far a call is.

@@ -16,11 +16,11 @@ use machine_state::locals::Locals;
 use machine_state::machine::{Machine, NextAction, Origin, TurnEnd};
 use machine_state::place::{Location, Place};
 use py_kinds::kinds::push_kind;
-use py_text::OutOfMemory;
 use py_values::class::ExcClass;
 use py_values::end::{Raise, push_ascii};
 use py_values::heap::Heap;
 use py_values::value::Value;
+use seq::OutOfMemory;
 use std::alloc::Global;
 use std::mem;
 

@@ -18,12 +18,12 @@ use machine_arguments::arguments::{arguments_for, with_receiver};
 use machine_state::arguments::CallArguments;
 use machine_state::locals::Locals;
 use machine_state::machine::{Machine, Origin, TurnEnd};
-use py_text::OutOfMemory;
 use py_values::class::ClassForm;
 use py_values::end::Raise;
 use py_values::heap::Heap;
 use py_values::object::{FunctionObj, Obj};
 use py_values::value::{ObjId, Value};
+use seq::OutOfMemory;
 use std::alloc::Global;
 
 /// A function that is called: the number of its code, and its local names or what is raised in their place.

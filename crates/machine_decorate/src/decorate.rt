@@ -5,9 +5,9 @@ ghost use Rattle.py_world.specs.Definitions as world;
 ghost use Rattle.machine_decorate.specs.Decorations.{all_told, decorated_told};
 
 use crate::decoration::{Decoration, decoration_for, mark};
-use py_text::OutOfMemory;
 use py_values::heap::Heap;
 use py_values::value::Value;
+use seq::OutOfMemory;
 use std::alloc::Global;
 
 /// The value that a decorator makes of another; none where it refuses it.

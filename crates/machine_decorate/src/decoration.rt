@@ -7,12 +7,12 @@ ghost use Rattle.py_world.specs.Definitions as world;
 ghost use Rattle.machine_decorate.specs.Decorations.{decorable_of, decoration_of};
 
 use py_items::subscript::object_at;
-use py_text::{OutOfMemory, PyText};
 use py_values::builtin::{Builtin, PytestCall};
 use py_values::heap::Heap;
 use py_values::object::{FixtureObj, FixtureScope, MarkObj, Obj};
 use py_values::rows::Values;
 use py_values::value::Value;
+use seq::{OutOfMemory, PyText};
 use std::alloc::Global;
 
 /// What is decorated.

@@ -20,13 +20,13 @@ use machine_state::place::Place;
 use machine_unwind::{begin_body, raise};
 use py_core::{CoreClass, CoreExpr};
 use py_kinds::classes;
-use py_text::{OutOfMemory, PyText};
 use py_values::class::ClassForm;
 use py_values::heap::Heap;
 use py_values::names::Names;
 use py_values::object::{ClassObj, Obj};
 use py_values::rows::Values;
 use py_values::value::{ObjId, Value};
+use seq::{OutOfMemory, PyText};
 use std::rc::Rc;
 
 /// The object of a class that is defined here, without names.

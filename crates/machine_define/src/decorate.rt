@@ -10,10 +10,10 @@ use machine_decorate::decorate::decorate_all;
 use machine_state::machine::{Machine, NextAction, Origin};
 use machine_unwind::store;
 use py_core::SrcText;
-use py_text::OutOfMemory;
 use py_values::class::ExcClass;
 use py_values::end::Raise;
 use py_values::value::Value;
+use seq::OutOfMemory;
 
 /// Says that a value is no decorator of what it decorates.
 fn refuse(m: &mut Machine) -> Result<NextAction, OutOfMemory>

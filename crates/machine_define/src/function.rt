@@ -18,10 +18,10 @@ use machine_state::code::Code;
 use machine_state::frame::{DefineFrame, Frame};
 use machine_state::machine::{Machine, NextAction};
 use py_core::{CoreExpr, CoreFn};
-use py_text::{OutOfMemory, PyText};
 use py_values::object::{FunctionObj, Obj};
 use py_values::rows::{Params, Values};
 use py_values::value::{ObjId, Value};
+use seq::{OutOfMemory, PyText};
 use std::rc::Rc;
 
 /// The class in whose body a function is defined.

@@ -6,9 +6,9 @@ ghost use Rattle.machine_state.specs.core_meaning.Statements.{written};
 ghost use Rattle.machine_define.specs.Defaults.{takes_default};
 
 use py_core::CoreParam;
-use py_text::{OutOfMemory, PyText};
 use py_values::rows::{Param, Params};
 use py_values::value::Value;
+use seq::{OutOfMemory, PyText};
 use std::alloc::Global;
 
 /// The default of a parameter, and the place of the next one's value: the value at a place, where the parameter has a default.

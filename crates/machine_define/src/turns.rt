@@ -11,8 +11,8 @@ use crate::decorate::define_as;
 use crate::{class, function};
 use machine_state::frame::{DefineFrame, End};
 use machine_state::machine::{Machine, NextAction};
-use py_text::OutOfMemory;
 use py_values::value::{ObjId, Value};
+use seq::OutOfMemory;
 
 /// Values with one more behind them.
 fn more(values: Vec<Value>, v: Value) -> Result<Vec<Value>, OutOfMemory>

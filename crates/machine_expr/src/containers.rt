@@ -16,11 +16,11 @@ use machine_state::frame::{Display, Frame, ItemFrame};
 use machine_state::machine::{Machine, NextAction, Origin};
 use machine_turns::begin::descend;
 use py_core::{CoreExpr, SrcText};
-use py_text::OutOfMemory;
 use py_values::dict::Dict;
 use py_values::end::Effect;
 use py_values::object::Obj;
 use py_values::value::Value;
+use seq::OutOfMemory;
 use std::alloc::Global;
 use std::rc::Rc;
 

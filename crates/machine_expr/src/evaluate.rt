@@ -20,12 +20,12 @@ use machine_state::machine::{Machine, NextAction, Origin};
 use machine_turns::begin::descend;
 use machine_turns::look_up;
 use py_core::{ArgName, BinOp, CmpOp, CoreExpr, CoreExprKind, SrcText};
-use py_text::{OutOfMemory, PyText};
 use py_values::class::ExcClass;
 use py_values::end::Raise;
 use py_values::limits::MOST_ELEMENTS;
 use py_values::object::Obj;
 use py_values::value::Value;
+use seq::{OutOfMemory, PyText};
 use std::rc::Rc;
 
 /// The value of a name.

@@ -18,8 +18,8 @@ use machine_state::frame::{End, FlowFrame, Frame};
 use machine_state::machine::{Machine, NextAction, TurnEnd};
 use py_core::{CoreBlock, CoreBranch};
 use py_kinds::truth::truth;
-use py_text::OutOfMemory;
 use py_values::value::Value;
+use seq::OutOfMemory;
 use std::rc::Rc;
 
 /// Begins a choice, with no temporary.

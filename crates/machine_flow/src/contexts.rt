@@ -18,7 +18,6 @@ use machine_state::machine::{Machine, NextAction, Origin, TurnEnd};
 use py_core::{CoreBlock, CoreExpr, SrcText};
 use py_items::subscript::object_at;
 use py_kinds::classes::is_a;
-use py_text::{OutOfMemory, PyText};
 use py_values::change::Change;
 use py_values::class::ExcClass;
 use py_values::end::{Effect, Raise};
@@ -27,6 +26,7 @@ use py_values::object::{InfoObj, Obj, RaisesObj};
 use py_values::value::{ObjId, Value};
 use py_world::Trace;
 use pytest_calls::swallowing::{did_not_raise, pattern_end};
+use seq::{OutOfMemory, PyText};
 use std::alloc::Global;
 use std::rc::Rc;
 

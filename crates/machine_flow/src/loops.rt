@@ -16,8 +16,8 @@ use machine_state::frame::{End, FlowFrame, Frame};
 use machine_state::machine::{Machine, NextAction, Origin, TurnEnd};
 use py_core::{CoreBlock, CoreExpr};
 use py_kinds::truth::truth;
-use py_text::OutOfMemory;
 use py_values::value::Value;
+use seq::OutOfMemory;
 use std::rc::Rc;
 
 /// Begins a loop from its condition on.

@@ -21,9 +21,9 @@ use py_core::{CoreBlock, CoreExpr, CoreTarget};
 use py_items::iter::IterAt;
 use py_items::turn::{iterate, turn_made};
 use py_operands::faults::not_iterable;
-use py_text::OutOfMemory;
 use py_values::end::{Effect, Raise};
 use py_values::value::Value;
+use seq::OutOfMemory;
 use std::rc::Rc;
 
 /// Begins a `for` with what it goes over.

@@ -11,7 +11,7 @@ use machine_state::locals::Locals;
 use machine_state::machine::Machine;
 use machine_state::place::{Location, Place};
 use machine_state::stack::ControlStack;
-use py_text::{OutOfMemory, PyText};
+use seq::{OutOfMemory, PyText};
 use std::alloc::Global;
 use std::mem;
 

@@ -8,7 +8,7 @@ ghost use Rattle.machine_frames.specs.Remaining as remain;
 use machine_state::frame::{CallerFrame, FlowFrame, Frame, ModuleFrame, SimpleFrame, UnwindFrame};
 use machine_state::locals::Locals;
 use machine_state::stack::ControlStack;
-use py_text::OutOfMemory;
+use seq::OutOfMemory;
 use std::alloc::Global;
 
 /// What becomes of a frame of a body that has stopped: it is kept, it is passed, or the body ends there.

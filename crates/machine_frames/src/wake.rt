@@ -12,7 +12,7 @@ ghost use Rattle.machine_state.specs.Frames.{layers_of, machine_rest, state_of, 
 use crate::remaining::remaining;
 use machine_state::frozen::FrozenFrame;
 use machine_state::machine::Machine;
-use py_text::OutOfMemory;
+use seq::OutOfMemory;
 
 /// Puts what remains of a body into a machine: it goes on where it stopped, with its names, and ends as a call by the runner does.
 pub fn wake(m: &mut Machine, frame: FrozenFrame, budget: u64) -> Result<(), OutOfMemory>

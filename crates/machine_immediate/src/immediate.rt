@@ -31,9 +31,9 @@ use py_core::{
     SrcText, UnOp,
 };
 use py_kinds::truth::truth;
-use py_text::OutOfMemory;
 use py_values::rows::Param;
 use py_values::value::Value;
+use seq::OutOfMemory;
 use std::alloc::Global;
 use std::rc::Rc;
 

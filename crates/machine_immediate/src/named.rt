@@ -11,9 +11,9 @@ use machine_state::locals::Locals;
 use machine_state::place::Location;
 use py_core::SrcText;
 use py_kinds::builtins::builtin_value;
-use py_text::OutOfMemory;
 use py_values::heap::Heap;
 use py_values::value::Value;
+use seq::OutOfMemory;
 use std::alloc::Global;
 
 /// The value of a name of the module, or of a built-in one, where it is bound.

@@ -15,9 +15,9 @@ use py_core::{BinOp, CmpOp, UnOp};
 use py_ops::binary::binary_made;
 use py_ops::compare::compare_made;
 use py_ops::unary::unary_made;
-use py_text::OutOfMemory;
 use py_values::end::{Effect, made_within};
 use py_values::value::Value;
+use seq::OutOfMemory;
 
 /// The value that an operator gives, where it gives one that was there before.
 fn given(made: Option<Effect>, left: u64) -> Option<Immediate>

@@ -10,8 +10,8 @@ ghost use Rattle.machine_immediate.specs.Parts.{IsNext, IsNextOp};
 
 use machine_state::machine::Machine;
 use py_core::{CmpOp, CoreExpr};
-use py_text::OutOfMemory;
 use py_values::value::Value;
+use seq::OutOfMemory;
 use std::rc::Rc;
 
 /// The part at a place, where there is one.

@@ -13,9 +13,9 @@ use machine_state::frame::ModuleFrame;
 use machine_state::machine::{Machine, NextAction, Origin, TurnEnd};
 use machine_turns::names::store;
 use py_core::SrcText;
-use py_text::OutOfMemory;
 use py_tree::Alias;
 use py_values::value::Value;
+use seq::OutOfMemory;
 use std::alloc::Global;
 use std::rc::Rc;
 

@@ -17,11 +17,11 @@ use machine_state::machine::{Machine, NextAction, Origin, TurnEnd};
 use machine_turns::names::bind;
 use py_attributes::names::own_value;
 use py_core::SrcText;
-use py_text::OutOfMemory;
 use py_tree::Alias;
 use py_values::end::Raise;
 use py_values::names::Name;
 use py_values::value::Value;
+use seq::OutOfMemory;
 use std::alloc::Global;
 use std::rc::Rc;
 

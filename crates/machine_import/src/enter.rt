@@ -20,9 +20,9 @@ use machine_state::source::{SourceCode, SourceFile};
 use machine_state::traces::copy_trace;
 use py_core::CoreBlock;
 use py_source::SourceFault;
-use py_text::{OutOfMemory, PyText};
 use py_values::throw::throw;
 use py_values::value::Value;
+use seq::{OutOfMemory, PyText};
 use std::rc::Rc;
 
 /// What a module that is known gives: itself, or what its load has raised.

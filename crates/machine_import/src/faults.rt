@@ -8,9 +8,9 @@ ghost use Rattle.machine_import.specs.Dotted.{dotted_part};
 use machine_names::names::raise_about;
 use py_core::SrcText;
 use py_source::SourceFault;
-use py_text::{OutOfMemory, PyText};
 use py_values::class::ExcClass;
 use py_values::end::{Raise, push_ascii};
+use seq::{OutOfMemory, PyText};
 use std::alloc::Global;
 
 /// Puts names behind others, with a `.` before each.

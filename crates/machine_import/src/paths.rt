@@ -10,7 +10,7 @@ use machine_state::source::SourceFile;
 use machine_state::traces::copy_text;
 use py_bind::find_module;
 use py_core::SrcText;
-use py_text::{OutOfMemory, PyText};
+use seq::{OutOfMemory, PyText};
 use std::alloc::Global;
 
 fn push_encoded(out: &mut String, chars: &[char]) -> Result<(), OutOfMemory>

@@ -12,9 +12,9 @@ use machine_load::load::take_load;
 use machine_state::frame::{End, ModuleFrame};
 use machine_state::machine::{Machine, NextAction, TurnEnd};
 use py_core::SrcText;
-use py_text::OutOfMemory;
 use py_tree::Alias;
 use py_values::value::Value;
+use seq::OutOfMemory;
 use std::rc::Rc;
 
 /// Goes on with an `import` behind the module of a beginning of its dotted name.

@@ -15,8 +15,8 @@ use machine_state::frame::{Frame, ModuleFrame};
 use machine_state::machine::{Entry, Machine, TurnEnd};
 use py_core::SrcText;
 use py_kinds::builtins::pytest_module;
-use py_text::{OutOfMemory, PyText};
 use py_values::value::Value;
+use seq::{OutOfMemory, PyText};
 
 /// A module that is loaded next: its path, and how many beginnings of the dotted name are looked for with it.
 #[derive(Drop)]

@@ -11,9 +11,9 @@ use machine_state::frame::End;
 use machine_state::machine::{Machine, NextAction};
 use machine_state::source::ModuleLoad;
 use machine_state::traces::copy_trace;
-use py_text::{OutOfMemory, PyText};
 use py_values::value::{ObjId, Value};
 use py_world::Load;
+use seq::{OutOfMemory, PyText};
 
 /// Where the module of a path stands.
 #[tactic(auto, using(crate::proofs::Loading::puts_here, crate::proofs::Loading::none_more, crate::proofs::Loading::puts_last))]

@@ -15,13 +15,13 @@ use machine_state::machine::Machine;
 use py_attributes::classes::named_in;
 use py_core::SrcText;
 use py_kinds::builtins::builtin_value;
-use py_text::OutOfMemory;
 use py_values::class::ExcClass;
 use py_values::end::{Effect, Raise, push_ascii};
 use py_values::heap::Heap;
 use py_values::names::{Name, Names};
 use py_values::object::Obj;
 use py_values::value::{ObjId, Value};
+use seq::OutOfMemory;
 use std::alloc::Global;
 
 /// A raise whose text is a name between two others.

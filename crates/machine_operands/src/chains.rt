@@ -13,8 +13,8 @@ use machine_state::frame::{ChainFrame, End, Frame};
 use machine_state::machine::{Machine, NextAction, TurnEnd};
 use py_core::{CmpOp, CoreExpr};
 use py_kinds::truth::truth;
-use py_text::OutOfMemory;
 use py_values::value::Value;
+use seq::OutOfMemory;
 use std::rc::Rc;
 
 fn next_and(

@@ -23,10 +23,10 @@ use machine_state::frame::{Display, Frame, ItemFrame};
 use machine_state::machine::{Machine, NextAction, Origin, TurnEnd};
 use machine_turns::subscript::subscript;
 use py_core::{CoreExpr, SrcText};
-use py_text::OutOfMemory;
 use py_values::end::{Effect, made_within};
 use py_values::index::Index;
 use py_values::value::Value;
+use seq::OutOfMemory;
 use std::alloc::Global;
 use std::rc::Rc;
 

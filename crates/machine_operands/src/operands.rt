@@ -14,8 +14,8 @@ use machine_state::frame::{CallFrame, End, OperandFrame};
 use machine_state::machine::{Machine, NextAction, TurnEnd};
 use py_core::{BinOp, CoreExpr};
 use py_kinds::truth::truth;
-use py_text::OutOfMemory;
 use py_values::value::Value;
+use seq::OutOfMemory;
 use std::rc::Rc;
 
 /// Goes on with the right operand of an operator, whose left one is there.

@@ -18,10 +18,10 @@ use py_core::{BinOp, CmpOp, UnOp};
 use py_ops::binary::binary_made;
 use py_ops::compare::compare_made;
 use py_ops::unary::unary_made;
-use py_text::OutOfMemory;
 use py_values::end::{Effect, made_within};
 use py_values::heap::Heap;
 use py_values::value::Value;
+use seq::OutOfMemory;
 use std::alloc::Global;
 
 /// An operator whose value is not told at once: its cost, and its end.

@@ -11,11 +11,11 @@ use machine_state::frame::End;
 use machine_state::machine::Machine;
 use machine_state::source::ModuleLoad;
 use machine_state::traces::{copy_text, copy_trace};
-use py_text::OutOfMemory;
 use py_values::class::ExcClass;
 use py_values::end::{Raise, push_ascii};
 use py_values::throw::throw;
 use py_values::value::Value;
+use seq::OutOfMemory;
 use std::alloc::Global;
 use std::mem;
 

@@ -12,8 +12,8 @@ use machine_state::machine::Machine;
 use machine_state::source::{SourceCode, SourceFile};
 use machine_state::traces::copy_trace;
 use py_core::CoreBlock;
-use py_text::OutOfMemory;
 use py_values::value::Value;
+use seq::OutOfMemory;
 use std::rc::Rc;
 
 /// What is told of a load that was made before.

@@ -17,11 +17,11 @@ use machine_state::locals::Locals;
 use machine_state::machine::Machine;
 use machine_state::stack::ControlStack;
 use machine_state::traces::copy_text;
-use py_text::OutOfMemory;
 use py_values::end::Raise;
 use py_values::object::{FunctionObj, MethodObj, Obj};
 use py_values::throw::throw;
 use py_values::value::{ObjId, Value};
+use seq::OutOfMemory;
 use std::alloc::Global;
 
 /// The frame of a function, at its `def`.

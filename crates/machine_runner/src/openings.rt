@@ -16,9 +16,9 @@ use machine_arguments::arguments::{fitting, with_first};
 use machine_state::code::Code;
 use machine_state::locals::Locals;
 use machine_state::machine::Machine;
-use py_text::OutOfMemory;
 use py_values::object::{FunctionObj, MethodObj, Obj};
 use py_values::value::{ObjId, Value};
+use seq::OutOfMemory;
 use std::alloc::Global;
 
 /// What begins.

@@ -5,7 +5,7 @@ ghost use Rattle.py_values.specs.Names.{name_eq};
 ghost use Rattle.lower_law.specs.py_world.Runs as runs;
 
 use machine_state::source::SourceFile;
-use py_text::{OutOfMemory, PyText};
+use seq::{OutOfMemory, PyText};
 use std::alloc::{AllocError, Global};
 
 /// The characters of a text.

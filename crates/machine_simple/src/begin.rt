@@ -21,8 +21,8 @@ use machine_store::{at_once, descend};
 use machine_unwind::raise::raise_again;
 use machine_unwind::{End, Frame, Machine, NextAction, SimpleFrame};
 use py_core::{CoreExpr, CoreSingle, CoreStmtKind, CoreTarget, CoreUse};
-use py_text::OutOfMemory;
 use py_values::value::Value;
+use seq::OutOfMemory;
 use std::rc::Rc;
 
 /// Begins a statement that is an expression.

@@ -14,11 +14,11 @@ use assert_explain::explain as explained_text;
 use machine_store::descend;
 use machine_unwind::{Frame, Machine, NextAction, Origin, SimpleFrame};
 use py_core::{CoreExpr, Expr, Template};
-use py_text::{OutOfMemory, PyText};
 use py_values::class::ExcClass;
 use py_values::end::Raise;
 use py_values::object::Obj;
 use py_values::value::Value;
+use seq::{OutOfMemory, PyText};
 use std::rc::Rc;
 
 /// Raises the `AssertionError` of a failed assert, with its message where there is one.

@@ -18,8 +18,8 @@ use machine_store::store_target;
 use machine_unwind::raise::{raise_it, raise_value};
 use machine_unwind::{End, Frame, Machine, NextAction, SimpleFrame, TurnEnd};
 use py_core::{CoreTarget, CoreUse};
-use py_text::OutOfMemory;
 use py_values::value::Value;
+use seq::OutOfMemory;
 use std::rc::Rc;
 
 /// Stores a value in the targets from a place on, from left to right.

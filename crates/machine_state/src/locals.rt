@@ -7,8 +7,8 @@ ghost use Rattle.machine_state.specs.Found.{OnTrue};
 ghost use Rattle.machine_state.specs.LocalNames.{IsAt, IsPlaceOf, NoneBefore};
 
 use py_core::SrcText;
-use py_text::OutOfMemory;
 use py_values::value::Value;
+use seq::OutOfMemory;
 use std::alloc::Global;
 use std::marker::Model;
 

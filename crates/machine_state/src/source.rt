@@ -6,7 +6,7 @@ ghost use Rattle.machine_state.specs.Coded.{coded_of};
 use core_meaning::Load;
 use py_core::Core;
 use py_source::SourceFault;
-use py_text::PyText;
+use seq::PyText;
 use std::marker::Model;
 
 /// The code of a source, or why it has none.

@@ -5,7 +5,7 @@ ghost use Rattle.core_meaning.specs.py_world.World.{put_trace, trace_at};
 
 use core_meaning::{Trace, TraceFrame};
 use indexmap::IndexMap;
-use py_text::{OutOfMemory, PyText};
+use seq::{OutOfMemory, PyText};
 use std::alloc::Global;
 use std::marker::Model;
 

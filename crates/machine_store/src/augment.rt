@@ -18,10 +18,10 @@ use machine_assign::{
 use machine_immediate::immediate::{Immediate, at_once, operate_now};
 use py_attributes::attributes::attribute_made;
 use py_core::{BinOp, CoreExpr, CoreSingle, CoreSingleKind, SrcText};
-use py_text::OutOfMemory;
 use py_values::end::Effect;
 use py_values::index::Index;
 use py_values::value::Value;
+use seq::OutOfMemory;
 use std::rc::Rc;
 
 /// The value of an augmented assignment's operator, where it is there at once.

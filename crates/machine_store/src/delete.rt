@@ -8,7 +8,7 @@ ghost use Rattle.machine_assign.specs.machine_state.Frames.{machine_rest, site_n
 
 use machine_assign::{Frame, Machine, NextAction, TargetFrame, delete_name, descend};
 use py_core::{CoreExpr, CoreSingle, CoreSingleKind, SrcText};
-use py_text::OutOfMemory;
+use seq::OutOfMemory;
 use std::rc::Rc;
 
 /// Begins the deletion of an attribute: its object comes first.

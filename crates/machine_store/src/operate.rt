@@ -11,8 +11,8 @@ use machine_assign::{Machine, Origin, TurnEnd};
 use py_core::BinOp;
 use py_items::store::{delete_made, store_made};
 use py_ops::binary::augmented_made;
-use py_text::OutOfMemory;
 use py_values::value::Value;
+use seq::OutOfMemory;
 
 /// The store of an item.
 pub fn put(m: &mut Machine, x: Value, i: Value, v: Value) -> Result<TurnEnd, OutOfMemory>

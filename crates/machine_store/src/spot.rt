@@ -11,8 +11,8 @@ use machine_assign::{
     End, Frame, Machine, NextAction, Origin, SimpleFrame, Spot, TurnEnd, changes, store,
 };
 use py_core::SrcText;
-use py_text::OutOfMemory;
 use py_values::value::Value;
+use seq::OutOfMemory;
 
 /// Sets an attribute (Language Reference, assignment statements), which costs nothing.
 #[tactic(auto, using(crate::proofs::Attributes::done, crate::proofs::Attributes::refused))]

@@ -10,8 +10,8 @@ use crate::augment::{augment_attribute, augment_item};
 use crate::spot::{put_item, set_attribute, take_item, unset_attribute};
 use machine_assign::assign::store_each;
 use machine_assign::{End, Frame, Machine, NextAction, SimpleFrame, TargetFrame, TurnEnd};
-use py_text::OutOfMemory;
 use py_values::value::Value;
+use seq::OutOfMemory;
 
 /// Goes on with a value.
 fn take_value(m: &mut Machine, frame: TargetFrame, v: Value) -> Result<TurnEnd, OutOfMemory>

@@ -6,12 +6,12 @@ use py_machine::{
     Frozen, ModuleId, World, call, fault, heap, line, names, run_module, take_printed,
 };
 use py_source::{Pos, SourceFault};
-use py_text::PyText;
 use py_values::heap::Heap;
 use py_values::names::Name;
 use py_values::object::Obj;
 use py_values::value::Value;
 use py_world::Outcome;
+use seq::PyText;
 use std::alloc::Global;
 
 fn load_told(alloc: Global, world: &mut World, path: &str, budget: u64) -> MemoryResult<String> {

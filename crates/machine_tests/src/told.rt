@@ -3,10 +3,10 @@
 use py_kinds::kinds::kind_name;
 use py_machine::{World, heap};
 use py_repr::repr::{message, repr};
-use py_text::{OutOfMemory, PyText};
 use py_values::heap::Heap;
 use py_values::value::Value;
 use py_world::{Ended, Outcome, Thrown, Trace, TraceFrame};
+use seq::{OutOfMemory, PyText};
 use std::alloc::Global;
 
 /// What can only want memory.

@@ -9,7 +9,7 @@ use crate::code::code_of;
 use crate::row::Source;
 use crate::told::MemoryResult;
 use py_machine::{World, add_source};
-use py_text::PyText;
+use seq::PyText;
 use std::alloc::Global;
 
 fn is_same(path: &PyText, other: &PyText) -> bool

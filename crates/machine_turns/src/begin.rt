@@ -16,7 +16,7 @@ use machine_state::locals::Locals;
 use machine_state::machine::{Machine, NextAction};
 use machine_state::place::{Location, Place};
 use py_core::{CoreBlock, CoreExpr};
-use py_text::OutOfMemory;
+use seq::OutOfMemory;
 use std::mem;
 use std::rc::Rc;
 

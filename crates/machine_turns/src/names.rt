@@ -14,12 +14,12 @@ use machine_names::names::{class_value, module_value, not_defined, unbound};
 use machine_state::frame::End;
 use machine_state::machine::{Machine, NextAction, Origin};
 use py_core::SrcText;
-use py_text::OutOfMemory;
 use py_values::end::Raise;
 use py_values::heap::Heap;
 use py_values::names::Name;
 use py_values::object::Obj;
 use py_values::value::{ObjId, Value};
+use seq::OutOfMemory;
 
 /// Binds a name of a module.
 fn bind_global(heap: &mut Heap, home: usize, name: Name, v: Value) -> Result<(), OutOfMemory>

@@ -8,9 +8,9 @@ ghost use Rattle.machine_state.specs.Work.{Falls};
 
 use machine_state::machine::{Machine, Origin, TurnEnd};
 use machine_state::subscript_made;
-use py_text::OutOfMemory;
 use py_values::index::Index;
 use py_values::value::Value;
+use seq::OutOfMemory;
 
 /// A subscript of a value: its step, its cost, and its end.
 pub fn subscript(m: &mut Machine, x: Value, index: &Index) -> Result<TurnEnd, OutOfMemory>

@@ -17,8 +17,8 @@ use machine_state::machine::{Machine, NextAction};
 use machine_turns::begin::{begin_block, descend};
 use machine_turns::names::bind;
 use py_core::{CoreBlock, CoreGuard, CoreHandler, SrcText};
-use py_text::OutOfMemory;
 use py_values::value::Value;
+use seq::OutOfMemory;
 use std::rc::Rc;
 
 /// Begins the block of a handler that has a name: it is the exception, and is unbound behind the block.

@@ -16,12 +16,12 @@ use machine_state::arguments::CallArguments;
 use machine_state::frame::{End, Frame, SimpleFrame};
 use machine_state::machine::{Entry, Machine, NextAction, Origin, TurnEnd};
 use machine_state::traces::copy_trace;
-use py_text::OutOfMemory;
 use py_values::class::{ClassRef, ExcClass};
 use py_values::end::Raise;
 use py_values::rows::Values;
 use py_values::throw::throw_with;
 use py_values::value::{ObjId, Value};
+use seq::OutOfMemory;
 
 /// The trace with which an exception was first raised, or else that of the place where the machine is.
 fn trace_for(m: &Machine, id: ObjId) -> Result<Trace, OutOfMemory>

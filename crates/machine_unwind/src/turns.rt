@@ -20,8 +20,8 @@ use machine_state::traces::copy_trace;
 use machine_turns::begin::begin_block;
 use machine_turns::names::unbind;
 use py_core::{CoreBlock, CoreGuard, SrcText};
-use py_text::OutOfMemory;
 use py_values::value::Value;
+use seq::OutOfMemory;
 use std::rc::Rc;
 
 /// The block behind `else`.

@@ -2,8 +2,8 @@ ghost use Rattle.std.specs.Prelude.{◌≡◌};
 ghost use Rattle.py_load.specs.Loading.{fault_error};
 
 use py_source::{Pos, SourceFault, SyntaxKind};
-use py_text::OutOfMemory;
 use py_world::{Thrown, Trace};
+use seq::OutOfMemory;
 
 /// Why a file has no module.
 #[derive(Drop)]

@@ -6,8 +6,8 @@ ghost use Rattle.py_load.specs.InTurn.{file_load, file_told};
 use crate::error::LoadError;
 use crate::load::load;
 use py_machine::{World, take_printed};
-use py_text::OutOfMemory;
 use py_values::value::Value;
+use seq::OutOfMemory;
 
 /// What is known of a file behind its load.
 #[derive(Drop)]

@@ -7,9 +7,9 @@ ghost use Rattle.py_load.specs.Loading.{after_run, end_told, load_of, run_end};
 
 use crate::error::{LoadError, fault_error};
 use py_machine::{ModuleId, World, fault, run_module};
-use py_text::OutOfMemory;
 use py_values::value::Value;
 use py_world::Outcome;
+use seq::OutOfMemory;
 
 fn end_of(out: Outcome) -> Result<Value, LoadError>
     ensures { result ≡ run_end out }

@@ -13,10 +13,9 @@ use edge_io::Files;
 use file_source::source_of;
 use py_machine::{World, add_source};
 use py_source::SourceFault;
-use py_text::OutOfMemory;
 use py_tree::Module;
 use read_law::every_tree_can_be_lowered;
-use seq::ByteText;
+use seq::{ByteText, OutOfMemory};
 use std::alloc::Global;
 
 /// Adds the code of a tree.

@@ -16,8 +16,8 @@ use machine_runner::misfit::{find_misfit, plain_arguments, refuse, reset};
 use machine_state::machine::{Entry, Machine, Origin, TurnEnd};
 use machine_stmt::invoke;
 use machine_stmt::run::{Stop, enter, run};
-use py_text::OutOfMemory;
 use py_values::value::Value;
+use seq::OutOfMemory;
 
 /// Enters a body, and goes on until the run stops. Each body that is entered has a frame that waits for its end, so that memory is used
 /// up long before the count of entries is.

@@ -29,8 +29,8 @@ use machine_state::locals::Locals;
 use machine_state::machine::{Machine, NextAction, Origin};
 use machine_stmt::call_fitting;
 use machine_stmt::run::{Stop, run};
-use py_text::OutOfMemory;
 use py_values::value::Value;
+use seq::OutOfMemory;
 
 /// What ends as a call.
 fn over(ended: Ended) -> Begun

@@ -6,7 +6,7 @@ use Rattle.py_tree.specs.declared.stmt.Module.{Module}
 use Rattle.parsing.specs.Reading.{Read, Found, Bad, Deep}
 use Rattle.parsing.specs.Answer.{finish}
 use Rattle.grammar.specs.Levels.{readers}
-use Rattle.statement_readers.specs.grammar_plain.Plain.{plain}
+use Rattle.grammar_code.specs.Plain.{plain}
 use Rattle.py_source.specs.Limits.{most_levels}
 use Rattle.statement_readers.specs.py_grammar.Context.{misplaced, in_module}
 use Rattle.statement_readers.specs.py_grammar.Lines.{statements}

@@ -6,10 +6,10 @@ ghost use Rattle.py_repr.specs.Repr.{repr_of, str_of, message_of};
 
 use crate::shower::Shower;
 use crate::shown::Shown;
-use py_text::OutOfMemory;
 use py_values::heap::Heap;
 use py_values::limits::MOST_LEVELS;
 use py_values::value::Value;
+use seq::OutOfMemory;
 use std::alloc::Global;
 
 /// The first `most` characters of the repr of a value, in which each value past 100 levels is `...`.

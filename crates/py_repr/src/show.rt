@@ -9,13 +9,13 @@ ghost use Rattle.py_values.specs.declared.value.Value.TheVariants as val;
 
 use crate::shower::Shower;
 use py_kinds::classes::root_of;
-use py_text::OutOfMemory;
 use py_values::class::{ClassRef, ExcClass};
 use py_values::dict::{Dict, Pair};
 use py_values::heap::Heap;
 use py_values::object::Obj;
 use py_values::throw::args_in;
 use py_values::value::{ObjId, Value};
+use seq::OutOfMemory;
 
 /// Whether an object is one of those around it.
 fn is_around(around: &Vec<ObjId>, id: ObjId) -> bool

@@ -6,7 +6,7 @@ ghost use Rattle.py_repr.specs.Adding.{add, start_showing, shown_of};
 ghost use Rattle.py_repr.specs.Symbols.{Char, glyphs, dots};
 
 use crate::shown::Shown;
-use py_text::{OutOfMemory, PyText};
+use seq::{OutOfMemory, PyText};
 use std::alloc::Global;
 use std::marker::Model;
 

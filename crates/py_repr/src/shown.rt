@@ -1,6 +1,6 @@
 // What is shown of a value.
 
-use py_text::PyText;
+use seq::PyText;
 
 /// The first characters of a text, whether it is longer, and whether a value that lies too deep begins in them.
 #[derive(Drop)]

@@ -11,13 +11,13 @@ ghost use Rattle.py_kinds.specs.Kinds as kinds;
 use crate::shower::Shower;
 use py_kinds::builtins::builtin_name;
 use py_kinds::kinds::class_name;
-use py_text::OutOfMemory;
 use py_values::builtin::Builtin;
 use py_values::class::ClassRef;
 use py_values::heap::Heap;
 use py_values::object::Obj;
 use py_values::range::RangeObj;
 use py_values::value::ObjId;
+use seq::OutOfMemory;
 
 fn is_one(n: i128) -> bool
     ensures { result ≡ int_eq n (pos 1) }

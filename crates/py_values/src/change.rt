@@ -7,7 +7,7 @@ ghost use Rattle.py_values.specs.Pairs as pairs;
 use crate::key::Key;
 use crate::object::Obj;
 use crate::value::Value;
-use py_text::OutOfMemory;
+use seq::OutOfMemory;
 
 /// A change of an object; an object of another kind stays as it is.
 pub enum Change {

@@ -7,7 +7,7 @@ ghost use Rattle.py_values.specs.Pairs.{find_pair, put_pair, without_pair};
 use crate::key::Key;
 use crate::value::Value;
 use indexmap::IndexMap;
-use py_text::OutOfMemory;
+use seq::OutOfMemory;
 use std::alloc::Global;
 use std::marker::Model;
 

@@ -9,7 +9,7 @@ use crate::class::ExcClass;
 use crate::heap::Heap;
 use crate::object::Obj;
 use crate::value::{ObjId, Value};
-use py_text::{OutOfMemory, PyText};
+use seq::{OutOfMemory, PyText};
 use std::alloc::Global;
 
 /// An exception that is to be raised: its class, and its one argument: `arg` where it is given, else the text where it

@@ -8,7 +8,7 @@ ghost use Rattle.std.specs.Borrow.{sem};
 use crate::change::Change;
 use crate::object::Obj;
 use crate::value::{ObjId, Value};
-use py_text::OutOfMemory;
+use seq::OutOfMemory;
 use std::alloc::Global;
 use std::marker::Model;
 

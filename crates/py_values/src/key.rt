@@ -4,7 +4,7 @@ ghost use Rattle.std.specs.Prelude.{◌≡◌, ◌-◌, IfOk, length};
 
 use crate::names::Name;
 use crate::value::ObjId;
-use py_text::OutOfMemory;
+use seq::OutOfMemory;
 use std::alloc::Global;
 use std::hash::{Hash, Hasher};
 use std::marker::Model;

@@ -45,4 +45,4 @@ pub mod rows;
 pub mod throw;
 pub mod value;
 
-pub use py_text::{OutOfMemory, PyText};
+pub use seq::{OutOfMemory, PyText};

@@ -6,7 +6,7 @@ ghost use Rattle.std.specs.Map.Iter.{deref_pair};
 
 use crate::value::Value;
 use indexmap::IndexMap;
-use py_text::{OutOfMemory, PyText};
+use seq::{OutOfMemory, PyText};
 use std::alloc::Global;
 use std::hash::{Hash, Hasher};
 use std::marker::Model;

@@ -7,7 +7,7 @@ use crate::names::Names;
 use crate::range::RangeObj;
 use crate::rows::{Params, Values};
 use crate::value::{ObjId, Value};
-use py_text::PyText;
+use seq::PyText;
 
 /// A function of the sources: the file's path, its name, the line of its `def`, its parameters, whether it yields, its
 /// marks, its class where it is defined in one, and the number of its code.

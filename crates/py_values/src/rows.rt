@@ -3,7 +3,7 @@
 ghost use Rattle.std.specs.Prelude.{◌≡◌, ◌++◌, ◌∷◌, [], OnOk, slice_set, remove};
 
 use crate::value::Value;
-use py_text::{OutOfMemory, PyText, Seq};
+use seq::{OutOfMemory, PyText, Seq};
 use std::alloc::Global;
 use std::marker::Model;
 

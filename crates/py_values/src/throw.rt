@@ -11,7 +11,7 @@ use crate::names::Names;
 use crate::object::{ExceptionObj, Obj};
 use crate::rows::Values;
 use crate::value::Value;
-use py_text::OutOfMemory;
+use seq::OutOfMemory;
 use std::alloc::Global;
 
 /// Makes an exception with arguments, which are a new tuple.

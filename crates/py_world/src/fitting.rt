@@ -3,10 +3,10 @@
 ghost use Rattle.std.specs.Prelude.{◌≡◌, [], IfOk};
 ghost use Rattle.py_world.specs.Arguments.{fitted};
 
-use py_text::OutOfMemory;
 use py_values::names::{Name, Names};
 use py_values::rows::Param;
 use py_values::value::Value;
+use seq::OutOfMemory;
 use std::alloc::Global;
 
 /// The value of a parameter: the argument at its place, or else its default.

@@ -3,7 +3,7 @@
 ghost use Rattle.std.specs.Prelude.{◌≡◌, IfOk, codes, map};
 ghost use Rattle.py_world.specs.ModuleNames as names;
 
-use py_text::{OutOfMemory, PyText};
+use seq::{OutOfMemory, PyText};
 use std::alloc::{AllocError, Global};
 
 /// A text without these characters at its end, where it ends with them.

@@ -11,9 +11,9 @@ use Rattle.cli_words.specs.declared.fault.UsageFault.TheVariants as usage
 use Rattle.cli_words.specs.declared.info.Info.{Info}
 use Rattle.cli_words.specs.declared.options.Options.{Options}
 use Rattle.edge_io.specs.Files.{File}
-use Rattle.collect_tree.specs.file_source.Sources.{HoldsSource}
-use Rattle.run_items.specs.report_rules.Answer.{PrintedAnswer, info_answer, refusal}
-use Rattle.run_items.specs.report_rules.Report as rules
+use Rattle.worker_sessions.specs.collect_tree.file_source.Sources.{HoldsSource}
+use Rattle.worker_sessions.specs.run_items.report_rules.Answer.{PrintedAnswer, info_answer, refusal}
+use Rattle.worker_sessions.specs.run_items.report_rules.Report as rules
 use Rattle.selection.specs.Exprs.{AreExprs, IsRefused, refused_expression, selection_text}
 use Rattle.selection.specs.declared.fault.SelectionFault.{SelectionFault}
 use Rattle.selection.specs.declared.fault.SelectionFault.TheVariants as faults

@@ -7,10 +7,10 @@ use Rattle.std.specs.List.{filter, filter_map}
 use Rattle.std.specs.Prelude.{nat_lt}
 use Rattle.cli_words.specs.Options.{asks_for_workers, is_no}
 use Rattle.cli_words.specs.declared.options.Options.{Options}
-use Rattle.collect_tree.specs.Collection.{selected_by}
-use Rattle.collect_tree.specs.Told.{collected_told}
-use Rattle.collect_tree.specs.declared.collected.Collected.{Collected as Gathered}
-use Rattle.collect_tree.specs.file_source.Sources.{HoldsSource}
+use Rattle.worker_sessions.specs.collect_tree.Collection.{selected_by}
+use Rattle.worker_sessions.specs.collect_tree.Told.{collected_told}
+use Rattle.worker_sessions.specs.collect_tree.declared.collected.Collected.{Collected as Gathered}
+use Rattle.worker_sessions.specs.collect_tree.file_source.Sources.{HoldsSource}
 use Rattle.edge_io.specs.Told.{Appends, AppendsPrefix}
 use Rattle.report_parts.specs.Limits.{most_items}
 use Rattle.report_parts.specs.Outcomes.{not_empty}
@@ -20,17 +20,17 @@ use Rattle.report_text.specs.Head.{head_of}
 use Rattle.report_text.specs.Progress.{progress_of}
 use Rattle.report_text.specs.Summary.{summary_of}
 use Rattle.report_text.specs.report_blocks.Blocks.{sections_of}
-use Rattle.run_items.proofs.report_rules_lemmas.Exists.{a_share}
-use Rattle.run_items.specs.Texts.{fixture_texts}
-use Rattle.run_items.specs.report_rules.Answer as printed
-use Rattle.run_items.specs.report_rules.Collected.{Collected, SelectedItem}
-use Rattle.run_items.specs.report_rules.Groups.{groups}
-use Rattle.run_items.specs.report_rules.Report as rules
-use Rattle.run_items.specs.report_rules.Rows.{ReportRow, ran}
-use Rattle.run_items.specs.runtest_rules.Language.{python}
-use Rattle.run_items.specs.runtest_rules.Rules.{rules as tests}
-use Rattle.run_items.specs.source_meaning.Meaning.{SourceWorld}
-use Rattle.run_items.specs.test_suite.declared.suite.Suite.{Suite}
+use Rattle.worker_sessions.proofs.report_rules_lemmas.Exists.{a_share}
+use Rattle.worker_sessions.specs.run_items.Texts.{fixture_texts}
+use Rattle.worker_sessions.specs.run_items.report_rules.Answer as printed
+use Rattle.worker_sessions.specs.run_items.report_rules.Collected.{Collected, SelectedItem}
+use Rattle.worker_sessions.specs.run_items.report_rules.Groups.{groups}
+use Rattle.worker_sessions.specs.run_items.report_rules.Report as rules
+use Rattle.worker_sessions.specs.run_items.report_rules.Rows.{ReportRow, ran}
+use Rattle.worker_sessions.specs.run_items.runtest_rules.Language.{python}
+use Rattle.worker_sessions.specs.run_items.runtest_rules.Rules.{rules as tests}
+use Rattle.worker_sessions.specs.run_items.source_meaning.Meaning.{SourceWorld}
+use Rattle.worker_sessions.specs.run_items.test_suite.declared.suite.Suite.{Suite}
 use Rattle.runtest_loop.specs.Fed.{unfed, unfed_from}
 use Rattle.session_rules.specs.Session.{has_stopped}
 use Rattle.share_files.specs.Deal.{Every, Share}

@@ -1,29 +1,29 @@
 -- The items that run are the selected ones.
 use Rattle.std.proofs.Common.{◌≡◌, ◌<◌, ◌≤◌, ℕ, Bool, false, List, [], ◌∷◌, All, map, length, None, refl, sym, ap, subst, ◌∙◌}
 use Rattle.cli_words.specs.declared.options.Options.{Options}
-use Rattle.collect_tree.specs.collect_items.declared.found.FoundSuite.{FoundSuite}
-use Rattle.collect_tree.specs.Collection.{item_numbered, selected_by}
-use Rattle.collect_tree.specs.file_source.Sources.{HoldsSource}
-use Rattle.run_items.specs.fixture_world.Items.{item_in_session}
+use Rattle.worker_sessions.specs.collect_tree.collect_items.declared.found.FoundSuite.{FoundSuite}
+use Rattle.worker_sessions.specs.collect_tree.Collection.{item_numbered, selected_by}
+use Rattle.worker_sessions.specs.collect_tree.file_source.Sources.{HoldsSource}
+use Rattle.worker_sessions.specs.run_items.fixture_world.Items.{item_in_session}
 use Rattle.report_parts.specs.Limits.{most_items}
 use Rattle.report_parts.specs.Outcomes.{not_empty}
 use Rattle.report_parts.specs.declared.report.CollectReport.{CollectReport}
 use Rattle.report_parts.specs.declared.report.ItemReport.{ItemReport}
-use Rattle.run_items.specs.report_rules.Collected.{SelectedItem}
-use Rattle.run_items.specs.report_rules.Fits.{chosen_item}
-use Rattle.run_items.specs.report_rules.Items.{item_report}
-use Rattle.run_items.specs.report_rules.Report as rules
-use Rattle.run_items.specs.report_rules.Rows.{ran, session_rows, task}
-use Rattle.run_items.specs.Texts.{fixture_texts}
-use Rattle.run_items.specs.Runs.{BeginsPlan}
+use Rattle.worker_sessions.specs.run_items.report_rules.Collected.{SelectedItem}
+use Rattle.worker_sessions.specs.run_items.report_rules.Fits.{chosen_item}
+use Rattle.worker_sessions.specs.run_items.report_rules.Items.{item_report}
+use Rattle.worker_sessions.specs.run_items.report_rules.Report as rules
+use Rattle.worker_sessions.specs.run_items.report_rules.Rows.{ran, session_rows, task}
+use Rattle.worker_sessions.specs.run_items.Texts.{fixture_texts}
+use Rattle.worker_sessions.specs.run_items.Runs.{BeginsPlan}
 use Rattle.runtest_loop.specs.Fed.{numbers_at, numbers_in_range}
 use Rattle.runtest_loop.specs.Received.{AreFirst}
 use Rattle.runtest_loop.specs.Run.{Begins}
-use Rattle.run_items.specs.runtest_rules.Rules.{rules as tests}
+use Rattle.worker_sessions.specs.run_items.runtest_rules.Rules.{rules as tests}
 use Rattle.session_rules.specs.Fits.{Distinct}
 use Rattle.session_rules.specs.Session.{has_stopped}
 use Rattle.session_rules.specs.World.{Item as SessionItem}
-use Rattle.run_items.specs.source_meaning.Meaning.{SourceWorld}
+use Rattle.worker_sessions.specs.run_items.source_meaning.Meaning.{SourceWorld}
 use Rattle.pytest_core.specs.Profile.{profile}
 use Rattle.worker_sessions.proofs.Plans.{chosen_as, chosen_by, every, unfiled_as}
 use Rattle.worker_sessions.proofs.Refiled.{ran_as, reports_as}

@@ -6,21 +6,21 @@ use Rattle.std.proofs.lemmas.List.{append-nil}
 use Rattle.cli_words.specs.declared.options.Options.{Options}
 use Rattle.report_parts.specs.Limits.{most_items}
 use Rattle.report_parts.specs.declared.report.ItemReport.{ItemReport}
-use Rattle.run_items.specs.report_rules.Collected.{SelectedItem}
-use Rattle.run_items.specs.report_rules.Fits.{chosen_item}
-use Rattle.run_items.specs.report_rules.Items.{item_report}
-use Rattle.run_items.specs.report_rules.Rows.{session_rows, task}
-use Rattle.run_items.specs.Runs.{BeginsPlan, RunsPlan}
-use Rattle.run_items.specs.Stands.{plan_fixture, plan_rules, planned}
-use Rattle.run_items.specs.declared.plan.Plan.{Plan}
-use Rattle.run_items.specs.declared.stand.Stand.{Stand}
+use Rattle.worker_sessions.specs.run_items.report_rules.Collected.{SelectedItem}
+use Rattle.worker_sessions.specs.run_items.report_rules.Fits.{chosen_item}
+use Rattle.worker_sessions.specs.run_items.report_rules.Items.{item_report}
+use Rattle.worker_sessions.specs.run_items.report_rules.Rows.{session_rows, task}
+use Rattle.worker_sessions.specs.run_items.Runs.{BeginsPlan, RunsPlan}
+use Rattle.worker_sessions.specs.run_items.Stands.{plan_fixture, plan_rules, planned}
+use Rattle.worker_sessions.specs.run_items.declared.plan.Plan.{Plan}
+use Rattle.worker_sessions.specs.run_items.declared.stand.Stand.{Stand}
 use Rattle.runtest_loop.specs.Course.{chosen_in}
 use Rattle.runtest_loop.specs.Fed.{numbers_at, numbers_fed, unfed}
 use Rattle.runtest_loop.specs.Run.{Begins, is_stopped}
 use Rattle.runtest_loop.specs.declared.run_end.RunEnd.{RunEnd}
 use Rattle.runtest_loop.specs.declared.run_end.RunEnd.TheVariants.{Done, Stopped}
 use Rattle.session_rules.specs.Fits.{Distinct}
-use Rattle.run_items.specs.source_meaning.Meaning.{SourceWorld}
+use Rattle.worker_sessions.specs.run_items.source_meaning.Meaning.{SourceWorld}
 use Rattle.pytest_core.specs.OneGroup.{given_by, is_over}
 use Rattle.pytest_core.specs.Run.{IsOneGroup, IsRunOf, RunsFirst, chosen_first}
 use Rattle.pytest_core.specs.declared.one_group.OneGroup.{OneGroup}

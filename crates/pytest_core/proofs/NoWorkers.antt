@@ -3,20 +3,20 @@ use Rattle.std.proofs.Common.{◌≡◌, ℕ, suc, List, [], ◌∷◌, Bool, tr
 use Rattle.std.proofs.lemmas.Bool.{ne_eqb}
 use Rattle.cli_words.specs.Options.{asks_for_workers}
 use Rattle.cli_words.specs.declared.options.Options.{Options}
-use Rattle.collect_tree.specs.Collection.{selected_by}
-use Rattle.collect_tree.specs.collect_items.declared.found.FoundSuite.{FoundSuite}
-use Rattle.collect_tree.specs.file_source.Sources.{HoldsSource}
+use Rattle.worker_sessions.specs.collect_tree.Collection.{selected_by}
+use Rattle.worker_sessions.specs.collect_tree.collect_items.declared.found.FoundSuite.{FoundSuite}
+use Rattle.worker_sessions.specs.collect_tree.file_source.Sources.{HoldsSource}
 use Rattle.report_parts.specs.Outcomes.{not_empty}
 use Rattle.report_parts.specs.declared.report.CollectReport.{CollectReport}
-use Rattle.run_items.proofs.report_rules_lemmas.Placed.{no_place}
-use Rattle.run_items.specs.report_rules.Collected.{Collected}
-use Rattle.run_items.specs.report_rules.Groups.{groups}
-use Rattle.run_items.specs.report_rules.Report as rules
-use Rattle.run_items.specs.report_rules.Rows.{ran, report_row, session_rows}
-use Rattle.run_items.specs.runtest_rules.Language.{python}
-use Rattle.run_items.specs.runtest_rules.Rules.{rules as tests}
-use Rattle.run_items.specs.source_meaning.Meaning.{SourceWorld}
-use Rattle.run_items.specs.test_suite.declared.suite.Suite.{Suite}
+use Rattle.worker_sessions.proofs.report_rules_lemmas.Placed.{no_place}
+use Rattle.worker_sessions.specs.run_items.report_rules.Collected.{Collected}
+use Rattle.worker_sessions.specs.run_items.report_rules.Groups.{groups}
+use Rattle.worker_sessions.specs.run_items.report_rules.Report as rules
+use Rattle.worker_sessions.specs.run_items.report_rules.Rows.{ran, report_row, session_rows}
+use Rattle.worker_sessions.specs.run_items.runtest_rules.Language.{python}
+use Rattle.worker_sessions.specs.run_items.runtest_rules.Rules.{rules as tests}
+use Rattle.worker_sessions.specs.run_items.source_meaning.Meaning.{SourceWorld}
+use Rattle.worker_sessions.specs.run_items.test_suite.declared.suite.Suite.{Suite}
 use Rattle.session_rules.specs.Session.{has_stopped}
 use Rattle.share_files.specs.Deal.{Share}
 use Rattle.pytest_core.specs.Profile.{profile}

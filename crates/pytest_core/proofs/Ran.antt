@@ -2,33 +2,33 @@
 use Rattle.std.proofs.Common.{◌≡◌, ◌<◌, ◌+◌, ℕ, List, [], ◌∷◌, All, Bool, true, false, Option, None, Some, length, map, refl, sym, ap, ap₂, subst, ◌∙◌}
 use Rattle.std.specs.Prelude.{IfSome, IsSomeAnd, option_map, slice_get, slice_index_or}
 use Rattle.cli_words.specs.declared.options.Options.{Options}
-use Rattle.collect_tree.specs.collect_items.declared.found.FoundSuite.{FoundSuite}
-use Rattle.collect_tree.specs.Collection.{collect, item_numbered, item_or_none, selected_by}
-use Rattle.collect_tree.specs.Told.{collected_told}
-use Rattle.collect_tree.specs.declared.collected.Collected.{Collected}
+use Rattle.worker_sessions.specs.collect_tree.collect_items.declared.found.FoundSuite.{FoundSuite}
+use Rattle.worker_sessions.specs.collect_tree.Collection.{collect, item_numbered, item_or_none, selected_by}
+use Rattle.worker_sessions.specs.collect_tree.Told.{collected_told}
+use Rattle.worker_sessions.specs.collect_tree.declared.collected.Collected.{Collected}
 use Rattle.edge_io.specs.Files.{File, tree_limit}
-use Rattle.collect_tree.specs.file_source.Sources.{HoldsSource}
-use Rattle.run_items.specs.fixture_world.Items.{item_in_session, selected_item}
-use Rattle.collect_tree.specs.py_load.Reading.{AreRead, ReadFile}
+use Rattle.worker_sessions.specs.collect_tree.file_source.Sources.{HoldsSource}
+use Rattle.worker_sessions.specs.run_items.fixture_world.Items.{item_in_session, selected_item}
+use Rattle.worker_sessions.specs.collect_tree.py_load.Reading.{AreRead, ReadFile}
 use Rattle.report_parts.specs.Outcomes.{not_empty}
 use Rattle.report_parts.specs.declared.report.CollectReport.{CollectReport}
 use Rattle.report_parts.specs.declared.report.ItemReport.{ItemReport}
-use Rattle.run_items.specs.report_rules.Answer as answers
-use Rattle.run_items.specs.report_rules.Collected.{Collected as Found, Collection, ConftestFault, Refused, SelectedItem, Whole}
-use Rattle.run_items.specs.report_rules.Fits.{IsFit, chosen_item}
-use Rattle.run_items.specs.report_rules.Report as rules
-use Rattle.run_items.specs.report_rules.Rows.{report_row, task}
-use Rattle.run_items.specs.NotRun.{AreNotRun, selected_items}
-use Rattle.run_items.specs.Texts.{fixture_texts}
-use Rattle.run_items.specs.runtest_rules.Language.{python}
-use Rattle.run_items.specs.runtest_rules.Rules.{rules as tests}
+use Rattle.worker_sessions.specs.run_items.report_rules.Answer as answers
+use Rattle.worker_sessions.specs.run_items.report_rules.Collected.{Collected as Found, Collection, ConftestFault, Refused, SelectedItem, Whole}
+use Rattle.worker_sessions.specs.run_items.report_rules.Fits.{IsFit, chosen_item}
+use Rattle.worker_sessions.specs.run_items.report_rules.Report as rules
+use Rattle.worker_sessions.specs.run_items.report_rules.Rows.{report_row, task}
+use Rattle.worker_sessions.specs.run_items.NotRun.{AreNotRun, selected_items}
+use Rattle.worker_sessions.specs.run_items.Texts.{fixture_texts}
+use Rattle.worker_sessions.specs.run_items.runtest_rules.Language.{python}
+use Rattle.worker_sessions.specs.run_items.runtest_rules.Rules.{rules as tests}
 use Rattle.session_rules.specs.Fits.{Distinct}
 use Rattle.session_rules.specs.World.{Item as SessionItem}
 use Rattle.share_files.specs.Deal.{Every}
-use Rattle.run_items.specs.source_meaning.Meaning.{SourceWorld}
-use Rattle.run_items.specs.test_suite.Suites.{item_or}
-use Rattle.run_items.specs.test_suite.declared.item.Item.{Item}
-use Rattle.run_items.specs.test_suite.declared.suite.Suite.{Suite}
+use Rattle.worker_sessions.specs.run_items.source_meaning.Meaning.{SourceWorld}
+use Rattle.worker_sessions.specs.run_items.test_suite.Suites.{item_or}
+use Rattle.worker_sessions.specs.run_items.test_suite.declared.item.Item.{Item}
+use Rattle.worker_sessions.specs.run_items.test_suite.declared.suite.Suite.{Suite}
 use Rattle.pytest_core.specs.Profile.{profile}
 use Rattle.pytest_core.specs.Report.{AreDistinct, end_answer}
 use Rattle.pytest_core.specs.Run.{AreApart, IsRunAnswer, collected_of, items_known}

@@ -1,15 +1,15 @@
 -- Words and files have a report, and no other; and what it tells.
 use Rattle.std.proofs.Common.{◌≡◌, ℕ, List, refl, sym, subst, ap₂, ◌∙◌}
 use Rattle.edge_io.specs.Files.{File, IsKept}
-use Rattle.collect_tree.proofs.file_source_lemmas.OneSource.{has_source, one_source}
-use Rattle.collect_tree.specs.file_source.Sources.{HoldsSource, ReadSource}
-use Rattle.run_items.proofs.report_rules_lemmas.Exists.{some_report}
-use Rattle.run_items.proofs.report_rules_lemmas.Headline.{headline}
-use Rattle.run_items.proofs.report_rules_lemmas.Unique.{report_one, thread_one}
-use Rattle.run_items.specs.report_rules.Answer.{PrintedAnswer}
-use Rattle.run_items.specs.report_rules.Headline.{Headline, IsSound}
-use Rattle.run_items.specs.report_rules.Report as rules
-use Rattle.run_items.specs.source_meaning.py_world.Resuming.{is_out}
+use Rattle.worker_sessions.proofs.file_source_lemmas.OneSource.{has_source, one_source}
+use Rattle.worker_sessions.specs.collect_tree.file_source.Sources.{HoldsSource, ReadSource}
+use Rattle.worker_sessions.proofs.report_rules_lemmas.Exists.{some_report}
+use Rattle.worker_sessions.proofs.report_rules_lemmas.Headline.{headline}
+use Rattle.worker_sessions.proofs.report_rules_lemmas.Unique.{report_one, thread_one}
+use Rattle.worker_sessions.specs.run_items.report_rules.Answer.{PrintedAnswer}
+use Rattle.worker_sessions.specs.run_items.report_rules.Headline.{Headline, IsSound}
+use Rattle.worker_sessions.specs.run_items.report_rules.Report as rules
+use Rattle.worker_sessions.specs.run_items.source_meaning.py_world.Resuming.{is_out}
 use Rattle.pytest_core.specs.Profile.{profile}
 use Rattle.pytest_core.specs.Report.{IsTreeReport, OfKept}
 use Rattle.pytest_core.proofs.Kept.{kept_files}

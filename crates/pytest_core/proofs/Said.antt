@@ -7,14 +7,14 @@ use Rattle.cli_words.specs.Options.{options_of}
 use Rattle.cli_words.specs.declared.fault.UsageFault.{UsageFault}
 use Rattle.cli_words.specs.declared.info.Info.{Info}
 use Rattle.cli_words.specs.declared.options.Options.{Options}
-use Rattle.collect_tree.specs.Collection.{collect}
+use Rattle.worker_sessions.specs.collect_tree.Collection.{collect}
 use Rattle.edge_io.specs.Files.{File, IsKept, TreeLimit, tree_limit}
-use Rattle.collect_tree.specs.file_source.Sources.{HoldsSource}
-use Rattle.collect_tree.specs.py_load.Reading.{AreRead, ReadFile}
-use Rattle.run_items.specs.report_rules.Answer.{PrintedAnswer, info_answer, limit_text, refusal}
-use Rattle.run_items.specs.report_rules.Answer.{Status as Ended}
-use Rattle.run_items.specs.report_rules.Answer as ends
-use Rattle.run_items.specs.report_rules.Report as rules
+use Rattle.worker_sessions.specs.collect_tree.file_source.Sources.{HoldsSource}
+use Rattle.worker_sessions.specs.collect_tree.py_load.Reading.{AreRead, ReadFile}
+use Rattle.worker_sessions.specs.run_items.report_rules.Answer.{PrintedAnswer, info_answer, limit_text, refusal}
+use Rattle.worker_sessions.specs.run_items.report_rules.Answer.{Status as Ended}
+use Rattle.worker_sessions.specs.run_items.report_rules.Answer as ends
+use Rattle.worker_sessions.specs.run_items.report_rules.Report as rules
 use Rattle.selection.specs.Exprs.{refused_expression}
 use Rattle.pytest_core.specs.Profile.{profile}
 use Rattle.pytest_core.specs.Report.{FilesSay, OfKept, OptionsSay}

@@ -3,11 +3,11 @@ use Rattle.std.proofs.Common.{◌≡◌, ◌⊎◌, inl, inr, ℕ, ◌≤◌, �
 use Rattle.std.specs.Prelude.{IfErr, is_some, ⊤}
 use Rattle.std.proofs.lemmas.List.{append-nil, length-map}
 use Rattle.cli_words.specs.declared.options.Options.{Options}
-use Rattle.collect_tree.specs.Collection.{selected_by}
-use Rattle.collect_tree.specs.Told.{collected_told}
-use Rattle.collect_tree.specs.collect_items.declared.found.FoundSuite.{FoundSuite}
-use Rattle.collect_tree.specs.declared.collected.Collected.{Collected as Gathered}
-use Rattle.collect_tree.specs.file_source.Sources.{HoldsSource}
+use Rattle.worker_sessions.specs.collect_tree.Collection.{selected_by}
+use Rattle.worker_sessions.specs.collect_tree.Told.{collected_told}
+use Rattle.worker_sessions.specs.collect_tree.collect_items.declared.found.FoundSuite.{FoundSuite}
+use Rattle.worker_sessions.specs.collect_tree.declared.collected.Collected.{Collected as Gathered}
+use Rattle.worker_sessions.specs.collect_tree.file_source.Sources.{HoldsSource}
 use Rattle.edge_io.proofs.ToldLemmas.{Appends-none, Appends-trans}
 use Rattle.edge_io.specs.Causes.{HasCause, Rose}
 use Rattle.edge_io.specs.Told.{Appends, AppendsPrefix}
@@ -20,15 +20,15 @@ use Rattle.report_text.specs.Head.{head_of}
 use Rattle.report_text.specs.Progress.{plain_lines, progress_lines, progress_of, with_gap}
 use Rattle.report_text.specs.Summary.{summary_of}
 use Rattle.report_text.specs.report_blocks.Blocks.{sections_of}
-use Rattle.run_items.specs.Runs.{BeginsPlan}
-use Rattle.run_items.specs.declared.plan.Plan.{Plan}
-use Rattle.run_items.specs.report_rules.Answer.{PrintedAnswer}
-use Rattle.run_items.specs.report_rules.Answer as printed
-use Rattle.run_items.specs.report_rules.Collected.{Collected, SelectedItem}
-use Rattle.run_items.specs.report_rules.Report as rules
-use Rattle.run_items.specs.runtest_rules.Language.{python}
-use Rattle.run_items.specs.source_meaning.Meaning.{SourceWorld}
-use Rattle.run_items.specs.test_suite.declared.suite.Suite.{Suite}
+use Rattle.worker_sessions.specs.run_items.Runs.{BeginsPlan}
+use Rattle.worker_sessions.specs.run_items.declared.plan.Plan.{Plan}
+use Rattle.worker_sessions.specs.run_items.report_rules.Answer.{PrintedAnswer}
+use Rattle.worker_sessions.specs.run_items.report_rules.Answer as printed
+use Rattle.worker_sessions.specs.run_items.report_rules.Collected.{Collected, SelectedItem}
+use Rattle.worker_sessions.specs.run_items.report_rules.Report as rules
+use Rattle.worker_sessions.specs.run_items.runtest_rules.Language.{python}
+use Rattle.worker_sessions.specs.run_items.source_meaning.Meaning.{SourceWorld}
+use Rattle.worker_sessions.specs.run_items.test_suite.declared.suite.Suite.{Suite}
 use Rattle.runtest_loop.specs.Received.{AreFirst}
 use Rattle.runtest_loop.specs.Run.{Begins}
 use Rattle.runtest_loop.specs.RunFaults.{IsBlamed}

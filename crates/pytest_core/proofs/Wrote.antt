@@ -2,18 +2,18 @@
 use Rattle.std.proofs.Common.{◌≡◌, inl, inr, ℕ, List, [], Option, None, Some, true, Result, Ok, Err, refl, sym, subst, ◌∙◌}
 use Rattle.std.specs.Prelude.{IfErr, IfOk, IfSome, IsSome, IsSomeAnd, ⊤}
 use Rattle.cli_words.specs.declared.options.Options.{Options}
-use Rattle.collect_tree.specs.Collection.{collect}
-use Rattle.collect_tree.specs.Told.{collected_told}
-use Rattle.collect_tree.specs.declared.collected.Collected.{Collected}
-use Rattle.collect_tree.specs.file_source.Sources.{HoldsSource}
-use Rattle.collect_tree.specs.py_load.Reading.{AreRead, ReadFile}
+use Rattle.worker_sessions.specs.collect_tree.Collection.{collect}
+use Rattle.worker_sessions.specs.collect_tree.Told.{collected_told}
+use Rattle.worker_sessions.specs.collect_tree.declared.collected.Collected.{Collected}
+use Rattle.worker_sessions.specs.collect_tree.file_source.Sources.{HoldsSource}
+use Rattle.worker_sessions.specs.collect_tree.py_load.Reading.{AreRead, ReadFile}
 use Rattle.edge_io.specs.Files.{File, IsKept, TreeLimit, tree_limit}
 use Rattle.edge_io.specs.LoadFaults.{limit_of}
 use Rattle.edge_io.specs.declared.files.LoadFault.{LoadFault}
-use Rattle.run_items.specs.report_rules.Answer.{PrintedAnswer, limit_text, refusal}
-use Rattle.run_items.specs.report_rules.Collected.{Whole}
-use Rattle.run_items.specs.report_rules.Report as rules
-use Rattle.run_items.specs.source_meaning.Meaning.{SourceWorld}
+use Rattle.worker_sessions.specs.run_items.report_rules.Answer.{PrintedAnswer, limit_text, refusal}
+use Rattle.worker_sessions.specs.run_items.report_rules.Collected.{Whole}
+use Rattle.worker_sessions.specs.run_items.report_rules.Report as rules
+use Rattle.worker_sessions.specs.run_items.source_meaning.Meaning.{SourceWorld}
 use Rattle.pytest_core.specs.Profile.{profile}
 use Rattle.pytest_core.specs.Report.{FilesSay, IsReportOf, OfKept}
 use Rattle.pytest_core.specs.Status.{is_said, status_seen}

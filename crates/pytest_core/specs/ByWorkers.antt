@@ -3,10 +3,10 @@ use Rattle.std.specs.Prelude.{◌≡◌, ℕ, List, [], false, length, Option, R
 use Rattle.cli_words.specs.declared.options.Options.{Options}
 use Rattle.report_parts.specs.declared.report.CollectReport.{CollectReport}
 use Rattle.report_text.specs.Progress.{progress_of}
-use Rattle.run_items.specs.report_rules.Answer as rules
-use Rattle.run_items.specs.report_rules.Collected.{Collected}
-use Rattle.run_items.specs.runtest_rules.Language.{python}
-use Rattle.run_items.specs.test_suite.declared.suite.Suite.{Suite}
+use Rattle.worker_sessions.specs.run_items.report_rules.Answer as rules
+use Rattle.worker_sessions.specs.run_items.report_rules.Collected.{Collected}
+use Rattle.worker_sessions.specs.run_items.runtest_rules.Language.{python}
+use Rattle.worker_sessions.specs.run_items.test_suite.declared.suite.Suite.{Suite}
 use Rattle.worker_runs.specs.declared.gathering.WorkersRun.{WorkersRun}
 use Rattle.pytest_core.specs.Status.{status_seen}
 use Rattle.pytest_core.specs.Streamed.{PutBy, rest_of}

@@ -4,15 +4,15 @@ use Rattle.cli_words.specs.Info.{info_of}
 use Rattle.cli_words.specs.Options.{options_of}
 use Rattle.cli_words.specs.declared.options.Options.{Options}
 use Rattle.edge_io.specs.Files.{File, IsKept}
-use Rattle.collect_tree.specs.file_source.Sources.{HoldsSource}
-use Rattle.run_items.specs.report_rules.Answer.{PrintedAnswer, conftest_fault, refusal}
-use Rattle.run_items.specs.report_rules.Collected.{Collected, Collection, ConftestFault, Refused, Whole}
-use Rattle.run_items.specs.report_rules.Fits.{chosen_item}
-use Rattle.run_items.specs.report_rules.Report as rules
-use Rattle.run_items.specs.runtest_rules.Language.{python}
+use Rattle.worker_sessions.specs.collect_tree.file_source.Sources.{HoldsSource}
+use Rattle.worker_sessions.specs.run_items.report_rules.Answer.{PrintedAnswer, conftest_fault, refusal}
+use Rattle.worker_sessions.specs.run_items.report_rules.Collected.{Collected, Collection, ConftestFault, Refused, Whole}
+use Rattle.worker_sessions.specs.run_items.report_rules.Fits.{chosen_item}
+use Rattle.worker_sessions.specs.run_items.report_rules.Report as rules
+use Rattle.worker_sessions.specs.run_items.runtest_rules.Language.{python}
 use Rattle.selection.specs.Exprs.{refused_expression}
 use Rattle.session_rules.specs.Fits.{Distinct}
-use Rattle.run_items.specs.test_suite.declared.suite.Suite.{Suite}
+use Rattle.worker_sessions.specs.run_items.test_suite.declared.suite.Suite.{Suite}
 use Rattle.pytest_core.specs.Profile.{profile}
 
 -- what is said of a tree: that of its kept files, in the order of their paths

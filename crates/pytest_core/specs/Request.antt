@@ -6,8 +6,8 @@ use Rattle.cli_words.specs.declared.fault.UsageFault.{UsageFault}
 use Rattle.cli_words.specs.declared.fault.UsageFault.TheVariants as usage
 use Rattle.cli_words.specs.declared.options.Options.{Options}
 use Rattle.edge_io.specs.Files.{File}
-use Rattle.collect_tree.specs.file_source.Sources.{HoldsSource}
-use Rattle.run_items.specs.report_rules.Report as rules
+use Rattle.worker_sessions.specs.collect_tree.file_source.Sources.{HoldsSource}
+use Rattle.worker_sessions.specs.run_items.report_rules.Report as rules
 use Rattle.selection.specs.Exprs.{AreExprs, refused_expression}
 use Rattle.selection.specs.declared.fault.SelectionFault.{SelectionFault}
 use Rattle.selection.specs.declared.fault.SelectionFault.TheVariants as selection

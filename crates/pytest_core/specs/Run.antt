@@ -2,29 +2,29 @@
 use Rattle.std.specs.Prelude.{◌≡◌, ℕ, Bool, not, ◌&&◌, List, [], ◌∷◌, None, map}
 use Rattle.cli_words.specs.Options.{asks_for_workers}
 use Rattle.cli_words.specs.declared.options.Options.{Options}
-use Rattle.collect_tree.specs.collect_items.declared.found.FoundSuite.{FoundSuite}
-use Rattle.collect_tree.specs.Collection.{item_numbered, selected_by}
-use Rattle.collect_tree.specs.file_source.Sources.{HoldsSource}
-use Rattle.run_items.specs.fixture_world.Items.{item_in_session}
+use Rattle.worker_sessions.specs.collect_tree.collect_items.declared.found.FoundSuite.{FoundSuite}
+use Rattle.worker_sessions.specs.collect_tree.Collection.{item_numbered, selected_by}
+use Rattle.worker_sessions.specs.collect_tree.file_source.Sources.{HoldsSource}
+use Rattle.worker_sessions.specs.run_items.fixture_world.Items.{item_in_session}
 use Rattle.report_parts.specs.Outcomes.{not_empty}
 use Rattle.report_parts.specs.declared.report.CollectReport.{CollectReport}
 use Rattle.report_parts.specs.declared.report.ItemReport.{ItemReport}
-use Rattle.run_items.specs.report_rules.Collected.{Collected, SelectedItem}
-use Rattle.run_items.specs.report_rules.Fits.{chosen_item}
-use Rattle.run_items.specs.report_rules.Items.{item_report}
-use Rattle.run_items.specs.report_rules.Report as rules
-use Rattle.run_items.specs.report_rules.Rows.{ran, session_rows, task}
-use Rattle.run_items.specs.Stands.{plan_fixture, plan_rules, planned}
-use Rattle.run_items.specs.declared.plan.Plan.{Plan}
+use Rattle.worker_sessions.specs.run_items.report_rules.Collected.{Collected, SelectedItem}
+use Rattle.worker_sessions.specs.run_items.report_rules.Fits.{chosen_item}
+use Rattle.worker_sessions.specs.run_items.report_rules.Items.{item_report}
+use Rattle.worker_sessions.specs.run_items.report_rules.Report as rules
+use Rattle.worker_sessions.specs.run_items.report_rules.Rows.{ran, session_rows, task}
+use Rattle.worker_sessions.specs.run_items.Stands.{plan_fixture, plan_rules, planned}
+use Rattle.worker_sessions.specs.run_items.declared.plan.Plan.{Plan}
 use Rattle.runtest_loop.specs.Course.{chosen_in}
 use Rattle.runtest_loop.specs.Fed.{numbers_at}
-use Rattle.run_items.specs.runtest_rules.Language.{python}
-use Rattle.run_items.specs.runtest_rules.Rules.{rules as tests}
+use Rattle.worker_sessions.specs.run_items.runtest_rules.Language.{python}
+use Rattle.worker_sessions.specs.run_items.runtest_rules.Rules.{rules as tests}
 use Rattle.session_rules.specs.Fits.{Distinct}
 use Rattle.session_rules.specs.Session.{has_stopped}
 use Rattle.session_rules.specs.World.{Item}
-use Rattle.run_items.specs.source_meaning.Meaning.{SourceWorld}
-use Rattle.run_items.specs.test_suite.declared.suite.Suite.{Suite}
+use Rattle.worker_sessions.specs.run_items.source_meaning.Meaning.{SourceWorld}
+use Rattle.worker_sessions.specs.run_items.test_suite.declared.suite.Suite.{Suite}
 use Rattle.pytest_core.specs.Profile.{profile}
 
 -- what was collected: the items of a suite with these numbers, in files at these places

@@ -1,5 +1,5 @@
 use Rattle.std.specs.Prelude.{ℕ, Bool, true, false}
-use Rattle.run_items.specs.report_rules.Answer as rules
+use Rattle.worker_sessions.specs.run_items.report_rules.Answer as rules
 use Rattle.pytest_core.specs.declared.status.Status.{Status}
 use Rattle.pytest_core.specs.declared.status.Status.TheVariants.{Passed, Failed, Interrupted, Usage, NoTests, OutOfMemory, TreeFault, SinkFault}
 

@@ -1,8 +1,8 @@
 -- What is written while items run.
 use Rattle.std.specs.Prelude.{◌≡◌, ◌⊎◌, ℕ, ◌≤◌, List, [], ◌++◌, length, Bool, true, false, Option, IsSomeAnd, Result, Ok, Err}
 use Rattle.cli_words.specs.declared.options.Options.{Options}
-use Rattle.collect_tree.specs.collect_items.declared.found.FoundSuite.{FoundSuite}
-use Rattle.collect_tree.specs.file_source.Sources.{HoldsSource}
+use Rattle.worker_sessions.specs.collect_tree.collect_items.declared.found.FoundSuite.{FoundSuite}
+use Rattle.worker_sessions.specs.collect_tree.file_source.Sources.{HoldsSource}
 use Rattle.edge_io.specs.Causes.{Rose}
 use Rattle.edge_io.specs.LoadFaults.{limit_of}
 use Rattle.edge_io.specs.Told.{Appends, AppendsPrefix}
@@ -13,14 +13,14 @@ use Rattle.report_pieces.specs.Pieces.{pieces_of}
 use Rattle.report_text.specs.Progress.{progress_of}
 use Rattle.report_text.specs.Summary.{summary_of}
 use Rattle.report_text.specs.report_blocks.Blocks.{sections_of}
-use Rattle.run_items.specs.Runs.{BeginsPlan}
-use Rattle.run_items.specs.declared.plan.Plan.{Plan}
-use Rattle.run_items.specs.report_rules.Answer.{PrintedAnswer, limit_text, refusal}
-use Rattle.run_items.specs.report_rules.Collected.{Collected}
-use Rattle.run_items.specs.report_rules.Report as rules
-use Rattle.run_items.specs.runtest_rules.Language.{python}
-use Rattle.run_items.specs.source_meaning.Meaning.{SourceWorld}
-use Rattle.run_items.specs.test_suite.declared.suite.Suite.{Suite}
+use Rattle.worker_sessions.specs.run_items.Runs.{BeginsPlan}
+use Rattle.worker_sessions.specs.run_items.declared.plan.Plan.{Plan}
+use Rattle.worker_sessions.specs.run_items.report_rules.Answer.{PrintedAnswer, limit_text, refusal}
+use Rattle.worker_sessions.specs.run_items.report_rules.Collected.{Collected}
+use Rattle.worker_sessions.specs.run_items.report_rules.Report as rules
+use Rattle.worker_sessions.specs.run_items.runtest_rules.Language.{python}
+use Rattle.worker_sessions.specs.run_items.source_meaning.Meaning.{SourceWorld}
+use Rattle.worker_sessions.specs.run_items.test_suite.declared.suite.Suite.{Suite}
 use Rattle.runtest_loop.specs.declared.run_end.RunFault as looped
 use Rattle.runtest_loop.specs.declared.run_end.RunFault.TheVariants as loop
 use Rattle.pytest_core.specs.Profile.{profile}

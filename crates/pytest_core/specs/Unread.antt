@@ -1,5 +1,5 @@
 use Rattle.std.specs.Prelude.{codes}
-use Rattle.run_items.specs.report_rules.Answer.{PrintedAnswer, refusal}
+use Rattle.worker_sessions.specs.run_items.report_rules.Answer.{PrintedAnswer, refusal}
 
 -- what is said of a command line with a word that is not UTF-8, whatever the other words and the tree are
 abbrev pub unread_words : PrintedAnswer

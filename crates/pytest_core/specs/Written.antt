@@ -1,6 +1,6 @@
 use Rattle.std.specs.Prelude.{◌≡◌, ◌⊎◌, ℕ, List, Option}
 use Rattle.edge_io.specs.Told.{Appends, AppendsPrefix}
-use Rattle.run_items.specs.report_rules.Answer.{PrintedAnswer}
+use Rattle.worker_sessions.specs.run_items.report_rules.Answer.{PrintedAnswer}
 use Rattle.pytest_core.specs.Status.{status_seen}
 use Rattle.pytest_core.specs.declared.status.Status.{Status}
 use Rattle.pytest_core.specs.declared.status.Status.TheVariants.{Passed, Failed, Interrupted, Usage, NoTests, OutOfMemory, TreeFault, SinkFault}

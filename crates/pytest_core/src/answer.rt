@@ -19,13 +19,12 @@ use crate::status::Status;
 use crate::workers::put_shared;
 use crate::writing::put_response;
 use cli_words::Options;
-use collect_tree::{Collected, collect, what_is_collected_fits};
 use edge_io::{Files, Gate, LoadFault, Sink, Tree, load_files};
 use generated_tree::generated_tree;
-use run_items::World;
 use selection::Exprs;
 use std::alloc::Global;
 use std::thread::Threads;
+use worker_sessions::{Collected, World, collect, what_is_collected_fits};
 
 /// Writes the report of what was collected, by workers or by one thread.
 fn put_collected<R: Threads + Sync, S: Sink, G: Gate + Sync>(
@@ -66,7 +65,7 @@ fn wants_workers(options: &Options, collected: &Collected) -> bool
         && (collected.errors.is_empty() && !collected.selected.items().is_empty())
 }
 
-ghost use Rattle.collect_tree.specs.Told.{IsWithin, collected_told};
+ghost use Rattle.worker_sessions.specs.collect_tree.Told.{IsWithin, collected_told};
 ghost use Rattle.pytest_core.specs.Run.{wants_workers};
 ghost use Rattle.worker_sessions.specs.Project.{Collects};
 

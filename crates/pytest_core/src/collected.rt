@@ -1,21 +1,21 @@
 // The report of what was collected, without workers, and what is said where collection ended before.
 
 ghost use Rattle.std.specs.Prelude.{◌≡◌, ◌+◌, ◌<◌, ◌≤◌, All, List, true, false, IfErr, IfOk, IsSomeAnd, IsTrue, OnOk, Err as Fails, Some, length, option_map};
-ghost use Rattle.run_items.specs.source_meaning.Meaning.{SourceWorld};
+ghost use Rattle.worker_sessions.specs.run_items.source_meaning.Meaning.{SourceWorld};
 ghost use Rattle.edge_io.specs.Causes.{HasCause};
 ghost use Rattle.edge_io.specs.Told.{Appends, AppendsPrefix};
 ghost use Rattle.report_parts.specs.Limits.{most_items};
 ghost use Rattle.report_parts.specs.Outcomes.{not_empty};
 ghost use Rattle.report_parts.specs.declared.report.CollectReport.{CollectReport as ReportOfFile};
 ghost use Rattle.report_text.specs.Head.{head_of};
-ghost use Rattle.collect_tree.specs.Runnable.{IsRunnable};
-ghost use Rattle.collect_tree.specs.Told.{IsWithin, collected_told, collection_end};
+ghost use Rattle.worker_sessions.specs.collect_tree.Runnable.{IsRunnable};
+ghost use Rattle.worker_sessions.specs.collect_tree.Told.{IsWithin, collected_told, collection_end};
 ghost use Rattle.pytest_core.specs.Report.{AreDistinct, IsReportOf, end_answer};
 ghost use Rattle.pytest_core.specs.Run.{AreApart, wants_workers};
 ghost use Rattle.pytest_core.specs.Status.{is_said, status_seen};
 ghost use Rattle.pytest_core.specs.Streamed.{BreaksIn, Broke, ListedTo, PutBy, RanTo, WroteBy, rest_of};
 ghost use Rattle.pytest_core.specs.Written.{response_of};
-ghost use Rattle.run_items.specs.report_rules.Answer as rules;
+ghost use Rattle.worker_sessions.specs.run_items.report_rules.Answer as rules;
 
 use crate::refusal::{Response, RunFault, refuse, refuse_word, tell_conftest};
 use crate::report::{rest_bytes, status_of};
@@ -23,13 +23,12 @@ use crate::session::{RunAnswer, run_selected};
 use crate::status::Status;
 use crate::writing::put;
 use cli_words::Options;
-use collect_tree::{CollectFault, Collected, FoundSuite};
 use edge_io::Sink;
 use report_parts::CollectReport;
 use report_text::{OutOfMemory, head, progress};
-use run_items::{World, not_run};
 use seq::Seq;
 use std::alloc::Global;
+use worker_sessions::{CollectFault, Collected, FoundSuite, World, not_run};
 
 /// With `--collect-only` each selected item is reported, and none runs.
 fn listed(
@@ -64,7 +63,7 @@ fn interrupted(alloc: Global, options: &Options) -> RunAnswer
 }
 
 ghost use Rattle.std.specs.Prelude.{ℕ};
-ghost use Rattle.collect_tree.specs.collect_items.declared.found.FoundSuite.{FoundSuite as Found};
+ghost use Rattle.worker_sessions.specs.collect_tree.collect_items.declared.found.FoundSuite.{FoundSuite as Found};
 
 /// Whether no item runs: with `--collect-only`, and where a file could not be collected.
 fn rests(options: &Options, errors: &[CollectReport]) -> bool

@@ -2,19 +2,19 @@
 
 ghost use Rattle.std.specs.Prelude.{◌≡◌, List, ℕ};
 ghost use Rattle.edge_io.specs.Files.{File};
-ghost use Rattle.collect_tree.specs.file_source.Sources.{HoldsSource};
+ghost use Rattle.worker_sessions.specs.collect_tree.file_source.Sources.{HoldsSource};
 ghost use Rattle.pytest_core.specs.Profile.{profile};
 ghost use Rattle.pytest_core.specs.Report.{IsTreeReport, OfKept};
-ghost use Rattle.run_items.specs.report_rules.Answer.{PrintedAnswer};
-ghost use Rattle.run_items.specs.report_rules.Headline.{Headline};
-ghost use Rattle.run_items.specs.report_rules.Report.{IsOfOneThread, IsReportBy};
-ghost use Rattle.run_items.specs.source_meaning.py_world.Resuming.{is_out};
+ghost use Rattle.worker_sessions.specs.run_items.report_rules.Answer.{PrintedAnswer};
+ghost use Rattle.worker_sessions.specs.run_items.report_rules.Headline.{Headline};
+ghost use Rattle.worker_sessions.specs.run_items.report_rules.Report.{IsOfOneThread, IsReportBy};
+ghost use Rattle.worker_sessions.specs.run_items.source_meaning.py_world.Resuming.{is_out};
 
-use collect_tree::what_is_collected_fits;
 use edge_io::one_list_of_kept_files;
 use session_frames::{
     collection_leaves_no_frame_out, hooks_have_the_built_ins, sources_keep_their_frames,
 };
+use worker_sessions::what_is_collected_fits;
 
 /// A law: words that ask for no workers have one report over the files of a tree.
 pub fn one_report()

@@ -7,7 +7,7 @@ ghost use Rattle.edge_io.specs.LoadFaults.{limit_of};
 ghost use Rattle.pytest_core.specs.Status.{is_said};
 ghost use Rattle.pytest_core.specs.Streamed.{IsNotSink};
 ghost use Rattle.pytest_core.specs.Written.{response_of};
-ghost use Rattle.run_items.specs.report_rules.Answer.{conftest_fault, info_answer, limit_text, refusal};
+ghost use Rattle.worker_sessions.specs.run_items.report_rules.Answer.{conftest_fault, info_answer, limit_text, refusal};
 ghost use Rattle.selection.specs.Exprs.{selection_text};
 ghost use Rattle.texts.specs.Texts.{ended};
 

@@ -5,7 +5,7 @@ ghost use Rattle.std.specs.List.{list_any};
 ghost use Rattle.pytest_core.specs.Status.{is_said, status_seen};
 ghost use Rattle.pytest_core.specs.Streamed.{rest_of};
 ghost use Rattle.report_parts.specs.Limits.{most_items};
-ghost use Rattle.run_items.specs.report_rules.Answer as rules;
+ghost use Rattle.worker_sessions.specs.run_items.report_rules.Answer as rules;
 
 use crate::status::Status;
 use cli_words::Options;

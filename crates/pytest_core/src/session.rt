@@ -1,7 +1,7 @@
 // The run of the selected items, on one thread.
 
 ghost use Rattle.std.specs.Prelude.{◌≡◌, ◌<◌, ◌≤◌, [], ◌∷◌, All, List, IfErr, IfOk, false, length};
-ghost use Rattle.collect_tree.specs.Runnable.{IsRunnable};
+ghost use Rattle.worker_sessions.specs.collect_tree.Runnable.{IsRunnable};
 ghost use Rattle.edge_io.specs.Causes.{HasCause};
 ghost use Rattle.pytest_core.specs.Run.{AreApart, IsOneGroup, wants_workers};
 ghost use Rattle.worker_sessions.specs.Sessions.{plan_by};
@@ -14,16 +14,14 @@ use crate::one_group::OneGroup;
 use crate::refusal::RunFault;
 use crate::writer::{ReportWriter, let_go};
 use cli_words::Options;
-use collect_tree::FoundSuite;
 use edge_io::Sink;
 use report_parts::ItemReport;
 use report_pieces::end;
 use report_text::OutOfMemory;
-use run_items::{Plan, Stand, World, run};
 use runtest_loop::RunEnd;
 use seq::Seq;
 use std::alloc::Global;
-use worker_sessions::plan_of;
+use worker_sessions::{FoundSuite, Plan, Stand, World, plan_of, run};
 
 /// The items that ran: their reports, in order, and whether `--maxfail` was reached.
 #[derive(Drop)]
@@ -40,7 +38,7 @@ pub struct RunAnswer {
     pub left: Vec<u8>,
 }
 
-ghost use Rattle.run_items.specs.Stands.{IsNewStand, IsPlan, IsPlannedItem};
+ghost use Rattle.worker_sessions.specs.run_items.Stands.{IsNewStand, IsPlan, IsPlannedItem};
 ghost use Rattle.runtest_loop.specs.Fed.{AreKnown, numbers_at, numbers_in_range};
 ghost use Rattle.item_stack.specs.fixture_instances.Resting.{AreSpent};
 

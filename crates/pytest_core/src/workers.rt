@@ -2,15 +2,15 @@
 
 ghost use Rattle.std.specs.Prelude.{◌≡◌, ◌+◌, ◌≤◌, ℕ, List, Option, true, ⊤, IfErr, IfOk, IsTrue, length, map, min};
 ghost use Rattle.cli_words.specs.Options.{asks_for_workers};
-ghost use Rattle.collect_tree.specs.Told.{IsWithin, collected_told};
+ghost use Rattle.worker_sessions.specs.collect_tree.Told.{IsWithin, collected_told};
 ghost use Rattle.edge_io.specs.Causes.{HasCause};
 ghost use Rattle.edge_io.specs.Files.{InOrder, paths_of};
 ghost use Rattle.edge_io.specs.Told.{Appends};
 ghost use Rattle.report_parts.specs.Limits.{most_items};
 ghost use Rattle.report_text.specs.Head.{head_of};
-ghost use Rattle.run_items.specs.report_rules.Collected.{Collected as Collection};
-ghost use Rattle.run_items.specs.runtest_rules.Language.{python};
-ghost use Rattle.run_items.specs.test_suite.declared.suite.Suite.{Suite};
+ghost use Rattle.worker_sessions.specs.run_items.report_rules.Collected.{Collected as Collection};
+ghost use Rattle.worker_sessions.specs.run_items.runtest_rules.Language.{python};
+ghost use Rattle.worker_sessions.specs.run_items.test_suite.declared.suite.Suite.{Suite};
 ghost use Rattle.selection.specs.Exprs.{AreExprs};
 ghost use Rattle.worker_groups.specs.Numbers.{number_groups};
 ghost use Rattle.worker_sessions.specs.Project.{Collects, group_sizes};
@@ -25,16 +25,14 @@ use crate::refusal::RunFault;
 use crate::session::RunAnswer;
 use crate::status::Status;
 use cli_words::Options;
-use collect_tree::Collected;
 use edge_io::{Files, Gate, Sink};
 use report_text::{OutOfMemory, progress};
-use run_items::World;
 use selection::Exprs;
 use std::alloc::Global;
 use std::thread::Threads;
 use worker_groups::{sizes_of, worker_groups};
 use worker_runs::{WorkersRun, run_workers};
-use worker_sessions::Project;
+use worker_sessions::{Collected, Project, World};
 
 /// The number of items of each file that has items, in the order of their first items.
 fn sizes_by_file(alloc: Global, places: &[usize], selected: &[u32]) -> Result<Vec<u32>, OutOfMemory>

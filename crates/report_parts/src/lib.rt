@@ -31,7 +31,7 @@ pub use exception::{
     push_told,
 };
 pub use outcome::{Outcome, Phase, any_error, any_failed, is_failed, is_raised};
-pub use py_text::{OutOfMemory, PyText};
 pub use report::{
     CollectReport, Frame, Frames, ItemReport, Lines, MOST_ITEMS, PhaseEnd, Place, Text, Told, Tolds,
 };
+pub use seq::{OutOfMemory, PyText};

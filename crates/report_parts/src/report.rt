@@ -1,5 +1,4 @@
-use py_text::PyText;
-use seq::{ByteText, Seq};
+use seq::{ByteText, PyText, Seq};
 
 /// So many items may be collected.
 pub const MOST_ITEMS: u32 = 65_536;

@@ -2,7 +2,7 @@ use assert_rewrite::lower;
 use file_source::source_of;
 use py_core::{Core, CoreBlock, CoreStmtKind, CoreUse};
 use py_source::Pos;
-use py_text::OutOfMemory;
+use seq::OutOfMemory;
 use std::alloc::Global;
 
 // Where nothing stands.

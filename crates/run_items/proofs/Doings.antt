@@ -1,11 +1,11 @@
 -- What the functions of sources do is what the rules of a plan say.
 use Rattle.std.proofs.Common.{◌≡◌, ℕ, Bool, List, [], ◌∷◌, ◌++◌, map, refl, sym, ap, ap₂, ◌∙◌, subst, Option, None, Some, option_to_list}
 use Rattle.std.proofs.lemmas.List.Kept.{AllPairs-filter}
-use Rattle.fixture_calls.specs.Asking.{test_request}
-use Rattle.fixture_calls.specs.Calls.{test_called}
-use Rattle.fixture_calls.specs.Hooks.{hook_begun}
-use Rattle.fixture_calls.specs.declared.failure.Failure.{Failure}
-use Rattle.fixture_calls.specs.declared.yields.FixtureEnd.{FixtureEnd}
+use Rattle.fixture_world.specs.fixture_calls.Asking.{test_request}
+use Rattle.fixture_world.specs.fixture_calls.Calls.{test_called}
+use Rattle.fixture_world.specs.fixture_calls.Hooks.{hook_begun}
+use Rattle.fixture_world.specs.fixture_calls.declared.failure.Failure.{Failure}
+use Rattle.fixture_world.specs.fixture_calls.declared.yields.FixtureEnd.{FixtureEnd}
 use Rattle.fixture_world.specs.Items.{closure_of, item_in_session}
 use Rattle.hook_order.specs.HookOrder.{InHookOrder, RunsBefore}
 use Rattle.hook_order.specs.declared.implementation.Impl.{Impl}
@@ -36,7 +36,7 @@ use Rattle.session_rules.specs.World.{Language, Teardown, WorldAnswer}
 use Rattle.session_rules.specs.World as world
 use Rattle.session_types.specs.declared.journal.Event.{Event}
 use Rattle.item_stack.specs.setup_stack.declared.stack.SetupStack.{SetupStack}
-use Rattle.fixture_calls.specs.source_meaning.Meaning.{SourceWorld}
+use Rattle.fixture_world.specs.fixture_calls.source_meaning.Meaning.{SourceWorld}
 use Rattle.test_suite.specs.Hooks.{hook_at}
 use Rattle.test_suite.specs.Suites.{item_with_node}
 use Rattle.test_suite.specs.declared.item.Item.{Item}

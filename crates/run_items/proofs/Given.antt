@@ -2,7 +2,7 @@
 use Rattle.std.proofs.Common.{◌≡◌, ℕ, Bool, List, [], ◌∷◌, inl, inr, map, refl, sym, ap, ap₂, ◌∙◌, subst, Option, None, Some, option_to_list, option_map}
 use Rattle.std.specs.Prelude.{slice_get}
 use Rattle.cli_words.specs.declared.options.Options.{Options}
-use Rattle.fixture_calls.specs.declared.failure.Failure.{Failure}
+use Rattle.fixture_world.specs.fixture_calls.declared.failure.Failure.{Failure}
 use Rattle.item_stack.specs.fixture_instances.Resting.{AreSpent}
 use Rattle.item_stack.specs.fixture_instances.declared.ends.CachedResult.{CachedResult}
 use Rattle.item_stack.specs.States.{instance_kept}
@@ -26,7 +26,7 @@ use Rattle.session_types.proofs.Lists.{In-append}
 use Rattle.session_types.specs.Members.{IsMember}
 use Rattle.session_types.specs.declared.instance.Instance.{Instance}
 use Rattle.item_stack.specs.setup_stack.declared.stack.SetupStack.{SetupStack}
-use Rattle.fixture_calls.specs.source_meaning.Meaning.{SourceWorld}
+use Rattle.fixture_world.specs.fixture_calls.source_meaning.Meaning.{SourceWorld}
 use Rattle.test_suite.specs.declared.item.Item.{Item}
 
 -- where nothing is set up, a session begins

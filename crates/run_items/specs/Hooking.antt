@@ -3,12 +3,12 @@ use Rattle.std.specs.Prelude.{Option}
 use Rattle.fixture_world.specs.Items.{item_in_session}
 use Rattle.fixture_world.specs.runtest_rules.Language.{python}
 use Rattle.fixture_world.specs.runtest_rules.Rules.{body_outcome, implemented_for}
-use Rattle.fixture_calls.specs.Hooks.{hook_begun}
+use Rattle.fixture_world.specs.fixture_calls.Hooks.{hook_begun}
 use Rattle.hook_order.specs.declared.implementation.Impl.{Impl}
 use Rattle.hook_phases.specs.Steps.{item_where}
 use Rattle.py_values.specs.declared.value.Value.{Value}
 use Rattle.run_items.specs.declared.plan.Plan.{Plan}
-use Rattle.fixture_calls.specs.declared.failure.Failure.{Failure}
+use Rattle.fixture_world.specs.fixture_calls.declared.failure.Failure.{Failure}
 use Rattle.session_rules.specs.Hooks.{HookAnswer}
 use Rattle.session_rules.specs.Session.{hook_arguments, node_of}
 use Rattle.session_rules.specs.Teardown.{SessionState}

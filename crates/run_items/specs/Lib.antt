@@ -1,5 +1,5 @@
 pub use Rattle.fixture_world.specs as fixture_world
-pub use Rattle.fixture_calls.specs.source_meaning
+pub use Rattle.fixture_world.specs.fixture_calls.source_meaning
 pub use Rattle.runtest_reports.specs.report_rules
 pub use Rattle.fixture_world.specs.runtest_rules
 pub use Rattle.test_suite.specs as test_suite

@@ -11,7 +11,7 @@ use Rattle.runtest_loop.specs.Run.{Begins, IsRun}
 use Rattle.runtest_loop.specs.declared.run_end.RunEnd.{RunEnd}
 use Rattle.session_rules.specs.Events.{Lawful}
 use Rattle.session_rules.specs.Fits.{Distinct}
-use Rattle.fixture_calls.specs.source_meaning.Meaning.{SourceWorld}
+use Rattle.fixture_world.specs.fixture_calls.source_meaning.Meaning.{SourceWorld}
 
 -- THE RUN of these items by the rules of a plan, from a world: where no two have one node, it is that of the session of one thread, and
 -- its journal is lawful

@@ -1,6 +1,6 @@
 -- How a report names the fixtures of a suite.
 use Rattle.std.specs.Prelude.{ℕ, List, [], ◌∷◌, encode_utf8_all, if◌then◌else◌}
-use Rattle.fixture_calls.specs.Arguments.{names_request}
+use Rattle.fixture_world.specs.fixture_calls.Arguments.{names_request}
 use Rattle.runtest_reports.specs.report_rules.Collected.{FixtureTexts}
 use Rattle.test_suite.specs.Suites.{fixture_at}
 use Rattle.test_suite.specs.declared.suite.Suite.{Suite}

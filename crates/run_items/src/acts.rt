@@ -1,10 +1,10 @@
 // What is done in the world of a run, by the rules of sources.
 
 ghost use Rattle.std.specs.Prelude.{◌≡◌, IfOk, codes, true};
-ghost use Rattle.fixture_calls.specs.Asking.{test_request};
-ghost use Rattle.fixture_calls.specs.Calls.{test_called};
-ghost use Rattle.fixture_calls.specs.Hooks.{hook_begun, hook_called, resumed_by, resumed_with_value, resumed_with_values};
-ghost use Rattle.fixture_calls.specs.Yields.{fixture_abandoned, fixture_given_up};
+ghost use Rattle.fixture_world.specs.fixture_calls.Asking.{test_request};
+ghost use Rattle.fixture_world.specs.fixture_calls.Calls.{test_called};
+ghost use Rattle.fixture_world.specs.fixture_calls.Hooks.{hook_begun, hook_called, resumed_by, resumed_with_value, resumed_with_values};
+ghost use Rattle.fixture_world.specs.fixture_calls.Yields.{fixture_abandoned, fixture_given_up};
 ghost use Rattle.fixture_world.specs.runtest_rules.Rules.{wrapper_fault};
 ghost use Rattle.fixture_world.specs.runtest_rules.py_world.Resuming.{is_out};
 ghost use Rattle.runtest_reports.specs.report_rules.Collected.{ends_badly};
@@ -13,8 +13,7 @@ ghost use Rattle.fixture_world.specs.runtest_rules.Objects as objects;
 ghost use Rattle.fixture_world.specs.runtest_rules.Phases as phases;
 ghost use Rattle.session_rules.specs.World.{Teardown};
 
-use fixture_calls::{CallEnd, Failure, FixtureEnd, Frozen};
-use fixture_world::{Ending, RunWorld};
+use fixture_world::{CallEnd, Ending, Failure, FixtureEnd, Frozen, RunWorld};
 use py_values::value::Value;
 use report_parts::Phase;
 use seq::OutOfMemory;
@@ -70,7 +69,7 @@ pub(crate) fn wrong_arguments(world: &mut RunWorld, item: &Item) -> Result<Failu
 pub(crate) fn ask_test(world: &mut RunWorld, item: &Item) -> Result<Option<Value>, OutOfMemory>
     ensures { IfOk result (λ request. (request, world.new) ≡ test_request item.now world.old) }
 {
-    let request = fixture_calls::ask_test(world.alloc, &mut world.world, item)?;
+    let request = fixture_world::ask_test(world.alloc, &mut world.world, item)?;
     Ok(request)
 }
 
@@ -85,7 +84,7 @@ pub(crate) fn call_test(
 ) -> Result<Option<Failure>, OutOfMemory>
     ensures { IfOk result (λ failure. (failure, world.new) ≡ test_called limit item.now own values.now request world.old) }
 {
-    let failure = fixture_calls::call_test(
+    let failure = fixture_world::call_test(
         world.alloc,
         &mut world.world,
         item,
@@ -127,14 +126,14 @@ pub(crate) fn abandon(world: &mut RunWorld, rest: Frozen)
     requires out { is_out rest world.old ≡ true }
     ensures { world.new ≡ fixture_abandoned rest world.old }
 {
-    fixture_calls::abandon(&mut world.world, rest);
+    fixture_world::abandon(&mut world.world, rest);
 }
 
 /// Lets go what remains of a wrapper behind want of memory. Takes no memory.
 pub(crate) fn give_up(world: &mut RunWorld, rest: Frozen)
     ensures { world.new ≡ fixture_given_up rest world.old }
 {
-    fixture_calls::give_up(&mut world.world, rest);
+    fixture_world::give_up(&mut world.world, rest);
 }
 
 /// Calls the function of a hook with these objects.
@@ -147,7 +146,7 @@ pub(crate) fn call_hook(
 ) -> Result<CallEnd, OutOfMemory>
     ensures { IfOk result (λ end. (end, world.new) ≡ hook_called limit hook.now item next world.old) }
 {
-    let end = fixture_calls::call_hook(world.alloc, &mut world.world, hook, item, next, limit)?;
+    let end = fixture_world::call_hook(world.alloc, &mut world.world, hook, item, next, limit)?;
     Ok(end)
 }
 
@@ -161,7 +160,7 @@ pub(crate) fn begin_hook(
 ) -> Result<FixtureEnd, OutOfMemory>
     ensures { IfOk result (λ end. (end, world.new) ≡ hook_begun limit hook.now item next world.old) }
 {
-    let end = fixture_calls::begin_hook(world.alloc, &mut world.world, hook, item, next, limit)?;
+    let end = fixture_world::begin_hook(world.alloc, &mut world.world, hook, item, next, limit)?;
     Ok(end)
 }
 
@@ -176,7 +175,7 @@ pub(crate) fn resume_with_values(
     ensures { IfOk result (λ end. (end, world.new) ≡ resumed_with_values limit rest values.now world.old) }
 {
     let alloc = world.alloc;
-    let end = fixture_calls::resume_hook_with_values(alloc, &mut world.world, rest, values, limit)?;
+    let end = fixture_world::resume_hook_with_values(alloc, &mut world.world, rest, values, limit)?;
     Ok(end)
 }
 
@@ -191,7 +190,7 @@ pub(crate) fn resume_with_value(
     ensures { IfOk result (λ end. (end, world.new) ≡ resumed_with_value limit rest value world.old) }
 {
     let alloc = world.alloc;
-    let end = fixture_calls::resume_hook_with_value(alloc, &mut world.world, rest, value, limit)?;
+    let end = fixture_world::resume_hook_with_value(alloc, &mut world.world, rest, value, limit)?;
     Ok(end)
 }
 
@@ -205,7 +204,7 @@ pub(crate) fn resume_by(
     requires out { is_out rest world.old ≡ true }
     ensures { IfOk result (λ end. (end, world.new) ≡ resumed_by limit rest failure.now world.old) }
 {
-    let end = fixture_calls::resume_hook_by(world.alloc, &mut world.world, rest, failure, limit)?;
+    let end = fixture_world::resume_hook_by(world.alloc, &mut world.world, rest, failure, limit)?;
     Ok(end)
 }
 

@@ -17,7 +17,7 @@ use crate::acts::{ask_test, call_test, memory, wrong_arguments};
 use crate::plan::Plan;
 use crate::raised::at_most_one;
 use crate::stand::Stand;
-use fixture_calls::Failure;
+use fixture_world::Failure;
 use hook_phases::HookPhase;
 use item_stack::{plain_item, values_given};
 use py_values::value::Value;

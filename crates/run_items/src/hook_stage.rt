@@ -1,9 +1,9 @@
 // The stage of a session over sources, as its hooks see it.
 
 ghost use Rattle.std.specs.Prelude.{◌≡◌, IfOk, OnOk, true};
-ghost use Rattle.fixture_calls.specs.Yields.{fixture_given_up};
+ghost use Rattle.fixture_world.specs.fixture_calls.Yields.{fixture_given_up};
 ghost use Rattle.fixture_world.specs.runtest_rules.py_world.Resuming.{is_out};
-ghost use Rattle.runtest_rules.proofs.Kept.{keeps_within};
+ghost use Rattle.fixture_world.specs.Kept.{keeps_within};
 ghost use Rattle.fixture_world.specs.Items.{item_in_session};
 ghost use Rattle.fixture_world.specs.runtest_rules.Language.{python};
 ghost use Rattle.hook_phases.specs.Phases.{phase_of};
@@ -18,8 +18,7 @@ use crate::opening::make_ready;
 use crate::plan::Plan;
 use crate::stand::Stand;
 use crate::{hooking, wrapping};
-use fixture_calls::{Failure, Frozen, World};
-use fixture_world::{Ending, is_same_exception, not_none};
+use fixture_world::{Ending, Failure, Frozen, World, is_same_exception, not_none};
 use hook_order::Impl;
 use hook_phases::{HookPhase, HookStage, ImplementEnd, WrapperEnd};
 use py_values::value::Value;

@@ -1,7 +1,7 @@
 // The hooks of the phases of an item.
 
 ghost use Rattle.std.specs.Prelude.{◌≡◌, ◌++◌, [], IfOk, OnOk, option_map};
-ghost use Rattle.fixture_calls.specs.Hooks.{hook_called};
+ghost use Rattle.fixture_world.specs.fixture_calls.Hooks.{hook_called};
 ghost use Rattle.fixture_world.specs.Items.{item_in_session};
 ghost use Rattle.hook_order.specs.HookOrder.{InHookOrder};
 ghost use Rattle.hook_phases.specs.Phases.{phase_of};
@@ -22,8 +22,7 @@ use crate::opening::{next_object, own_object};
 use crate::plan::Plan;
 use crate::stand::Stand;
 use crate::{acts, calling, leaving, setting_up};
-use fixture_calls::{CallEnd, Failure};
-use fixture_world::{RunSetting, RunWorld, hooks_for, not_none};
+use fixture_world::{CallEnd, Failure, RunSetting, RunWorld, hooks_for, not_none};
 use hook_order::Impl;
 use hook_phases::{HookPhase, ImplementEnd};
 use py_values::value::Value;

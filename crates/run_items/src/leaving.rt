@@ -14,7 +14,7 @@ ghost use Rattle.session_rules.specs.Teardown.{down_all, session_step};
 use crate::acts::memory;
 use crate::plan::Plan;
 use crate::stand::Stand;
-use fixture_calls::Failure;
+use fixture_world::Failure;
 use seq::{OutOfMemory, Seq};
 use test_suite::Item;
 

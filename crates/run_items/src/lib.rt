@@ -42,7 +42,7 @@ mod staging;
 mod stand;
 mod wrapping;
 
-pub use fixture_calls::World;
+pub use fixture_world::{Failure, Frozen, World};
 pub use plan::Plan;
 pub use running::{not_run, run};
 pub use stand::{ItemObject, Stand};

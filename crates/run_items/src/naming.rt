@@ -2,13 +2,12 @@
 
 ghost use Rattle.std.specs.Prelude.{◌≡◌, ℕ, ◌++◌, ◌∷◌, IfOk, List, OnOk, encode_utf8_all, option_map};
 ghost use Rattle.run_items.specs.Texts.{fixture_texts, texts_of};
-ghost use Rattle.fixture_calls.specs.Arguments.{names_request};
+ghost use Rattle.fixture_world.specs.fixture_calls.Arguments.{names_request};
 ghost use Rattle.fixture_world.specs.Items.{id_in};
 ghost use Rattle.test_suite.specs.Suites.{fixture_at};
 
-use py_text::PyText;
 use report_parts::{Text, push_chars};
-use seq::{OutOfMemory, Seq};
+use seq::{OutOfMemory, PyText, Seq};
 use session_types::{DefId, Scope};
 use std::alloc::Global;
 use test_suite::{FixtureParam, Suite};

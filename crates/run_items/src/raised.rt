@@ -3,7 +3,7 @@
 ghost use Rattle.std.specs.Prelude.{◌≡◌, ◌∷◌, [], IfOk};
 ghost use Rattle.std.specs.Option.{option_to_list};
 
-use fixture_calls::Failure;
+use fixture_world::Failure;
 use seq::{OutOfMemory, Seq};
 use std::alloc::Global;
 

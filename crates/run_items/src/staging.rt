@@ -12,7 +12,7 @@ use crate::naming::{argument_names, fixture_name, fixture_scope, param_id};
 use crate::plan::Plan;
 use crate::stand::Stand;
 use crate::{calling, ending, leaving, opening, setting_up};
-use fixture_calls::{Failure, Frozen, World};
+use fixture_world::{Failure, Frozen, World};
 use py_values::value::Value;
 use report_parts::{Phase, Text};
 use runtest_reports::{PhaseEnding, Stage};

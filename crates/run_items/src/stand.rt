@@ -4,8 +4,7 @@ ghost use Rattle.std.specs.Prelude.{◌≡◌, IfOk};
 ghost use Rattle.item_stack.specs.fixture_instances.Resting.{AreSpent};
 ghost use Rattle.run_items.specs.Stands.{IsNewStand};
 
-use fixture_calls::{Failure, Frozen, World};
-use fixture_world::RunWorld;
+use fixture_world::{Failure, Frozen, RunWorld, World};
 use item_stack::ItemStack;
 use py_values::value::Value;
 use seq::{OutOfMemory, Seq};

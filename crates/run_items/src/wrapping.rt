@@ -1,7 +1,7 @@
 // The wrappers of a phase's hook.
 
 ghost use Rattle.std.specs.Prelude.{◌≡◌, IfOk, OnOk, codes, option_map, true};
-ghost use Rattle.fixture_calls.specs.Hooks.{hook_begun, resumed_by, resumed_with_value, resumed_with_values};
+ghost use Rattle.fixture_world.specs.fixture_calls.Hooks.{hook_begun, resumed_by, resumed_with_value, resumed_with_values};
 ghost use Rattle.fixture_world.specs.runtest_rules.Language.{python};
 ghost use Rattle.fixture_world.specs.runtest_rules.Rules.{body_end_of, wrapper_fault};
 ghost use Rattle.fixture_world.specs.runtest_rules.py_world.Resuming.{is_out};
@@ -16,8 +16,7 @@ use crate::acts::memory;
 use crate::opening::{next_object, own_object};
 use crate::plan::Plan;
 use crate::stand::Stand;
-use fixture_calls::{Failure, FixtureEnd, Frozen};
-use fixture_world::{RunSetting, RunWorld};
+use fixture_world::{Failure, FixtureEnd, Frozen, RunSetting, RunWorld};
 use hook_order::Impl;
 use hook_phases::WrapperEnd;
 use py_values::value::Value;

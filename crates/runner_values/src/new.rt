@@ -1,8 +1,8 @@
 // What describes an object that the runner gives the language.
 
-use py_text::PyText;
 use py_values::class::ExcClass;
 use py_values::value::Value;
+use seq::PyText;
 
 /// What describes an object that the runner gives the language.
 #[derive(Drop)]

@@ -4,7 +4,6 @@ ghost use Rattle.std.specs.Prelude.{◌≡◌, ◌++◌, ◌∷◌, [], IfOk};
 ghost use Rattle.runner_values.specs.Given.{IsGiven, NamesClass};
 
 use crate::new::New;
-use py_text::{OutOfMemory, PyText};
 use py_values::class::ExcClass;
 use py_values::end::Raise;
 use py_values::heap::Heap;
@@ -13,6 +12,7 @@ use py_values::object::{InstanceObj, ItemObj, Obj, RequestObj};
 use py_values::rows::Values;
 use py_values::throw::throw;
 use py_values::value::Value;
+use seq::{OutOfMemory, PyText};
 use std::alloc::Global;
 
 fn copied(alloc: Global, text: &PyText) -> Result<PyText, OutOfMemory>

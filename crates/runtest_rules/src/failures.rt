@@ -5,10 +5,10 @@ ghost use Rattle.runtest_rules.specs.Failures as failures;
 
 use collect_marks::says::skipped_by;
 use fixture_calls::{Failure, exception_for};
-use py_text::{OutOfMemory, PyText};
 use py_values::class::ExcClass;
 use py_values::end::push_ascii;
 use py_values::heap::Heap;
+use seq::{OutOfMemory, PyText};
 use std::alloc::Global;
 use test_suite::{Item, ItemClosure};
 use tracebacks::{World, heap};

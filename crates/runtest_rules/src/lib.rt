@@ -38,6 +38,13 @@
 //! That the rules are pytest's: a reader compares them. Time.
 #![tactic(auto)]
 
+pub use fixture_calls::{
+    CallEnd, Failure, FixtureEnd, Frozen, World, abandon, ask, ask_test, begin, begin_hook,
+    call_finalizer, call_hook, call_test, close, copied, did_not_yield, give_up, resume,
+    resume_hook_by, resume_hook_with_value, resume_hook_with_values, yielded_again,
+};
+pub use tracebacks::{New, exception_text, fault_text, heap, limit_text, make, take_printed, told};
+
 mod ending;
 mod failures;
 mod hooks;

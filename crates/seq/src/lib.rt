@@ -3,7 +3,7 @@
 //! # What it is for
 //!
 //! [`Seq`] is a list of values over a `Vec`. [`CharText`] is a text over characters, [`ByteText`] one over the bytes of
-//! UTF-8. [`OutOfMemory`] is the one answer that says that memory was refused.
+//! UTF-8, and [`PyText`] the text of the interpreted language. [`OutOfMemory`] is the one answer that says that memory was refused.
 //! A crate names its own lists and texts by aliases:
 //!
 //! ```text
@@ -62,4 +62,4 @@ mod text;
 
 pub use list::Seq;
 pub use memory::OutOfMemory;
-pub use text::{ByteText, CharText};
+pub use text::{ByteText, CharText, PyText};

@@ -9,6 +9,9 @@ use std::marker::Model;
 /// A text, seen as the list of its characters.
 pub type CharText = Seq<char>;
 
+/// A text of the interpreted language, seen as its characters.
+pub type PyText = CharText;
+
 impl Seq<char> {
     /// A copy of the characters.
     pub fn from_chars(alloc: Global, chars: &[char]) -> Result<Self, OutOfMemory>

@@ -24,23 +24,23 @@ use Rattle.core_rules.specs.source_meaning.Meaning.{SourceWorld, source_begin, s
 use Rattle.hook_order.specs.declared.implementation.Impl.{Impl}
 use Rattle.py_values.specs.declared.object.Obj.TheVariants as obj
 use Rattle.py_values.specs.declared.value.Value.{Value}
-use Rattle.runtest_rules.specs.Language.{python}
-use Rattle.runtest_rules.specs.Rules.{body_outcome, wrapper_fault}
-use Rattle.runtest_rules.specs.fixture_calls.Failing.{in_heap}
-use Rattle.runtest_rules.specs.fixture_calls.Hooks.{hook_begun}
-use Rattle.runtest_rules.specs.fixture_calls.Yields.{fixture_abandoned}
-use Rattle.runtest_rules.specs.fixture_calls.declared.failure.Failure.{Failure}
-use Rattle.runtest_rules.specs.fixture_calls.declared.yields.FixtureEnd.{FixtureEnd}
-use Rattle.runtest_rules.specs.fixture_calls.declared.yields.FixtureEnd.TheVariants as end
-use Rattle.runtest_rules.specs.py_world.Resuming.{Sent, abandon_of, is_out}
-use Rattle.runtest_rules.specs.test_suite.Hooks.{hook_at}
-use Rattle.runtest_rules.specs.test_suite.declared.hook.HookTable.{HookTable}
+use Rattle.collect_tree.specs.runtest_rules.Language.{python}
+use Rattle.collect_tree.specs.runtest_rules.Rules.{body_outcome, wrapper_fault}
+use Rattle.collect_tree.specs.runtest_rules.fixture_calls.Failing.{in_heap}
+use Rattle.collect_tree.specs.runtest_rules.fixture_calls.Hooks.{hook_begun}
+use Rattle.collect_tree.specs.runtest_rules.fixture_calls.Yields.{fixture_abandoned}
+use Rattle.collect_tree.specs.runtest_rules.fixture_calls.declared.failure.Failure.{Failure}
+use Rattle.collect_tree.specs.runtest_rules.fixture_calls.declared.yields.FixtureEnd.{FixtureEnd}
+use Rattle.collect_tree.specs.runtest_rules.fixture_calls.declared.yields.FixtureEnd.TheVariants as end
+use Rattle.collect_tree.specs.runtest_rules.py_world.Resuming.{Sent, abandon_of, is_out}
+use Rattle.collect_tree.specs.runtest_rules.test_suite.Hooks.{hook_at}
+use Rattle.collect_tree.specs.runtest_rules.test_suite.declared.hook.HookTable.{HookTable}
 use Rattle.session_rules.specs.Frames.{AddsFrame, BeginsFrame, ReplacesFrame, ResumesFrame, SameFrames, TakesFrame}
 use Rattle.session_rules.specs.Hooks.{HookAnswer, HookBeginning, HookEnd, HookGave, HookInner, HookRaised, HookRunner, AllValues, AtYield, InnerGave, InnerRaised, OpenRaised, around, around_all, first_next, firstresult}
 use Rattle.session_rules.specs.Hooks as message
-use Rattle.tracebacks.specs.runner_values.Given.{added_object}
-use Rattle.runtest_rules.proofs.Kept.{gone, hook_faulty, hooked, opened, wrapper_on}
-use Rattle.runtest_rules.proofs.Worlds.{not_out, same_frames}
+use Rattle.collect_tree.specs.tracebacks.runner_values.Given.{added_object}
+use Rattle.collect_tree.proofs.runtest_rules_lemmas.Kept.{gone, hook_faulty, hooked, opened, wrapper_on}
+use Rattle.collect_tree.proofs.runtest_rules_lemmas.Worlds.{not_out, same_frames}
 
 abbrev pub Same : SourceWorld → SourceWorld → Type 0
 Same w v = SameFrames is_out w v

@@ -19,18 +19,18 @@ use Rattle.collection_nodes.specs.declared.test_file.TestFile.{TestFile}
 use Rattle.conftest_hooks.specs.Ordered.{HaveOwn, KeepsOwn}
 use Rattle.conftest_hooks.specs.Registered.{hook_table}
 use Rattle.conftest_hooks.specs.declared.looking.FoundHook.{FoundHook}
-use Rattle.runtest_rules.specs.Language.{python}
-use Rattle.runtest_rules.specs.Rules.{hooks_for, impls_of, is_in_folder, rules, serves}
-use Rattle.runtest_rules.specs.report_rules.Collected.{Collected, Collection, ConftestFault, Refused, Whole}
-use Rattle.runtest_rules.specs.test_suite.Hooks.{hook_with_code}
-use Rattle.runtest_rules.specs.test_suite.Suites.{item_with_node}
-use Rattle.runtest_rules.specs.test_suite.declared.hook.HookTable.{HookTable}
-use Rattle.runtest_rules.specs.test_suite.declared.item.Item as test
-use Rattle.runtest_rules.specs.test_suite.declared.suite.Suite.{Suite}
+use Rattle.collect_tree.specs.runtest_rules.Language.{python}
+use Rattle.collect_tree.specs.runtest_rules.Rules.{hooks_for, impls_of, is_in_folder, rules, serves}
+use Rattle.collect_tree.specs.runtest_rules.report_rules.Collected.{Collected, Collection, ConftestFault, Refused, Whole}
+use Rattle.collect_tree.specs.runtest_rules.test_suite.Hooks.{hook_with_code}
+use Rattle.collect_tree.specs.runtest_rules.test_suite.Suites.{item_with_node}
+use Rattle.collect_tree.specs.runtest_rules.test_suite.declared.hook.HookTable.{HookTable}
+use Rattle.collect_tree.specs.runtest_rules.test_suite.declared.item.Item as test
+use Rattle.collect_tree.specs.runtest_rules.test_suite.declared.suite.Suite.{Suite}
 use Rattle.session_rules.specs.BuiltIns.{HasBuiltIns, HaveBuiltIns}
 use Rattle.session_rules.specs.World.{Call, Item, Phase, SetUp, Teardown}
-use Rattle.tracebacks.specs.py_machine.Worlds.{empty}
-use Rattle.tracebacks.specs.source_meaning.Meaning.{SourceWorld}
+use Rattle.collect_tree.specs.tracebacks.py_machine.Worlds.{empty}
+use Rattle.collect_tree.specs.tracebacks.source_meaning.Meaning.{SourceWorld}
 
 -- ---- a collection has the table of hooks that were found
 

@@ -25,13 +25,13 @@ use Rattle.core_rules.specs.Keeps.{IsKeptBehind, IsKeptIn}
 use Rattle.core_rules.specs.source_meaning.Meaning.{SourceWorld, source_begin, source_call, source_module, source_resume}
 use Rattle.hook_order.specs.declared.implementation.Impl.{Impl}
 use Rattle.py_values.specs.declared.value.Value.{Value}
-use Rattle.runtest_rules.specs.Language.{python}
-use Rattle.runtest_rules.specs.py_world.Resuming.{Sent, abandon_of, is_out}
-use Rattle.runtest_rules.specs.report_rules.Collected.{Collected, Collection, ConftestFault, Refused, Whole}
-use Rattle.runtest_rules.specs.test_suite.declared.hook.HookTable.{HookTable}
-use Rattle.runtest_rules.specs.test_suite.declared.suite.Suite.{Suite}
-use Rattle.tracebacks.specs.py_machine.Worlds.{empty}
-use Rattle.runtest_rules.proofs.Worlds.{out_in}
+use Rattle.collect_tree.specs.runtest_rules.Language.{python}
+use Rattle.collect_tree.specs.runtest_rules.py_world.Resuming.{Sent, abandon_of, is_out}
+use Rattle.collect_tree.specs.runtest_rules.report_rules.Collected.{Collected, Collection, ConftestFault, Refused, Whole}
+use Rattle.collect_tree.specs.runtest_rules.test_suite.declared.hook.HookTable.{HookTable}
+use Rattle.collect_tree.specs.runtest_rules.test_suite.declared.suite.Suite.{Suite}
+use Rattle.collect_tree.specs.tracebacks.py_machine.Worlds.{empty}
+use Rattle.collect_tree.proofs.runtest_rules_lemmas.Worlds.{out_in}
 use Rattle.session_frames.proofs.Asked.{asked_same}
 
 -- no frame is out

@@ -11,8 +11,8 @@ use Rattle.grammar.specs.Table.{token, far, inner, line, ◌⨾◌, ◌∣◌, m
 use Rattle.grammar.specs.Levels.{readers}
 use Rattle.grammar.proofs.Along.{no_levels}
 use Rattle.grammar_code.specs.Walk.{first_if, first_of, pick}
-use Rattle.grammar_plain.specs.Plain.{plain, found, flat}
-use Rattle.grammar_plain.proofs.Plain.{line_flat, again_flat}
+use Rattle.grammar_code.specs.Plain.{plain, found, flat}
+use Rattle.grammar_code.proofs.Plain.{line_flat, again_flat}
 use Rattle.py_cursor.specs.token_kinds.Kinds.{kind, text_of}
 use Rattle.py_cursor.specs.token_kinds.Numbers as k
 use Rattle.py_cursor.specs.py_expressions.Sorts as e

@@ -11,8 +11,8 @@ use Rattle.grammar.specs.Table.{token, far, fork, ◌⨾◌, ◌∣◌, many, wh
 use Rattle.grammar.proofs.Lines.{same_number}
 use Rattle.grammar.specs.Levels.{FarReaders, readers, first}
 use Rattle.grammar_code.specs.Walk.{first_if, first_of, first_meant, pick}
-use Rattle.grammar_plain.specs.Plain.{plain, found, both_of, flat}
-use Rattle.grammar_plain.proofs.Plain.{line_flat, again_flat, one_of_flat}
+use Rattle.grammar_code.specs.Plain.{plain, found, both_of, flat}
+use Rattle.grammar_code.proofs.Plain.{line_flat, again_flat, one_of_flat}
 use Rattle.py_cursor.specs.token_kinds.Kinds.{kind, text_of}
 use Rattle.py_cursor.specs.token_kinds.Numbers as k
 use Rattle.py_cursor.specs.py_expressions.Sorts as e

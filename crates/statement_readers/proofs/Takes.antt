@@ -6,7 +6,7 @@ use Rattle.parsing.specs.Reading.{Read, Found, Bad, Deep, ◌>>=◌}
 use Rattle.parsing.proofs.Chain.{bind_found}
 use Rattle.grammar.specs.Levels.{readers}
 use Rattle.grammar.proofs.Along.{reader_takes}
-use Rattle.grammar_plain.specs.Plain.{plain}
+use Rattle.grammar_code.specs.Plain.{plain}
 use Rattle.py_grammar.specs.Sorts as v
 use Rattle.py_grammar.specs.Sorts.{BlockValue, BlockName, block_sort}
 use Rattle.py_grammar.specs.Lines.{statements}

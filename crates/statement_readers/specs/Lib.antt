@@ -1,4 +1,3 @@
-pub use Rattle.grammar_plain.specs as grammar_plain
 pub use Rattle.py_grammar.specs as py_grammar
 pub mod Reads
 pub mod Turns

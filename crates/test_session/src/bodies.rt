@@ -7,9 +7,9 @@ ghost use Rattle.py_machine.specs.source_meaning.Meaning.{source_begin, source_r
 ghost use Rattle.test_session.specs.Bodies.{begun_told, out_told};
 
 use py_machine::{Frozen, Sent, World};
-use py_text::OutOfMemory;
 use py_values::value::Value;
 use py_world::{Outcome, Thrown, Trace};
+use seq::OutOfMemory;
 
 /// How a begin or a resumption ends.
 pub enum BegunOut {

@@ -4,9 +4,8 @@ ghost use Rattle.std.specs.Prelude.{◌≡◌, ◌+◌, ◌++◌, IfOk, OnOk, ma
 ghost use Rattle.test_session.specs.Collections as shown;
 
 use hook_order::Impl;
-use py_text::OutOfMemory;
 use py_values::value::Value;
-use seq::Seq;
+use seq::{OutOfMemory, Seq};
 use std::alloc::Global;
 use test_suite::{Fixture, HookTable, Suite};
 

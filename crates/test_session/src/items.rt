@@ -7,11 +7,10 @@ ghost use Rattle.test_suite.specs.Suites.{numbered_item};
 use collect_names::found::TestClass;
 use fixture_instances::ItemRef;
 use fixture_world::demanding;
-use py_text::{OutOfMemory, PyText};
 use py_values::rows::Values;
 use py_values::value::Value;
 use report_parts::Text;
-use seq::Seq;
+use seq::{OutOfMemory, PyText, Seq};
 use std::alloc::Global;
 use test_suite::ItemClosure;
 

@@ -5,8 +5,7 @@ ghost use Rattle.test_session.specs.Collections as shown;
 
 use collection_nodes::Mentions;
 use fixture_definitions::but_request;
-use py_text::{OutOfMemory, PyText};
-use seq::Seq;
+use seq::{OutOfMemory, PyText, Seq};
 use std::alloc::Global;
 use test_suite::Fixture;
 

@@ -7,12 +7,11 @@ ghost use Rattle.test_suite.specs.Suites.{no_item};
 use crate::known::text_or;
 use collect_names::found::TestFunction;
 use fixture_instances::{BoundValue, ItemParam, ItemRef};
-use py_text::{OutOfMemory, PyText};
 use py_values::rows::Values;
 use py_values::value::Value;
 use py_world::TraceFrame;
 use report_parts::Text;
-use seq::Seq;
+use seq::{OutOfMemory, PyText, Seq};
 use std::alloc::Global;
 use test_suite::{BoundArgument, FixtureParam, Item, ItemClosure};
 

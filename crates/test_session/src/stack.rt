@@ -25,11 +25,10 @@ use crate::setting_up::{demand_as, leave_as, look, plan_over};
 use fixture_instances::ItemRef;
 use fixture_table::Table;
 use py_machine::{World, heap};
-use py_text::PyText;
 use py_values::value::Value;
 use py_world::Thrown;
 use run_items::{Plan, Stand};
-use seq::{OutOfMemory, Seq};
+use seq::{OutOfMemory, PyText, Seq};
 use session_types::{DefId, Event};
 use std::alloc::Global;
 

@@ -8,12 +8,11 @@ use crate::kept::KeptReports;
 use crate::one_group::OneGroup;
 use cli_words::{Options, read_words};
 use edge_io::{Files, LoadFault, SureTree, load_files};
-use py_text::PyText;
 use py_values::object::Obj;
 use py_values::value::Value;
 use report_parts::{ItemReport, PhaseEnd};
 use selection::read_exprs;
-use seq::OutOfMemory;
+use seq::{OutOfMemory, PyText};
 use std::alloc::Global;
 use test_session::{
     Collected, ModuleId, RunEnd, World, collect, heap, line, load_module, names, run,

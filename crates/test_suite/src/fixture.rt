@@ -1,9 +1,8 @@
 // Fixtures.
 
-use py_text::PyText;
 use py_values::value::Value;
 use py_world::TraceFrame;
-use seq::Seq;
+use seq::{PyText, Seq};
 use session_types::Scope;
 
 /// A fixture, as collection found it (pytest's reference, "Fixtures"). Its number is that of its definition.

@@ -4,10 +4,9 @@ ghost use Rattle.std.specs.Prelude.{◌≡◌, option_copied};
 ghost use Rattle.test_suite.specs.Hooks as hooks;
 
 use hook_order::Impl;
-use py_text::PyText;
 use py_values::value::Value;
 use py_world::TraceFrame;
-use seq::Seq;
+use seq::{PyText, Seq};
 use std::alloc::Global;
 
 /// What the function of a hook takes, of the arguments that its hook has (pytest's reference, "Hooks").

@@ -1,12 +1,11 @@
 // Test items.
 
 use collect_names::found::TestFunction;
-use py_text::PyText;
 use py_values::rows::Values;
 use py_values::value::Value;
 use py_world::TraceFrame;
 use report_parts::Text;
-use seq::Seq;
+use seq::{PyText, Seq};
 use session_types::DefId;
 
 /// What the set-up of an item demands, broad scopes first; or the text of the fault of its fixtures.

@@ -6,9 +6,9 @@ ghost use Rattle.tracebacks.specs.Lines.{source_line, told_line};
 
 use py_machine::source_line;
 use py_source::SourceFault;
-use py_text::{OutOfMemory, PyText};
 use py_values::end::push_ascii;
 use report_parts::{Frame, Frames, Text, Told};
+use seq::{OutOfMemory, PyText};
 use std::alloc::Global;
 
 fn text_of(alloc: Global, text: &str) -> Result<Text, OutOfMemory>

@@ -6,10 +6,10 @@ ghost use Rattle.tracebacks.specs.Lines.{told_line};
 
 use crate::messages::encoded;
 use py_machine::{World, line};
-use py_text::{OutOfMemory, PyText};
 use py_values::object::FunctionObj;
 use py_world::{Trace, TraceFrame};
 use report_parts::{Frame, Frames, Text, Told};
+use seq::{OutOfMemory, PyText};
 use std::alloc::Global;
 
 /// A line of a source as a text of its own.

@@ -6,13 +6,13 @@ ghost use Rattle.tracebacks.specs.Texts as texts;
 use py_kinds::kinds::kind_name;
 use py_repr::repr::message;
 use py_repr::shown::Shown;
-use py_text::{OutOfMemory, PyText};
 use py_values::class::{ClassRef, ExcClass};
 use py_values::end::push_ascii;
 use py_values::heap::Heap;
 use py_values::object::Obj;
 use py_values::value::Value;
 use report_parts::Text;
+use seq::{OutOfMemory, PyText};
 use std::alloc::Global;
 
 /// The characters of a message that are shown, and those that are left where it is cut.

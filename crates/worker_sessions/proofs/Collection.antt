@@ -9,7 +9,7 @@ use Rattle.collect_tree.specs.declared.fault.CollectFault.{CollectFault}
 use Rattle.collect_tree.specs.declared.fault.CollectFault.TheVariants as fault
 use Rattle.collect_tree.specs.py_load.Reading.{AreRead, ReadFile}
 use Rattle.edge_io.specs.Files.{File}
-use Rattle.py_load.proofs.Readings.{OneSource, one_list}
+use Rattle.collect_tree.proofs.py_load_lemmas.Readings.{OneSource, one_list}
 use Rattle.report_parts.specs.declared.report.ItemReport.{ItemReport}
 use Rattle.report_parts.specs.declared.report.Told.{Told}
 use Rattle.run_items.specs.Texts.{fixture_texts}

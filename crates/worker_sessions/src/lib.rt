@@ -23,6 +23,9 @@
 //! The definitions are `specs/Project.antt` and `specs/Sessions.antt`.
 #![tactic(auto)]
 
+pub use collect_tree::{CollectFault, Collected, FoundSuite, collect, what_is_collected_fits};
+pub use run_items::{Plan, Stand, World, not_run, run};
+
 mod gathered;
 mod project;
 mod session;

@@ -1,10 +1,10 @@
 use Rattle.std.proofs.Common.{List, ℕ, ap, ◌∙◌}
 use Rattle.std.proofs.lemmas.Result.{IfOk-weaker}
-use Rattle.fixture_calls.specs.Failing.{in_heap}
+use Rattle.runtest_rules.specs.fixture_calls.Failing.{in_heap}
 use Rattle.py_values.specs.declared.object.Obj.TheVariants as obj
 use Rattle.py_values.specs.declared.value.Value.{Value}
-use Rattle.tracebacks.specs.runner_values.Given.{added_object}
-use Rattle.tracebacks.specs.source_meaning.Meaning.{SourceWorld}
+use Rattle.runtest_rules.specs.tracebacks.runner_values.Given.{added_object}
+use Rattle.runtest_rules.specs.tracebacks.source_meaning.Meaning.{SourceWorld}
 use Rattle.collect_ids.specs.Hook.{id_asked, id_hook_call}
 use Rattle.collect_ids.proofs.hook.asked.Goals as goal
 

@@ -1,5 +1,5 @@
 use Rattle.std.proofs.Common.{ap, ◌∙◌, Some}
-use Rattle.fixture_calls.specs.Hooks.{hook_begun}
+use Rattle.runtest_rules.specs.fixture_calls.Hooks.{hook_begun}
 use Rattle.test_suite.specs.declared.hook.Hook.{Hook}
 use Rattle.collect_ids.proofs.Called.{end_opened}
 use Rattle.collect_ids.proofs.hook.open_one.Goals as goal

@@ -3,7 +3,7 @@ use Rattle.std.specs.Prelude.{codes}
 use Rattle.runtest_rules.specs.Rules.{wrapper_fault}
 use Rattle.test_suite.specs.Hooks.{hook_at}
 use Rattle.test_suite.specs.declared.hook.Hook.{Hook}
-use Rattle.tracebacks.specs.source_meaning.Meaning.{SourceWorld}
+use Rattle.runtest_rules.specs.tracebacks.source_meaning.Meaning.{SourceWorld}
 use Rattle.collect_ids.proofs.Called.{failure_ran}
 use Rattle.collect_ids.proofs.hook.yielded_again.Goals as goal
 

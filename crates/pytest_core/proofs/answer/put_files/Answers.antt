@@ -1,14 +1,14 @@
 use Rattle.std.proofs.Common.{[], refl, sym}
 use Rattle.std.specs.Prelude.{Err}
-use Rattle.collect_tree.specs.Told.{collection_end}
-use Rattle.collect_tree.specs.file_source.Sources.{HoldsSource}
+use Rattle.worker_sessions.specs.collect_tree.Told.{collection_end}
+use Rattle.worker_sessions.specs.collect_tree.file_source.Sources.{HoldsSource}
 use Rattle.pytest_core.proofs.Ran.{are_distinct, faulty_said}
 use Rattle.pytest_core.proofs.Streamed.{no_tree, wrote_as, wrote_response}
 use Rattle.pytest_core.proofs.Wrote.{wrote_collected}
 use Rattle.pytest_core.specs.Profile.{profile}
 use Rattle.pytest_core.specs.Report.{FilesSay}
-use Rattle.run_items.specs.report_rules.Report as says
-use Rattle.run_items.specs.runtest_rules.Rules.{rules}
+use Rattle.worker_sessions.specs.run_items.report_rules.Report as says
+use Rattle.worker_sessions.specs.run_items.runtest_rules.Rules.{rules}
 use Rattle.pytest_core.proofs.answer.put_files.Goals as goal
 
 pub put_collected-requires-clause-distinct : goal.put_collected-requires-clause-distinct

@@ -1,6 +1,6 @@
 use Rattle.std.proofs.Common.{[], refl, subst, sym, ap, ◌∙◌}
 use Rattle.report_text.specs.Progress.{progress_of}
-use Rattle.run_items.specs.NotRun.{AreNotRun}
+use Rattle.worker_sessions.specs.run_items.NotRun.{AreNotRun}
 use Rattle.pytest_core.proofs.Ran.{answer_listed}
 use Rattle.pytest_core.proofs.collected.listed.Goals as goal
 

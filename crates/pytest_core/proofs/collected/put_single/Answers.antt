@@ -1,5 +1,5 @@
 use Rattle.std.proofs.Common.{length, ap}
-use Rattle.collect_tree.specs.Told.{collected_told}
+use Rattle.worker_sessions.specs.collect_tree.Told.{collected_told}
 use Rattle.pytest_core.proofs.NoWorkers.{none_placed, single}
 use Rattle.pytest_core.proofs.Ran.{are_apart}
 use Rattle.pytest_core.proofs.Streamed.{run_no_tree, wrote_head, wrote_run}

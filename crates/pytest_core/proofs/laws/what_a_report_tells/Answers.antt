@@ -1,6 +1,6 @@
 use Rattle.std.proofs.Common.{refl}
 use Rattle.pytest_core.proofs.Reports.{tells}
-use Rattle.run_items.specs.runtest_rules.Rules.{rules}
+use Rattle.worker_sessions.specs.run_items.runtest_rules.Rules.{rules}
 use Rattle.pytest_core.proofs.laws.what_a_report_tells.Goals as goal
 
 pub returns : goal.returns

@@ -1,6 +1,6 @@
 use Rattle.std.proofs.Common.{subst, sym}
-use Rattle.run_items.specs.Stands.{IsPlan, IsPlannedItem}
-use Rattle.run_items.specs.declared.plan.Plan.{Plan}
+use Rattle.worker_sessions.specs.run_items.Stands.{IsPlan, IsPlannedItem}
+use Rattle.worker_sessions.specs.run_items.declared.plan.Plan.{Plan}
 use Rattle.runtest_loop.specs.Fed.{AreKnown}
 use Rattle.worker_sessions.proofs.Plans.{are_known, is_plan}
 use Rattle.worker_sessions.specs.Sessions.{plan_by}

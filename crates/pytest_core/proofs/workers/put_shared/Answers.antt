@@ -1,5 +1,5 @@
 use Rattle.std.proofs.Common.{List, ℕ, ap, ap₂, arith, length, map, ◌∙◌}
-use Rattle.collect_tree.specs.Told.{collected_told}
+use Rattle.worker_sessions.specs.collect_tree.Told.{collected_told}
 use Rattle.worker_groups.specs.Numbers.{number_groups}
 use Rattle.pytest_core.proofs.ByWorkers.{few_sizes, sized_as, some_sizes, wants_asks, wants_some, wants_whole, whole_of}
 use Rattle.pytest_core.proofs.workers.put_shared.Goals as goal

@@ -1,7 +1,7 @@
 use Rattle.std.proofs.Common.{ℕ, List, false, ap₂, ◌∙◌, subst}
 use Rattle.report_parts.specs.declared.report.ItemReport.{ItemReport}
 use Rattle.report_text.specs.Progress.{progress_of}
-use Rattle.run_items.specs.report_rules.Answer as printed
+use Rattle.worker_sessions.specs.run_items.report_rules.Answer as printed
 use Rattle.pytest_core.specs.ByWorkers.{NoErrors}
 use Rattle.pytest_core.specs.Status.{status_seen}
 use Rattle.pytest_core.specs.Streamed.{PutBy, rest_of}

@@ -1,5 +1,5 @@
 use Rattle.std.proofs.Common.{ℕ, ◌∙◌, ap, ap₂, List, Option}
-use Rattle.fixture_calls.specs.declared.failure.Failure.{Failure}
+use Rattle.fixture_world.specs.fixture_calls.declared.failure.Failure.{Failure}
 use Rattle.fixture_world.specs.Items.{item_in_session}
 use Rattle.item_stack.proofs.Values.{values_same}
 use Rattle.item_stack.specs.Answers.{values_given}

@@ -3,7 +3,7 @@ use Rattle.runtest_reports.specs.report_rules.Collected.{CapturedEnd}
 use Rattle.run_items.proofs.Doings.{ended_by}
 use Rattle.run_items.specs.Stands.{stand_state}
 use Rattle.session_rules.specs.Teardown.{in_world}
-use Rattle.fixture_calls.specs.source_meaning.Meaning.{SourceWorld}
+use Rattle.fixture_world.specs.fixture_calls.source_meaning.Meaning.{SourceWorld}
 use Rattle.run_items.proofs.ending.end_of.Goals as goal
 
 pub returns-clause-told : goal.returns-clause-told

@@ -1,6 +1,6 @@
 use Rattle.std.proofs.Common.{◌≡◌, subst, List}
 use Rattle.std.specs.Prelude.{IfOk, OnOk}
-use Rattle.fixture_calls.specs.declared.failure.Failure.{Failure}
+use Rattle.fixture_world.specs.fixture_calls.declared.failure.Failure.{Failure}
 use Rattle.fixture_world.specs.Items.{item_in_session}
 use Rattle.run_items.specs.Stands.{plan_rules, stand_state}
 use Rattle.runtest_reports.specs.Kept.{reported_ending, session_phase}

@@ -1,6 +1,6 @@
 use Rattle.std.proofs.Common.{ap}
 use Rattle.std.specs.Prelude.{option_map}
-use Rattle.fixture_calls.specs.declared.failure.Failure.{Failure}
+use Rattle.fixture_world.specs.fixture_calls.declared.failure.Failure.{Failure}
 use Rattle.fixture_world.specs.runtest_rules.Language.{python}
 use Rattle.hook_phases.specs.Views.{implement_answer}
 use Rattle.py_values.specs.declared.value.Value.{Value}

@@ -1,8 +1,8 @@
 use Rattle.std.proofs.Common.{◌∙◌, ap}
-use Rattle.fixture_calls.specs.Hooks.{hook_called}
-use Rattle.fixture_calls.specs.declared.failure.Failure.{Failure}
-use Rattle.fixture_calls.specs.declared.hooks.CallEnd.{CallEnd}
-use Rattle.fixture_calls.specs.source_meaning.Meaning.{SourceWorld}
+use Rattle.fixture_world.specs.fixture_calls.Hooks.{hook_called}
+use Rattle.fixture_world.specs.fixture_calls.declared.failure.Failure.{Failure}
+use Rattle.fixture_world.specs.fixture_calls.declared.hooks.CallEnd.{CallEnd}
+use Rattle.fixture_world.specs.fixture_calls.source_meaning.Meaning.{SourceWorld}
 use Rattle.fixture_world.specs.runtest_rules.Language.{python}
 use Rattle.fixture_world.specs.runtest_rules.Rules.{call_end_of}
 use Rattle.py_values.specs.declared.value.Value.{Value}

@@ -1,5 +1,5 @@
 use Rattle.std.proofs.Common.{◌∙◌, ap, List}
-use Rattle.fixture_calls.specs.declared.failure.Failure.{Failure}
+use Rattle.fixture_world.specs.fixture_calls.declared.failure.Failure.{Failure}
 use Rattle.run_items.proofs.Doings.{fault_same}
 use Rattle.run_items.specs.Stands.{stand_state}
 use Rattle.session_rules.specs.Teardown.{in_world, session_step}

@@ -1,5 +1,5 @@
 use Rattle.std.proofs.Common.{◌∙◌, ap}
-use Rattle.fixture_calls.specs.Hooks.{hook_begun}
+use Rattle.fixture_world.specs.fixture_calls.Hooks.{hook_begun}
 use Rattle.test_suite.specs.declared.hook.Hook.{Hook}
 use Rattle.run_items.proofs.wrapping.open_with.Goals as goal
 

@@ -1,7 +1,7 @@
 use Rattle.std.proofs.Common.{◌∙◌, ap}
 use Rattle.std.specs.Prelude.{option_map}
-use Rattle.fixture_calls.specs.declared.yields.FixtureEnd.{FixtureEnd}
-use Rattle.fixture_calls.specs.source_meaning.Meaning.{SourceWorld}
+use Rattle.fixture_world.specs.fixture_calls.declared.yields.FixtureEnd.{FixtureEnd}
+use Rattle.fixture_world.specs.fixture_calls.source_meaning.Meaning.{SourceWorld}
 use Rattle.fixture_world.specs.runtest_rules.Rules.{body_end_of}
 use Rattle.run_items.proofs.Doings.{begun_same}
 use Rattle.run_items.specs.Stands.{stand_state}

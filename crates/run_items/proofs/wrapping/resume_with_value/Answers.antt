@@ -1,6 +1,6 @@
 use Rattle.std.proofs.Common.{◌∙◌, ap}
-use Rattle.fixture_calls.specs.declared.yields.FixtureEnd.{FixtureEnd}
-use Rattle.fixture_calls.specs.source_meaning.Meaning.{SourceWorld}
+use Rattle.fixture_world.specs.fixture_calls.declared.yields.FixtureEnd.{FixtureEnd}
+use Rattle.fixture_world.specs.fixture_calls.source_meaning.Meaning.{SourceWorld}
 use Rattle.fixture_world.specs.runtest_rules.Rules.{body_end_of}
 use Rattle.run_items.specs.Stands.{stand_state}
 use Rattle.session_rules.specs.Teardown.{in_world}

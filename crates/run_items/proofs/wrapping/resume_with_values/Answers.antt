@@ -1,7 +1,7 @@
 use Rattle.std.proofs.Common.{◌∙◌, ap, List}
-use Rattle.fixture_calls.specs.Hooks.{resumed_with_values}
-use Rattle.fixture_calls.specs.declared.yields.FixtureEnd.{FixtureEnd}
-use Rattle.fixture_calls.specs.source_meaning.Meaning.{SourceWorld}
+use Rattle.fixture_world.specs.fixture_calls.Hooks.{resumed_with_values}
+use Rattle.fixture_world.specs.fixture_calls.declared.yields.FixtureEnd.{FixtureEnd}
+use Rattle.fixture_world.specs.fixture_calls.source_meaning.Meaning.{SourceWorld}
 use Rattle.fixture_world.specs.runtest_rules.Rules.{body_end_of}
 use Rattle.py_values.specs.declared.value.Value.{Value}
 use Rattle.run_items.specs.Stands.{stand_state}

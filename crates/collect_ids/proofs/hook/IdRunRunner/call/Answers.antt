@@ -1,7 +1,7 @@
 use Rattle.std.proofs.Common.{List, refl}
 use Rattle.collect_ids.specs.Runs.{site_of, site_runner}
 use Rattle.collect_ids.proofs.Called.{run_ran}
-use Rattle.tracebacks.specs.source_meaning.Meaning.{SourceWorld}
+use Rattle.runtest_rules.specs.tracebacks.source_meaning.Meaning.{SourceWorld}
 use Rattle.collect_ids.specs.Runs.{AreWaiting}
 use Rattle.collect_ids.specs.declared.hook.IdFrame.{IdFrame}
 use Rattle.collect_ids.proofs.Frames.{call_waiting, ran_if}

@@ -2,7 +2,7 @@ use Rattle.std.proofs.Common.{List, ◌∷◌, refl}
 use Rattle.collect_ids.specs.Runs.{site_of, site_runner}
 use Rattle.collect_ids.proofs.Called.{run_given, run_ran}
 use Rattle.hook_order.proofs.Waiting.{if_inner}
-use Rattle.tracebacks.specs.source_meaning.Meaning.{SourceWorld}
+use Rattle.runtest_rules.specs.tracebacks.source_meaning.Meaning.{SourceWorld}
 use Rattle.collect_ids.specs.Runs.{AreWaiting}
 use Rattle.collect_ids.specs.declared.hook.IdFrame.{IdFrame}
 use Rattle.collect_ids.proofs.Frames.{resume_waiting, went_if}

@@ -1,7 +1,7 @@
 use Rattle.std.proofs.Common.{◌∙◌, ap, List}
-use Rattle.fixture_calls.specs.source_meaning.Meaning.{SourceWorld}
-use Rattle.fixture_calls.specs.Yields.{fixture_begun}
-use Rattle.fixture_calls.specs.declared.yields.FixtureEnd.{FixtureEnd}
+use Rattle.runtest_rules.specs.fixture_calls.source_meaning.Meaning.{SourceWorld}
+use Rattle.runtest_rules.specs.fixture_calls.Yields.{fixture_begun}
+use Rattle.runtest_rules.specs.fixture_calls.declared.yields.FixtureEnd.{FixtureEnd}
 use Rattle.runtest_rules.specs.Rules.{body_end_of, rules_within}
 use Rattle.test_suite.specs.Suites.{fixture_at, item_with_node}
 use Rattle.test_suite.specs.declared.fixture.Fixture.{Fixture}

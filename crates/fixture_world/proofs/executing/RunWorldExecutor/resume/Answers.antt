@@ -1,7 +1,7 @@
 use Rattle.std.proofs.Common.{◌∙◌, ap}
-use Rattle.fixture_calls.specs.source_meaning.Meaning.{SourceWorld}
-use Rattle.fixture_calls.specs.Yields.{fixture_resumed}
-use Rattle.fixture_calls.specs.declared.yields.FixtureEnd.{FixtureEnd}
+use Rattle.runtest_rules.specs.fixture_calls.source_meaning.Meaning.{SourceWorld}
+use Rattle.runtest_rules.specs.fixture_calls.Yields.{fixture_resumed}
+use Rattle.runtest_rules.specs.fixture_calls.declared.yields.FixtureEnd.{FixtureEnd}
 use Rattle.runtest_rules.specs.Rules.{body_end_of, rules_within}
 use Rattle.fixture_world.proofs.executing.RunWorldExecutor.resume.Goals as goal
 

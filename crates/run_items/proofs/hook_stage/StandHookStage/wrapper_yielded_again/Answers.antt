@@ -1,6 +1,6 @@
 use Rattle.std.proofs.Common.{ap}
-use Rattle.fixture_calls.specs.declared.failure.Failure.{Failure}
-use Rattle.fixture_calls.specs.source_meaning.Meaning.{SourceWorld}
+use Rattle.fixture_world.specs.fixture_calls.declared.failure.Failure.{Failure}
+use Rattle.fixture_world.specs.fixture_calls.source_meaning.Meaning.{SourceWorld}
 use Rattle.run_items.specs.Stands.{stand_state}
 use Rattle.session_rules.specs.Teardown.{in_world}
 use Rattle.run_items.proofs.hook_stage.StandHookStage.wrapper_yielded_again.Goals as goal

@@ -1,5 +1,5 @@
 use Rattle.std.proofs.Common.{[], subst, sym}
-use Rattle.runtest_rules.proofs.Kept.{keeps_within}
+use Rattle.fixture_world.specs.Kept.{keeps_within}
 use Rattle.fixture_world.specs.Items.{item_in_session}
 use Rattle.fixture_world.specs.runtest_rules.Language.{python}
 use Rattle.fixture_world.specs.runtest_rules.py_world.Resuming.{is_out}

@@ -6,7 +6,7 @@ use Rattle.grammar.specs.Levels.{Readers, FarReaders, readers, read, fits, first
 use Rattle.grammar.proofs.Along.{reader_line}
 use Rattle.grammar.proofs.Stands.{and_true}
 use Rattle.grammar_code.specs.Walk.{first_if, first_of, first_meant, with_meaning, wanted, starts_with, pick}
-use Rattle.grammar_plain.specs.Plain.{plain, Lines, found, enter_or, stood, both_of, flat, calm}
+use Rattle.grammar_code.specs.Plain.{plain, Lines, found, enter_or, stood, both_of, flat, calm}
 
 not_true : (b : Bool) → not b ≡ true → b ≡ false
 not_true true e = absurd (cc)
