@@ -5,8 +5,9 @@ rows.py                 all tables; the status is 1 where a row, a case, or what
 rows.py TABLE..         these: sources, values, programs, cases
 rows.py --print TABLE   writes a table as it is made to standard output (of cases: those that differ)
 
-What is asked stands in the tables themselves, written by hand: sources, operands, programs with their acts and budgets, words and trees. What
-is wanted is made here from it. So a new row is a line with anything as its answer, and this says what it must be.
+What is asked stands in the tables themselves, written by hand: sources, operands, programs with their acts and budgets, words and trees; but for
+the cases of wrappers, which rows_wrappers.py makes whole. What is wanted is made here from it. So a new row is a line with anything as its answer,
+and this says what it must be.
 """
 import difflib
 import os
@@ -17,6 +18,7 @@ import rows_cases  # noqa: E402
 import rows_programs  # noqa: E402
 import rows_sources  # noqa: E402
 import rows_values  # noqa: E402
+import rows_wrappers  # noqa: E402
 from model.runner import deep  # noqa: E402
 from room import ROOT  # noqa: E402
 
@@ -61,13 +63,16 @@ class Programs:
 
 
 class Cases:
-    """The cases, each in a file of its own."""
+    """The cases, each in a file of its own. What those of wrappers ask is made too."""
 
     def make(self):
         files, told, faults = {}, [], []
-        names = sorted(it for it in os.listdir(os.path.join(ACCEPTANCE, "data")) if it.endswith(".case"))
-        for name in names:
-            files["data/" + name], fault, wrong = rows_cases.make(name, read("data/" + name))
+        names = {it for it in os.listdir(os.path.join(ACCEPTANCE, "data")) if it.endswith(".case")} | set(rows_wrappers.CASES)
+        for name in sorted(names):
+            asked = rows_wrappers.asked(name) if name in rows_wrappers.CASES else read("data/" + name)
+            files["data/" + name], fault, wrong = rows_cases.make(name, asked)
+            if name in rows_wrappers.CASES:
+                wrong += rows_wrappers.wrong(name, files["data/" + name])
             told += ["%s: %s" % (name, fault)] if fault else []
             faults += ["%s: %s" % (name, wrong)] if wrong else []
         told.append("%d cases, %d of them not as wanted" % (len(names), len(told)))
@@ -79,7 +84,7 @@ TABLES = {"cases": Cases(), "sources": Lines("data/expressions.rows", rows_sourc
 
 
 def differences(name, made):
-    standing = read(name)
+    standing = read(name) if os.path.exists(os.path.join(ACCEPTANCE, name)) else ""
     if standing == made:
         return []
     return list(difflib.unified_diff(standing.split("\n"), made.split("\n"), name, "as it is made", lineterm="", n=0))

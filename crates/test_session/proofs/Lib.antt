@@ -1,4 +1,5 @@
 pub mod Looks
 pub mod Numbers
+pub mod Left
 pub mod Answered
 pub mod Shown

@@ -131,6 +131,10 @@ in_world w stand = record stand { world = w }
 abbrev pub StandsIn : SourceWorld → SetupStack → Type 0
 StandsIn w s = StandsWith (stand_state (in_world w s.stand)) is_out []
 
+-- NO FRAME IS OUT: in this world neither a fixture nor a wrapper of a hook stands at its `yield` (Language Reference, "Yield expressions")
+abbrev pub NoneOut : SourceWorld → Type 0
+NoneOut w = (n : ℕ) → is_out n w ≡ false
+
 -- it holds no frozen frame
 abbrev pub IsSpent : SetupStack → Type 0
 IsSpent s = AreSpent s.stand.stack.stack.live.live

@@ -8,7 +8,7 @@ ghost use Rattle.edge_io.specs.Files.{InOrder, paths_of};
 ghost use Rattle.py_machine.specs.Worlds.{empty};
 ghost use Rattle.selection.specs.Exprs.{AreExprs};
 ghost use Rattle.test_session.specs.Collections.{CanRun, Shows, ShowsCollection, refused_as};
-ghost use Rattle.test_session.specs.Stacks.{KnowsTable, StandsIn};
+ghost use Rattle.test_session.specs.Stacks.{KnowsTable, NoneOut, StandsIn};
 
 use crate::collected::Collected;
 use crate::hooks::{codes_of, hooks_shown};
@@ -23,6 +23,7 @@ use py_machine::World;
 use run_items::Plan;
 use selection::Exprs;
 use seq::OutOfMemory;
+use session_frames::collection_leaves_no_frame_out;
 use std::alloc::Global;
 
 /// How many there are.
@@ -100,8 +101,10 @@ fn collect_in(
     ensures known { IfOk result (λ c. KnowsTable c.stack) }
     ensures runs { IfOk result CanRun }
     ensures frames { IfOk result (λ c. StandsIn c.world c.stack) }
+    ensures none_out { IfOk result (λ c. NoneOut c.world) }
 {
     has_reading();
+    collection_leaves_no_frame_out();
     let mut world = world;
     match collect_tree::collect(alloc, &mut world, files, options, exprs) {
         Ok(found) => match shown(alloc, world, options.step_limit, found) {
@@ -131,6 +134,7 @@ pub fn collect(
     ensures known { IfOk result (λ c. KnowsTable c.stack) }
     ensures runs { IfOk result CanRun }
     ensures frames { IfOk result (λ c. StandsIn c.world c.stack) }
+    ensures none_out { IfOk result (λ c. NoneOut c.world) }
 {
     has_reading();
     match World::new(alloc) {

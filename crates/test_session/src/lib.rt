@@ -10,11 +10,12 @@
 //!
 //! - [`collect`]: what it gives shows a collection of the files' sources (`told`, by `ShowsCollection`): the selected items, the
 //!   implementations of conftests' hooks, the number of the deselected, the errors, and the world behind all loads; or the first refusal
-//!   (`refused`). It can run (`runs`), and its fixtures can be demanded (`known`).
+//!   (`refused`). It can run (`runs`), its fixtures can be demanded (`known`), and no frame is out in its world (`none_out`).
 //! - [`run`]: the reports, the journal, the world and the end are those of the session of one thread over the items at the places that the
 //!   feed gave, where no two have one node; the clauses are those of `run_items`, on what was collected (`run`, `feed`, `whole`, `done`,
-//!   `stems`, `broken`, `begun`, `blamed`). Behind it no fixture stands at its `yield` (`spent`), and all but world and stack is as it was
-//!   (`rest`).
+//!   `stems`, `broken`, `begun`, `blamed`). Where no two have one node, the frames that are out behind it are those that were before it,
+//!   fixtures' and hook wrappers' (`frames`), so that none is out behind a run of what was collected (`none_out`). The stack holds none,
+//!   whatever the run gives (`spent`), and all but world and stack is as it was (`rest`).
 //! - [`SetupStack::new`] has a table with nothing set up; `table`, `function` and `name` lend what it was given. `demand` is `demand` of
 //!   `session_rules` by the rules of sources (`answer`, by `item_rules`): the fixtures are those that the functions of the codes are in the
 //!   world of the first demand. `leave` is `down_all` of what isn't for the next item. `call_begins` and `call_ends` append their events,

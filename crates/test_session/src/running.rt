@@ -4,15 +4,17 @@ ghost use Rattle.std.specs.Prelude.{◌≡◌, ◌<◌, ◌≤◌, ◌++◌, [],
 ghost use Rattle.fixture_instances.specs.Resting.{AreSpent};
 ghost use Rattle.report_parts.specs.declared.report.ItemReport.{ItemReport};
 ghost use Rattle.run_items.specs.Runs.{BeginsPlan, RunsPlan};
+ghost use Rattle.py_world.specs.Resuming.{is_out};
 ghost use Rattle.run_items.specs.Stands.{IsNewStand, IsPlan, IsPlannedItem, planned};
 ghost use Rattle.runtest_loop.specs.Course.{chosen_in};
 ghost use Rattle.runtest_loop.specs.Fed.{AreKnown, numbers_fed, numbers_in_range, unfed};
 ghost use Rattle.runtest_loop.specs.Run.{is_stopped};
 ghost use Rattle.runtest_loop.specs.RunFaults.{IsBlamed};
+ghost use Rattle.session_rules.specs.Frames.{SameFrames};
 ghost use Rattle.share_files.specs.Work.{held_lists};
 ghost use Rattle.test_session.specs.Collections.{CanRun, in_suite, number_at};
-ghost use Rattle.test_session.specs.Runs.{chosen_of, plan_of, stand_of};
-ghost use Rattle.test_session.specs.Stacks.{IsSpent, in_world};
+ghost use Rattle.test_session.specs.Runs.{HasDistinctItems, chosen_of, plan_of, stand_of};
+ghost use Rattle.test_session.specs.Stacks.{IsSpent, NoneOut, in_world};
 
 use crate::collected::Collected;
 use crate::items::Item;
@@ -22,6 +24,7 @@ use py_machine::World;
 use run_items::{Plan, Stand};
 use runtest_loop::{Receiver, RunEnd, RunFault};
 use seq::{OutOfMemory, Seq};
+use session_frames::sources_keep_their_frames;
 use share_files::Feed;
 use std::alloc::Global;
 
@@ -103,7 +106,8 @@ fn run_in<F: Feed, P: Receiver>(
 }
 
 /// Runs the items of the groups that the feed gives, in order, as far as maxfail lets them, and gives the receiver their reports. `groups`
-/// has places of the collected items, each at most once. Behind the run its journal is that of the stack.
+/// has places of the collected items, each at most once. Behind the run its journal is that of the stack, and no frame is out: each fixture
+/// and each wrapper of a hook that stood at its `yield` has gone on, whatever raised.
 ///
 /// # Errors
 ///
@@ -132,8 +136,11 @@ pub fn run<F: Feed, P: Receiver>(
     ensures begun { OnErr result (BeginsPlan (plan_of options.now collected.old) options.now (chosen_of options.now collected.old (held_lists groups.now) (F.given feed.new)) collected.old.world (P.taken to.old) (P.taken to.new)) }
     ensures blamed { IfErr result (λ fault. IsBlamed (P.faults to.old) (P.faults to.new) fault) }
     ensures spent { IsSpent collected.new.stack }
+    ensures frames { IfOk result (λ end. HasDistinctItems options.now collected.old (held_lists groups.now) (F.given feed.new) → SameFrames is_out collected.old.world collected.new.world) }
+    ensures none_out { IfOk result (λ end. HasDistinctItems options.now collected.old (held_lists groups.now) (F.given feed.new) → NoneOut collected.old.world → NoneOut collected.new.world) }
     ensures rest { OnOk result (collected.new ≡ ran_to options.now collected.new.world collected.new.stack.stand collected.old) }
 {
+    sources_keep_their_frames();
     let alloc = memory(&collected.stack.stand.world);
     let outer = collected.stack.plan.run.suite.outer;
     let numbers = groups_in_suite(alloc, collected.items.as_slice(), outer, groups)?;

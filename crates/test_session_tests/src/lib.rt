@@ -8,11 +8,13 @@
 //! # What is proved
 //!
 //! - That the feed is one of one group (`Feed` of [`OneGroup`]), and that the receiver keeps what it takes (`Receiver` of [`KeptReports`]).
-//! - The tests are safe and end.
+//! - The tests are safe and end. Behind a run of the one item of a file no frame is out, whatever the item and the hooks around it do: that
+//!   two items have one node is no case of a feed of one.
 //!
 //! # What tests alone show
 //!
-//! - A run leaves the module as its test left it: it is loaded already, and its names have their values in order of first binding.
+//! - A run leaves the module as its test left it: it is loaded already, and its names have their values in order of first binding; what
+//!   stands behind a `yield`, of a fixture and of a wrapper of a conftest, has run once.
 //! - With ample memory `collect` and `run` succeed.
 //!
 //! # What neither shows

@@ -2,7 +2,7 @@ ghost use Rattle.std.specs.Prelude.{◌≡◌, ◌∷◌, [], IfOk, IfSome, leng
 ghost use Rattle.edge_io.specs.Files.{InOrder, paths_of};
 ghost use Rattle.share_files.specs.Work.{held_lists};
 ghost use Rattle.test_session.specs.Collections.{CanRun};
-ghost use Rattle.test_session.specs.Stacks.{IsSpent};
+ghost use Rattle.test_session.specs.Stacks.{IsSpent, NoneOut};
 
 use crate::kept::KeptReports;
 use crate::one_group::OneGroup;
@@ -18,13 +18,16 @@ use test_session::{
     Collected, ModuleId, RunEnd, World, collect, heap, line, load_module, names, run,
 };
 
-/// A tree of one file.
-fn one_file(alloc: Global, path: &str, text: &str) -> Result<Files, LoadFault>
+/// A tree of a conftest and one file.
+fn two_files(alloc: Global, conftest: &str, path: &str, text: &str) -> Result<Files, LoadFault>
     ensures { IfOk result (λ files. InOrder (paths_of files)) }
 {
+    let above = String::from_str(alloc, "conftest.py")?;
+    let hooks = Vec::from_slice(alloc, conftest.as_bytes())?;
     let path = String::from_str(alloc, path)?;
     let bytes = Vec::from_slice(alloc, text.as_bytes())?;
     let mut pairs = Vec::new(alloc);
+    pairs.push((above, hooks))?;
     pairs.push((path, bytes))?;
     let mut tree = SureTree::new(alloc, pairs);
     load_files(alloc, &mut tree)
@@ -48,7 +51,8 @@ fn options_of(alloc: Global, word: &str) -> Option<Options> {
 /// What is collected of a tree with these options.
 fn collected_in(alloc: Global, files: &Files, options: &Options) -> Option<Collected>
     requires order { InOrder (paths_of files.now) }
-    ensures { IfSome result CanRun }
+    ensures runs { IfSome result CanRun }
+    ensures none_out { IfSome result (λ c. NoneOut c.world) }
 {
     let Ok(exprs) = read_exprs(alloc, options) else {
         return None;
@@ -59,11 +63,18 @@ fn collected_in(alloc: Global, files: &Files, options: &Options) -> Option<Colle
     }
 }
 
-/// What is collected of one file.
-fn collected_of(alloc: Global, path: &str, text: &str, options: &Options) -> Option<Collected>
-    ensures { IfSome result CanRun }
+/// What is collected of a conftest and one file.
+fn collected_of(
+    alloc: Global,
+    conftest: &str,
+    path: &str,
+    text: &str,
+    options: &Options,
+) -> Option<Collected>
+    ensures runs { IfSome result CanRun }
+    ensures none_out { IfSome result (λ c. NoneOut c.world) }
 {
-    match one_file(alloc, path, text) {
+    match two_files(alloc, conftest, path, text) {
         Ok(files) => collected_in(alloc, &files, options),
         Err(_) => None,
     }
@@ -80,7 +91,28 @@ fn first_place(alloc: Global) -> Result<Vec<Vec<u32>>, OutOfMemory>
     Ok(groups)
 }
 
-/// Runs the one item that was collected; its report.
+/// Runs the one item that was collected; the end of the run. No frame is out behind it.
+fn ended(
+    collected: &mut Collected,
+    groups: &[Vec<u32>],
+    to: &mut KeptReports,
+    options: &Options,
+) -> Option<RunEnd>
+    requires runs { CanRun collected.old }
+    requires one { length collected.old.items.items ≡ 1 }
+    requires first { held_lists groups.now ≡ (0 ∷ []) ∷ [] }
+    requires none_out { NoneOut collected.old.world }
+    ensures spent { IsSpent collected.new.stack }
+    ensures none_out { IfSome result (λ end. NoneOut collected.new.world) }
+{
+    let mut feed = OneGroup::Waiting;
+    match run(collected, groups, &mut feed, to, options) {
+        Ok(end) => Some(end),
+        Err(_) => None,
+    }
+}
+
+/// The report of the one item that was collected, which runs.
 fn report_of(
     alloc: Global,
     collected: &mut Collected,
@@ -90,16 +122,16 @@ fn report_of(
     requires runs { CanRun collected.old }
     requires one { length collected.old.items.items ≡ 1 }
     requires first { held_lists groups.now ≡ (0 ∷ []) ∷ [] }
+    requires none_out { NoneOut collected.old.world }
     ensures { IsSpent collected.new.stack }
 {
-    let mut feed = OneGroup::Waiting;
     let mut to = KeptReports {
         reports: Vec::new(alloc),
     };
-    match run(collected, groups, &mut feed, &mut to, options) {
-        Ok(RunEnd::Done) => Some(to.reports),
-        Ok(RunEnd::Stopped) => None,
-        Err(_) => None,
+    match ended(collected, groups, &mut to, options) {
+        Some(RunEnd::Done) => Some(to.reports),
+        Some(RunEnd::Stopped) => None,
+        None => None,
     }
 }
 
@@ -134,20 +166,20 @@ fn value_at(alloc: Global, world: &World, id: ModuleId, at: usize, wanted: &str)
     }
 }
 
-/// Whether a module has these three names, and the second is 1.
-fn has_counted(alloc: Global, world: &World, id: ModuleId) -> bool {
+/// Whether a module has three names, and the second is 1.
+fn has_counted(alloc: Global, world: &World, id: ModuleId, third: &str) -> bool {
     value_at(alloc, world, id, 0, "__name__").is_some()
         && value_at(alloc, world, id, 1, "N") == Some(Value::Int(1))
-        && value_at(alloc, world, id, 2, "test_n").is_some()
+        && value_at(alloc, world, id, 2, third).is_some()
 }
 
-/// Whether the module is loaded already, and has its names.
-fn is_as_left(alloc: Global, world: &mut World) -> bool {
-    match line(world, "test_a.py", 1) {
+/// Whether a module is loaded already, and has its names.
+fn is_as_left(alloc: Global, world: &mut World, path: &str, third: &str) -> bool {
+    match line(world, path, 1) {
         Some(_) => {
             // A budget of no step: it isn't executed again.
-            match load_module(world, "test_a.py", 0) {
-                Ok(id) => has_counted(alloc, world, id),
+            match load_module(world, path, 0) {
+                Ok(id) => has_counted(alloc, world, id, third),
                 Err(_) => false,
             }
         }
@@ -155,9 +187,10 @@ fn is_as_left(alloc: Global, world: &mut World) -> bool {
     }
 }
 
-/// Whether a collected test runs, and leaves its module as it must.
+/// Whether a collected test runs, and leaves its module and the conftest as it must.
 fn runs(alloc: Global, collected: &mut Collected, options: &Options) -> bool
     requires runs { CanRun collected.old }
+    requires none_out { NoneOut collected.old.world }
     ensures { IsSpent collected.new.stack }
 {
     if collected.items.len() != 1 {
@@ -167,17 +200,21 @@ fn runs(alloc: Global, collected: &mut Collected, options: &Options) -> bool
         return false;
     };
     match report_of(alloc, collected, &groups, options) {
-        Some(reports) => passed(&reports) && is_as_left(alloc, &mut collected.world),
+        Some(reports) => {
+            passed(&reports)
+                && is_as_left(alloc, &mut collected.world, "test_a.py", "test_n")
+                && is_as_left(alloc, &mut collected.world, "conftest.py", "pytest")
+        }
         None => false,
     }
 }
 
-/// Collects a file and runs its test.
-fn collects_and_runs(alloc: Global, source: &str) -> bool {
+/// Collects a conftest and a file, and runs its test.
+fn collects_and_runs(alloc: Global, conftest: &str, source: &str) -> bool {
     let Some(options) = options_of(alloc, "test_a.py") else {
         return false;
     };
-    match collected_of(alloc, "test_a.py", source, &options) {
+    match collected_of(alloc, conftest, "test_a.py", source, &options) {
         Some(collected) => {
             let mut collected = collected;
             let fine = runs(alloc, &mut collected, &options);
@@ -191,6 +228,17 @@ fn collects_and_runs(alloc: Global, source: &str) -> bool {
 /// Behind a run the module is as its test left it.
 #[test]
 fn a_run_leaves_its_module(rt: HostRuntime) {
+    let conftest = "N = 1\nimport pytest\n";
     let source = "N = 0\n\ndef test_n():\n    global N\n    N = N + 1\n    assert N == 1\n";
-    assert!(rt; collects_and_runs(rt.alloc(), source));
+    assert!(rt; collects_and_runs(rt.alloc(), conftest, source));
+}
+
+/// What stands behind the `yield` of a fixture has run once, and so has what stands behind that of a wrapper.
+#[test]
+fn a_run_leaves_no_frame_out(rt: HostRuntime) {
+    let conftest =
+        "N = 0\nimport pytest\n\n@pytest.hookimpl(wrapper=True)\ndef pytest_runtest_teardown(item):\n    global N\n    got = yield\n    N = N + 1\n    return got\n";
+    let source =
+        "N = 0\n\ndef test_n(up):\n    assert N == 0\n\nimport pytest\n\n@pytest.fixture\ndef up():\n    global N\n    yield\n    N = N + 1\n";
+    assert!(rt; collects_and_runs(rt.alloc(), conftest, source));
 }

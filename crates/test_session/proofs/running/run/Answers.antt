@@ -5,6 +5,7 @@ use Rattle.run_items.specs.Stands.{planned}
 use Rattle.runtest_loop.specs.Course.{chosen_in}
 use Rattle.runtest_loop.specs.Fed.{numbers_fed, numbers_in_range, unfed}
 use Rattle.share_files.specs.Work.{held_lists}
+use Rattle.test_session.proofs.Left.{same_frames}
 use Rattle.test_session.proofs.Numbers.{are_known, few, in_range, none_begun, on_err}
 use Rattle.test_session.specs.Collections.{in_suite}
 use Rattle.test_session.specs.Runs.{chosen_of, plan_of}
@@ -54,3 +55,16 @@ returns-clause-begun g c =
     (λ fault b.
     subst (λ (gs : List (List ℕ)). BeginsPlan plan c.args.options.now (chosen_in (planned plan) s.items (numbers_fed gs (g.F.Feed.given c.run_in.new.feed))) c.args.collected.now.world (g.P.Receiver.taken c.args.to.now) (g.P.Receiver.taken c.run_in.new.to))
     (c.deref.ensures.value ∙ (c.in_ok-numbers.ensures ∙ ap (λ (is : List Item). in_suite s.outer is (held_lists c.args.groups.now)) c.as_slice.ensures.value)) b) c.run_in.ensures.begun
+
+pub returns-clause-frames : goal.returns-clause-frames
+returns-clause-frames g c =
+    let s = c.args.collected.now.stack.plan.run.suite in
+    let plan = plan_of c.args.options.now c.args.collected.now in
+    IfOk-weaker c.run_in.result _ _
+    (λ end r d.
+    same_frames plan s.items (are_known c.args.options.now.step_limit c.args.collected.now.stack c.requires.runs.runnable) (c.sources_keep_their_frames.ensures c.args.options.now s) c.args.options.now
+    (numbers_fed (in_suite s.outer c.args.collected.now.items.items (held_lists c.args.groups.now)) (g.F.Feed.given c.run_in.new.feed)) c.args.collected.now.world r.0 end (in_world c.run_in.new.world c.run_in.new.stand) r.2 d)
+    (returns-clause-run g c)
+
+pub returns-clause-none_out : goal.returns-clause-none_out
+returns-clause-none_out g c = IfOk-weaker c.run_in.result _ _ (λ end same d none n. same d n ∙ none n) (returns-clause-frames g c)
