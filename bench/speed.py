@@ -58,6 +58,31 @@ def test_branches():
         i = i + 1
     assert evens == 250000
 """,
+    "strings joined and split": """\
+def test_strings():
+    words = ["alpha", "beta", "gamma", "delta"]
+    total = 0
+    i = 0
+    while i < 100000:
+        line = ",".join(words)
+        parts = line.split(",")
+        words = [parts[3], parts[0], parts[1], parts[2]]
+        total += len(line)
+        i += 1
+    assert total == 2200000
+    assert words == ["alpha", "beta", "gamma", "delta"]
+""",
+    "a dict of counts": """\
+def test_counts():
+    words = "the cat and the dog and the bird".split()
+    counts = {}
+    i = 0
+    while i < 40000:
+        for word in words:
+            counts[word] = counts.get(word, 0) + 1
+        i += 1
+    assert counts == {"the": 120000, "cat": 40000, "and": 80000, "dog": 40000, "bird": 40000}
+""",
 }
 
 CALLS = """
@@ -96,11 +121,11 @@ def main():
         sys.exit(f"{program} isn't there: run ./pytest_run once, which builds it")
     with tempfile.TemporaryDirectory() as folder:
         base = times(program, folder, EMPTY)
-        print(f"{'':22} {'program':>10} {'Python':>10}   ratio")
+        print(f"{'':24} {'program':>10} {'Python':>10}   ratio")
         for name, text in CASES.items():
             ours, theirs = times(program, folder, text)
             ours, theirs = ours - base[0], theirs - base[1]
-            print(f"{name:22} {ours:9.3f}s {theirs:9.3f}s {ours / theirs:7.1f}")
+            print(f"{name:24} {ours:9.3f}s {theirs:9.3f}s {ours / theirs:7.1f}")
 
 
 main()

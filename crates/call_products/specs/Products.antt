@@ -1,6 +1,7 @@
 -- What a call makes: new objects, and what is made in the heap that has them.
 use Rattle.std.specs.Prelude.{ℕ, zero, suc, List, [], ◌∷◌, ◌++◌, codes, if◌then◌else◌, nat_lt, Option, Some, None}
 use Rattle.call_products.specs.declared.product.Product.{Product}
+use Rattle.py_operands.specs.Sequences as sequences
 use Rattle.py_values.specs.Ends.{cost_of, finished, id_at}
 use Rattle.py_values.specs.Raises.{text_raise}
 use Rattle.py_values.specs.declared.class.ExcClass.{ExcClass}
@@ -20,6 +21,10 @@ plain m = record { objects = []; made = m }
 -- what fails with a text, behind so many steps
 abbrev pub failed : ExcClass → List ℕ → ℕ → Product
 failed class text cost = plain (Fail (text_raise class text) cost)
+
+-- a text or a list that would be past the greatest length, behind so many steps
+abbrev pub too_long : ℕ → Product
+too_long cost = plain (sequences.too_long cost)
 
 abbrev pub wrong : List ℕ → ℕ → Product
 wrong name cost = failed TypeError (codes "wrong arguments for " ++ name) cost

@@ -4,6 +4,7 @@ ghost use Rattle.std.specs.Prelude.{◌≡◌, ◌++◌, [], IfOk, OnOk, Some};
 ghost use Rattle.py_values.specs.Ends.{steps_of, cost_of, finished};
 ghost use Rattle.call_products.specs.Products as products;
 
+use py_operands::faults;
 use py_values::OutOfMemory;
 use py_values::class::ExcClass;
 use py_values::end::{Effect, OpEnd, Raise, finish, push_ascii};
@@ -40,6 +41,14 @@ pub fn failed(alloc: Global, class: ExcClass, text: &str, cost: u64) -> Result<P
 {
     let raise = Raise::from_ascii(alloc, class, text)?;
     Ok(plain(alloc, Effect::Fail(raise, cost)))
+}
+
+/// The error that a text or a list would be past the greatest length, behind so many steps.
+pub fn too_long(alloc: Global, cost: usize) -> Result<Product, OutOfMemory>
+    ensures { IfOk result (λ p. p ≡ products.too_long cost) }
+{
+    let made = faults::too_long(alloc, cost as u64)?;
+    Ok(plain(alloc, made))
 }
 
 /// The error that a call's arguments don't fit it, behind so many steps.

@@ -8,7 +8,7 @@ ghost use Rattle.collect_ids.specs.Files as by_file;
 use crate::tests::tests_asked;
 use collect_items::{FileTests, FoundFile, ItemBasis, table_in};
 use collect_words::Walk;
-use collection_nodes::{Mentions, path_text, plus};
+use collection_nodes::{Mentions, narrow, path_text, plus};
 use fixture_definitions::Definition;
 use fixture_table::Table;
 use hook_order::Impl;
@@ -220,17 +220,6 @@ fn all_asked(
     Ok(all)
 }
 
-/// How many there are.
-fn counted(count: usize) -> Result<u32, OutOfMemory>
-    ensures { IfOk result (λ n. n ≡ count) }
-{
-    match u32::try_from(count) {
-        Ok(count) => Ok(count),
-        // No memory holds so many.
-        Err(_) => Err(OutOfMemory),
-    }
-}
-
 /// Asks for the ids of the files that were read, each with the step limit for each call of a hook. Behind want of memory the world is spent.
 #[tactic(auto, unfolding(crate::specs::Files::files_asked))]
 pub fn asked_files(
@@ -245,7 +234,7 @@ pub fn asked_files(
     requires order { InHookOrder hooks.now.ids }
     ensures { IfOk result (λ asked. (asked, world.new) ≡ by_file.files_asked limit hooks.now walk.now (record { basis = basis.now; files = read }) world.old) }
 {
-    let first = counted(basis.outer.len())?;
+    let first = narrow(basis.outer.len())?;
     let Some(count) = basis.outer.len().checked_add(basis.parents.len()) else {
         // No memory holds so many nodes.
         return Err(OutOfMemory);

@@ -1,5 +1,5 @@
 -- THE ITEMS of the tests, each with what its row gives and what its set-up demands.
-use Rattle.std.specs.Prelude.{ℕ, ◌+◌, List, [], ◌∷◌, ◌++◌, Option, Some, None, chars, encode_utf8_all, length, map, if◌then◌else◌}
+use Rattle.std.specs.Prelude.{ℕ, ◌+◌, List, [], ◌∷◌, Option, Some, None, chars, encode_utf8_all, length, map, if◌then◌else◌}
 use Rattle.std.specs.List.{flat_map}
 use Rattle.collect_fixtures.specs.Closures.{item_asks, item_closure}
 use Rattle.collect_fixtures.specs.Tables.{all_names, table_of}

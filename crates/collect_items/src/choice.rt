@@ -1,13 +1,12 @@
 // The items that `-k` and `-m` choose.
 
 ghost use Rattle.std.specs.Prelude.{◌≡◌, ◌++◌, ◌∷◌, ◌<◌, [], All, IfOk, OnOk, length};
-ghost use Rattle.std.specs.List.{filter};
 ghost use Rattle.selection.specs.Exprs.{AreExprs};
-ghost use Rattle.test_suite.specs.Suites.{numbered_item};
 ghost use Rattle.collect_items.specs.Chosen as choice;
 
 use cli_words::Options;
 use collect_marks::names::{keyword_names, mark_names};
+use collection_nodes::narrow;
 use py_values::heap::Heap;
 use selection::{Exprs, is_selected};
 use seq::{OutOfMemory, PyText, Seq};
@@ -30,17 +29,6 @@ fn is_chosen(
     let keywords = keyword_names(alloc, heap, &path, &item.test, item.id.as_ref(), marks)?;
     let names = mark_names(alloc, heap, marks)?;
     Ok(is_selected(exprs, &keywords, &names))
-}
-
-/// A number as groups of items have it.
-fn narrow(number: usize) -> Result<u32, OutOfMemory>
-    ensures { IfOk result (λ n. n ≡ number) }
-{
-    match u32::try_from(number) {
-        Ok(number) => Ok(number),
-        // No memory holds so many items.
-        Err(_) => Err(OutOfMemory),
-    }
 }
 
 fn push_number(chosen: &mut Seq<u32>, number: usize) -> Result<(), OutOfMemory>

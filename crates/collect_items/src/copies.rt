@@ -3,7 +3,7 @@
 ghost use Rattle.std.specs.Prelude.{◌≡◌, IfOk, map};
 ghost use Rattle.collect_items.specs.Items.{defined_fixture};
 
-use collect_names::found::{TestClass, TestFunction};
+use collect_names::copies::{copied, copied_texts};
 use fixture_definitions::Definition;
 use py_values::rows::Values;
 use py_values::value::Value;
@@ -13,54 +13,12 @@ use seq::{OutOfMemory, PyText, Seq};
 use std::alloc::Global;
 use test_suite::{BoundArgument, Fixture, FixtureParam};
 
-fn copied(alloc: Global, text: &PyText) -> Result<PyText, OutOfMemory>
-    ensures { IfOk result (λ t. t ≡ text.now) }
-{
-    PyText::from_chars(alloc, text.chars())
-}
-
-/// A copy of texts.
-pub fn copied_texts(alloc: Global, texts: &[PyText]) -> Result<Seq<PyText>, OutOfMemory>
-    ensures { IfOk result (λ copies. copies ≡ texts.now) }
-{
-    let mut copies = Seq::new(alloc);
-    for text in texts {
-        let one = copied(alloc, text)?;
-        copies.push(one)?;
-    }
-    Ok(copies)
-}
-
 /// A copy of values.
 pub fn copied_values(alloc: Global, values: &[Value]) -> Result<Values, OutOfMemory>
     ensures { IfOk result (λ copies. copies ≡ values.now) }
 {
     let copies = Vec::from_slice(alloc, values)?;
     Ok(Values::from_vec(copies))
-}
-
-fn copied_class(alloc: Global, class: &Option<TestClass>) -> Result<Option<TestClass>, OutOfMemory>
-    ensures { IfOk result (λ c. c ≡ class.now) }
-{
-    match class {
-        Some(class) => Ok(Some(TestClass {
-            name: copied(alloc, &class.name)?,
-            object: class.object,
-        })),
-        None => Ok(None),
-    }
-}
-
-/// A copy of a test function.
-pub fn copied_test(alloc: Global, test: &TestFunction) -> Result<TestFunction, OutOfMemory>
-    ensures { IfOk result (λ t. t ≡ test.now) }
-{
-    let class = copied_class(alloc, &test.class)?;
-    Ok(TestFunction {
-        class,
-        name: copied(alloc, &test.name)?,
-        function: test.function,
-    })
 }
 
 fn copied_frame(alloc: Global, frame: &TraceFrame) -> Result<TraceFrame, OutOfMemory>

@@ -14,7 +14,7 @@ use collect_fixtures::{all_names, table_of};
 use collect_rows::{FileItems, FoundItem, RowsFault, items_of_tests};
 use collect_words::{FileNodes, Walk};
 use collection_nodes::{
-    Mentions, PlacedFile, TestFile, all_folders, outer_nodes, placed_files, plus,
+    Mentions, PlacedFile, TestFile, all_folders, narrow, outer_nodes, placed_files, plus,
 };
 use fixture_definitions::{Definition, FoundTest, all_definitions, tests_of};
 use fixture_table::{CollectionNode, Table};
@@ -125,17 +125,6 @@ fn places_of(alloc: Global, found: &[FoundItem]) -> Result<Vec<usize>, OutOfMemo
     Ok(places)
 }
 
-/// How many there are.
-fn counted(count: usize) -> Result<u32, OutOfMemory>
-    ensures { IfOk result (λ n. n ≡ count) }
-{
-    match u32::try_from(count) {
-        Ok(count) => Ok(count),
-        // No memory holds so many.
-        Err(_) => Err(OutOfMemory),
-    }
-}
-
 /// Puts a file behind the others.
 pub(crate) fn list_file(
     alloc: Global,
@@ -202,7 +191,7 @@ fn list_one(
     ensures behind { IfOk result (λ n. n ≡ node + length (tests_of heap.now placed)) }
 {
     let tests = tests_of(alloc, heap, placed)?;
-    let many = counted(tests.len())?;
+    let many = narrow(tests.len())?;
     if !is_within(node, tests.len(), count) {
         // Each test has a node.
         return Err(OutOfMemory);
@@ -272,7 +261,7 @@ fn files_behind(
     ensures nodes { IfOk result (λ l. l.nodes.items ≡ nodes.all_nodes 0 (items.files_behind heap.now outer.items names.now definitions.now tests.now placed.now)) }
     ensures faults { IfOk result (λ l. l.faults.items ≡ map items.fault_of_file (items.files_behind heap.now outer.items names.now definitions.now tests.now placed.now)) }
 {
-    let first = counted(outer.len())?;
+    let first = narrow(outer.len())?;
     let parents = test_parents(alloc, tests)?;
     let Some(count) = outer.len().checked_add(parents.len()) else {
         // No memory holds so many nodes.
@@ -364,7 +353,7 @@ fn suite_behind(
     ensures suite { IfOk result (λ f. f ≡ items.suite_behind heap.now walk.now outer.items names.now definitions.now found.now) }
     ensures tree { IfOk result (λ f. IsTree f.table.nodes) }
 {
-    let count = counted(outer.len())?;
+    let count = narrow(outer.len())?;
     let parents = item_parents(alloc, found)?;
     let table = table_of(alloc, outer, names, definitions, &parents)?;
     suite_over(alloc, heap, walk, count, table, names, definitions, found)

@@ -3,12 +3,12 @@
 ghost use Rattle.std.specs.Prelude.{◌≡◌, ◌+◌, ◌≤◌, ◌<◌, ◌++◌, IfOk, OnOk, chars, encode_utf8_all, length, map};
 ghost use Rattle.collect_names.specs.Ids.{item_id, item_title};
 ghost use Rattle.collect_names.specs.Objects as objects;
-ghost use Rattle.collect_words.specs.Walks.{path_at};
 ghost use Rattle.fixture_definitions.specs.Arguments.{defined_at};
 ghost use Rattle.collect_items.specs.Items as items;
 
-use crate::copies::{all_bound, all_params, copied_id, copied_test, copied_texts, copied_values};
+use crate::copies::{all_bound, all_params, copied_id, copied_values};
 use collect_fixtures::{item_asks, item_closure};
+use collect_names::copies::{copied_test, copied_texts};
 use collect_names::found::TestFunction;
 use collect_names::ids::{item_id, item_name, item_title};
 use collect_names::objects::{function_at, object_in};
@@ -19,20 +19,11 @@ use fixture_definitions::{Definition, defined_at};
 use fixture_table::Table;
 use py_values::heap::Heap;
 use py_world::TraceFrame;
-use report_parts::{Text, push_chars};
-use seq::{OutOfMemory, PyText, Seq};
+use report_parts::Text;
+use seq::{OutOfMemory, PyText, Seq, encoded};
 use session_types::DefId;
 use std::alloc::Global;
 use test_suite::{BoundArgument, Item};
-
-/// A text in UTF-8.
-pub fn encoded(alloc: Global, letters: &[char]) -> Result<Text, OutOfMemory>
-    ensures { IfOk result (λ text. text ≡ encode_utf8_all letters.now) }
-{
-    let mut text = String::new(alloc);
-    push_chars(&mut text, letters)?;
-    Ok(Text::from_string(text))
-}
 
 fn node_id(
     alloc: Global,

@@ -3,13 +3,12 @@
 ghost use Rattle.std.specs.Prelude.{◌≡◌, ◌++◌, ◌∷◌, ◌+◌, [], IfOk, OnOk, option_map, replicate, slice_set};
 ghost use Rattle.collect_items.specs.Nodes as nodes;
 
-use crate::item::encoded;
 use collect_names::found::TestClass;
 use collect_rows::FoundItem;
 use collect_words::{FileNodes, ItemNames};
 use collection_nodes::TestFile;
 use report_parts::Text;
-use seq::{OutOfMemory, PyText, Seq};
+use seq::{OutOfMemory, PyText, Seq, encoded};
 use std::alloc::Global;
 
 fn class_name(alloc: Global, class: &Option<TestClass>) -> Result<Option<Text>, OutOfMemory>

@@ -1,11 +1,12 @@
 // The order of items.
 
-ghost use Rattle.std.specs.Prelude.{◌≡◌, ◌++◌, ◌∷◌, [], IfOk, OnOk, map};
+ghost use Rattle.std.specs.Prelude.{◌≡◌, IfOk, map};
 ghost use Rattle.collect_fixtures.specs.Closures.{fixture_numbered};
 ghost use Rattle.collect_items.specs.Chosen as choice;
 
 use collect_names::found::TestClass;
 use collect_rows::FoundItem;
+use collection_nodes::narrow;
 use fixture_definitions::Definition;
 use param_rows::{ItemKeys, Params, regroup};
 use seq::OutOfMemory;
@@ -45,17 +46,6 @@ fn class_key(parent: u32, class: &Option<TestClass>) -> Option<u32>
     match class {
         Some(_) => Some(parent),
         None => None,
-    }
-}
-
-/// A number as keys have it.
-fn narrow(number: usize) -> Result<u32, OutOfMemory>
-    ensures { IfOk result (λ n. n ≡ number) }
-{
-    match u32::try_from(number) {
-        Ok(number) => Ok(number),
-        // No tree has so many files.
-        Err(_) => Err(OutOfMemory),
     }
 }
 

@@ -1,6 +1,6 @@
 // Node ids and titles of items.
 
-ghost use Rattle.std.specs.Prelude.{◌≡◌, ◌++◌, IfOk, OnOk, codes, option_copied};
+ghost use Rattle.std.specs.Prelude.{◌≡◌, ◌++◌, IfOk, OnOk, option_copied};
 ghost use Rattle.collect_names.specs.Ids as ids;
 
 use crate::found::{TestClass, TestFunction};

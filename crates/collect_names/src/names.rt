@@ -3,6 +3,7 @@
 ghost use Rattle.std.specs.Prelude.{◌≡◌, ◌++◌, ◌∷◌, [], IfOk, OnOk, option_copied};
 ghost use Rattle.collect_names.specs.Found as tests;
 
+use crate::copies::{copied, copied_class};
 use crate::found::{TestClass, TestFunction};
 use crate::objects::{class_at, function_at, holds_tests, object_in};
 use py_values::heap::Heap;
@@ -10,24 +11,6 @@ use py_values::names::Names;
 use py_values::value::Value;
 use seq::{OutOfMemory, PyText};
 use std::alloc::Global;
-
-fn copied(alloc: Global, text: &PyText) -> Result<PyText, OutOfMemory>
-    ensures { IfOk result (λ t. t ≡ text.now) }
-{
-    PyText::from_chars(alloc, text.chars())
-}
-
-fn copied_class(alloc: Global, class: Option<&TestClass>) -> Result<Option<TestClass>, OutOfMemory>
-    ensures { IfOk result (λ c. c ≡ option_copied class.entry) }
-{
-    match class {
-        Some(class) => Ok(Some(TestClass {
-            name: copied(alloc, &class.name)?,
-            object: class.object,
-        })),
-        None => Ok(None),
-    }
-}
 
 /// Whether a name is bound to a test function.
 fn is_test_function(heap: &Heap, name: &PyText, v: Value) -> bool
@@ -37,7 +20,12 @@ fn is_test_function(heap: &Heap, name: &PyText, v: Value) -> bool
 }
 
 /// Whether a name is bound to a class of tests.
-fn is_class_node(alloc: Global, heap: &Heap, name: &PyText, v: Value) -> Result<bool, OutOfMemory>
+pub fn is_class_node(
+    alloc: Global,
+    heap: &Heap,
+    name: &PyText,
+    v: Value,
+) -> Result<bool, OutOfMemory>
     ensures { IfOk result (λ b. b ≡ tests.is_class_node heap.now (name.now, v)) }
 {
     if !name.chars().starts_with(&['T', 'e', 's', 't']) {

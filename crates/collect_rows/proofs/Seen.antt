@@ -7,7 +7,7 @@ use Rattle.std.specs.declared.alloc.Global.{Global}
 use Rattle.std.specs.declared.vec.Vec.{Vec}
 use Rattle.fixture_definitions.specs.collect_params.param_rows.Faults.{first_fault, marks_fault, size_fault}
 use Rattle.fixture_definitions.specs.collect_params.param_rows.Ids.{Id}
-use Rattle.fixture_definitions.specs.collect_params.param_rows.Rows.{ParameterSet, chosen_row, fixture_choices, is_named, mark_choices, product, rows_of}
+use Rattle.fixture_definitions.specs.collect_params.param_rows.Rows.{chosen_row, fixture_choices, is_named, mark_choices, product, rows_of}
 use Rattle.fixture_definitions.specs.collect_params.param_rows.declared.fault.RowFault.{RowFault}
 use Rattle.fixture_definitions.specs.collect_params.param_rows.declared.param.ParamMark.{ParamMark}
 use Rattle.fixture_definitions.specs.collect_params.param_rows.declared.param.ParamRow.{ParamRow}

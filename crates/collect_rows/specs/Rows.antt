@@ -1,7 +1,7 @@
 -- THE ROWS OF A TEST (pytest's how-to guide, "How to parametrize fixtures and test functions"): each choice of one parameter of each
 -- parametrised fixture of its closure, in the order of the closure, and one set of each `parametrize`, the nearest first; the first list is
 -- the outermost.
-use Rattle.std.specs.Prelude.{ℕ, ◌&&◌, Bool, true, false, List, [], ◌∷◌, ◌++◌, Option, Some, None, Result, Ok, Err, codes, encode_utf8_all, length, map, nat_eq, slice_get, if◌then◌else◌}
+use Rattle.std.specs.Prelude.{ℕ, ◌&&◌, true, false, List, [], ◌∷◌, ◌++◌, Option, Some, None, codes, encode_utf8_all, length, map, nat_eq, slice_get, if◌then◌else◌}
 use Rattle.std.specs.Fmt.{decimal}
 use Rattle.std.specs.List.{enumerate_from, flat_map}
 use Rattle.std.specs.Option.{option_or}

@@ -1,6 +1,6 @@
 // What rows give items.
 
-ghost use Rattle.std.specs.Prelude.{◌≡◌, ◌++◌, ◌∷◌, [], IfOk, OnOk, map, option_copied};
+ghost use Rattle.std.specs.Prelude.{◌≡◌, ◌++◌, [], IfOk, OnOk, map, option_copied};
 ghost use Rattle.std.specs.List.{flat_map};
 ghost use Rattle.collect_rows.specs.Rows as rows;
 ghost use Rattle.collect_rows.specs.Seen.{seen_list};
@@ -10,8 +10,8 @@ use collection_nodes::Mentions;
 use fixture_definitions::Definition;
 use param_rows::{ParamRow, ParamSet, PyId};
 use py_values::value::Value;
-use report_parts::{Text, push_chars};
-use seq::{OutOfMemory, PyText, Seq};
+use report_parts::Text;
+use seq::{OutOfMemory, PyText, Seq, encoded};
 use session_types::DefId;
 use std::alloc::Global;
 use test_suite::{BoundArgument, FixtureParam};
@@ -81,15 +81,6 @@ fn value_of_set(set: Option<&ParamSet<Value>>) -> Value
         Some(set) => first_value(set.values.items()),
         None => Value::None,
     }
-}
-
-/// A text in UTF-8.
-fn encoded(alloc: Global, letters: &[char]) -> Result<Text, OutOfMemory>
-    ensures { IfOk result (λ text. text ≡ encode_utf8_all letters.now) }
-{
-    let mut text = String::new(alloc);
-    push_chars(&mut text, letters)?;
-    Ok(Text::from_string(text))
 }
 
 ghost use Rattle.std.specs.Prelude.{encode_utf8_all};

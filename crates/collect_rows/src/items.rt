@@ -4,11 +4,11 @@ ghost use Rattle.std.specs.Prelude.{◌≡◌, ◌++◌, ◌+◌, ◌<◌, ◌�
 ghost use Rattle.collect_names.specs.Objects as objects;
 ghost use Rattle.fixture_definitions.specs.Arguments.{defined_at};
 ghost use Rattle.collect_rows.specs.FileItems as items;
-ghost use Rattle.collect_rows.specs.declared.items.FileItems.TheVariants.{Items as AllItems};
 
 use crate::row::{ItemRow, TestRows};
 use crate::rows::test_rows;
-use collect_names::found::{TestClass, TestFunction};
+use collect_names::copies::{copied_test, copied_texts};
+use collect_names::found::TestFunction;
 use collect_names::objects::{function_at, object_in};
 use collection_nodes::{Mentions, TraceFrame, plus};
 use fixture_definitions::{Definition, FoundTest, defined_at};
@@ -48,46 +48,6 @@ pub struct RowsFault {
 pub enum FileItems {
     Items(Seq<FoundItem>),
     Fault(RowsFault),
-}
-
-fn copied(alloc: Global, text: &PyText) -> Result<PyText, OutOfMemory>
-    ensures { IfOk result (λ t. t ≡ text.now) }
-{
-    PyText::from_chars(alloc, text.chars())
-}
-
-fn copied_texts(alloc: Global, texts: &[PyText]) -> Result<Seq<PyText>, OutOfMemory>
-    ensures { IfOk result (λ copies. copies ≡ texts.now) }
-{
-    let mut copies = Seq::new(alloc);
-    for text in texts {
-        let one = copied(alloc, text)?;
-        copies.push(one)?;
-    }
-    Ok(copies)
-}
-
-fn copied_class(alloc: Global, class: &Option<TestClass>) -> Result<Option<TestClass>, OutOfMemory>
-    ensures { IfOk result (λ c. c ≡ class.now) }
-{
-    match class {
-        Some(class) => Ok(Some(TestClass {
-            name: copied(alloc, &class.name)?,
-            object: class.object,
-        })),
-        None => Ok(None),
-    }
-}
-
-fn copied_test(alloc: Global, test: &TestFunction) -> Result<TestFunction, OutOfMemory>
-    ensures { IfOk result (λ t. t ≡ test.now) }
-{
-    let class = copied_class(alloc, &test.class)?;
-    Ok(TestFunction {
-        class,
-        name: copied(alloc, &test.name)?,
-        function: test.function,
-    })
 }
 
 /// The marks of a row behind so many of the others.

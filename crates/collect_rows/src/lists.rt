@@ -10,7 +10,7 @@ use collect_fixtures::asked_numbers;
 use collect_params::{Parametrization, param_ids, set_ids};
 use collection_nodes::Mentions;
 use fixture_definitions::{Definition, FoundTest};
-use fixture_table::{FixtureDef, Table};
+use fixture_table::Table;
 use param_rows::{ParamMark, ParamSet, ParamSets, PyId};
 use py_values::heap::Heap;
 use py_values::value::Value;

@@ -13,7 +13,7 @@ use collect_fixtures::{closure_unless_fault, names_bound};
 use collection_nodes::Mentions;
 use fixture_definitions::{Definition, FoundTest};
 use fixture_table::Table;
-use param_rows::{ParamMark, ParamRow, PyId, RowFault};
+use param_rows::{ParamMark, ParamRow, PyId};
 use py_values::heap::Heap;
 use py_values::value::Value;
 use seq::{OutOfMemory, PyText, Seq};

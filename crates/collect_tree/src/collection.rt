@@ -24,7 +24,7 @@ use collect_items::{FoundItems, FoundSuite, ItemKeys, RowsFault, chosen, ordered
 use collect_words::{
     NamedWord, Walk, conftests, named_files, named_words, selected, test_files, walked,
 };
-use collection_nodes::TestFile;
+use collection_nodes::{TestFile, narrow};
 use conftest_hooks::{FoundHook, hook_table};
 use edge_io::Files;
 use fixture_world::{World, heap};
@@ -35,22 +35,11 @@ use selection::Exprs;
 use std::alloc::Global;
 use test_suite::HookTable;
 
-/// A number of items as it is reported.
-fn counted(count: usize) -> Result<u32, OutOfMemory>
-    ensures { IfOk result (λ n. n ≡ count) }
-{
-    match u32::try_from(count) {
-        Ok(count) => Ok(count),
-        // More than any session has.
-        Err(_) => Err(OutOfMemory),
-    }
-}
-
 /// How many of the numbers are not accepted.
 fn left_out(numbers: &[usize], accepted: &[u32]) -> Result<u32, OutOfMemory>
     ensures { IfOk result (λ n. n ≡ length numbers.now - length accepted.now) }
 {
-    counted(numbers.len().saturating_sub(accepted.len()))
+    narrow(numbers.len().saturating_sub(accepted.len()))
 }
 
 fn limited(errors: &[CollectReport]) -> Result<(), OutOfMemory>

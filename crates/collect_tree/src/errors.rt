@@ -4,10 +4,9 @@ ghost use Rattle.std.specs.Prelude.{◌≡◌, ◌++◌, IfOk, OnOk};
 ghost use Rattle.collect_tree.specs.Errors as errors;
 
 use crate::loads::LoadEnd;
-use crate::walk::path_text;
 use collect_items::RowsFault;
 use collect_words::Walk;
-use collection_nodes::TestFile;
+use collection_nodes::{TestFile, path_text};
 use fixture_world::{World, told};
 use report_parts::{CollectReport, OutOfMemory, Text};
 use seq::PyText;

@@ -3,9 +3,8 @@
 ghost use Rattle.std.specs.Prelude.{◌≡◌, IfOk, IfSome, OnOk, chars};
 ghost use Rattle.collect_tree.specs.Loads as loads;
 
-use crate::walk::path_text;
 use collect_words::Walk;
-use collection_nodes::TestFile;
+use collection_nodes::{TestFile, path_text};
 use fixture_world::{World, exception_text, fault_text, heap, limit_text, told};
 use py_load::{LoadError, LoadedFile, load_file};
 use py_source::SourceFault;

@@ -7,6 +7,7 @@ ghost use Rattle.collect_tree.specs.Collection.{paths_at};
 ghost use Rattle.collect_tree.specs.Walk.{walk_of};
 
 use collect_words::{Walk, one_walk};
+use collection_nodes::path_text;
 use edge_io::Files;
 use report_parts::{OutOfMemory, Text};
 use seq::Seq;
@@ -38,18 +39,6 @@ pub fn walk_of_files(alloc: Global, files: &Files) -> Result<Walk, OutOfMemory>
     let walk = Walk::new(alloc, &paths)?;
     Ok(walk)
 }
-
-/// The path at a place of the walk, or an empty one.
-pub fn path_text<'a>(walk: &'a Walk, place: usize) -> &'a str
-    ensures { result.now ≡ path_at walk.now place }
-{
-    match walk.paths().get(place) {
-        Some(path) => path.text(),
-        None => "",
-    }
-}
-
-ghost use Rattle.collect_words.specs.Walks.{path_at};
 
 /// The paths at places of the walk.
 pub fn paths_at(alloc: Global, walk: &Walk, places: &[usize]) -> Result<Seq<Text>, OutOfMemory>

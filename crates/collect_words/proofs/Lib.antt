@@ -5,3 +5,4 @@ pub mod Order
 pub mod Picks
 pub mod Colons
 pub mod FirstWords
+pub mod Index

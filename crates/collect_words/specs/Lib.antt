@@ -4,3 +4,4 @@ pub mod Keys
 pub mod Words
 pub mod Files
 pub mod Nodes
+pub mod Index

@@ -26,9 +26,8 @@
 //!
 //! # What neither shows
 //!
-//! Time. The walk is sorted once. A word that names a file is looked for among all paths, one that names a folder is held against all
-//! of them, and a file's conftest against all for each folder above it: so the time grows as words and test files times files. A node
-//! is looked for among its file's items, so that words with `::` grow as words times the items of a file.
+//! Time. The walk is sorted once, and has an index of its paths. A word that names a folder is held against all paths: so the time grows as
+//! such words times files. A node is looked for among its file's items, so that words with `::` grow as words times the items of a file.
 #![tactic(auto)]
 
 mod above;

@@ -1,9 +1,11 @@
-ghost use Rattle.std.specs.Prelude.{◌≡◌, List, ℕ, map, string_bytes, IfOk, All};
+ghost use Rattle.std.specs.Prelude.{◌≡◌, ◌+◌, ◌<◌, List, ℕ, OnOk, length, map, string_bytes, IfOk, All};
 ghost use Rattle.collect_words.specs.Paths.{parts};
 ghost use Rattle.collect_words.specs.Walks.{IsWalk, path_at, place_of};
 ghost use Rattle.collect_words.specs.Keys.{key_paths, IsKeyed, Key};
+ghost use Rattle.collect_words.specs.Index.{IsIndex, IsIndexFrom};
 
 use crate::paths::parts;
+use indexmap::IndexMap;
 use seq::{ByteText, OutOfMemory, Seq};
 use std::alloc::Global;
 use std::marker::Model;
@@ -11,20 +13,24 @@ use std::marker::Model;
 /// The paths of a tree's files, in the order in which collection walks through them. Contracts see it as the list.
 pub struct Walk {
     paths: Seq<ByteText>,
+    index: IndexMap<Vec<u8>, usize>,
 }
 
 impl Drop for Walk {
     fn drop(self) {
-        let Walk { paths: _ } = self;
+        let Walk { paths: _, index: _ } = self;
     }
 }
 
 impl Model for Walk {
     ghost use Rattle.std.specs.Prelude.{List, ℕ};
+    ghost use Rattle.collect_words.specs.Index.{IsIndex};
 
     ghost Value = { List (List ℕ) };
 
     ghost view = { λ walk. walk.paths };
+
+    ghost invariant = { λ walk. IsIndex walk.paths walk.index.entries };
 }
 
 /// Each path behind its parts, by which it is sorted.
@@ -71,15 +77,44 @@ fn texts_of(alloc: Global, paths: &[String]) -> Result<Seq<ByteText>, OutOfMemor
     Ok(texts)
 }
 
+/// Puts the path at a place into an index, over one of its paths behind it.
+fn put(
+    index: &mut IndexMap<Vec<u8>, usize>,
+    alloc: Global,
+    paths: &[ByteText],
+    place: usize,
+) -> Result<(), OutOfMemory>
+    requires here { place < length paths.now }
+    requires behind { IsIndexFrom (place + 1) paths.now index.old.entries }
+    ensures { OnOk result (IsIndexFrom place paths.now index.new.entries) }
+{
+    let path = Vec::from_slice(alloc, paths[place].text().as_bytes())?;
+    index.insert(path, place)?;
+    Ok(())
+}
+
+/// The first place of each path.
+fn index_of(alloc: Global, paths: &[ByteText]) -> Result<IndexMap<Vec<u8>, usize>, OutOfMemory>
+    ensures { IfOk result (λ index. IsIndex paths.now index.entries) }
+{
+    let mut index = IndexMap::new(alloc);
+    let mut place = paths.len();
+    'fill: while place > 0 {
+        place -= 1;
+        put(&mut index, alloc, paths, place)?;
+    }
+    Ok(index)
+}
+
 impl Walk {
     /// The paths in the order of the walk.
     pub fn new(alloc: Global, paths: &[ByteText]) -> Result<Walk, OutOfMemory>
         ensures { IfOk result (λ walk. IsWalk paths.now walk) }
     {
         let sorted = in_order(alloc, paths)?;
-        Ok(Walk {
-            paths: texts_of(alloc, &sorted)?,
-        })
+        let paths = texts_of(alloc, &sorted)?;
+        let index = index_of(alloc, paths.items())?;
+        Ok(Walk { paths, index })
     }
 
     /// The paths, lent.
@@ -105,13 +140,7 @@ impl Walk {
     pub fn place_of(&self, path: &[u8]) -> Option<usize>
         ensures { result ≡ place_of self.now path.now }
     {
-        let paths = self.paths.items();
-        for (place, file) in paths.iter().enumerate() {
-            if file.text().as_bytes() == path {
-                return Some(place);
-            }
-        }
-        None
+        self.index.get(path).copied()
     }
 }
 

@@ -1,7 +1,7 @@
 // Folders.
 
-ghost use Rattle.std.specs.Prelude.{◌≡◌, ◌<◌, [], ◌∷◌, IfOk, OnOk, fold, length, map, take};
-ghost use Rattle.std.specs.List.{filter, range_with_len};
+ghost use Rattle.std.specs.Prelude.{◌≡◌, ◌<◌, [], ◌∷◌, IfOk, OnOk, length, map, take};
+ghost use Rattle.std.specs.List.{filter};
 ghost use Rattle.collect_words.specs.Walks.{path_at};
 ghost use Rattle.collection_nodes.specs.Texts.{with_mentions};
 ghost use Rattle.collection_nodes.specs.Tree as tree;

@@ -35,7 +35,7 @@ mod test_file;
 mod tree;
 
 pub use folders::{all_folders, file_path, outer_node, path_text};
-pub use mentions::Mentions;
+pub use mentions::{Mentions, narrow};
 pub use placed_file::PlacedFile;
 pub use test_file::TestFile;
 pub use tree::{class_node, classes_of, names_of_file, outer_nodes, placed_files, plus};

@@ -3,18 +3,12 @@
 ghost use Rattle.std.specs.Prelude.{◌≡◌, ◌++◌, ◌∷◌, [], IfOk, OnOk, drop, filter, map, option_copied};
 ghost use Rattle.fixture_definitions.specs.Arguments as arguments;
 
+use collect_names::copies::copied;
 use collection_nodes::TraceFrame;
 use py_values::object::FunctionObj;
 use py_values::rows::Param;
 use seq::{OutOfMemory, PyText, Seq};
 use std::alloc::Global;
-
-/// A copy of a text.
-pub fn copied(alloc: Global, text: &PyText) -> Result<PyText, OutOfMemory>
-    ensures { IfOk result (λ t. t ≡ text.now) }
-{
-    PyText::from_chars(alloc, text.chars())
-}
 
 fn behind_first(params: &[Param]) -> &[Param]
     ensures { result.now ≡ drop 1 params.now }

@@ -1,15 +1,16 @@
 // What defines fixtures.
 
-ghost use Rattle.std.specs.Prelude.{◌≡◌, ◌++◌, ◌∷◌, [], IfOk, OnOk, Some, map, option_copied};
+ghost use Rattle.std.specs.Prelude.{◌≡◌, ◌++◌, IfOk, OnOk, Some, option_copied};
 ghost use Rattle.std.specs.List.{flat_map};
-ghost use Rattle.collect_names.specs.Found.{is_class_node};
 ghost use Rattle.collect_names.specs.Objects as objects;
 ghost use Rattle.collection_nodes.specs.Tree as tree;
 ghost use Rattle.fixture_definitions.specs.Definitions as definitions;
 
-use crate::arguments::{asked_params, copied, def_place, is_request};
+use crate::arguments::{asked_params, def_place, is_request};
 use crate::found::Definition;
-use collect_names::objects::{class_at, function_at, holds_tests, object_in};
+use collect_names::copies::copied;
+use collect_names::names::is_class_node;
+use collect_names::objects::{class_at, function_at, object_in};
 use collect_params::fixture_params;
 use collect_words::{Walk, is_conftest};
 use collection_nodes::{
@@ -184,21 +185,6 @@ fn push_among(
     }
     // No memory holds so many names.
     Err(OutOfMemory)
-}
-
-/// Whether a name is bound to a class of tests.
-pub fn is_class_node(
-    alloc: Global,
-    heap: &Heap,
-    name: &PyText,
-    v: Value,
-) -> Result<bool, OutOfMemory>
-    ensures { IfOk result (λ b. b ≡ is_class_node heap.now (name.now, v)) }
-{
-    if !name.chars().starts_with(&['T', 'e', 's', 't']) {
-        return Ok(false);
-    }
-    holds_tests(alloc, heap, v, class_at(object_in(heap, v)))
 }
 
 /// Pushes what the class that a value is defines at a node.

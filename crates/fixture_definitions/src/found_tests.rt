@@ -1,9 +1,8 @@
 // The tests of a file.
 
 ghost use Rattle.std.specs.Prelude.{◌≡◌, ◌++◌, ◌∷◌, [], IfOk, OnOk, codes, map, option_copied};
-ghost use Rattle.std.specs.List.{filter, filter_map, flat_map};
+ghost use Rattle.std.specs.List.{filter, filter_map};
 ghost use Rattle.collect_marks.specs.Given.{item_marks};
-ghost use Rattle.collect_marks.specs.Names.{marks_in};
 ghost use Rattle.collect_marks.specs.Says.{is_called};
 ghost use Rattle.collect_names.specs.Found.{test_functions};
 ghost use Rattle.collect_names.specs.Objects as objects;
@@ -11,9 +10,10 @@ ghost use Rattle.collection_nodes.specs.Tree as tree;
 ghost use Rattle.fixture_definitions.specs.Arguments.{but_request};
 ghost use Rattle.fixture_definitions.specs.Tests as tests;
 
-use crate::arguments::{arguments_asked, but_request, copied};
+use crate::arguments::{arguments_asked, but_request};
 use crate::found::FoundTest;
 use collect_marks::given::{item_marks, mark_in};
+use collect_names::copies::{copied, copied_test};
 use collect_names::found::{TestClass, TestFunction};
 use collect_names::names::test_functions;
 use collect_names::objects::{function_at, object_in};
@@ -163,29 +163,6 @@ fn stands_in_class(class: &Option<TestClass>) -> bool
     class.is_some()
 }
 
-fn copied_class(alloc: Global, class: &Option<TestClass>) -> Result<Option<TestClass>, OutOfMemory>
-    ensures { IfOk result (λ c. c ≡ class.now) }
-{
-    match class {
-        Some(class) => Ok(Some(TestClass {
-            name: copied(alloc, &class.name)?,
-            object: class.object,
-        })),
-        None => Ok(None),
-    }
-}
-
-fn copied_test(alloc: Global, test: &TestFunction) -> Result<TestFunction, OutOfMemory>
-    ensures { IfOk result (λ t. t ≡ test.now) }
-{
-    let class = copied_class(alloc, &test.class)?;
-    Ok(TestFunction {
-        class,
-        name: copied(alloc, &test.name)?,
-        function: test.function,
-    })
-}
-
 /// The arguments of a test.
 fn arguments_of_test(
     alloc: Global,
@@ -210,7 +187,7 @@ fn marks_among(heap: &Heap, values: &[Value]) -> usize
 }
 
 ghost use Rattle.std.specs.Prelude.{count_by};
-ghost use Rattle.collect_marks.specs.Given.{is_mark_value, of_function};
+ghost use Rattle.collect_marks.specs.Given.{is_mark_value};
 
 /// How many marks a function has.
 fn near_count(heap: &Heap, function: Option<&FunctionObj>) -> usize

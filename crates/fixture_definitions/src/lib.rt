@@ -12,8 +12,8 @@
 //!   the module and of its classes of tests, in order of first binding (`all_definitions`).
 //! - [`tests_of`]: the tests of a file in order, each with its node's parent, its marks, what its `parametrize` marks give, what its
 //!   `usefixtures` marks name and its arguments (`tests_of`).
-//! - [`fixture_in`], [`is_class_node`], [`but_request`], [`defined_at`]: what `fixture` made, whether a name is bound to a class of tests,
-//!   names without `request`, and the place of a function's `def` (the definitions of the same names).
+//! - [`fixture_in`], [`but_request`], [`defined_at`]: what `fixture` made, names without `request`, and the place of a function's `def` (the
+//!   definitions of the same names).
 //!
 //! # What tests alone show
 //!
@@ -32,7 +32,7 @@ mod definitions;
 mod found;
 mod found_tests;
 
-pub use arguments::{asked_params, but_request, def_place, defined_at};
-pub use definitions::{all_definitions, fixture_in, is_class_node};
+pub use arguments::{arguments_asked, asked_params, but_request, def_place, defined_at};
+pub use definitions::{all_definitions, fixture_in};
 pub use found::{Definition, FoundTest};
 pub use found_tests::tests_of;

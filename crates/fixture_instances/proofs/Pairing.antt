@@ -1,6 +1,6 @@
 -- The live instances and what is kept of each, side by side.
-use Rattle.std.proofs.Common.{◌≡◌, ℕ, ◌<◌, ◌+◌, zero, suc, true, false, cond, not, List, [], ◌∷◌, ◌++◌, inl, inr, refl, sym, ap, ◌∙◌, eqb, eq-eqb, arith, map, length, get_or, subst, Option, Some, None, IsSome}
-use Rattle.std.proofs.lemmas.Bool.{ne_eqb}
+use Rattle.std.proofs.Common.{◌≡◌, ℕ, ◌<◌, ◌≤◌, ◌+◌, zero, suc, Bool, true, false, cond, not, List, [], ◌∷◌, ◌++◌, inl, inr, refl, sym, ap, ◌∙◌, eqb, eq-eqb, arith, map, length, get_or, subst, Option, Some, None, IsSome}
+use Rattle.std.proofs.lemmas.Bool.{eqb-true, ne_eqb}
 use Rattle.std.specs.Option.{option_map}
 use Rattle.std.specs.List.{remove, HoldsAt}
 use Rattle.session_types.specs.Members.{IsMember}
@@ -9,7 +9,7 @@ use Rattle.session_types.specs.Live.{find, instance_number, without, instance_by
 use Rattle.live_chains.specs.Chained.{Apart, RisingBy}
 use Rattle.fixture_instances.specs.declared.ends.CachedResult.{CachedResult}
 use Rattle.fixture_instances.specs.declared.live.Kept.{Kept}
-use Rattle.fixture_instances.specs.Joined.{with_slot, with_slots, ArePaired, kept_at, kept_without, kept_order, OrdersBelow, def_and_node}
+use Rattle.fixture_instances.specs.Joined.{with_slot, with_slots, ArePaired, kept_at, kept_place, kept_without, kept_order, OrdersBelow, def_and_node}
 use Rattle.fixture_instances.proofs.Slots.{find_dress, dependents_numbers, not_on_numbers}
 
 -- without its slot
@@ -186,6 +186,53 @@ module _ {V E R : Type 0} where
   -- what is kept of the one of a number is found at its place
   pub kept_here : (xs : List (Kept V E R)) (i n : ℕ) (d : Kept V E R) → IsSome (kept_at n xs) → i < length xs → (get_or xs i d).order ≡ n → RisingBy kept_order xs → kept_at n xs ≡ Some (get_or xs i d).held
   kept_here xs i n d s l e r = (removed xs i n d r l e).1
+
+  -- the place of the one of a number, and which side of it another place is
+  pub place_within : (n : ℕ) (ks : List (Kept V E R)) → IsSome (kept_at n ks) → kept_place n ks < length ks
+  place_within n [] s = (let z : false ≡ true = s in cc)
+  place_within n (k ∷ ks) s =
+      elim (eqb n k.order) as (λ b. IsSome (cond b (Some k.held) (kept_at n ks)) → cond b 0 (suc (kept_place n ks)) < length (k ∷ ks)) [
+        | true ↦ λ q. omega arith
+        | false ↦ λ q. (let l = place_within n ks q in omega (arith, l))
+      ] s
+
+  pub place_at : (n : ℕ) (ks : List (Kept V E R)) (d : Kept V E R) → IsSome (kept_at n ks) → (get_or ks (kept_place n ks) d).order ≡ n
+  place_at n [] d s = (let z : false ≡ true = s in cc)
+  place_at n (k ∷ ks) d s =
+      elim (eqb n k.order) as (λ b. eqb n k.order ≡ b → IsSome (cond b (Some k.held) (kept_at n ks)) → (get_or (k ∷ ks) (cond b 0 (suc (kept_place n ks))) d).order ≡ n) [
+        | true ↦ λ e q. sym (eqb-true n k.order e)
+        | false ↦ λ e q. place_at n ks d q
+      ] refl s
+
+  none_of : (n : ℕ) (ks : List (Kept V E R)) → ((y : Kept V E R) → IsMember y ks → n < y.order) → IsSome (kept_at n ks) → ⊥
+  none_of n [] a s = (let z : false ≡ true = s in cc)
+  none_of n (k ∷ ks) a s =
+      let l = a k (inl refl) in
+      let e : eqb n k.order ≡ false = ne_eqb n k.order (λ q. omega (arith, l, q)) in
+      none_of n ks (λ y h. a y (inr h)) (subst (λ (b : Bool). IsSome (cond b (Some k.held) (kept_at n ks))) e s)
+
+  pub place_low : (n : ℕ) (ks : List (Kept V E R)) (i : ℕ) (d : Kept V E R) → IsSome (kept_at n ks) → RisingBy kept_order ks → i < length ks → (get_or ks i d).order ≤ n → i ≤ kept_place n ks
+  place_low n [] i d s r l le = absurd (omega (arith, l))
+  place_low n (k ∷ ks) zero d s r l le = omega arith
+  place_low n (k ∷ ks) (suc i) d s r l le =
+      let low : i < length ks = omega (arith, l) in
+      let above = r.0 (get_or ks i d) (in_at ks i d low) in
+      let e : eqb n k.order ≡ false = ne_eqb n k.order (λ q. omega (arith, above, le, q)) in
+      let h = place_low n ks i d (subst (λ (b : Bool). IsSome (cond b (Some k.held) (kept_at n ks))) e s) r.1 low le in
+      subst (λ (b : Bool). suc i ≤ cond b 0 (suc (kept_place n ks))) (sym e) (omega (arith, h))
+
+  pub place_high : (n : ℕ) (ks : List (Kept V E R)) (i : ℕ) (d : Kept V E R) → IsSome (kept_at n ks) → RisingBy kept_order ks → i < length ks → n < (get_or ks i d).order → kept_place n ks < i
+  place_high n [] i d s r l lt = absurd (omega (arith, l))
+  place_high n (k ∷ ks) zero d s r l lt =
+      absurd (none_of n (k ∷ ks) (λ y h. elim h [
+        | inl e ↦ (let q : kept_order y ≡ kept_order k = ap kept_order e in omega (arith, lt, q))
+        | inr m ↦ (let u = r.0 y m in omega (arith, lt, u))
+      ]) s)
+  place_high n (k ∷ ks) (suc i) d s r l lt =
+      elim (eqb n k.order) as (λ b. IsSome (cond b (Some k.held) (kept_at n ks)) → cond b 0 (suc (kept_place n ks)) < suc i) [
+        | true ↦ λ q. omega arith
+        | false ↦ λ q. (let h = place_high n ks i d q r.1 (omega (arith, l)) lt in omega (arith, h))
+      ] s
 
   pub joined_in : (x : Instance (CachedResult V E R)) (is : List (Instance ℕ)) (ks : List (Kept V E R)) → ArePaired is ks → IsMember x (with_slots is ks) → (i : Instance ℕ) × IsMember i is × (no_slot x ≡ no_slot i)
   joined_in x [] ks p h = absurd h

@@ -1,5 +1,5 @@
 -- The live instances with what is kept of each.
-use Rattle.std.specs.Prelude.{◌≡◌, ℕ, ◌<◌, ◌==◌, List, [], ◌∷◌, Option, None, Some, if◌then◌else◌}
+use Rattle.std.specs.Prelude.{◌≡◌, ℕ, suc, ◌<◌, ◌==◌, List, [], ◌∷◌, Option, None, Some, if◌then◌else◌}
 use Rattle.session_types.specs.declared.instance.Instance.{Instance}
 use Rattle.live_chains.specs.declared.id.LiveId.{LiveId}
 use Rattle.fixture_instances.specs.declared.ends.CachedResult.{CachedResult}
@@ -38,6 +38,11 @@ kept_at n (k ∷ ks) = if n == k.order then Some k.held else kept_at n ks
 abbrev pub kept_without : {V E R : Type 0} → ℕ → List (Kept V E R) → List (Kept V E R)
 kept_without n [] = []
 kept_without n (k ∷ ks) = if n == k.order then kept_without n ks else k ∷ kept_without n ks
+
+-- where what is kept of the one of a number stands
+abbrev pub kept_place : {V E R : Type 0} → ℕ → List (Kept V E R) → ℕ
+kept_place n [] = 0
+kept_place n (k ∷ ks) = if n == k.order then 0 else suc (kept_place n ks)
 
 abbrev pub kept_order : {V E R : Type 0} → Kept V E R → ℕ
 kept_order k = k.order

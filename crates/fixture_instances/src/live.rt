@@ -71,19 +71,25 @@ fn unlink<L: Ledger>(chains: &mut Chains, id: LiveId, blank: Blank) -> Instance
     chains.unlink(id, &mut steps)
 }
 
-/// Where what is kept of the instance of a number stands.
+/// Where what is kept of the instance of a number stands, by halves.
 fn place_of<V, E, R>(kept: &[Kept<V, E, R>], order: u64) -> usize
-    requires { IsSome (kept_at order kept.now) }
+    requires some { IsSome (kept_at order kept.now) }
+    requires rising { RisingBy kept_order kept.now }
     ensures within { result < length kept.now }
     ensures at { HoldsAt (λ one. one.order ≡ order) kept.now result }
     ensures found { HoldsAt (λ one. kept_at order kept.now ≡ Some one.held) kept.now result }
 {
-    for (place, one) in kept.iter().enumerate() {
-        if order == one.order {
-            return place;
+    let mut low = 0;
+    let mut high = kept.len();
+    'halves: while high - low > 1 {
+        let middle = low + (high - low) / 2;
+        if kept[middle].order <= order {
+            low = middle;
+        } else {
+            high = middle;
         }
     }
-    0
+    low
 }
 
 /// Takes out what is kept of the instance of a number.
@@ -102,7 +108,8 @@ fn take_kept<V, E, R>(kept: &mut Vec<Kept<V, E, R>>, order: u64) -> CachedResult
 
 /// What is kept of the instance of a number.
 fn held_in<V, E, R>(kept: &[Kept<V, E, R>], order: u64) -> &CachedResult<V, E, R>
-    requires { IsSome (kept_at order kept.now) }
+    requires some { IsSome (kept_at order kept.now) }
+    requires rising { RisingBy kept_order kept.now }
     ensures { kept_at order kept.now ≡ Some result.now }
 {
     let place = place_of(kept, order);
@@ -224,6 +231,7 @@ impl<V, E, R> LiveFixtures<V, E, R> {
         requires { IsMember id self.now.ids }
         ensures { option_map (λ i. i.slot) (instance_by_number id.order self.now.live) ≡ Some result.now }
     {
+        self.chains.is_in_order();
         let _one = self.chains.get(id);
         held_in(&self.kept, id.order())
     }

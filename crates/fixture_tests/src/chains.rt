@@ -4,7 +4,7 @@ ghost use Rattle.session_types.specs.declared.instance.Instance.{Instance};
 
 use live_chains::{Chains, Dying, LiveId, PlainChains, Steps};
 use seq::OutOfMemory;
-use session_types::{DefId, Instance, Numbers, Scope};
+use session_types::{Bases, DefId, Instance, Scope};
 use std::alloc::Global;
 use std::marker::Brand;
 use std::sync::ledger::{Blank, Ledger};
@@ -27,17 +27,13 @@ struct Both {
 fn made(alloc: Global, row: Row, order: u32) -> Result<Instance, OutOfMemory>
     ensures { IfOk result (λ i. (i.order ≡ order) × (i.def ≡ order) × (i.node ≡ row.node)) }
 {
-    let mut bases = Vec::new(alloc);
-    for base in row.bases {
-        bases.push(*base)?;
-    }
     Ok(Instance {
         def: DefId::new(order),
         param: None,
         node: row.node,
         scope: row.scope,
         order: u64::from(order),
-        bases: Numbers::from_vec(bases),
+        bases: Bases::from_numbers(alloc, row.bases)?,
         slot: 0,
     })
 }

@@ -14,8 +14,8 @@ use crate::demanding::plain_item;
 use crate::holding::ItemStack;
 use fixture_instances::{Executor, ItemRef};
 use fixture_table::Table;
-use seq::{OutOfMemory, Seq};
-use setup_stack::{close_request, finalize_each, push_all};
+use seq::{OutOfMemory, Seq, push_all};
+use setup_stack::{close_request, finalize_each};
 use std::alloc::Global;
 
 /// Calls the finalizers of the test's own `request`, latest first; from here on it takes no others.

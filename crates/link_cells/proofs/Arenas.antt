@@ -30,7 +30,7 @@ module _ {T : Type 0} (w : CellWords) (values : List (Option T)) (used : List Bo
       (λ k below ne. shown_same k (is_used used k) refl more next (λ yes. others k below ne yes))
       ∙ ap (λ (l : List (Option (List (CellId × T)))). set l h (Some list)) (sym (lists_is w values used free room spare A))
 
-  none_in : (g k c : ℕ) → g < length w.heads → k < length w.heads → (k ≡ g → ⊥) → 0 < count c (A.rows g) → count c (A.rows k) ≡ 0
+  pub none_in : (g k c : ℕ) → g < length w.heads → k < length w.heads → (k ≡ g → ⊥) → 0 < count c (A.rows g) → count c (A.rows k) ≡ 0
   none_in g k c ltg ltk ne here = elim (cases_eq (count c (A.rows k)) 0) [ inl z ↦ z | inr some ↦ absurd (apart w A.rows A.fits k g c ne ltk ltg (omega arith) here) ]
 
   -- a cell is taken out of its list and is spare

@@ -11,3 +11,4 @@ pub mod Grown
 pub mod Calls
 pub mod Starts
 pub mod Walks
+pub mod Replaced

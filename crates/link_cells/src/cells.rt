@@ -62,6 +62,13 @@ impl<T: Drop> Cells<T> {
         })
     }
 
+    /// How many cells there are, in lists and spare.
+    pub fn cells(&self) -> usize
+        ensures { self.now.spare ≤ result }
+    {
+        self.values.len()
+    }
+
     /// Makes both spares at least so large. Memory is all that can refuse it, and each list stays as it is.
     pub fn reserve(&mut self, cells: usize, heads: usize) -> Result<(), OutOfMemory>
         ensures spare { OnOk result (self.new.spare ≡ max self.old.spare cells) }
@@ -205,6 +212,14 @@ impl<T: Drop> Cells<T> {
         move_front(&mut self.words, cell, 0, steps);
         self.spare += 1;
         self.values[cell].take().unwrap()
+    }
+
+    /// Puts a value in the place of that of a cell, and gives back the one before. No link is written.
+    pub fn replace(&mut self, id: CellId, value: T) -> T
+        requires { InUse self.old id }
+        ensures { (head : ℕ) (front : List (CellId × T)) (before : T) (back : List (CellId × T)) → StandsBetween self.old id head front before back → (result ≡ before) × (self.new ≡ with_list self.old head (front ++ (id, value) ∷ back)) }
+    {
+        self.values[id.cell()].replace(value).unwrap()
     }
 
     /// Moves the whole list of `from` before that of `to`.

@@ -14,8 +14,9 @@
 //! - `push_back` and `push_front` change the one list and `spare` and nothing else (`pushed`), and the new name stood nowhere
 //!   (`fresh`). `unlink` needs the name alone: from whichever list the cell stood in it takes that one cell, gives back its value,
 //!   and raises `spare` (`taken`). `splice_front` puts the one list in front of the other and leaves the first empty (`moved`).
-//!   Each adds at most six to `steps` (`cost`), whatever the lengths; none of them takes memory or can fail.
-//! - `first`, `next`, `prev` and `get` answer by the list: `None` exactly where there is none.
+//!   Each adds at most six to `steps` (`cost`), whatever the lengths; none of them takes memory or can fail. `replace` puts a value in
+//!   the place of that of a cell and writes no link.
+//! - `first`, `next`, `prev` and `get` answer by the list: `None` exactly where there is none. `cells` is at least `spare`.
 //!
 //! # What tests alone show
 //!

@@ -3,7 +3,7 @@ use Rattle.std.specs.Prelude.{ℕ, suc, ◌+◌, ℤ, pos, negsuc, Bool, not, Li
 use Rattle.std.specs.List.{insert}
 use Rattle.sorting.specs.call_products.Arguments.{has_none, sole, pair}
 use Rattle.sorting.specs.call_products.Elements.{elements_of}
-use Rattle.sorting.specs.call_products.Products.{plain, failed, wrong}
+use Rattle.sorting.specs.call_products.Products.{plain, failed, too_long, wrong}
 use Rattle.sorting.specs.call_products.declared.elements.ElementsResult.{ElementsResult}
 use Rattle.sorting.specs.call_products.declared.elements.ElementsResult.TheVariants as gathered
 use Rattle.sorting.specs.call_products.declared.product.Product.{Product}
@@ -25,7 +25,7 @@ use Rattle.py_values.specs.declared.builtin.TupleMethod.{TupleMethod}
 use Rattle.py_values.specs.declared.builtin.TupleMethod.TheVariants as tuple
 use Rattle.py_values.specs.declared.change.Change.{Change}
 use Rattle.py_values.specs.declared.change.Change.TheVariants as change
-use Rattle.py_values.specs.declared.class.ExcClass.TheVariants.{ValueError, MemoryError}
+use Rattle.py_values.specs.declared.class.ExcClass.TheVariants.{ValueError}
 use Rattle.py_values.specs.declared.end.Effect.TheVariants.{Give, New, Put, Fail}
 use Rattle.py_values.specs.declared.object.Obj.{Obj}
 use Rattle.py_values.specs.declared.object.Obj.TheVariants as obj
@@ -42,15 +42,12 @@ changed_list id c n = plain (Put id c val.None n)
 abbrev pub other_list : ObjId → List Value → ℕ → Product
 other_list id vs n = changed_list id (change.Whole (obj.List vs)) n
 
-abbrev pub too_long_list : ℕ → Product
-too_long_list n = failed MemoryError (codes "sequence too long") n
-
 abbrev pub not_found : ℕ → Product
 not_found n = failed ValueError (codes "value not found") n
 
 -- `append(v)`: costs nothing
 abbrev pub append_of : ObjId → List Value → Option Value → Product
-append_of id vs (Some v) = if nat_lt (length vs) most_elements then changed_list id (change.Push v) 0 else too_long_list 0
+append_of id vs (Some v) = if nat_lt (length vs) most_elements then changed_list id (change.Push v) 0 else too_long 0
 append_of id vs None = wrong (codes "append") 0
 
 -- `clear()`: costs nothing
@@ -73,7 +70,7 @@ abbrev pub extend_by : ObjId → List Value → ElementsResult → Product
 extend_by id vs (gathered.Elements e) =
     if has_room (length vs) (length e.values)
     then record { objects = e.objects; made = Put id (change.Whole (obj.List (vs ++ e.values))) val.None (length vs) }
-    else too_long_list (length vs)
+    else too_long (length vs)
 extend_by id vs (gathered.Refused r) = plain (Fail r (length vs))
 
 abbrev pub extend_of : List Obj → ObjId → List Value → Option Value → Product
@@ -83,7 +80,7 @@ extend_of heap id vs None = wrong (codes "extend") (length vs)
 -- `insert(i, v)`: before the place that a number names, which counts from the end where it is negative and is never outside
 abbrev pub insert_at : ObjId → List Value → Option ℤ → Value → Product
 insert_at id vs (Some z) v =
-    if nat_lt (length vs) most_elements then other_list id (insert vs (edge (length vs) z) v) (length vs) else too_long_list (length vs)
+    if nat_lt (length vs) most_elements then other_list id (insert vs (edge (length vs) z) v) (length vs) else too_long (length vs)
 insert_at id vs None v = wrong (codes "insert") (length vs)
 
 abbrev pub insert_of : ObjId → List Value → Option (Value × Value) → Product

@@ -6,7 +6,7 @@ ghost use Rattle.py_items.specs.Items as items;
 ghost use Rattle.list_methods.specs.Lists as lists;
 
 use call_products::elements::{Elements, ElementsResult, elements_of};
-use call_products::product::{Product, failed, plain, wrong};
+use call_products::product::{Product, failed, plain, too_long, wrong};
 use py_items::index::{place_of, value_at};
 use py_kinds::length::length_of;
 use py_values::change::Change;
@@ -32,17 +32,6 @@ fn other_list(alloc: Global, id: ObjId, items: Vec<Value>, cost: u64) -> Product
 {
     let list = Obj::List(Values::from_vec(items));
     changed_list(alloc, id, Change::Whole(list), cost)
-}
-
-fn too_long(alloc: Global, cost: usize) -> Result<Product, OutOfMemory>
-    ensures { IfOk result (λ p. p ≡ lists.too_long_list cost) }
-{
-    failed(
-        alloc,
-        ExcClass::MemoryError,
-        "sequence too long",
-        cost as u64,
-    )
 }
 
 /// A value more at a list's end.

@@ -9,6 +9,7 @@ use Rattle.link_cells.specs.Arena.{Arena, list_at_head, with_list, StandsBetween
 use Rattle.link_cells.proofs.Calls.{some_of}
 use Rattle.link_cells.proofs.Walks.{list_here, list_there}
 use Rattle.session_types.specs.Members.{IsMember}
+use Rattle.session_types.specs.Numbers.{joined}
 use Rattle.session_types.specs.Scopes.{rank, scope_count}
 use Rattle.session_types.specs.Live.{find, instance_by_number, without, instance_number, instance_numbers, down_order}
 use Rattle.session_types.specs.declared.instance.Instance.{Instance}
@@ -109,7 +110,7 @@ module _ (a : Arena (Instance ℕ)) (heads : List ℕ) (c : IsChains a heads) wh
     pick (Some x) q = map-In id_of x (merged a heads) (by_order-In x all (first_some d node all x q).0)
 
   -- what goes down
-  pub going_same : (which : Dying) (roots : List ℕ) (ids : List LiveId) → roots ≡ roots_of which all → ids ≡ going_below roots chains scope_count
+  pub going_same : (which : Dying) (roots : List ℕ) (ids : List LiveId) → roots ≡ joined (roots_of which all) [] → ids ≡ going_below roots chains scope_count
       → map id_order ids ≡ instance_numbers (down_order (dying which (map instance_of (merged a heads))))
   going_same which roots ids e f = ap (map id_order) (f ∙ ap (λ r. going_below r chains scope_count) e) ∙ down_numbers chains c.good which
 

@@ -5,10 +5,12 @@ use Rattle.std.proofs.lemmas.List.{append-nil, map-append, reverse-append}
 use Rattle.std.proofs.lemmas.List.Elements.{filter-append, filter_agree}
 use Rattle.std.specs.List.{filter, list_any}
 use Rattle.session_types.specs.Members.{IsMember}
+use Rattle.session_types.specs.Numbers.{among, joined}
 use Rattle.session_types.specs.Scopes.{rank, scope_count}
 use Rattle.session_types.specs.Live.{is_off, rests_on, of_scope, below_rank, down_order, instance_number, instance_numbers}
 use Rattle.session_types.specs.declared.instance.Instance.{Instance}
-use Rattle.session_types.proofs.Lists.{In-append, In-left, In-right, In-reverse}
+use Rattle.session_types.proofs.Lists.{In-among, In-append, In-left, In-list_any, In-right, In-reverse, among-In, list_any-In}
+use Rattle.session_types.proofs.Spans.{among_joined, same_truth}
 use Rattle.live_chains.specs.declared.id.LiveId.{LiveId}
 use Rattle.live_chains.specs.declared.dying.Dying.{Dying}
 use Rattle.live_chains.specs.declared.dying.Dying.TheVariants.{Dependents, NotOn}
@@ -142,6 +144,29 @@ or_false : (b : Bool) → (b || false) ≡ b
 or_false true = refl
 or_false false = refl
 
+-- of lists with the same numbers one holds of any of both
+any_same : (p : ℕ → Bool) (xs ys : List ℕ) → ((n : ℕ) → among n xs ≡ among n ys) → list_any p xs ≡ list_any p ys
+any_same p xs ys h = same_truth (list_any p xs) (list_any p ys) (λ g. here xs ys h g) (λ g. here ys xs (λ n. sym (h n)) g) where
+  here : (xs ys : List ℕ) → ((n : ℕ) → among n xs ≡ among n ys) → list_any p xs ≡ true → list_any p ys ≡ true
+  here xs ys h g = let m = list_any-In p xs g in In-list_any p m.0 ys (among-In m.0 ys (sym (h m.0) ∙ In-among m.0 xs m.1)) m.2
+
+-- it is one of these numbers, or depends on one
+rests_parts : (roots : List ℕ) (i : Instance ℕ) → (among i.order roots || list_any (λ n. among n i.bases) roots) ≡ rests_any roots i
+rests_parts [] i = refl
+rests_parts (r ∷ roots) i =
+    turned (eqb r i.order) (among i.order roots) (among r i.bases) (list_any (λ n. among n i.bases) roots) ∙ ap (λ (b : Bool). (eqb r i.order || among r i.bases) || b) (rests_parts roots i) where
+      turned : (a b c d : Bool) → ((a || b) || (c || d)) ≡ ((a || c) || (b || d))
+      turned true b c d = refl
+      turned false true true d = refl
+      turned false true false d = refl
+      turned false false c d = refl
+
+pub rests_itself : (roots : List ℕ) (i : Instance ℕ) → among i.order roots ≡ true → true ≡ rests_any roots i
+rests_itself roots i h = sym (ap (λ (b : Bool). b || list_any (λ n. among n i.bases) roots) h) ∙ rests_parts roots i
+
+pub rests_below : (roots : List ℕ) (i : Instance ℕ) (b : Bool) → among i.order roots ≡ false → b ≡ list_any (λ n. among n i.bases) roots → b ≡ rests_any roots i
+rests_below roots i b h e = e ∙ (sym (ap (λ (c : Bool). c || list_any (λ n. among n i.bases) roots) h) ∙ rests_parts roots i)
+
 -- what goes down is what rests on one of the roots
 pub roots_same : (which : Dying) (xs : List InstanceCell) (i : Instance ℕ) → rests_any (roots_of which xs) i ≡ dies which (map instance_of (by_order xs)) i
 roots_same (Dependents id) xs i = or_false (rests_on id.order i)
@@ -151,9 +176,11 @@ roots_same (NotOn chain) xs i =
     ∙ sym (any_map instance_of (λ (g : Instance ℕ). is_off chain.now g && rests_on g.order i) (by_order xs)))
 
 pub down_numbers : (chains : ℕ → List InstanceCell) → Good chains → (which : Dying)
-    → map id_order (going_below (roots_of which (chains_below chains scope_count)) chains scope_count) ≡ instance_numbers (down_order (dying which (map instance_of (by_order (chains_below chains scope_count)))))
+    → map id_order (going_below (joined (roots_of which (chains_below chains scope_count)) []) chains scope_count) ≡ instance_numbers (down_order (dying which (map instance_of (by_order (chains_below chains scope_count)))))
 down_numbers chains good which =
-    going_numbers chains good (roots_of which (chains_below chains scope_count)) (dies which (map instance_of (by_order (chains_below chains scope_count)))) (roots_same which (chains_below chains scope_count)) scope_count (omega arith)
+    let all = chains_below chains scope_count in
+    going_numbers chains good (joined (roots_of which all) []) (dies which (map instance_of (by_order all)))
+    (λ i. any_same (λ n. rests_on n i) (joined (roots_of which all) []) (roots_of which all) (λ n. among_joined n (roots_of which all) [] ∙ or_false (among n (roots_of which all))) ∙ roots_same which all i) scope_count (omega arith)
 
 -- each is live
 In-resting : (roots : List ℕ) (id : LiveId) (xs : List InstanceCell) → IsMember id (resting_ids roots xs) → (e : InstanceCell) × IsMember e xs × (id ≡ id_of e)

@@ -102,7 +102,7 @@ impl Chains {
         ensures once { IfOk result (λ ids. Apart id_order ids.items) }
     {
         let roots = roots_in(alloc, &self.cells, &self.heads, which)?;
-        let ids = going_in(alloc, &self.cells, &self.heads, roots.as_slice())?;
+        let ids = going_in(alloc, &self.cells, &self.heads, &roots)?;
         Ok(ids)
     }
 

@@ -2,6 +2,7 @@ ghost use Rattle.std.specs.Prelude.{◌≡◌, ◌≢◌, ℕ, ◌<◌, ◌≤�
 ghost use Rattle.std.specs.Option.{option_map};
 ghost use Rattle.link_cells.specs.Arena.{list_at_head};
 ghost use Rattle.live_chains.specs.Chained.{list_at, chain_at, chains_below, head_at, id_of, IsChain, IsChains, AreTaken};
+ghost use Rattle.session_types.specs.Numbers.{joined};
 ghost use Rattle.session_types.specs.Scopes.{scope_count};
 ghost use Rattle.live_chains.specs.Walked.{first_at, resting_ids, off_orders, roots_of, going_below};
 
@@ -10,7 +11,7 @@ use crate::id::LiveId;
 use crate::walks::{first_at, push_off_in, push_reversed, resting_in};
 use link_cells::Cells;
 use seq::OutOfMemory;
-use session_types::{DefId, Instance, SCOPE_COUNT};
+use session_types::{Bases, DefId, Instance, SCOPE_COUNT};
 use std::alloc::Global;
 
 /// A head for each scope, with an empty chain.
@@ -61,27 +62,22 @@ fn off_in(
     Ok(numbers)
 }
 
-fn one_number(alloc: Global, number: u64) -> Result<Vec<u64>, OutOfMemory>
-    ensures { IfOk result (λ v. v.items ≡ number ∷ []) }
-{
-    let mut numbers = Vec::new(alloc);
-    numbers.push(number)?;
-    Ok(numbers)
-}
-
 /// The numbers on which all that goes down rests.
 pub fn roots_in(
     alloc: Global,
     cells: &Cells<Instance>,
     heads: &[usize],
     which: &Dying<'_>,
-) -> Result<Vec<u64>, OutOfMemory>
+) -> Result<Bases, OutOfMemory>
     requires { IsChains cells.now heads.now }
-    ensures { IfOk result (λ v. v.items ≡ roots_of which.now (chains_below (chain_at cells.now heads.now) scope_count)) }
+    ensures { IfOk result (λ roots. roots ≡ joined (roots_of which.now (chains_below (chain_at cells.now heads.now) scope_count)) []) }
 {
     match which {
-        Dying::Dependents(id) => one_number(alloc, id.order()),
-        Dying::NotOn(chain) => off_in(alloc, cells, heads, chain),
+        Dying::Dependents(id) => Bases::from_numbers(alloc, &[id.order()]),
+        Dying::NotOn(chain) => {
+            let numbers = off_in(alloc, cells, heads, chain)?;
+            Bases::from_numbers(alloc, &numbers)
+        }
     }
 }
 
@@ -91,7 +87,7 @@ fn push_going(
     out: &mut Vec<LiveId>,
     cells: &Cells<Instance>,
     head: usize,
-    roots: &[u64],
+    roots: &Bases,
 ) -> Result<(), OutOfMemory>
     requires { IsChain cells.now head }
     ensures { OnOk result (out.new.items ≡ out.old.items ++ reverse (resting_ids roots.now (list_at cells.now head))) }
@@ -105,7 +101,7 @@ pub fn going_in(
     alloc: Global,
     cells: &Cells<Instance>,
     heads: &[usize],
-    roots: &[u64],
+    roots: &Bases,
 ) -> Result<Vec<LiveId>, OutOfMemory>
     requires { IsChains cells.now heads.now }
     ensures { IfOk result (λ ids. ids.items ≡ going_below roots.now (chain_at cells.now heads.now) scope_count) }

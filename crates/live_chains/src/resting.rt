@@ -11,12 +11,6 @@ pub fn is_at(instance: &Instance, def: DefId, node: u32) -> bool
     def.number() == instance.def.number() && node == instance.node
 }
 
-fn has_number(numbers: &[u64], number: u64) -> bool
-    ensures { result ≡ among number numbers.now }
-{
-    numbers.iter().any(|one| *one == number)
-}
-
 fn has_node(nodes: &[u32], node: u32) -> bool
     ensures { result ≡ among node nodes.now }
 {
@@ -27,7 +21,7 @@ fn has_node(nodes: &[u32], node: u32) -> bool
 pub fn rests_on(instance: &Instance, number: u64) -> bool
     ensures { result ≡ rests_on number instance.now }
 {
-    number == instance.order || has_number(instance.bases.items(), number)
+    number == instance.order || instance.bases.has(number)
 }
 
 /// Whether its node is none of these.

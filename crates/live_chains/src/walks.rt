@@ -4,10 +4,10 @@ ghost use Rattle.live_chains.specs.Chained.{list_at, id_of, IsChain};
 ghost use Rattle.live_chains.specs.Walked.{first_at, rests_any, resting_id, resting_ids, off_order, off_orders};
 
 use crate::id::LiveId;
-use crate::resting::{is_at, is_off, rests_on};
+use crate::resting::{is_at, is_off};
 use link_cells::{CellId, Cells};
 use seq::OutOfMemory;
-use session_types::{DefId, Instance};
+use session_types::{Bases, DefId, Instance};
 use std::alloc::Global;
 
 /// The first instance of this definition on this node in a chain.
@@ -27,10 +27,10 @@ pub fn first_at(cells: &Cells<Instance>, head: usize, def: DefId, node: u32) -> 
 }
 
 /// Whether it is the one of one of these numbers, or depends on one.
-fn rests_any(instance: &Instance, roots: &[u64]) -> bool
+fn rests_any(instance: &Instance, roots: &Bases) -> bool
     ensures { result ≡ rests_any roots.now instance.now }
 {
-    roots.iter().any(|root| rests_on(instance, *root))
+    roots.has(instance.order) || instance.bases.has_any(roots)
 }
 
 /// Appends the name of an instance that rests on one of these numbers.
@@ -38,7 +38,7 @@ fn push_resting(
     out: &mut Vec<LiveId>,
     cell: CellId,
     instance: &Instance,
-    roots: &[u64],
+    roots: &Bases,
 ) -> Result<(), OutOfMemory>
     ensures { OnOk result (out.new.items ≡ out.old.items ++ resting_id roots.now (cell, instance.now)) }
 {
@@ -53,7 +53,7 @@ pub fn resting_in(
     alloc: Global,
     cells: &Cells<Instance>,
     head: usize,
-    roots: &[u64],
+    roots: &Bases,
 ) -> Result<Vec<LiveId>, OutOfMemory>
     requires { IsChain cells.now head }
     ensures { IfOk result (λ ids. ids.items ≡ resting_ids roots.now (list_at cells.now head)) }

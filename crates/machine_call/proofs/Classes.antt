@@ -144,11 +144,11 @@ new_end v s heap (Continued t) = refl
 new_end v s heap (Raised e trace t) = refl
 
 -- what is open around a call does not change by an instance that waits
-around_new : (o : Origin) (m m1 : Machine) (v : Value) → m1.here ≡ m.here → m1.stack ≡ New v ∷ m.stack → around_by o m1 ≡ around_by o m
+around_new : (o : Origin) (m m1 : Machine) (v : Value) → m1.here ≡ m.here → m1.stack ≡ record m.stack { own = New v ∷ m.stack.own } → around_by o m1 ≡ around_by o m
 around_new origin.Code m m1 v here stack = rw (here, stack) refl
 around_new origin.Runner m m1 v here stack = rw stack refl
 
-pub new_ready : (o : Origin) (m m1 : Machine) (v : Value) → m1.here ≡ m.here → m1.stack ≡ New v ∷ m.stack → Ready o m → Ready o m1
+pub new_ready : (o : Origin) (m m1 : Machine) (v : Value) → m1.here ≡ m.here → m1.stack ≡ record m.stack { own = New v ∷ m.stack.own } → Ready o m → Ready o m1
 new_ready origin.Code m m1 v here stack ready = tt
 new_ready origin.Runner m m1 v here stack ready =
     rw (here, stack) (ready.0, λ h. ap (λ (k : CoreThen). λ (o : CoreOutcome). k (init_end v o)) (ready.1 h))
@@ -158,12 +158,12 @@ init_same : (init v w : Value) (heap heap1 : List Obj) (args : Arguments) (a a1 
 init_same init v w heap heap1 args a a1 s s1 k k1 same grown around state rest = rw (same, grown, around, state, rest) refl
 
 module _ (o : Origin) (m m1 : Machine) (v : Value) (x : Value × List Obj) where
-  rest_new : v ≡ x.0 → m1.here ≡ m.here → m1.stack ≡ New v ∷ m.stack → state_of m1 ≡ with_heap x.1 (state_of m) → (o : CoreOutcome)
+  rest_new : v ≡ x.0 → m1.here ≡ m.here → m1.stack ≡ record m.stack { own = New v ∷ m.stack.own } → state_of m1 ≡ with_heap x.1 (state_of m) → (o : CoreOutcome)
       → call_rest m (init_end x.0 o) ≡ call_rest m1 o
   rest_new e here stack is o = sym (ap (λ (s : CoreState). machine_rest m1 (call_end s o)) is ∙ rw (here, stack, e) (ap (machine_rest m) (new_end x.0 (state_of m) x.1 o)))
 
   -- an `__init__` is called over the new instance
-  pub init_begins : (init : Value) (args : Arguments) → v ≡ x.0 → m1.heap ≡ x.1 → m1.here ≡ m.here → m1.stack ≡ New v ∷ m.stack → state_of m1 ≡ with_heap x.1 (state_of m)
+  pub init_begins : (init : Value) (args : Arguments) → v ≡ x.0 → m1.heap ≡ x.1 → m1.here ≡ m.here → m1.stack ≡ record m.stack { own = New v ∷ m.stack.own } → state_of m1 ≡ with_heap x.1 (state_of m)
       → with_init init x args (around_by o m) (state_of m) (call_rest m) ≡ init_called entry init v (not_callable (kind_name m1.heap init)) args (around_by o m1) (state_of m1) (call_rest m1)
   init_begins init args e grown here stack is =
       init_same init x.0 v x.1 m1.heap args (around_by o m) (around_by o m1) (with_heap x.1 (state_of m)) (state_of m1) (λ (o : CoreOutcome). call_rest m (init_end x.0 o)) (call_rest m1)

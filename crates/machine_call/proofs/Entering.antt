@@ -44,19 +44,19 @@ body_begins b code scene s k k' is same = ap (λ (f : CoreBody). f scene s k) is
 pub code_enters : (m : Machine) (code : FunctionCode CoreFn) (names : List (List ℕ × Value)) (around : ℕ) (b : Rc CoreBlock Global) (c : CallerFrame)
     (fs fs1 fs2 : List Frame) (h : Location) (s : CoreState)
     → core_block_body [] b.value ≡ (entry code.code).body → c ≡ record { from = Some m.here; locals = m.locals; temps = m.temps }
-    → fs ≡ Flow (Block b 0 0) ∷ fs1 → fs1 ≡ Caller c ∷ fs2 → fs2 ≡ m.stack
+    → fs ≡ Flow (Block b 0 0) ∷ fs1 → fs1 ≡ Caller c ∷ fs2 → fs2 ≡ m.stack.own
     → h ≡ record { place = Function code; around = around; line = 0 } → s ≡ state names [] (world_of m)
     → after_stack fs h (Next s)
-    ≡ (entry code.code).body (scene_of entry code (record { trace = trace_of (site_now m); depth = around; handling = handled_exception m.stack })) (state names [] (world_of m)) (λ o. machine_rest m (call_end (state_of m) o))
+    ≡ (entry code.code).body (scene_of entry code (record { trace = trace_of (site_now m); depth = around; handling = handled_exception m.stack.own })) (state names [] (world_of m)) (λ o. machine_rest m (call_end (state_of m) o))
 code_enters m code names around b c fs fs1 fs2 h s is caller pushed below stack place begun =
     rw (pushed, below, stack, caller, place, begun)
-    (body_begins b code (scene_of entry code (record { trace = trace_of (site_now m); depth = around; handling = handled_exception m.stack })) (state names [] (world_of m)) _ _ is (caller_rest (state_of m) no_world (machine_rest m)))
+    (body_begins b code (scene_of entry code (record { trace = trace_of (site_now m); depth = around; handling = handled_exception m.stack.own })) (state names [] (world_of m)) _ _ is (caller_rest (state_of m) no_world (machine_rest m)))
 
 -- a function that the runner calls
 pub runner_enters : (m : Machine) (code : FunctionCode CoreFn) (names : List (List ℕ × Value)) (b : Rc CoreBlock Global) (c : CallerFrame)
     (fs fs1 fs2 : List Frame) (h : Location) (s : CoreState)
     → Ready Runner m → core_block_body [] b.value ≡ (entry code.code).body → c ≡ record { from = Some m.here; locals = m.locals; temps = m.temps }
-    → fs ≡ Flow (Block b 0 0) ∷ fs1 → fs1 ≡ Caller (record { from = None; locals = c.locals; temps = c.temps }) ∷ fs2 → fs2 ≡ m.stack
+    → fs ≡ Flow (Block b 0 0) ∷ fs1 → fs1 ≡ Caller (record { from = None; locals = c.locals; temps = c.temps }) ∷ fs2 → fs2 ≡ m.stack.own
     → h ≡ record { place = Function code; around = 0; line = 0 } → s ≡ state names [] (world_of m)
     → after_stack fs h (Next s)
     ≡ (entry code.code).body (scene_of entry code (around_by Runner m)) (state names [] (world_of m)) (λ o. machine_rest m (call_end (state_of m) o))

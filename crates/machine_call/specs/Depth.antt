@@ -21,7 +21,7 @@ depth_by origin.Runner m = 0
 -- the runner calls where nothing is handled, and where what follows is the same wherever the machine is
 abbrev pub Ready : Origin → Machine → Type 0
 Ready origin.Code m = Unit {0}
-Ready origin.Runner m = (handled_exception m.stack ≡ None) × ((h : Location) → after_stack m.stack h ≡ machine_rest m)
+Ready origin.Runner m = (handled_exception m.stack.own ≡ None) × ((h : Location) → after_stack m.stack.own h ≡ machine_rest m)
 
 -- a call of a function of the sources by its code, where that is there, with its local names or what is raised in their place
 abbrev pub code_called : Option (FunctionCode CoreFn) → Result Locals Raise → Raise → Around → CoreState → CoreThen → CoreRest

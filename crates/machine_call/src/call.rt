@@ -109,7 +109,7 @@ pub fn apply(m: &mut Machine, callee: Value, args: CallArguments) -> Result<Turn
 
 /// Goes on in the caller.
 pub fn take_caller(m: &mut Machine, caller: CallerFrame, end: End) -> NextAction
-    ensures next { todo result m.new ≡ on_caller caller (outcome end (state_of m.old)) (after_stack m.old.stack (here_from caller.from m.old.here)) }
+    ensures next { todo result m.new ≡ on_caller caller (outcome end (state_of m.old)) (after_stack m.old.stack.own (here_from caller.from m.old.here)) }
     ensures left { m.new.left ≡ m.old.left }
     ensures work { doing_work result ≡ 0 }
     ensures stack { m.new.stack ≡ m.old.stack }

@@ -68,7 +68,7 @@ fn enter_by_code(
     names: Locals,
     around: usize,
 ) -> Result<NextAction, OutOfMemory>
-    ensures next { IfOk result (λ d. todo d m.new ≡ (entry code.code).body (world.scene_of entry code (record { trace = trace_of (site_now m.old); depth = around; handling = handled_exception m.old.stack })) (state names [] (world_of m.old)) (λ o. machine_rest m.old (call_end (state_of m.old) o))) }
+    ensures next { IfOk result (λ d. todo d m.new ≡ (entry code.code).body (world.scene_of entry code (record { trace = trace_of (site_now m.old); depth = around; handling = handled_exception m.old.stack.own })) (state names [] (world_of m.old)) (λ o. machine_rest m.old (call_end (state_of m.old) o))) }
     ensures left { m.new.left ≡ m.old.left }
 {
     let body = code.body()?;

@@ -58,7 +58,7 @@ made_is (class.CoreClass' at name q body) ds base = rw (class.outs-CoreClass') r
 -- a class's body runs, behind which it goes to its decorators
 pub class_runs : (m : Machine) (c : CoreClass) (ds : Vec Value Global) (base : Option ObjId) (heap : List Obj) (o : Obj) (at : ℕ) (place : Place) (name : List ℕ) (b : CoreBlock) (fs : List Frame)
     → o ≡ source_class (out-CoreClass c).name (out-CoreClass c).at.line base (site_now m).scene → heap ≡ m.heap ++ o ∷ [] → at ≡ length m.heap
-    → place ≡ Class (path_in m.here.place) (out-CoreClass c).name (home_in m.here.place) at → b ≡ (out-CoreClass c).body.value → name ≡ (out-CoreClass c).name → fs ≡ Define (Body ds name at) ∷ m.stack
+    → place ≡ Class (path_in m.here.place) (out-CoreClass c).name (home_in m.here.place) at → b ≡ (out-CoreClass c).body.value → name ≡ (out-CoreClass c).name → fs ≡ Define (Body ds name at) ∷ m.stack.own
     → core_block_body [] b (scene_in place (depth_of m.here) (trace_of (site_of m.here (outer_of fs) (handled_exception fs))) (handled_exception fs)) (state [] [] (world_with_heap heap (world_of m)))
     (λ o. after_stack fs m.here (call_end (state m.locals m.temps.items (world_with_heap heap (world_of m))) o))
     ≡ core_class_made c ds.items base (site_now m) (state_of m) (machine_rest m)
@@ -67,7 +67,7 @@ class_runs m c ds base heap o at place name b fs object grown last there same na
     let heap' : List Obj = m.heap ++ source_class (out-CoreClass c).name (out-CoreClass c).at.line base p.scene ∷ [] in
     let go : CoreThen = λ o. on_value o (machine_rest m) (λ w r. define_as ds.items (out-CoreClass c).name (val.Ref (id_at (length m.heap))) p r (machine_rest m)) in
     rw (pushed, named, there, same, grown, object, last, made_is c ds.items base)
-    (ap (λ (k : CoreThen). core_block_body [] (out-CoreClass c).body.value (scene_in (Class (path_in m.here.place) (out-CoreClass c).name (home_in m.here.place) (length m.heap)) (depth_of m.here) (trace_of p) (handled_exception m.stack)) (state [] [] (world_with_heap heap' (world_of m))) k)
+    (ap (λ (k : CoreThen). core_block_body [] (out-CoreClass c).body.value (scene_in (Class (path_in m.here.place) (out-CoreClass c).name (home_in m.here.place) (length m.heap)) (depth_of m.here) (trace_of p) (handled_exception m.stack.own)) (state [] [] (world_with_heap heap' (world_of m))) k)
     (rest_same (state_of m) (world_with_heap heap' (world_of m)) go))
 
 -- by the value of its base

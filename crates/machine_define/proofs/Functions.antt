@@ -72,6 +72,6 @@ pub makes : (f g : CoreFn) (m : Machine) (codes : List (FunctionCode CoreFn)) (h
     → o ≡ function_object (out-CoreFn f).name (out-CoreFn f).at.line params (out-CoreFn f).yields at (site_now m).scene → at ≡ length m.codes.items
     → codes ≡ m.codes.items ++ code ∷ [] → heap ≡ m.heap ++ o ∷ [] → id ≡ length m.heap
     → define_as ds (out-CoreFn g).name (val.Ref (id_at id)) (site_now m)
-    (state m.locals m.temps.items (record { sources = m.sources.items; modules = m.modules.items; heap = heap; codes = codes; printed = m.printed.items; frozen = map frozen_of m.frozen.items; traces = m.traces })) (machine_rest m)
+    (state m.locals m.temps.items (record { sources = m.sources; modules = m.modules; heap = heap; codes = codes; printed = m.printed.items; frozen = map frozen_of m.stack.frozen; traces = m.traces })) (machine_rest m)
     ≡ fn_made f ds vs (site_now m) (state_of m) (machine_rest m)
 makes f g m codes heap code params o at id ds vs e e1 e2 e3 e4 e5 e6 e7 = rw (e, e7, e6, e5, e3, e2, e1, e4, made_is f ds vs) refl

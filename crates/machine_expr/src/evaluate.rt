@@ -349,7 +349,7 @@ pub fn descend_into(
     e: &Rc<CoreExpr>,
 ) -> Result<NextAction, OutOfMemory>
     ensures next { IfOk result (λ d. ends m.new.left (todo d m.new)
-        ≡ ends m.old.left (eval e.now.value (site_of m.old.here (outer_of (frame ∷ m.old.stack)) (handled_exception (frame ∷ m.old.stack))) (state_of m.old) (after_stack (frame ∷ m.old.stack) m.old.here))) }
+        ≡ ends m.old.left (eval e.now.value (site_of m.old.here (outer_of (frame ∷ m.old.stack.own)) (handled_exception (frame ∷ m.old.stack.own))) (state_of m.old) (after_stack (frame ∷ m.old.stack.own) m.old.here))) }
     ensures left { m.new.left ≤ m.old.left }
     ensures work { IfOk result (λ d. doing_work d + stack_work m.new < weight e.now.value + (frame_work frame + stack_work m.old)) }
 {

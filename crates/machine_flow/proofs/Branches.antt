@@ -1,5 +1,5 @@
 -- The branches of a choice from a place on.
-use Rattle.std.proofs.Common.{◌≡◌, ℕ, List, [], ◌∷◌, ap, refl, arith, ◌∙◌, ◌+◌, drop, get_or, length, ◌<◌, ◌≤◌}
+use Rattle.std.proofs.Common.{◌≡◌, ℕ, List, [], ◌∷◌, Option, ap, refl, arith, ◌∙◌, ◌+◌, drop, get_or, length, ◌<◌, ◌≤◌}
 use Rattle.std.proofs.Math.ListN.{drop_of_length-le}
 use Rattle.std.specs.List.{sum_by}
 use Rattle.std.proofs.lemmas.List.Sums.{sum_by-cons}
@@ -7,11 +7,14 @@ use Rattle.py_core.specs.Blocks.{stmts_in}
 use Rattle.py_core.specs.declared.stmt.CoreBlock.{CoreBlock}
 use Rattle.py_core.specs.declared.stmt.CoreBranch as branch
 use Rattle.py_core.specs.declared.stmt.CoreStmt.{CoreStmt}
+use Rattle.py_values.specs.declared.value.Value.{Value}
 use Rattle.machine_state.specs.py_world.Outcome.{Next}
-use Rattle.machine_state.specs.py_world.Site.{Scene}
+use Rattle.machine_state.specs.py_world.Site.{Scene, Site}
+use Rattle.machine_state.specs.py_world.Statements.{branches_on, choose}
+use Rattle.machine_state.specs.py_world.World.{state}
 use Rattle.machine_state.specs.core_meaning.Requests.{Layer}
 use Rattle.machine_state.specs.core_meaning.Statements.{core_block_body, block_from, choice, choices}
-use Rattle.machine_state.specs.Places.{CoreState, CoreThen}
+use Rattle.machine_state.specs.Places.{CoreState, CoreThen, ends}
 use Rattle.machine_state.specs.Work.{branch_work}
 use Rattle.machine_assign.proofs.machine_turns_lemmas.Lists.{drop_some}
 
@@ -32,3 +35,8 @@ block_ends ls b (st ∷ sts) scene s k h = absurd (omega arith)
 
 pub block_empty : (ls : List Layer) (b : CoreBlock) (scene : Scene) (s : CoreState) (k : CoreThen) → length (stmts_in b) ≡ 0 → core_block_body ls b scene s k ≡ k (Next s)
 block_empty ls b scene s k h = block_ends ls b (stmts_in b) scene s k h
+
+-- a choice begins with its first branch, and no temporary
+pub choice_starts : (n : ℕ) (ls : List Layer) (bs copied : List branch.CoreBranch) (other last : CoreBlock) (temps : List (Option Value)) (p : Site) (s : CoreState) (k : CoreThen) → copied ≡ bs → last ≡ other → temps ≡ []
+    → ends n (branches_on (choices ls (drop 0 copied)) (core_block_body ls last) p.scene (state s.locals temps s.world) k) ≡ ends n (choose (choices ls bs) (core_block_body ls other) p s k)
+choice_starts n ls bs copied other last temps p s k same alike none = rw (same, alike, none) refl

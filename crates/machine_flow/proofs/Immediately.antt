@@ -37,10 +37,10 @@ module _ (m : Machine) (e : Rc CoreExpr Global) (e' : CoreExpr) (rx : Option Imm
 -- a branch whose condition's value is there at once, on the branch's line
 pub branch_there : (m : Machine) (b : CoreBranch) (e' : CoreExpr) (rx : Option Immediate) (x : Immediate) (body : Rc CoreBlock Global) (rest : List CoreChoice) (other : CoreBody)
     → e' ≡ (out-CoreBranch b).condition.value → body.value ≡ (out-CoreBranch b).body.value → rx ≡ Some x → IfSome rx (λ d. IsImmediate (eval e') m.left d (record m { here = at_line (out-CoreBranch b).at.line m.here }))
-    → ends x.left (if_true (truth m.heap x.value) (core_block_body (layers_of m.stack) body.value (site_now m).scene (state_of m) (machine_rest m)) (branches_on rest other (site_now m).scene (state_of m) (machine_rest m)))
-    ≡ ends m.left (branches_on (choice (layers_of m.stack) b ∷ rest) other (site_now m).scene (state_of m) (machine_rest m))
+    → ends x.left (if_true (truth m.heap x.value) (core_block_body (layers_of m.stack.own) body.value (site_now m).scene (state_of m) (machine_rest m)) (branches_on rest other (site_now m).scene (state_of m) (machine_rest m)))
+    ≡ ends m.left (branches_on (choice (layers_of m.stack.own) b ∷ rest) other (site_now m).scene (state_of m) (machine_rest m))
 branch_there m b e' rx x body rest other condition same is h =
-    let ls = layers_of m.stack in
+    let ls = layers_of m.stack.own in
     let scene = (site_now m).scene in
     let line = (out-CoreBranch b).at.line in
     let i : IsImmediate (eval e') m.left x (record m { here = at_line line m.here }) = found (record m { here = at_line line m.here }) (eval e') m.left rx x is h in

@@ -28,7 +28,7 @@ pub fn begin_choice(
     branches: &Rc<Vec<CoreBranch>>,
     other: &Rc<CoreBlock>,
 ) -> Result<NextAction, OutOfMemory>
-    ensures next { IfOk result (λ d. ends m.new.left (todo d m.new) ≡ ends m.old.left (world.choose (meaning.choices (layers_of m.old.stack) branches.now.value.items) (meaning.core_block_body (layers_of m.old.stack) other.now.value) (site_now m.old) (state_of m.old) (machine_rest m.old))) }
+    ensures next { IfOk result (λ d. ends m.new.left (todo d m.new) ≡ ends m.old.left (world.choose (meaning.choices (layers_of m.old.stack.own) branches.now.value.items) (meaning.core_block_body (layers_of m.old.stack.own) other.now.value) (site_now m.old) (state_of m.old) (machine_rest m.old))) }
     ensures left { m.new.left ≤ m.old.left }
 {
     m.temps.clear();
@@ -43,7 +43,7 @@ fn next_branch(
     at: usize,
     other: Rc<CoreBlock>,
 ) -> Result<NextAction, OutOfMemory>
-    ensures next { IfOk result (λ d. ends m.new.left (todo d m.new) ≡ ends m.old.left (world.branches_on (choices (layers_of m.old.stack) (drop at branches.value.items)) (core_block_body (layers_of m.old.stack) other.value) (site_now m.old).scene (state_of m.old) (machine_rest m.old))) }
+    ensures next { IfOk result (λ d. ends m.new.left (todo d m.new) ≡ ends m.old.left (world.branches_on (choices (layers_of m.old.stack.own) (drop at branches.value.items)) (core_block_body (layers_of m.old.stack.own) other.value) (site_now m.old).scene (state_of m.old) (machine_rest m.old))) }
     ensures left { m.new.left ≤ m.old.left }
     ensures work { IfOk result (λ d. doing_work d + stack_work m.new ≤ sum_by branch_work (drop at branches.value.items) + block_work (stmts_in other.value) + stack_work m.old) }
 {
@@ -63,7 +63,7 @@ fn begin_branch(
     next: usize,
     other: Rc<CoreBlock>,
 ) -> Result<NextAction, OutOfMemory>
-    ensures next { IfOk result (λ d. ends m.new.left (todo d m.new) ≡ ends m.old.left (world.branches_on (choice (layers_of m.old.stack) branch.now ∷ choices (layers_of m.old.stack) (drop next branches.value.items)) (core_block_body (layers_of m.old.stack) other.value) (site_now m.old).scene (state_of m.old) (machine_rest m.old))) }
+    ensures next { IfOk result (λ d. ends m.new.left (todo d m.new) ≡ ends m.old.left (world.branches_on (choice (layers_of m.old.stack.own) branch.now ∷ choices (layers_of m.old.stack.own) (drop next branches.value.items)) (core_block_body (layers_of m.old.stack.own) other.value) (site_now m.old).scene (state_of m.old) (machine_rest m.old))) }
     ensures left { m.new.left ≤ m.old.left }
     ensures work { IfOk result (λ d. doing_work d + stack_work m.new ≤ branch_work branch.now + sum_by branch_work (drop next branches.value.items) + block_work (stmts_in other.value) + stack_work m.old) }
 {
@@ -94,7 +94,7 @@ fn choose(
     next: usize,
     other: Rc<CoreBlock>,
 ) -> Result<NextAction, OutOfMemory>
-    ensures next { IfOk result (λ d. todo d m.new ≡ if_true (truth m.old.heap v) (core_block_body (layers_of m.old.stack) body.value (site_now m.old).scene (state_of m.old) (machine_rest m.old)) (world.branches_on (choices (layers_of m.old.stack) (drop next branches.value.items)) (core_block_body (layers_of m.old.stack) other.value) (site_now m.old).scene (state_of m.old) (machine_rest m.old))) }
+    ensures next { IfOk result (λ d. todo d m.new ≡ if_true (truth m.old.heap v) (core_block_body (layers_of m.old.stack.own) body.value (site_now m.old).scene (state_of m.old) (machine_rest m.old)) (world.branches_on (choices (layers_of m.old.stack.own) (drop next branches.value.items)) (core_block_body (layers_of m.old.stack.own) other.value) (site_now m.old).scene (state_of m.old) (machine_rest m.old))) }
     ensures left { m.new.left ≡ m.old.left }
     ensures work { IfOk result (λ d. doing_work d + stack_work m.new ≤ block_work (stmts_in body.value) + sum_by branch_work (drop next branches.value.items) + block_work (stmts_in other.value) + 1 + stack_work m.old) }
 {
@@ -121,7 +121,7 @@ fn take_condition(
     other: Rc<CoreBlock>,
     v: Value,
 ) -> Result<NextAction, OutOfMemory>
-    ensures next { IfOk result (λ d. ends m.new.left (todo d m.new) ≡ ends m.old.left (if_true (truth m.old.heap v) (core_block_body (layers_of m.old.stack) body.value (site_now m.old).scene (state_of m.old) (machine_rest m.old)) (world.branches_on (choices (layers_of m.old.stack) (drop at branches.value.items)) (core_block_body (layers_of m.old.stack) other.value) (site_now m.old).scene (state_of m.old) (machine_rest m.old)))) }
+    ensures next { IfOk result (λ d. ends m.new.left (todo d m.new) ≡ ends m.old.left (if_true (truth m.old.heap v) (core_block_body (layers_of m.old.stack.own) body.value (site_now m.old).scene (state_of m.old) (machine_rest m.old)) (world.branches_on (choices (layers_of m.old.stack.own) (drop at branches.value.items)) (core_block_body (layers_of m.old.stack.own) other.value) (site_now m.old).scene (state_of m.old) (machine_rest m.old)))) }
     ensures left { m.new.left ≤ m.old.left }
     ensures work { IfOk result (λ d. doing_work d + stack_work m.new ≤ block_work (stmts_in body.value) + sum_by branch_work (drop at branches.value.items) + block_work (stmts_in other.value) + stack_work m.old) }
 {
@@ -140,7 +140,7 @@ pub fn take_branch(
     other: Rc<CoreBlock>,
     end: End,
 ) -> Result<TurnEnd, OutOfMemory>
-    ensures next { IfOk result (λ t. Follows t m.new m.old.left (on_flow (FlowFrame.Branch body branches at other 0) (layers_of m.old.stack) (site_now m.old) (outcome end (state_of m.old)) (machine_rest m.old))) }
+    ensures next { IfOk result (λ t. Follows t m.new m.old.left (on_flow (FlowFrame.Branch body branches at other 0) (layers_of m.old.stack.own) (site_now m.old) (outcome end (state_of m.old)) (machine_rest m.old))) }
     ensures work { IfOk result (λ t. Falls t m.new m.old.left (flow_work (FlowFrame.Branch body branches at other 0) + stack_work m.old)) }
 {
     match end {

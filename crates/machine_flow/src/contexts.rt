@@ -180,7 +180,7 @@ pub fn take_context(
     body: Rc<CoreBlock>,
     end: End,
 ) -> Result<TurnEnd, OutOfMemory>
-    ensures next { IfOk result (λ t. Follows t m.new m.old.left (on_flow (FlowFrame.Context name body) (layers_of m.old.stack) (site_now m.old) (outcome end (state_of m.old)) (machine_rest m.old))) }
+    ensures next { IfOk result (λ t. Follows t m.new m.old.left (on_flow (FlowFrame.Context name body) (layers_of m.old.stack.own) (site_now m.old) (outcome end (state_of m.old)) (machine_rest m.old))) }
     ensures work { IfOk result (λ t. Falls t m.new m.old.left (flow_work (FlowFrame.Context name body) + stack_work m.old)) }
 {
     match end {

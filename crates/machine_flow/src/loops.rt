@@ -98,7 +98,7 @@ pub fn take_test(
     body: Rc<CoreBlock>,
     end: End,
 ) -> Result<TurnEnd, OutOfMemory>
-    ensures next { IfOk result (λ t. Follows t m.new m.old.left (on_flow (FlowFrame.Test test body) (layers_of m.old.stack) (site_now m.old) (outcome end (state_of m.old)) (machine_rest m.old))) }
+    ensures next { IfOk result (λ t. Follows t m.new m.old.left (on_flow (FlowFrame.Test test body) (layers_of m.old.stack.own) (site_now m.old) (outcome end (state_of m.old)) (machine_rest m.old))) }
     ensures work { IfOk result (λ t. Falls t m.new m.old.left (flow_work (FlowFrame.Test test body) + stack_work m.old)) }
 {
     match end {
@@ -118,7 +118,7 @@ pub fn take_turn(
     body: Rc<CoreBlock>,
     end: End,
 ) -> Result<TurnEnd, OutOfMemory>
-    ensures next { IfOk result (λ t. Follows t m.new m.old.left (on_flow (FlowFrame.Turn test body 0) (layers_of m.old.stack) (site_now m.old) (outcome end (state_of m.old)) (machine_rest m.old))) }
+    ensures next { IfOk result (λ t. Follows t m.new m.old.left (on_flow (FlowFrame.Turn test body 0) (layers_of m.old.stack.own) (site_now m.old) (outcome end (state_of m.old)) (machine_rest m.old))) }
     ensures work { IfOk result (λ t. Falls t m.new m.old.left (flow_work (FlowFrame.Turn test body 0) + stack_work m.old)) }
 {
     match end {

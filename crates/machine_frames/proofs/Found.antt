@@ -1,51 +1,89 @@
 -- Frozen frames, as they are seen.
-use Rattle.std.proofs.Common.{◌≡◌, ◌∙◌, ◌≤◌, ◌<◌, ℕ, zero, suc, List, [], ◌∷◌, ◌++◌, map, length, get_or, Option, Some, None, refl, sym, ap, arith}
-use Rattle.std.specs.Prelude.{slice_get, slice_set}
-use Rattle.std.proofs.lemmas.List.{length-map, map-append, map-set, set_past}
+use Rattle.std.proofs.Common.{◌≡◌, ◌∙◌, ℕ, zero, suc, List, [], ◌∷◌, ◌++◌, map, length, get_or, set, Option, Some, None, true, refl, sym, subst, ap}
+use Rattle.std.specs.Prelude.{slice_get, is_some}
+use Rattle.std.proofs.lemmas.List.{length-map, map-append, map-set}
+use Rattle.frame_stacks.specs.Stacked.{frozen_at, is_there, ThawedFrom}
+use Rattle.run_tree.specs.Todo.{Done}
+use Rattle.py_values.specs.declared.value.Value.{Value}
+use Rattle.machine_state.specs.py_world.Outcome.{call_end}
 use Rattle.machine_state.specs.py_world.Resuming.{frame_at}
-use Rattle.machine_state.specs.declared.frozen.FrozenFrame.{FrozenFrame}
-use Rattle.machine_state.specs.Frames.{frozen_of, frozen_some}
-use Rattle.machine_frames.specs.Frozen.{FoundAt}
+use Rattle.machine_state.specs.py_world.Runs.{start}
+use Rattle.machine_state.specs.py_world.World.{state}
+use Rattle.machine_state.specs.core_meaning.Meaning.{CoreWorld}
+use Rattle.machine_state.specs.core_meaning.Statements.{remains}
+use Rattle.machine_state.specs.declared.frame.CallerFrame.{CallerFrame}
+use Rattle.machine_state.specs.declared.frame.Frame.{Frame}
+use Rattle.machine_state.specs.declared.frame.Frame.TheVariants as on
+use Rattle.machine_state.specs.declared.frozen.FrozenBody.{FrozenBody}
+use Rattle.machine_state.specs.Kept.{frames_kept, IsKept}
+use Rattle.machine_state.specs.Places.{CoreOutcome, site_of}
+use Rattle.machine_state.specs.Stacks.{FrozenFrame, StackView}
+use Rattle.machine_state.specs.Frames.{after_stack, frozen_of, layers_of}
+use Rattle.machine_state.proofs.Kept.{layers_kept}
+use Rattle.machine_frames.specs.Remaining.{frozen_in, CoreFrozen, Woken, WokenFrom}
+use Rattle.machine_frames.proofs.Going.{go_on}
 
 -- one more
-pub frozen_more : (fs : List (Option FrozenFrame)) (f : FrozenFrame) → map frozen_of (fs ++ Some f ∷ []) ≡ map frozen_of fs ++ Some (frozen_some f) ∷ []
-frozen_more fs f = map-append frozen_of fs (Some f ∷ [])
+pub frozen_more : (fs : List (Option FrozenFrame)) (own : List Frame) (body : FrozenBody)
+    → map frozen_of (fs ++ Some (record { stack = frames_kept body.here.line own; body = body }) ∷ []) ≡ map frozen_of fs ++ Some (record { rest = layers_of own; site = site_of body.here [] None; locals = body.locals }) ∷ []
+frozen_more fs own body =
+    map-append frozen_of fs (Some (record { stack = frames_kept body.here.line own; body = body }) ∷ [])
+    ∙ ap (λ ls. map frozen_of fs ++ Some (record { rest = ls; site = site_of body.here [] None; locals = body.locals }) ∷ []) (layers_kept body.here.line own)
 
 pub as_many : (fs : List (Option FrozenFrame)) → length (map frozen_of fs) ≡ length fs
 as_many fs = length-map fs frozen_of
 
 -- one that is given up
-pub let_here : (fs : List (Option FrozenFrame)) (n : ℕ) → map frozen_of (slice_set fs n None) ≡ slice_set (map frozen_of fs) n None
-let_here fs n = map-set frozen_of fs n None
+pub let_go : (fs : List (Option FrozenFrame)) (n : ℕ) → map frozen_of (set fs n None) ≡ set (map frozen_of fs) n None
+let_go fs n = map-set frozen_of fs n None
 
-pub let_past : (fs : List (Option FrozenFrame)) (n : ℕ) → length fs ≤ n → map frozen_of fs ≡ slice_set (map frozen_of fs) n None
-let_past fs n h = ap (map frozen_of) (sym (set_past fs n None h)) ∙ let_here fs n
+-- one that is looked for
+seen_at : (fs : List (Option FrozenFrame)) (n : ℕ) → frame_at (slice_get (map frozen_of fs) n) ≡ frozen_of (get_or fs n None)
+seen_at [] n = refl
+seen_at (f ∷ fs) zero = refl
+seen_at (f ∷ fs) (suc n) = seen_at fs n
 
--- one that is looked for: past the end there is none, and one that isn't out stays so
-pub none_past : (fs : List (Option FrozenFrame)) (n : ℕ) → length fs ≤ n → frame_at (slice_get (map frozen_of fs) n) ≡ None
-none_past [] n h = refl
-none_past (f ∷ fs) zero h = grind (arith, h)
-none_past (f ∷ fs) (suc n) h = none_past fs n (omega (arith, h))
+there_some : (f : Option FrozenFrame) → is_there f ≡ is_some (frozen_of f)
+there_some None = refl
+there_some (Some f) = refl
 
-found : (f : Option FrozenFrame) (fs : List (Option FrozenFrame)) (n : ℕ) → n < length fs → f ≡ get_or fs n f → frame_at (slice_get (map frozen_of fs) n) ≡ frozen_of f
-found f [] n w h = grind (arith, w)
-found f (g ∷ fs) zero w h = ap frozen_of (sym h)
-found f (g ∷ fs) (suc n) w h = found f fs n (omega (arith, w)) h
+pub is_there_out : (s : StackView) (n : ℕ) → is_there (frozen_at s n) ≡ is_some (frame_at (slice_get (frozen_in s) n))
+is_there_out s n = there_some (get_or s.frozen n None) ∙ sym (ap is_some (seen_at s.frozen n))
 
-pub some_found : (f : FrozenFrame) (fs : List (Option FrozenFrame)) (n : ℕ) → n < length fs → Some f ≡ get_or fs n (Some f) → frame_at (slice_get (map frozen_of fs) n) ≡ Some (frozen_some f)
-some_found f fs n w h = found (Some f) fs n w h
+-- one that goes on, over the end of a call by the runner
+woken_from : (old mid new : StackView) (n : ℕ) (c : CallerFrame) → mid ≡ record { own = on.Caller c ∷ []; frozen = old.frozen } → c.from ≡ None → c.locals ≡ [] → c.temps.items ≡ []
+    → (f : Option FrozenFrame) → frozen_at old n ≡ f → IsKept f → (result : Option FrozenBody) → ThawedFrom f result n mid new → Woken result n old new
+woken_from old mid new n c is from locals temps (Some f) at kept result t =
+    rw t.0
+    (record {
+      rest = layers_of f.stack;
+      out = seen_at old.frozen n ∙ ap frozen_of at;
+      gone = ap frozen_in t.1 ∙ ap (λ (s : StackView). map frozen_of (set s.frozen n None)) is ∙ let_go old.frozen n;
+      goes_on = go_on new.own f.stack f.body.here.line c (ap (λ (s : StackView). s.own) t.1 ∙ ap (λ (s : StackView). f.stack ++ s.own) is) kept from locals temps;
+    })
+woken_from old mid new n c is from locals temps None at kept result t = rw t.0 (seen_at old.frozen n ∙ ap frozen_of at)
 
-pub none_found : (fs : List (Option FrozenFrame)) (n : ℕ) → n < length fs → None ≡ get_or fs n None → frame_at (slice_get (map frozen_of fs) n) ≡ None
-none_found fs n w h = found None fs n w h
+pub woken : (old mid new : StackView) (n : ℕ) (c : CallerFrame) → mid ≡ record { own = on.Caller c ∷ []; frozen = old.frozen } → c.from ≡ None → c.locals ≡ [] → c.temps.items ≡ []
+    → (result : Option FrozenBody) → IsKept (frozen_at mid n) → ThawedFrom (frozen_at mid n) result n mid new → Woken result n old new
+woken old mid new n c is from locals temps result kept t = woken_from old mid new n c is from locals temps (frozen_at mid n) (sym (ap (λ (s : StackView). frozen_at s n) is)) kept result t
 
-pub none_stays : (fs : List (Option FrozenFrame)) (n : ℕ) → n < length fs → None ≡ get_or fs n None → map frozen_of (slice_set fs n None) ≡ map frozen_of fs
-none_stays [] n w h = refl
-none_stays (f ∷ fs) zero w h = λ i. frozen_of (h i) ∷ map frozen_of fs
-none_stays (f ∷ fs) (suc n) w h = ap (λ xs. frozen_of f ∷ xs) (none_stays fs n (omega (arith, w)) h)
+-- what is said of the one that is out
+pub woken_some : (r : Option FrozenBody) (n : ℕ) (old new : StackView) → Woken r n old new → is_some (frame_at (slice_get (frozen_in old) n)) ≡ true → is_some r ≡ true
+woken_some None n old new w out = sym (ap is_some w) ∙ out
+woken_some (Some b) n old new w out = refl
 
-pub found_at : (fs : List (Option FrozenFrame)) (n : ℕ) (x : Option FrozenFrame) → n < length fs → x ≡ get_or fs n x → FoundAt x n (map frozen_of fs) (map frozen_of (slice_set fs n None))
-found_at fs n (Some f) w h = (some_found f fs n w h, let_here fs n)
-found_at fs n None w h = (none_found fs n w h, none_stays fs n w h)
+pub woken_is : (r : Option FrozenBody) (b : FrozenBody) (n : ℕ) (old new : StackView) → r ≡ Some b → Woken r n old new → WokenFrom b n old new
+woken_is r b n old new e w = subst (λ (o : Option FrozenBody). Woken o n old new) e w
 
-pub none_at : (fs : List (Option FrozenFrame)) (n : ℕ) → length fs ≤ n → FoundAt None n (map frozen_of fs) (map frozen_of fs)
-none_at fs n h = (none_past fs n h, refl)
+some_same : {A : Type 0} {x y : A} → Some x ≡ Some y → x ≡ y
+some_same e = cc
+
+module _ (b : FrozenBody) (n : ℕ) (old new : StackView) (w : WokenFrom b n old new) (f : CoreFrozen) (out : frame_at (slice_get (frozen_in old) n) ≡ Some f) where
+  same : record { rest = w.rest; site = site_of b.here [] None; locals = b.locals } ≡ f
+  same = some_same (sym w.out ∙ out)
+
+  pub woken_state : (temps : List (Option Value)) → temps ≡ [] → (world : List (Option CoreFrozen) → CoreWorld) → state b.locals temps (world (frozen_in new)) ≡ state f.locals [] (world (set (frozen_in old) n None))
+  woken_state temps none world = λ i. state ((same i).locals) (none i) (world (w.gone i))
+
+  pub woken_rest : (o : CoreOutcome) (v : CoreWorld) → after_stack new.own b.here o ≡ remains f.rest f.site o (λ o. Done (call_end (start v) o))
+  woken_rest o v = w.goes_on b.here o v ∙ ap (λ (g : CoreFrozen). remains g.rest g.site o (λ o. Done (call_end (start v) o))) same

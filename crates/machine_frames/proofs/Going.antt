@@ -1,5 +1,5 @@
 -- What follows the frames that go on.
-use Rattle.std.proofs.Common.{◌≡◌, ◌∙◌, ℕ, List, [], ◌∷◌, ◌++◌, None, refl, ap, drop}
+use Rattle.std.proofs.Common.{◌≡◌, ◌∙◌, ℕ, List, [], ◌∷◌, ◌++◌, None, refl, sym, ap, drop}
 use mathlib.Core.Path.{fun_ext}
 use Rattle.std.specs.declared.alloc.Global.{Global}
 use Rattle.std.specs.declared.rc.Rc.{Rc}
@@ -31,7 +31,8 @@ use Rattle.machine_state.specs.declared.frame.UnwindFrame.{UnwindFrame}
 use Rattle.machine_state.specs.declared.frame.UnwindFrame.TheVariants as unwind
 use Rattle.machine_state.specs.Places.{CoreOutcome, CoreThen, no_world, scene_in, site_of}
 use Rattle.machine_state.specs.Frames.{after_stack, handled_exception, layers_flow, layers_in, layers_module, layers_of, layers_simple, layers_unwind, outer_of}
-use Rattle.machine_frames.specs.Remaining.{IsRemainder, flow_part, frames_kept, kept_in, module_part, part_of, simple_part, unwind_part}
+use Rattle.machine_state.specs.Kept.{flow_part, frames_kept, kept_in, module_part, part_of, simple_part, unwind_part}
+use Rattle.machine_frames.specs.Remaining.{IsRemainder}
 
 -- the end of a call by the runner, whatever the world is
 ends_so : (w : CoreWorld) (o : CoreOutcome) → call_end (state [] [] no_world) o ≡ call_end (start w) o
@@ -153,12 +154,7 @@ last_below at around line w c none locals temps = record {
 }
 
 -- THE FRAMES THAT GO ON, over that end
-go_on : (rest fs : List Frame) (line : ℕ) (c : CallerFrame) → rest ≡ frames_kept line fs ++ on.Caller c ∷ [] → c.from ≡ None → c.locals ≡ [] → c.temps.items ≡ [] → IsRemainder rest line fs
-go_on rest fs line c is none locals temps h o w =
-    rw is ((all_below h.place h.around line (λ o. Done (call_end (start w) o)) (on.Caller c ∷ []) (last_below h.place h.around line w c none locals temps) fs).goes h.line o)
-
--- as the code puts them there
-pub remains_so : (rest fs frames base bottom : List Frame) (line : ℕ) (c : CallerFrame) → rest ≡ frames ++ base → base ≡ on.Caller c ∷ bottom → bottom ≡ [] → frames ≡ frames_kept line fs
-    → c.from ≡ None → c.locals ≡ [] → c.temps.items ≡ [] → IsRemainder rest line fs
-remains_so rest fs frames base bottom line c put pushed empty are none locals temps =
-    go_on rest fs line c (put ∙ ap (λ xs. frames ++ xs) (pushed ∙ ap (λ xs. on.Caller c ∷ xs) empty) ∙ ap (λ xs. xs ++ on.Caller c ∷ []) are) none locals temps
+pub go_on : (own fs : List Frame) (line : ℕ) (c : CallerFrame) → own ≡ fs ++ on.Caller c ∷ [] → frames_kept line fs ≡ fs → c.from ≡ None → c.locals ≡ [] → c.temps.items ≡ [] → IsRemainder own line (layers_of fs)
+go_on own fs line c is kept none locals temps h o w =
+    ap (λ (xs : List Frame). after_stack xs h o) (is ∙ ap (λ (xs : List Frame). xs ++ on.Caller c ∷ []) (sym kept))
+    ∙ (all_below h.place h.around line (λ o. Done (call_end (start w) o)) (on.Caller c ∷ []) (last_below h.place h.around line w c none locals temps) fs).goes h.line o

@@ -1,3 +1,2 @@
-pub mod Kept
-pub mod Found
 pub mod Going
+pub mod Found

@@ -2,16 +2,16 @@
 //!
 //! # What it is for
 //!
-//! `freeze` keeps what remains of a body that has stopped, `take` takes it out again, and `wake` puts it into a machine in which nothing is
-//! open, over the end of a call by the runner. Of the frames of a body that has stopped those of its blocks alone go on (`remaining`): a
-//! body that stopped within a handler, or behind a part of a statement, goes on behind the statement, as the meaning says.
+//! `freeze` keeps what remains of a body that has stopped, `wake` takes it out again and puts it into a machine in which nothing is open,
+//! over the end of a call by the runner, and `abandon` gives it up. Of the frames of a body that has stopped those of its blocks alone are
+//! kept: a body that stopped within a handler, or behind a part of a statement, goes on behind the statement, as the meaning says.
 //!
 //! # What is proved
 //!
-//! - `freeze` and `take` are those of the meaning: the frame is the last of the world's, and its number is theirs (`number`, `world`); a
-//!   number gives the frame that is out under it, which isn't out any more.
+//! - `freeze`, `is_out` and `abandon` are those of the meaning: the frame is the last of the world's, and its number is theirs (`number`,
+//!   `world`); the frame of a number that is given up isn't out any more.
 //! - `wake`: what follows in the machine, whatever end it is given, is what the meaning says of what remains (`rest`), with the names that
-//!   were kept and no temporary (`state`), in the same world.
+//!   were kept and no temporary (`state`), in the world in which the frame isn't out any more.
 //!
 //! # What tests alone show
 //!
@@ -23,5 +23,5 @@
 #![tactic(auto)]
 
 pub mod frozen;
-mod remaining;
 pub mod wake;
+mod waking;

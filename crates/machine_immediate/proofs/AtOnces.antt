@@ -285,7 +285,7 @@ module _ (m : Machine) (here : Location) (names : Locals) (temps : List (Option 
 
 -- where the machine is
 there_now : (m : Machine) (part : CorePart) (left : ℕ) (d : Immediate) → HasValueIn part left d m m.here m.locals m.temps.items → IsImmediate part left d m
-there_now m part left d h = record { fewer = h.fewer; goes_on = λ k. h.goes_on (outer_of m.stack) (handled_exception m.stack) m.here.line k }
+there_now m part left d h = record { fewer = h.fewer; goes_on = λ k. h.goes_on (outer_of m.stack.own) (handled_exception m.stack.own) m.here.line k }
 
 pub now_of_there : (m : Machine) (e : CoreExpr) (left : ℕ) (is : Bool) (d : Immediate) → is ≡ true → OnTrue is (HasValueIn (eval e) left d m m.here m.locals m.temps.items) → IsImmediate (eval e) left d m
 now_of_there m e left is d sure h = there_now m (eval e) left d (when_true is sure h)

@@ -1,4 +1,4 @@
-pub mod Sources
+pub mod Lookups
 pub mod Texts
 pub mod Walking
 pub mod Waiting

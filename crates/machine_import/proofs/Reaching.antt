@@ -5,7 +5,7 @@ use Rattle.std.specs.declared.rc.Rc.{Rc}
 use Rattle.std.specs.declared.vec.Vec.{Vec}
 use Rattle.py_tree.specs.declared.stmt.Alias.{Alias}
 use Rattle.py_values.specs.declared.value.Value.{Value}
-use Rattle.machine_state.specs.py_world.Imports.{faulty, import_end, import_name, import_statement, modules_at, prefixes_behind}
+use Rattle.machine_state.specs.py_world.Imports.{faulty, import_each, import_end, import_from, import_name, import_statement, modules_at, prefixes_behind}
 use Rattle.machine_state.specs.py_world.Outcome.{on_value}
 use Rattle.machine_state.specs.py_world.Runs.{load_part}
 use Rattle.machine_state.specs.py_world.Site.{Site}
@@ -30,6 +30,11 @@ reached_as r r' d d' from last m is same h = subst (λ (x : List (List ℕ)). Re
 pub import_starts : (n : ℕ) (dotted copied seen : List (List ℕ)) (name : List ℕ) (alias : Option (List ℕ)) (p : Site) (s : CoreState) (k : CoreThen) → copied ≡ dotted → seen ≡ dotted → name ≡ import_name seen alias
     → ends n (import_statement core_body dotted alias p s k) ≡ ends n (modules_at core_body (drop 0 (prefixes_behind [] copied)) None p s k (λ v s. k (import_end v copied name p s)))
 import_starts n dotted copied seen name alias p s k same same1 is = rw (is, same, same1) refl
+
+-- so do names that are imported from a module
+pub names_start : (n : ℕ) (dotted copied : List (List ℕ)) (all copies : List Alias) (p : Site) (s : CoreState) (k : CoreThen) → copied ≡ dotted → copies ≡ all
+    → ends n (import_from core_body dotted all p s k) ≡ ends n (modules_at core_body (drop 0 (prefixes_behind [] copied)) None p s k (λ v s. import_each core_body v copied copies p s k))
+names_start n dotted copied all copies p s k same alike = rw (same, alike) refl
 
 imported_as : (t : Option TurnEnd) (old new : Machine) (u u' : CoreRest) (m : Option Value) (dotted : List (List ℕ)) (rest : List Alias) → u ≡ u' → Imported t old new u' m dotted rest → Imported t old new u m dotted rest
 imported_as None old new u u' m dotted rest e h = e ∙ h

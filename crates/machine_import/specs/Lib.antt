@@ -2,3 +2,4 @@ pub mod Dotted
 pub mod Walks
 pub mod Codes
 pub mod Names
+pub mod Lookups

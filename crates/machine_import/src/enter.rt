@@ -10,13 +10,12 @@ ghost use Rattle.machine_state.specs.Frames.{machine_rest, site_now, state_of, t
 ghost use Rattle.machine_import.specs.Codes.{IsCodeOf};
 
 use crate::faults::{no_source, source_error};
-use crate::paths::find;
 use machine_load::Load;
 use machine_load::begin::begin_by_code;
-use machine_load::load::{load_at, set_load};
 use machine_state::frame::End;
 use machine_state::machine::{Machine, NextAction, Origin};
-use machine_state::source::{SourceCode, SourceFile};
+use machine_state::source::SourceCode;
+use machine_state::sources::SourceTable;
 use machine_state::traces::copy_trace;
 use py_core::CoreBlock;
 use py_source::SourceFault;
@@ -41,10 +40,10 @@ fn known(m: &Machine, load: &Load) -> Result<NextAction, OutOfMemory>
 }
 
 /// The code of the source of a path.
-fn code_of(sources: &[SourceFile], path: &PyText) -> Result<Option<Rc<CoreBlock>>, OutOfMemory>
+fn code_of(sources: &SourceTable, path: &PyText) -> Result<Option<Rc<CoreBlock>>, OutOfMemory>
     ensures { IfOk result (λ b. IsCodeOf b (runs.coded (runs.source_at path.now sources.now))) }
 {
-    let Some(source) = find(sources, path) else {
+    let Some(source) = sources.find(path) else {
         return Ok(None);
     };
     match source.code() {
@@ -57,10 +56,10 @@ fn code_of(sources: &[SourceFile], path: &PyText) -> Result<Option<Rc<CoreBlock>
 }
 
 /// The fault of the source of a path.
-fn fault_of(sources: &[SourceFile], path: &PyText) -> Option<SourceFault>
+fn fault_of(sources: &SourceTable, path: &PyText) -> Option<SourceFault>
     ensures { result ≡ imports.fault_in (runs.source_at path.now sources.now) }
 {
-    match find(sources, path)?.code() {
+    match sources.find(path)?.code() {
         SourceCode::Code(_) => None,
         SourceCode::Fault(fault) => Some(*fault),
     }
@@ -75,7 +74,7 @@ fn fail_load(m: &mut Machine, path: PyText, fault: SourceFault) -> Result<NextAc
     let trace = m.trace(Origin::Code)?;
     let kept = copy_trace(m.alloc, &trace)?;
     let exc = throw(m.alloc, &mut m.heap, raise)?;
-    set_load(&mut m.modules, path, Load::Failed(exc, kept))?;
+    m.modules.put(path, Load::Failed(exc, kept))?;
     Ok(NextAction::Back(End::Raised(exc, trace)))
 }
 
@@ -98,7 +97,7 @@ pub fn enter_load(m: &mut Machine, path: PyText) -> Result<NextAction, OutOfMemo
     ensures next { IfOk result (λ d. todo d m.new ≡ runs.load_part core_body path (imports.faulty path) (site_now m.old) (state_of m.old) (machine_rest m.old)) }
     ensures left { m.new.left ≡ m.old.left }
 {
-    if let Some(load) = load_at(&m.modules, &path) {
+    if let Some(load) = m.modules.find(&path) {
         return known(m, load);
     }
     match code_of(&m.sources, &path)? {

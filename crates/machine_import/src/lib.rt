@@ -8,10 +8,9 @@
 //! # What is proved
 //!
 //! Each goes on with the run of the tree that the meaning has there, under the steps that are left (`next`), and takes no step (`left`,
-//! `work`). So each dotted name that a dotted name begins with is loaded before it, where a source is found by `find_module` of py_bind; a
-//! module is executed once, and one whose load has failed raises again what it has raised; a source with a fault raises its SyntaxError and
-//! has failed; a name that is imported is the module's own, or else the module of that name in it; `pytest` is the
-//! built-in module, which is never loaded.
+//! `work`). So each dotted name that a dotted name begins with is loaded before it, where there is a source of it; a module is executed
+//! once, and one whose load has failed raises again what it has raised; a source with a fault raises its SyntaxError and has failed; a name
+//! that is imported is the module's own, or else the module of that name in it; `pytest` is the built-in module, which is never loaded.
 //!
 //! # What tests alone show
 //!
@@ -19,7 +18,7 @@
 //!
 //! # What neither shows
 //!
-//! Time: each look for a module copies the paths of the sources.
+//! Time and memory.
 #![tactic(auto)]
 
 pub mod begin;

@@ -1,61 +1,110 @@
 // The sources that imports name.
 
-ghost use Rattle.std.specs.Prelude.{◌≡◌, ◌++◌, IfOk, OnOk, map, slice_get, string_bytes, encode_utf8_all, option_copied};
+ghost use Rattle.std.specs.Prelude.{◌≡◌, ◌++◌, IfOk, OnOk, [], codes};
+ghost use Rattle.std.specs.List.{flat_map};
+ghost use Rattle.std.specs.Option.{option_or};
+ghost use Rattle.py_bind.specs.Modules.{folder_of};
 ghost use Rattle.machine_state.specs.py_world.Imports as imports;
-ghost use Rattle.machine_state.specs.py_world.Runs.{source_at};
 ghost use Rattle.machine_state.specs.Places.{path_in};
+ghost use Rattle.machine_import.specs.Lookups.{Leads, path_letters, place_among, slashed_letters, slashed_part};
 
 use machine_state::machine::Machine;
-use machine_state::source::SourceFile;
-use machine_state::traces::copy_text;
-use py_bind::find_module;
+use machine_state::sources::know_text;
 use py_core::SrcText;
+use py_values::end::push_ascii;
 use seq::{OutOfMemory, PyText};
 use std::alloc::Global;
 
-fn push_encoded(out: &mut String, chars: &[char]) -> Result<(), OutOfMemory>
-    ensures { OnOk result (string_bytes out.new ≡ string_bytes out.old ++ encode_utf8_all chars.now) }
+/// Puts names behind others, with a `/` before each.
+fn push_slashed(out: &mut Vec<char>, names: &[SrcText]) -> Result<(), OutOfMemory>
+    ensures { OnOk result (out.new.items ≡ out.old.items ++ flat_map slashed_part names.now) }
 {
-    for c in chars {
-        out.push(*c)?;
+    for name in names {
+        push_ascii(out, "/")?;
+        out.extend_from_slice(name.chars())?;
     }
     Ok(())
 }
 
-/// The UTF-8 text of characters.
-fn encoded(alloc: Global, chars: &[char]) -> Result<String, OutOfMemory>
-    ensures { IfOk result (λ t. string_bytes t ≡ encode_utf8_all chars.now) }
+/// Puts a dotted name behind what is there, with `/` for its dots.
+#[tactic(auto, using(crate::proofs::Lookups::slashed_cut, crate::proofs::Lookups::slashed_none))]
+fn push_dotted(out: &mut Vec<char>, dotted: &[SrcText]) -> Result<(), OutOfMemory>
+    ensures { OnOk result (out.new.items ≡ out.old.items ++ slashed_letters dotted.now) }
 {
-    let mut text = String::new(alloc);
-    push_encoded(&mut text, chars)?;
-    Ok(text)
-}
-
-/// The paths of sources, in UTF-8.
-#[tactic(auto, using(crate::proofs::Sources::paths_more, crate::proofs::Sources::paths_all))]
-fn paths_of(alloc: Global, sources: &[SourceFile]) -> Result<Vec<String>, OutOfMemory>
-    ensures { IfOk result (λ paths. map string_bytes paths.items ≡ map encode_utf8_all (imports.source_paths sources.now)) }
-{
-    let mut paths = Vec::new(alloc);
-    for source in sources {
-        let path = encoded(alloc, source.path().chars())?;
-        paths.push(path)?;
-    }
-    Ok(paths)
-}
-
-/// The path of the source at a place.
-#[tactic(auto, using(crate::proofs::Sources::path_there, crate::proofs::Sources::path_missing))]
-fn path_at(alloc: Global, sources: &[SourceFile], at: usize) -> Result<Option<PyText>, OutOfMemory>
-    ensures { IfOk result (λ path. path ≡ slice_get (imports.source_paths sources.now) at) }
-{
-    match sources.get(at) {
-        Some(source) => {
-            let path = copy_text(alloc, source.path())?;
-            Ok(Some(path))
+    match dotted {
+        [first, others @ ..] => {
+            out.extend_from_slice(first.chars())?;
+            push_slashed(out, others)
         }
-        None => Ok(None),
+        [] => Ok(()),
     }
+}
+
+/// The path of a dotted name in a folder, with this end.
+fn path_letters(
+    alloc: Global,
+    folder: &[char],
+    dotted: &[SrcText],
+    end: &str,
+) -> Result<PyText, OutOfMemory>
+    ensures { IfOk result (λ path. path ≡ path_letters folder.now dotted.now end.now) }
+{
+    let mut path = Vec::new(alloc);
+    path.extend_from_slice(folder)?;
+    push_dotted(&mut path, dotted)?;
+    push_ascii(&mut path, end)?;
+    PyText::from_chars(alloc, &path)
+}
+
+/// The path of a dotted name in a folder, with this end, where there is a source of it.
+fn path_with(
+    m: &Machine,
+    folder: &[char],
+    dotted: &[SrcText],
+    end: &str,
+) -> Result<Option<PyText>, OutOfMemory>
+    ensures { IfOk result (λ path. Leads m.now.sources (place_among m.now.sources (path_letters folder.now dotted.now end.now)) path) }
+{
+    let path = path_letters(m.alloc, folder, dotted, end)?;
+    know_text(path.chars());
+    m.sources.know_paths();
+    match m.sources.find(&path) {
+        Some(_) => Ok(Some(path)),
+        None => {
+            drop(path);
+            Ok(None)
+        }
+    }
+}
+
+/// The path of a dotted name in a folder: that of the package, or else that of the module.
+#[tactic(auto, using(crate::proofs::Lookups::leads_first, crate::proofs::Lookups::leads_second))]
+fn path_within(
+    m: &Machine,
+    folder: &[char],
+    dotted: &[SrcText],
+) -> Result<Option<PyText>, OutOfMemory>
+    ensures { IfOk result (λ path. Leads m.now.sources
+        (option_or (place_among m.now.sources (path_letters folder.now dotted.now (codes "/__init__.py"))) (place_among m.now.sources (path_letters folder.now dotted.now (codes ".py")))) path) }
+{
+    match path_with(m, folder, dotted, "/__init__.py")? {
+        Some(path) => Ok(Some(path)),
+        None => path_with(m, folder, dotted, ".py"),
+    }
+}
+
+/// The folder of a file, with the `/` behind it.
+fn folder_of(path: &[char]) -> &[char]
+    ensures { result.now ≡ folder_of path.now }
+{
+    let mut rest = path;
+    while let Some((last, front)) = rest.split_last() {
+        if *last == '/' {
+            return rest;
+        }
+        rest = front;
+    }
+    rest
 }
 
 /// Whether a dotted name is that of the built-in module.
@@ -71,25 +120,12 @@ pub fn is_pytest(dotted: &[SrcText]) -> bool
 
 /// The path that an import names here: that of a package or of a module (Language Reference, the import system).
 pub fn import_path(m: &Machine, dotted: &[SrcText]) -> Result<Option<PyText>, OutOfMemory>
-    ensures { IfOk result (λ path. path ≡ imports.import_path (imports.source_paths m.now.sources.items) (path_in m.now.here.place) dotted.now) }
+    ensures { IfOk result (λ path. path ≡ imports.import_path (imports.source_paths m.now.sources) (path_in m.now.here.place) dotted.now) }
 {
-    let paths = paths_of(m.alloc, &m.sources)?;
-    let importer = encoded(m.alloc, m.here.path().chars())?;
-    match find_module(&paths, importer.as_str(), dotted) {
-        Some(at) => path_at(m.alloc, &m.sources, at),
-        None => Ok(None),
+    let folder = folder_of(m.here.path().chars());
+    let first = path_within(m, folder, dotted)?;
+    match first {
+        Some(path) => Ok(Some(path)),
+        None => path_within(m, &[], dotted),
     }
-}
-
-/// The source of a path.
-#[tactic(auto, using(crate::proofs::Sources::source_on, crate::proofs::Sources::source_here, crate::proofs::Sources::source_none))]
-pub fn find<'a>(sources: &'a [SourceFile], path: &PyText) -> Option<&'a SourceFile>
-    ensures { option_copied result ≡ source_at path.now sources.now }
-{
-    for source in sources {
-        if path.chars() == source.path().chars() {
-            return Some(source);
-        }
-    }
-    None
 }

@@ -27,7 +27,7 @@ pub struct NextModule {
 
 /// The path of the source of a dotted name; the built-in module has none.
 fn source_path(m: &Machine, dotted: &[SrcText]) -> Result<Option<PyText>, OutOfMemory>
-    ensures { IfOk result (λ path. path ≡ source_path (source_paths m.now.sources.items) (path_in m.now.here.place) dotted.now) }
+    ensures { IfOk result (λ path. path ≡ source_path (source_paths m.now.sources) (path_in m.now.here.place) dotted.now) }
 {
     if is_pytest(dotted) {
         return Ok(None);
@@ -42,7 +42,7 @@ fn next_found(
     dotted: &[SrcText],
     from: usize,
 ) -> Result<Option<NextModule>, OutOfMemory>
-    ensures { IfOk result (λ f. f ≡ found_from (source_paths m.now.sources.items) (path_in m.now.here.place) from (drop from (prefixes_behind [] dotted.now))) }
+    ensures { IfOk result (λ f. f ≡ found_from (source_paths m.now.sources) (path_in m.now.here.place) from (drop from (prefixes_behind [] dotted.now))) }
 {
     for at in from..dotted.len() {
         if let Some(path) = source_path(m, &dotted[..at + 1])? {

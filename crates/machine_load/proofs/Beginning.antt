@@ -65,7 +65,7 @@ behind_load path id s w k = λ i o. k (call_end_same s w (module_end path id o) 
 -- a load that the code makes
 pub code_begins : (m : Machine) (path shown : List ℕ) (body : Rc CoreBlock Global) (c : CallerFrame) (fs fs1 fs2 fs3 : List Frame) (h : Location) (locals : List (List ℕ × Value)) (temps : Temps) (w1 : CoreWorld) (around id : ℕ)
     → c ≡ record { from = Some m.here; locals = m.locals; temps = m.temps }
-    → fs ≡ on.Flow (Block body 0 0) ∷ fs1 → fs1 ≡ on.Module (loads.Load path id) ∷ fs2 → fs2 ≡ on.Caller c ∷ fs3 → fs3 ≡ m.stack
+    → fs ≡ on.Flow (Block body 0 0) ∷ fs1 → fs1 ≡ on.Module (loads.Load path id) ∷ fs2 → fs2 ≡ on.Caller c ∷ fs3 → fs3 ≡ m.stack.own
     → h ≡ record { place = Module shown id; around = around; line = 0 } → around ≡ depth_of m.here → locals ≡ [] → temps ≡ [] → w1 ≡ with_module path (world_of m) → id ≡ module_place path (world_of m) → shown ≡ path
     → after_stack fs h (Next (state locals temps w1))
     ≡ load_tree path body.value (around_of (site_now m)) (world_of m) (λ o. machine_rest m (call_end (state_of m) o))

@@ -1,3 +1,1 @@
-pub mod Loading
-pub mod Found
 pub mod Beginning

@@ -9,7 +9,6 @@ ghost use Rattle.py_world.specs.Site.{around_of, no_call};
 ghost use Rattle.machine_state.specs.core_meaning.Statements.{core_block_body};
 ghost use Rattle.machine_state.specs.Frames.{machine_rest, site_now, state_of, todo, world_of};
 
-use crate::load::set_load;
 use machine_state::frame::{CallerFrame, End, FlowFrame, Frame, ModuleFrame};
 use machine_state::locals::Locals;
 use machine_state::machine::{Machine, NextAction};
@@ -51,13 +50,13 @@ fn make_module(m: &mut Machine, path: &PyText) -> Result<ObjId, OutOfMemory>
     let object = module_object(m.alloc, path, named)?;
     let running = copy_text(m.alloc, path)?;
     let id = m.heap.add(object)?;
-    set_load(&mut m.modules, running, Load::Running(id))?;
+    m.modules.put(running, Load::Running(id))?;
     Ok(id)
 }
 
 /// Puts a module in place whose load the runner begins, where nothing is open and no name is bound.
 pub fn begin_load(m: &mut Machine, path: PyText, body: Rc<CoreBlock>) -> Result<(), OutOfMemory>
-    requires stack { m.old.stack ≡ [] }
+    requires stack { m.old.stack.own ≡ [] }
     requires locals { m.old.locals ≡ [] }
     requires temps { m.old.temps.items ≡ [] }
     ensures next { OnOk result (todo (NextAction.Back End.Next) m.new

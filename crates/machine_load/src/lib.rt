@@ -1,13 +1,12 @@
-//! The loads of modules in the machine: how far each is, how one begins, and how it ends.
+//! The loads of modules in the machine: how one begins, and how it ends.
 //!
 //! # What it is for
 //!
-//! `load_at` looks up how far the load of a path is, and `set_load` puts it in place. `begin_load` begins a module's body for the runner,
-//! `begin_by_code` for the code that runs; `take_load` puts how its load has ended in place.
+//! `begin_load` begins a module's body for the runner, `begin_by_code` for the code that runs; `take_load` puts how its load has ended in
+//! place.
 //!
 //! # What is proved
 //!
-//! - `load_at` and `set_load` are `load_at` and `with_load` of the meaning, one entry a path.
 //! - `begin_load` and `begin_by_code` go on with the module's body in its own scene, without names or temporaries, and then with the end of
 //!   its load (`next`): the text of its name and its object stand in the heap, and its load runs. Behind a load that the code makes its names,
 //!   its temporaries and its place are there again.

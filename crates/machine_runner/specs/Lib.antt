@@ -1,4 +1,4 @@
+pub use Rattle.machine_state.specs.Lines
 pub mod Begun
 pub mod Looking
-pub mod Lines
 pub mod Openings

@@ -3,8 +3,8 @@
 //! # What it is for
 //!
 //! `misfit` tells whether the arguments of a call by the runner fit (`find_misfit`), and clears the machine for one (`reset`); `openings`
-//! tells what begins where the runner begins a value; `sources` and `lines` find a source by its path and a line of it; `loads` tells
-//! of a module that was loaded before, and `end` what is told of a run's end.
+//! tells what begins where the runner begins a value; `loads` tells of a module that was loaded before,
+//! and `end` what is told of a run's end.
 //!
 //! # What is proved
 //!
@@ -12,7 +12,7 @@
 //! - `reset`: nothing is open, no name is bound, and the world is the same (`state`, `world`).
 //! - `refuse`, `told`, `told_load`: what is told is what the meaning tells. `out_of_steps`: the modules that were running have raised
 //!   `StepLimit`, and have failed.
-//! - `find`: the source of a path; `body_of`: its code; `source_line`: the line of this number, without its end.
+//! - `body_of`: the code of the source of a path.
 //!
 //! # What tests alone show
 //!
@@ -20,11 +20,10 @@
 //!
 //! # What neither shows
 //!
-//! Time: each look for a source goes through those before it.
+//! Time and memory.
 #![tactic(auto)]
 
 pub mod end;
-pub mod lines;
 pub mod loads;
 pub mod misfit;
 pub mod openings;

@@ -6,10 +6,10 @@ ghost use Rattle.lower_law.specs.core_meaning.Meaning.{core};
 ghost use Rattle.machine_state.specs.Frames.{world_of};
 ghost use Rattle.machine_runner.specs.Looking.{IsBody};
 
-use crate::sources::find;
 use machine_load::{Ended, Load, Outcome, Thrown};
 use machine_state::machine::Machine;
-use machine_state::source::{SourceCode, SourceFile};
+use machine_state::source::SourceCode;
+use machine_state::sources::SourceTable;
 use machine_state::traces::copy_trace;
 use py_core::CoreBlock;
 use py_values::value::Value;
@@ -32,10 +32,10 @@ pub fn told_load(m: &Machine, load: &Load) -> Result<Ended, OutOfMemory>
 }
 
 /// The code of a source.
-pub fn body_of(sources: &[SourceFile], path: &str) -> Result<Option<Rc<CoreBlock>>, OutOfMemory>
+pub fn body_of(sources: &SourceTable, path: &str) -> Result<Option<Rc<CoreBlock>>, OutOfMemory>
     ensures { IfOk result (λ b. IsBody b (runs.coded (runs.source_at (chars path.now) sources.now))) }
 {
-    let Some(source) = find(sources, path) else {
+    let Some(source) = sources.find_text(path) else {
         return Ok(None);
     };
     match source.code() {

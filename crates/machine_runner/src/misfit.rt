@@ -15,7 +15,6 @@ use machine_load::{Ended, Outcome, Thrown, Trace, TraceFrame};
 use machine_state::arguments::CallArguments;
 use machine_state::locals::Locals;
 use machine_state::machine::Machine;
-use machine_state::stack::ControlStack;
 use machine_state::traces::copy_text;
 use py_values::end::Raise;
 use py_values::object::{FunctionObj, MethodObj, Obj};
@@ -172,10 +171,10 @@ pub fn reset(m: &mut Machine, budget: u64)
     ensures world { world_of m.new ≡ world_of m.old }
     ensures locals { m.new.locals ≡ [] }
     ensures temps { m.new.temps.items ≡ [] }
-    ensures stack { m.new.stack ≡ [] }
+    ensures stack { m.new.stack.own ≡ [] }
     ensures left { m.new.left ≡ budget }
 {
-    m.stack = ControlStack::new(m.alloc);
+    m.stack.clear();
     m.locals = Locals::new(m.alloc);
     m.temps = Vec::new(m.alloc);
     m.left = budget;

@@ -89,7 +89,7 @@ fn begin_yield(
     e: &Option<Rc<CoreExpr>>,
     given: &Rc<CoreUse>,
 ) -> Result<NextAction, OutOfMemory>
-    ensures next { IfOk result (λ d. todo d m.new ≡ world.yield_value (meaning.some_part e.now) (Receives given.now.value ∷ layers_of m.old.stack) (site_now m.old) (state_of m.old) (machine_rest m.old)) }
+    ensures next { IfOk result (λ d. todo d m.new ≡ world.yield_value (meaning.some_part e.now) (Receives given.now.value ∷ layers_of m.old.stack.own) (site_now m.old) (state_of m.old) (machine_rest m.old)) }
     ensures left { m.new.left ≡ m.old.left }
 {
     let given = given.clone()?;
@@ -142,7 +142,7 @@ pub fn is_simple(kind: &CoreStmtKind) -> bool
 /// Begins a simple statement whose step is taken.
 pub fn begin_simple(m: &mut Machine, kind: &CoreStmtKind) -> Result<NextAction, OutOfMemory>
     requires { kinds.is_simple kind.now ≡ true }
-    ensures next { IfOk result (λ d. ends m.new.left (todo d m.new) ≡ ends m.old.left (meaning.core_statement_at (layers_of m.old.stack) kind.now (site_now m.old) (state_of m.old) (machine_rest m.old))) }
+    ensures next { IfOk result (λ d. ends m.new.left (todo d m.new) ≡ ends m.old.left (meaning.core_statement_at (layers_of m.old.stack.own) kind.now (site_now m.old) (state_of m.old) (machine_rest m.old))) }
     ensures left { m.new.left ≤ m.old.left }
 {
     match kind {

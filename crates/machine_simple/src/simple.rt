@@ -48,7 +48,7 @@ pub fn store_next(
 
 /// Stops the body with a value.
 pub fn stop(m: &mut Machine, given: Rc<CoreUse>, v: Value) -> Result<NextAction, OutOfMemory>
-    ensures next { IfOk result (λ d. todo d m.new ≡ Freeze (paused v (Receives given.value ∷ layers_of m.old.stack) (site_now m.old) (state_of m.old))) }
+    ensures next { IfOk result (λ d. todo d m.new ≡ Freeze (paused v (Receives given.value ∷ layers_of m.old.stack.own) (site_now m.old) (state_of m.old))) }
     ensures left { m.new.left ≡ m.old.left }
     ensures work { IfOk result (λ d. doing_work d + stack_work m.new ≡ use_work given.value + stack_work m.old) }
 {
@@ -75,7 +75,7 @@ pub fn receive(m: &mut Machine, given: &CoreUse, v: Value) -> Result<NextAction,
 
 /// Goes on with a value.
 fn take_value(m: &mut Machine, frame: SimpleFrame, v: Value) -> Result<TurnEnd, OutOfMemory>
-    ensures next { IfOk result (λ t. Follows t m.new m.old.left (on_simple frame (layers_of m.old.stack) (site_now m.old) (Gave v (state_of m.old)) (machine_rest m.old))) }
+    ensures next { IfOk result (λ t. Follows t m.new m.old.left (on_simple frame (layers_of m.old.stack.own) (site_now m.old) (Gave v (state_of m.old)) (machine_rest m.old))) }
     ensures work { IfOk result (λ t. Falls t m.new m.old.left (simple_work frame + stack_work m.old)) }
 {
     match frame {
@@ -99,7 +99,7 @@ fn take_value(m: &mut Machine, frame: SimpleFrame, v: Value) -> Result<TurnEnd, 
 
 /// Goes on behind a statement that is over.
 fn take_next(m: &mut Machine, frame: SimpleFrame) -> Result<TurnEnd, OutOfMemory>
-    ensures next { IfOk result (λ t. Follows t m.new m.old.left (on_simple frame (layers_of m.old.stack) (site_now m.old) (Next (state_of m.old)) (machine_rest m.old))) }
+    ensures next { IfOk result (λ t. Follows t m.new m.old.left (on_simple frame (layers_of m.old.stack.own) (site_now m.old) (Next (state_of m.old)) (machine_rest m.old))) }
     ensures work { IfOk result (λ t. Falls t m.new m.old.left (simple_work frame + stack_work m.old)) }
 {
     match frame {
@@ -111,7 +111,7 @@ fn take_next(m: &mut Machine, frame: SimpleFrame) -> Result<TurnEnd, OutOfMemory
 /// Goes on behind a part of a simple statement, on its line.
 #[tactic(auto, using(crate::proofs::Passing::simple_returned, crate::proofs::Passing::simple_broke, crate::proofs::Passing::simple_continued, crate::proofs::Passing::simple_raised))]
 fn take_part(m: &mut Machine, frame: SimpleFrame, end: End) -> Result<TurnEnd, OutOfMemory>
-    ensures next { IfOk result (λ t. Follows t m.new m.old.left (on_simple frame (layers_of m.old.stack) (site_now m.old) (outcome end (state_of m.old)) (machine_rest m.old))) }
+    ensures next { IfOk result (λ t. Follows t m.new m.old.left (on_simple frame (layers_of m.old.stack.own) (site_now m.old) (outcome end (state_of m.old)) (machine_rest m.old))) }
     ensures work { IfOk result (λ t. Falls t m.new m.old.left (simple_work frame + stack_work m.old)) }
 {
     match end {
@@ -147,7 +147,7 @@ fn leave(m: &mut Machine, frame: &SimpleFrame)
 /// Goes on behind a part of a simple statement.
 pub fn take_simple(m: &mut Machine, frame: SimpleFrame, end: End) -> Result<TurnEnd, OutOfMemory>
     ensures next { IfOk result (λ t. Follows t m.new m.old.left
-        (on_simple frame (layers_of m.old.stack) (site_of (here_simple frame m.old.here) (outer_of m.old.stack) (handled_exception m.old.stack)) (outcome end (state_of m.old)) (after_stack m.old.stack (here_simple frame m.old.here)))) }
+        (on_simple frame (layers_of m.old.stack.own) (site_of (here_simple frame m.old.here) (outer_of m.old.stack.own) (handled_exception m.old.stack.own)) (outcome end (state_of m.old)) (after_stack m.old.stack.own (here_simple frame m.old.here)))) }
     ensures work { IfOk result (λ t. Falls t m.new m.old.left (simple_work frame + stack_work m.old)) }
 {
     leave(m, &frame);

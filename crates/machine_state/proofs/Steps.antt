@@ -1,41 +1,32 @@
--- The innermost frame is the last one of the stack's row.
-use Rattle.std.proofs.Common.{◌≡◌, ◌∙◌, ◌<◌, ◌-◌, ◌++◌, ℕ, zero, suc, List, [], ◌∷◌, length, take, get_or, reverse, refl, sym, ap, arith}
-use Rattle.std.specs.Prelude.{slice_set}
-use Rattle.std.proofs.lemmas.List.{reverse-append}
+-- The innermost frame is another one.
+use Rattle.std.proofs.Common.{◌≡◌, List, [], ◌∷◌, Some, None, refl, ap}
+use Rattle.frame_stacks.specs.Stacked.{first_of, with_first}
 use Rattle.machine_state.specs.declared.frame.Frame.{Frame}
 use Rattle.machine_state.specs.declared.stack.NextStatement.{NextStatement}
 use Rattle.machine_state.specs.Steps.{stepped, IsNextOf, IsStepped}
+use Rattle.machine_state.specs.Stacks.{StackView, IsSteppedOn}
 
-last_at : (xs : List Frame) (i : ℕ) (x : Frame) → length xs ≡ suc i → x ≡ get_or xs i x → xs ≡ take i xs ++ x ∷ []
-last_at [] i x h e = absurd (omega (arith, h))
-last_at (f ∷ []) zero x h e = ap (λ (z : Frame). z ∷ []) (sym e)
-last_at (f ∷ []) (suc i) x h e = absurd (omega (arith, h))
-last_at (f ∷ g ∷ fs) zero x h e = absurd (omega (arith, h))
-last_at (f ∷ g ∷ fs) (suc i) x h e = ap (λ (zs : List Frame). f ∷ zs) (last_at (g ∷ fs) i x (omega (arith, h)) e)
+first_is : (x f : Frame) (fs : List Frame) → Some x ≡ first_of (f ∷ fs) → x ≡ f
+first_is x f fs e = cc
 
-set_at_last : (xs : List Frame) (i : ℕ) (y : Frame) → length xs ≡ suc i → slice_set xs i y ≡ take i xs ++ y ∷ []
-set_at_last [] i y h = absurd (omega (arith, h))
-set_at_last (f ∷ []) zero y h = refl
-set_at_last (f ∷ []) (suc i) y h = absurd (omega (arith, h))
-set_at_last (f ∷ g ∷ fs) zero y h = absurd (omega (arith, h))
-set_at_last (f ∷ g ∷ fs) (suc i) y h = ap (λ (zs : List Frame). f ∷ zs) (set_at_last (g ∷ fs) i y (omega (arith, h)))
+-- it is stepped on, whatever stood in its place meanwhile
+pub stepped_top : (n : NextStatement) (own : List Frame) (x y z : Frame) → Some x ≡ first_of own → y ≡ stepped x → IsNextOf n x → IsStepped n own (with_first y (with_first z own))
+stepped_top n [] x y z e is next = absurd cc
+stepped_top n (f ∷ fs) x y z e is next = rw (← first_is x f fs e) (ap (λ (g : Frame). g ∷ fs) is, next)
 
-last_is : (xs : List Frame) (x : Frame) → 0 < length xs → x ≡ get_or xs (length xs - 1) x → xs ≡ take (length xs - 1) xs ++ x ∷ []
-last_is xs x h = last_at xs (length xs - 1) x (omega (arith, h))
+-- or it is the same
+pub same_top : (own : List Frame) (x y z : Frame) → Some x ≡ first_of own → y ≡ x → with_first y (with_first z own) ≡ own
+same_top [] x y z e is = refl
+same_top (f ∷ fs) x y z e is = rw (is, first_is x f fs e) refl
 
-last_set : (xs : List Frame) (y : Frame) → 0 < length xs → slice_set xs (length xs - 1) y ≡ take (length xs - 1) xs ++ y ∷ []
-last_set xs y h = set_at_last xs (length xs - 1) y (omega (arith, h))
+-- or there is none
+pub no_top : (own : List Frame) (z : Frame) → None ≡ first_of own → with_first z own ≡ own
+no_top [] z e = refl
+no_top (f ∷ fs) z e = absurd cc
 
--- the innermost frame is another one
-pub stepped_last : (n : NextStatement) (xs : List Frame) (x y : Frame) → 0 < length xs → x ≡ get_or xs (length xs - 1) x → y ≡ stepped x → IsNextOf n x
-    → IsStepped n (reverse xs) (reverse (slice_set xs (length xs - 1) y))
-stepped_last n xs x y h e is next =
-    let front = take (length xs - 1) xs in
-    let old : reverse xs ≡ x ∷ reverse front = ap reverse (last_is xs x h e) ∙ reverse-append front (x ∷ []) in
-    let new : reverse (slice_set xs (length xs - 1) y) ≡ y ∷ reverse front = ap reverse (last_set xs y h) ∙ reverse-append front (y ∷ []) in
-    rw (old, new) (ap (λ (z : Frame). z ∷ reverse front) is, next)
+-- in the view
+pub same_view : (old new : StackView) → new.own ≡ old.own → new.frozen ≡ old.frozen → new ≡ old
+same_view old new e h = λ i. record { own = e i; frozen = h i }
 
--- it is the same
-pub same_last : (xs : List Frame) (x y : Frame) → 0 < length xs → x ≡ get_or xs (length xs - 1) x → y ≡ x → reverse (slice_set xs (length xs - 1) y) ≡ reverse xs
-same_last xs x y h e is =
-    ap reverse (last_set xs y h ∙ ap (λ (z : Frame). take (length xs - 1) xs ++ z ∷ []) is ∙ sym (last_is xs x h e))
+pub stepped_view : (n : NextStatement) (old new : StackView) → IsStepped n old.own new.own → new.frozen ≡ old.frozen → IsSteppedOn n old new
+stepped_view n old new is h = (λ i. record { own = new.own; frozen = h i }, is)

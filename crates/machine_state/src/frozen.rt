@@ -2,12 +2,10 @@
 
 use crate::locals::Locals;
 use crate::place::Location;
-use crate::stack::ControlStack;
 
-/// A body that has stopped at a `yield`: what stands behind it, its names, and where it is.
+/// What is kept of a body that has stopped at a `yield` beside its stack: its names, and where it is.
 #[derive(Drop)]
-pub struct FrozenFrame {
-    pub stack: ControlStack,
+pub struct FrozenBody {
     pub locals: Locals,
     pub here: Location,
 }

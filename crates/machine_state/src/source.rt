@@ -1,12 +1,14 @@
-// Sources and modules.
+// Sources.
 
-ghost use Rattle.std.specs.Prelude.{◌≡◌};
+ghost use Rattle.std.specs.Prelude.{◌≡◌, IfOk, option_map};
 ghost use Rattle.machine_state.specs.Coded.{coded_of};
+ghost use Rattle.machine_state.specs.Lines.{source_line, told_line};
 
-use core_meaning::Load;
+use crate::lines::{line_by_starts, starts_of};
 use py_core::Core;
 use py_source::SourceFault;
-use seq::PyText;
+use seq::{OutOfMemory, PyText};
+use std::alloc::Global;
 use std::marker::Model;
 
 /// The code of a source, or why it has none.
@@ -24,10 +26,11 @@ impl Drop for SourceCode {
     }
 }
 
-/// A source: its file's path and bytes, and its code.
+/// A source: its file's path and bytes, and its code. It keeps where its lines begin.
 pub struct SourceFile {
     path: PyText,
     bytes: Vec<u8>,
+    starts: Vec<usize>,
     code: SourceCode,
 }
 
@@ -36,6 +39,7 @@ impl Drop for SourceFile {
         let SourceFile {
             path: _,
             bytes: _,
+            starts: _,
             code: _,
         } = self;
     }
@@ -58,14 +62,41 @@ impl Model for SourceFile {
     ghost use Rattle.machine_state.specs.Coded.{coded_of};
 
     ghost view = { λ s. record { path = s.path; bytes = s.bytes.items; code = coded_of s.code } };
+
+    ghost use Rattle.machine_state.specs.Lines.{without_mark, HasStarts};
+
+    ghost invariant = { λ s. HasStarts (without_mark s.bytes.items) s.starts.items };
 }
 
 impl SourceFile {
     /// A file by its path relative to the root, with its bytes and its code.
-    pub fn new(path: PyText, bytes: Vec<u8>, code: SourceCode) -> Self
-        ensures { result ≡ record { path = path; bytes = bytes.items; code = coded_of code } }
+    pub fn new(
+        alloc: Global,
+        path: PyText,
+        bytes: Vec<u8>,
+        code: SourceCode,
+    ) -> Result<Self, OutOfMemory>
+        ensures { IfOk result (λ s. s ≡ record { path = path; bytes = bytes.items; code = coded_of code }) }
     {
-        SourceFile { path, bytes, code }
+        match starts_of(alloc, &bytes) {
+            Ok(starts) => Ok(SourceFile {
+                path,
+                bytes,
+                starts,
+                code,
+            }),
+            Err(fault) => {
+                drop(code);
+                Err(fault)
+            }
+        }
+    }
+
+    /// The line with this number, from 1, without its end. Bytes that are not UTF-8 have none.
+    pub fn line(&self, number: u32) -> Option<&str>
+        ensures { option_map told_line result ≡ source_line self.now.bytes number }
+    {
+        line_by_starts(&self.bytes, &self.starts, number)
     }
 
     /// Its path, relative to the root, its parts joined by `/`.
@@ -87,49 +118,5 @@ impl SourceFile {
         ensures { coded_of result.now ≡ self.now.code }
     {
         &self.code
-    }
-}
-
-/// A module's path, and how far its load is.
-pub struct ModuleLoad {
-    path: PyText,
-    load: Load,
-}
-
-impl Drop for ModuleLoad {
-    fn drop(self) {
-        let ModuleLoad { path: _, load: _ } = self;
-    }
-}
-
-impl Model for ModuleLoad {
-    ghost use Rattle.std.specs.Prelude.{List, ℕ};
-    ghost use Rattle.core_meaning.specs.py_world.declared.load.Load.{Load};
-
-    ghost Value = { List ℕ × Load };
-
-    ghost view = { λ m. (m.path, m.load) };
-}
-
-impl ModuleLoad {
-    /// How far the load of the module of a path is.
-    pub fn new(path: PyText, load: Load) -> Self
-        ensures { result ≡ (path, load) }
-    {
-        ModuleLoad { path, load }
-    }
-
-    /// The path of the module's file.
-    pub fn path(&self) -> &PyText
-        ensures { result.now ≡ self.now.0 }
-    {
-        &self.path
-    }
-
-    /// How far the load is.
-    pub fn load(&self) -> &Load
-        ensures { result.now ≡ self.now.1 }
-    {
-        &self.load
     }
 }

@@ -29,10 +29,10 @@ rest_same s w k = λ i o. k (end_same s w o i)
 
 -- the body begins over what is around it
 pub body_begins : (m : Machine) (place : Place) (b : CoreBlock) (c : CallerFrame) (fs fs1 : List Frame) (h : Location) (s : CoreState)
-    → c ≡ record { from = Some m.here; locals = m.locals; temps = m.temps } → fs ≡ Caller c ∷ fs1 → fs1 ≡ m.stack
+    → c ≡ record { from = Some m.here; locals = m.locals; temps = m.temps } → fs ≡ Caller c ∷ fs1 → fs1 ≡ m.stack.own
     → h ≡ record { place = place; around = depth_of m.here; line = 0 } → s ≡ state [] [] (world_of m)
     → core_block_body (layers_of fs) b (site_of h (outer_of fs) (handled_exception fs)).scene s (after_stack fs h)
-    ≡ core_block_body [] b (scene_in place (depth_of m.here) (trace_of (site_now m)) (handled_exception m.stack)) (state [] [] (world_of m)) (λ o. machine_rest m (call_end (state_of m) o))
+    ≡ core_block_body [] b (scene_in place (depth_of m.here) (trace_of (site_now m)) (handled_exception m.stack.own)) (state [] [] (world_of m)) (λ o. machine_rest m (call_end (state_of m) o))
 body_begins m place b c fs fs1 h s caller pushed below there begun =
     rw (pushed, below, caller, there, begun)
-    (ap (λ (k : CoreThen). core_block_body [] b (scene_in place (depth_of m.here) (trace_of (site_now m)) (handled_exception m.stack)) (state [] [] (world_of m)) k) (rest_same (state_of m) no_world (machine_rest m)))
+    (ap (λ (k : CoreThen). core_block_body [] b (scene_in place (depth_of m.here) (trace_of (site_now m)) (handled_exception m.stack.own)) (state [] [] (world_of m)) k) (rest_same (state_of m) no_world (machine_rest m)))

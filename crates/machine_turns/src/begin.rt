@@ -23,7 +23,7 @@ use std::rc::Rc;
 /// Puts a frame on the stack, and goes on with an expression.
 pub fn descend(m: &mut Machine, frame: Frame, e: &Rc<CoreExpr>) -> Result<NextAction, OutOfMemory>
     ensures next { IfOk result (λ d. todo d m.new
-        ≡ eval e.now.value (site_of m.old.here (outer_of (frame ∷ m.old.stack)) (handled_exception (frame ∷ m.old.stack))) (state_of m.old) (after_stack (frame ∷ m.old.stack) m.old.here)) }
+        ≡ eval e.now.value (site_of m.old.here (outer_of (frame ∷ m.old.stack.own)) (handled_exception (frame ∷ m.old.stack.own))) (state_of m.old) (after_stack (frame ∷ m.old.stack.own) m.old.here)) }
     ensures left { m.new.left ≡ m.old.left }
     ensures work { IfOk result (λ d. doing_work d + stack_work m.new ≡ weight e.now.value + (frame_work frame + stack_work m.old)) }
 {
@@ -33,7 +33,7 @@ pub fn descend(m: &mut Machine, frame: Frame, e: &Rc<CoreExpr>) -> Result<NextAc
 
 /// Begins a block.
 pub fn begin_block(m: &mut Machine, b: Rc<CoreBlock>) -> Result<NextAction, OutOfMemory>
-    ensures next { IfOk result (λ d. todo d m.new ≡ core_block_body (layers_of m.old.stack) b.value (site_now m.old).scene (state_of m.old) (machine_rest m.old)) }
+    ensures next { IfOk result (λ d. todo d m.new ≡ core_block_body (layers_of m.old.stack.own) b.value (site_now m.old).scene (state_of m.old) (machine_rest m.old)) }
     ensures left { m.new.left ≡ m.old.left }
     ensures work { IfOk result (λ d. doing_work d + stack_work m.new ≡ block_work (stmts_in b.value) + stack_work m.old) }
 {
@@ -73,7 +73,7 @@ pub fn begin_body(
     place: Place,
     body: Rc<CoreBlock>,
 ) -> Result<NextAction, OutOfMemory>
-    ensures next { IfOk result (λ d. todo d m.new ≡ core_block_body [] body.value (scene_in place (depth_of m.old.here) (trace_of (site_now m.old)) (handled_exception m.old.stack)) (state [] [] (world_of m.old))
+    ensures next { IfOk result (λ d. todo d m.new ≡ core_block_body [] body.value (scene_in place (depth_of m.old.here) (trace_of (site_now m.old)) (handled_exception m.old.stack.own)) (state [] [] (world_of m.old))
         (λ o. machine_rest m.old (call_end (state_of m.old) o))) }
     ensures left { m.new.left ≡ m.old.left }
     ensures work { IfOk result (λ d. doing_work d + stack_work m.new ≡ block_work (stmts_in body.value) + 1 + stack_work m.old) }

@@ -29,7 +29,7 @@ fn begin_named(
     body: Rc<CoreBlock>,
     thrown: Thrown,
 ) -> Result<NextAction, OutOfMemory>
-    ensures next { IfOk result (λ d. todo d m.new ≡ world.handler_block (Some name.now) (core_block_body (layers_of m.old.stack) body.value) thrown.exc thrown.trace (site_now m.old) (state_of m.old) (machine_rest m.old)) }
+    ensures next { IfOk result (λ d. todo d m.new ≡ world.handler_block (Some name.now) (core_block_body (layers_of m.old.stack.own) body.value) thrown.exc thrown.trace (site_now m.old) (state_of m.old) (machine_rest m.old)) }
     ensures left { m.new.left ≡ m.old.left }
     ensures work { IfOk result (λ d. doing_work d + stack_work m.new ≡ block_work (stmts_in body.value) + 1 + stack_work m.old) }
 {
@@ -46,7 +46,7 @@ fn begin_caught(
     handler: &CoreHandler,
     thrown: Thrown,
 ) -> Result<NextAction, OutOfMemory>
-    ensures next { IfOk result (λ d. todo d m.new ≡ world.handler_block (out-CoreHandler handler.now).name (core_block_body (layers_of m.old.stack) (out-CoreHandler handler.now).body.value) thrown.exc thrown.trace (site_now m.old) (state_of m.old) (machine_rest m.old)) }
+    ensures next { IfOk result (λ d. todo d m.new ≡ world.handler_block (out-CoreHandler handler.now).name (core_block_body (layers_of m.old.stack.own) (out-CoreHandler handler.now).body.value) thrown.exc thrown.trace (site_now m.old) (state_of m.old) (machine_rest m.old)) }
     ensures left { m.new.left ≡ m.old.left }
     ensures work { IfOk result (λ d. doing_work d + stack_work m.new ≤ block_work (stmts_in (out-CoreHandler handler.now).body.value) + 1 + stack_work m.old) }
 {
@@ -64,8 +64,8 @@ pub fn next_handler(
     at: usize,
     thrown: Thrown,
 ) -> Result<NextAction, OutOfMemory>
-    requires { handled_exception m.old.stack ≡ Some thrown }
-    ensures next { IfOk result (λ d. todo d m.new ≡ world.handlers_on (handlings (layers_of m.old.stack) (drop at (handlers_in guard.value))) thrown.exc thrown.trace (site_now m.old) (state_of m.old) (machine_rest m.old)) }
+    requires { handled_exception m.old.stack.own ≡ Some thrown }
+    ensures next { IfOk result (λ d. todo d m.new ≡ world.handlers_on (handlings (layers_of m.old.stack.own) (drop at (handlers_in guard.value))) thrown.exc thrown.trace (site_now m.old) (state_of m.old) (machine_rest m.old)) }
     ensures left { m.new.left ≡ m.old.left }
     ensures work { IfOk result (λ d. doing_work d + stack_work m.new ≤ sum_by handler_work (drop at (handlers_in guard.value)) + stack_work m.old) }
 {
@@ -91,8 +91,8 @@ fn catch(
     class: Value,
     thrown: Thrown,
 ) -> Result<NextAction, OutOfMemory>
-    requires { handled_exception m.old.stack ≡ Some thrown }
-    ensures next { IfOk result (λ d. todo d m.new ≡ on_class (handlings (layers_of m.old.stack) (drop at (handlers_in guard.value))) thrown.exc thrown.trace (site_now m.old) class (state_of m.old) (machine_rest m.old)) }
+    requires { handled_exception m.old.stack.own ≡ Some thrown }
+    ensures next { IfOk result (λ d. todo d m.new ≡ on_class (handlings (layers_of m.old.stack.own) (drop at (handlers_in guard.value))) thrown.exc thrown.trace (site_now m.old) class (state_of m.old) (machine_rest m.old)) }
     ensures left { m.new.left ≡ m.old.left }
     ensures work { IfOk result (λ d. doing_work d + stack_work m.new < catch_work (drop at (handlers_in guard.value)) + stack_work m.old) }
 {
@@ -113,7 +113,7 @@ pub fn take_class(
     at: usize,
     class: Value,
 ) -> Result<NextAction, OutOfMemory>
-    ensures next { IfOk result (λ d. todo d m.new ≡ on_caught (handlings (layers_of m.old.stack) (drop at (handlers_in guard.value))) (handled_exception m.old.stack) (site_now m.old) class (state_of m.old) (machine_rest m.old)) }
+    ensures next { IfOk result (λ d. todo d m.new ≡ on_caught (handlings (layers_of m.old.stack.own) (drop at (handlers_in guard.value))) (handled_exception m.old.stack.own) (site_now m.old) class (state_of m.old) (machine_rest m.old)) }
     ensures left { m.new.left ≡ m.old.left }
     ensures work { IfOk result (λ d. doing_work d + stack_work m.new < catch_work (drop at (handlers_in guard.value)) + stack_work m.old) }
 {

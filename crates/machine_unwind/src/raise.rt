@@ -106,7 +106,7 @@ pub fn raise_value(m: &mut Machine, v: Value) -> Result<TurnEnd, OutOfMemory>
 
 /// Raises the exception that is being handled again, with its trace.
 pub fn raise_again(m: &mut Machine) -> Result<NextAction, OutOfMemory>
-    ensures next { IfOk result (λ d. todo d m.new ≡ machine_rest m.old (world.raised_again (handled_exception m.old.stack) (site_now m.old) (state_of m.old))) }
+    ensures next { IfOk result (λ d. todo d m.new ≡ machine_rest m.old (world.raised_again (handled_exception m.old.stack.own) (site_now m.old) (state_of m.old))) }
     ensures left { m.new.left ≡ m.old.left }
     ensures work { IfOk result (λ d. doing_work d ≡ 0) }
     ensures stack { m.new.stack ≡ m.old.stack }

@@ -46,7 +46,7 @@ pub fn begin_try(
     body: &Rc<CoreBlock>,
     guard: &Rc<CoreGuard>,
 ) -> Result<NextAction, OutOfMemory>
-    ensures next { IfOk result (λ d. todo d m.new ≡ meaning.try_at (layers_of m.old.stack) body.now.value guard.now.value (site_now m.old) (state_of m.old) (machine_rest m.old)) }
+    ensures next { IfOk result (λ d. todo d m.new ≡ meaning.try_at (layers_of m.old.stack.own) body.now.value guard.now.value (site_now m.old) (state_of m.old) (machine_rest m.old)) }
     ensures left { m.new.left ≡ m.old.left }
 {
     let block = body.clone()?;
@@ -64,7 +64,7 @@ fn handle(
     exc: Value,
     trace: Trace,
 ) -> Result<NextAction, OutOfMemory>
-    ensures next { IfOk result (λ d. todo d m.new ≡ world.handlers_on (handlings (layers_of m.old.stack) (handlers_in guard.value)) exc trace (site_handling exc trace (site_now m.old)) (state_of m.old) (machine_rest m.old)) }
+    ensures next { IfOk result (λ d. todo d m.new ≡ world.handlers_on (handlings (layers_of m.old.stack.own) (handlers_in guard.value)) exc trace (site_handling exc trace (site_now m.old)) (state_of m.old) (machine_rest m.old)) }
     ensures left { m.new.left ≡ m.old.left }
     ensures work { IfOk result (λ d. doing_work d + stack_work m.new < sum_by handler_work (handlers_in guard.value) + 2 + stack_work m.old) }
 {
@@ -81,7 +81,7 @@ ghost use Rattle.machine_state.specs.py_world.Site.{site_handling};
 
 /// Goes on behind the block of a `try`, over the block behind `finally`.
 fn guarded(m: &mut Machine, guard: Rc<CoreGuard>, end: End) -> Result<NextAction, OutOfMemory>
-    ensures next { IfOk result (λ d. todo d m.new ≡ world.guarded_by (handlings (layers_of m.old.stack) (handlers_in guard.value)) (core_block_body (layers_of m.old.stack) (other_in guard.value)) (site_now m.old) (outcome end (state_of m.old)) (machine_rest m.old)) }
+    ensures next { IfOk result (λ d. todo d m.new ≡ world.guarded_by (handlings (layers_of m.old.stack.own) (handlers_in guard.value)) (core_block_body (layers_of m.old.stack.own) (other_in guard.value)) (site_now m.old) (outcome end (state_of m.old)) (machine_rest m.old)) }
     ensures left { m.new.left ≡ m.old.left }
     ensures work { IfOk result (λ d. doing_work d + stack_work m.new < sum_by handler_work (handlers_in guard.value) + block_work (stmts_in (other_in guard.value)) + 2 + stack_work m.old) }
 {
@@ -100,7 +100,7 @@ fn guarded(m: &mut Machine, guard: Rc<CoreGuard>, end: End) -> Result<NextAction
 
 /// Goes on behind the block of a `try`.
 fn take_guarded(m: &mut Machine, guard: Rc<CoreGuard>, end: End) -> Result<NextAction, OutOfMemory>
-    ensures next { IfOk result (λ d. todo d m.new ≡ meaning.guard (layers_of m.old.stack) guard.value (site_now m.old) (outcome end (state_of m.old)) (machine_rest m.old)) }
+    ensures next { IfOk result (λ d. todo d m.new ≡ meaning.guard (layers_of m.old.stack.own) guard.value (site_now m.old) (outcome end (state_of m.old)) (machine_rest m.old)) }
     ensures left { m.new.left ≡ m.old.left }
     ensures work { IfOk result (λ d. doing_work d + stack_work m.new < unwind_work (UnwindFrame.Guarded guard 0) + stack_work m.old) }
 {
@@ -116,7 +116,7 @@ fn take_catch(
     at: usize,
     end: End,
 ) -> Result<NextAction, OutOfMemory>
-    ensures next { IfOk result (λ d. todo d m.new ≡ on_value (outcome end (state_of m.old)) (machine_rest m.old) (λ c s. on_caught (handlings (layers_of m.old.stack) (drop at (handlers_in guard.value))) (handled_exception m.old.stack) (site_now m.old) c s (machine_rest m.old))) }
+    ensures next { IfOk result (λ d. todo d m.new ≡ on_value (outcome end (state_of m.old)) (machine_rest m.old) (λ c s. on_caught (handlings (layers_of m.old.stack.own) (drop at (handlers_in guard.value))) (handled_exception m.old.stack.own) (site_now m.old) c s (machine_rest m.old))) }
     ensures left { m.new.left ≡ m.old.left }
     ensures work { IfOk result (λ d. doing_work d + stack_work m.new < catch_work (drop at (handlers_in guard.value)) + stack_work m.old) }
 {
@@ -143,7 +143,7 @@ fn take_named(m: &mut Machine, name: &SrcText, end: End) -> Result<NextAction, O
 
 /// Begins the block behind `finally`; the end before it comes again behind it.
 fn begin_last(m: &mut Machine, guard: &CoreGuard, end: End) -> Result<NextAction, OutOfMemory>
-    ensures next { IfOk result (λ d. todo d m.new ≡ world.finally_on (core_block_body (layers_of m.old.stack) (last_in guard.now)) (site_now m.old) (outcome end (state_of m.old)) (machine_rest m.old)) }
+    ensures next { IfOk result (λ d. todo d m.new ≡ world.finally_on (core_block_body (layers_of m.old.stack.own) (last_in guard.now)) (site_now m.old) (outcome end (state_of m.old)) (machine_rest m.old)) }
     ensures left { m.new.left ≡ m.old.left }
     ensures work { IfOk result (λ d. doing_work d + stack_work m.new < last_work guard.now + stack_work m.old) }
 {
@@ -172,7 +172,7 @@ fn end_of(kept: End, own: End) -> End
 /// Goes on behind a part of a `try`.
 pub fn take_unwind(m: &mut Machine, frame: UnwindFrame, end: End) -> Result<NextAction, OutOfMemory>
     ensures next { IfOk result (λ d. todo d m.new
-        ≡ on_unwind frame (layers_of m.old.stack) (site_of (here_unwind frame m.old.here) (outer_of m.old.stack) (handled_exception m.old.stack)) (outcome end (state_of m.old)) (after_stack m.old.stack (here_unwind frame m.old.here))) }
+        ≡ on_unwind frame (layers_of m.old.stack.own) (site_of (here_unwind frame m.old.here) (outer_of m.old.stack.own) (handled_exception m.old.stack.own)) (outcome end (state_of m.old)) (after_stack m.old.stack.own (here_unwind frame m.old.here))) }
     ensures left { m.new.left ≡ m.old.left }
     ensures work { IfOk result (λ d. doing_work d + stack_work m.new < unwind_work frame + stack_work m.old) }
 {

@@ -6,6 +6,7 @@ ghost use Rattle.py_kinds.specs.Classes as classes;
 ghost use Rattle.py_values.specs.Names.{find_name};
 
 use py_kinds::builtins::{base_place, class_place};
+use py_kinds::classes::base_of;
 use py_values::OutOfMemory;
 use py_values::class::ClassRef;
 use py_values::end::push_ascii;
@@ -27,16 +28,6 @@ pub fn names_place(class: ClassRef) -> Option<ObjId>
                 None => base_place(class),
             }
         }
-    }
-}
-
-/// The base of a class of the heap.
-fn base_of(obj: Option<&Obj>) -> Option<ObjId>
-    ensures { result ≡ classes.base_of (option_copied obj.entry) }
-{
-    match obj {
-        Some(Obj::Class(c)) => c.base,
-        _ => None,
     }
 }
 

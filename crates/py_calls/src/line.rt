@@ -11,7 +11,7 @@ use crate::text::{text_of, wrong};
 use py_values::end::Raise;
 use py_values::heap::Heap;
 use py_values::value::Value;
-use py_values::{OutOfMemory, PyText};
+use seq::{OutOfMemory, PyText, push_chars};
 use std::alloc::Global;
 
 fn push_gap(chars: &mut Vec<char>, first: bool, sep: &[char]) -> Result<(), OutOfMemory>
@@ -85,21 +85,12 @@ pub fn print_text(
     }
 }
 
-fn push_encoded(out: &mut String, chars: &[char]) -> Result<(), OutOfMemory>
-    ensures { OnOk result (string_bytes out.new ≡ string_bytes out.old ++ encode_utf8_all chars.now) }
-{
-    for c in chars {
-        out.push(*c)?;
-    }
-    Ok(())
-}
-
 /// Puts the bytes of characters behind others.
 pub fn push_bytes(alloc: Global, printed: &mut Vec<u8>, chars: &[char]) -> Result<(), OutOfMemory>
     ensures { OnOk result (printed.new.items ≡ printed.old.items ++ encode_utf8_all chars.now) }
 {
     let mut text = String::new(alloc);
-    push_encoded(&mut text, chars)?;
+    push_chars(&mut text, chars)?;
     printed.extend_from_slice(text.as_bytes())?;
     Ok(())
 }

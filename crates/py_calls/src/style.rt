@@ -3,7 +3,7 @@
 ghost use Rattle.std.specs.Prelude.{◌≡◌, IfOk, Some};
 ghost use Rattle.py_calls.specs.Printing as printing;
 
-use py_values::end::push_ascii;
+use py_kinds::builtins::ascii_text;
 use py_values::heap::Heap;
 use py_values::object::Obj;
 use py_values::value::Value;
@@ -17,19 +17,11 @@ pub struct Style {
     pub end: PyText,
 }
 
-fn ascii(alloc: Global, text: &str) -> Result<PyText, OutOfMemory>
-    ensures { IfOk result (λ t. t ≡ text.now) }
-{
-    let mut chars = Vec::new(alloc);
-    push_ascii(&mut chars, text)?;
-    PyText::from_chars(alloc, &chars)
-}
-
 fn plain_style(alloc: Global) -> Result<Style, OutOfMemory>
     ensures { IfOk result (λ s. s ≡ printing.plain_style) }
 {
-    let sep = ascii(alloc, " ")?;
-    let end = ascii(alloc, "\n")?;
+    let sep = ascii_text(alloc, " ")?;
+    let end = ascii_text(alloc, "\n")?;
     Ok(Style { sep, end })
 }
 
@@ -44,7 +36,7 @@ fn option_text(
 {
     match v {
         Value::None => {
-            let text = ascii(alloc, default)?;
+            let text = ascii_text(alloc, default)?;
             Ok(Some(text))
         }
         Value::Ref(id) => match heap.get(id) {

@@ -14,7 +14,7 @@ use Rattle.py_tree.specs.declared.expr.ArgName.{ArgName}
 use Rattle.py_tree.specs.Trees as t
 use Rattle.py_tree.specs.Trees.{Tree}
 use Rattle.py_cursor.specs.py_expressions.Sorts.{expr, row, pairs, args, finished, arguments}
-use Rattle.py_cursor.specs.py_expressions.Lines.{expressions, no_reader, part, pair, no_more, arg, E1}
+use Rattle.py_cursor.specs.py_expressions.Lines.{expressions, no_reader, part, pair, no_more, arg, expr_begins}
 use Rattle.py_cursor.proofs.Loops.{items_over, items_end, items_fails, items_next, fails_on}
 use Rattle.py_expression_parser.specs.Reads.{reads, reads_part}
 use Rattle.py_expression_parser.specs.Pieces.{items, pairs_more, pair_on, args_more, arg_on, assigned_on}
@@ -28,72 +28,72 @@ item_on m s ts = reads (m - 1) expr ts >>= λ y. Found (v.item s.0 y.0.0, max s.
 row_done : (m : ℕ) (s : v.Row × ℕ) (ts : List Token) → items m (v.close_row s.0, s.1) ts ≡ Found (v.close_row s.0, s.1) ts
 row_done m s ts = round_commas expressions (m - 1) no_reader (readers expressions no_reader m) (readers expressions no_reader (m - 1)) (all_eat m) (all_eat (m - 1)) (λ q. absurd q) {S = row} (λ r. not r.ended) (k.comma ∷ []) (λ r _. r) (part expr v.item) v.close_row (v.close_row s.0, s.1) ts
 
-row_both : (m : ℕ) (s : v.Row × ℕ) (ts : List Token) → cond (starts_with kind E1 ts) (reads_part m {S = row} (part expr v.item) s ts >>= λ y. items m y.0 y.1) (items m (v.close_row s.0, s.1) ts) ≡ cond (starts_with kind E1 ts) (item_on m s ts >>= λ y. items m y.0 y.1) (Found (v.close_row s.0, s.1) ts)
-row_both m s ts = ap (λ z. cond (starts_with kind E1 ts) (reads_part m {S = row} (part expr v.item) s ts >>= λ y. items m y.0 y.1) z) (row_done m s ts)
+row_both : (m : ℕ) (s : v.Row × ℕ) (ts : List Token) → cond (starts_with kind expr_begins ts) (reads_part m {S = row} (part expr v.item) s ts >>= λ y. items m y.0 y.1) (items m (v.close_row s.0, s.1) ts) ≡ cond (starts_with kind expr_begins ts) (item_on m s ts >>= λ y. items m y.0 y.1) (Found (v.close_row s.0, s.1) ts)
+row_both m s ts = ap (λ z. cond (starts_with kind expr_begins ts) (reads_part m {S = row} (part expr v.item) s ts >>= λ y. items m y.0 y.1) z) (row_done m s ts)
 
-pub row_line : (m : ℕ) (s : v.Row × ℕ) (ts : List Token) → s.0.ended ≡ false → items m s ts ≡ pick (first_of kind (k.comma ∷ []) ts) (λ o. cond (starts_with kind E1 o.1) (item_on m s o.1 >>= λ y. items m y.0 y.1) (Found (v.close_row s.0, s.1) o.1)) (Found s ts)
+pub row_line : (m : ℕ) (s : v.Row × ℕ) (ts : List Token) → s.0.ended ≡ false → items m s ts ≡ pick (first_of kind (k.comma ∷ []) ts) (λ o. cond (starts_with kind expr_begins o.1) (item_on m s o.1 >>= λ y. items m y.0 y.1) (Found (v.close_row s.0, s.1) o.1)) (Found s ts)
 row_line m s ts h = round_commas expressions (m - 1) no_reader (readers expressions no_reader m) (readers expressions no_reader (m - 1)) (all_eat m) (all_eat (m - 1)) (λ q. absurd q) {S = row} (λ r. not r.ended) (k.comma ∷ []) (λ r _. r) (part expr v.item) v.close_row s ts
-    ∙ ap (λ b. cond (not b) (pick (first_of kind (k.comma ∷ []) ts) (λ o. cond (starts_with kind E1 o.1) (reads_part m {S = row} (part expr v.item) s o.1 >>= λ y. items m y.0 y.1) (items m (v.close_row s.0, s.1) o.1)) (Found s ts)) (Found s ts)) h
+    ∙ ap (λ b. cond (not b) (pick (first_of kind (k.comma ∷ []) ts) (λ o. cond (starts_with kind expr_begins o.1) (reads_part m {S = row} (part expr v.item) s o.1 >>= λ y. items m y.0 y.1) (items m (v.close_row s.0, s.1) o.1)) (Found s ts)) (Found s ts)) h
     ∙ pick_eq (first_of kind (k.comma ∷ []) ts) _ _ (Found s ts) (λ o. row_both m s o.1)
 
 pub row_over : (m : ℕ) (s : v.Row × ℕ) (ts : List Token) → s.0.ended ≡ false → first_of kind (k.comma ∷ []) ts ≡ None → items m s ts ≡ Found s ts
-row_over m s ts h e = items_over (items m) (k.comma ∷ []) E1 (item_on m) (λ s. (v.close_row s.0, s.1)) (λ s ts. Found s ts) (λ s. s.0.ended ≡ false) (row_line m) s ts h e
+row_over m s ts h e = items_over (items m) (k.comma ∷ []) expr_begins (item_on m) (λ s. (v.close_row s.0, s.1)) (λ s ts. Found s ts) (λ s. s.0.ended ≡ false) (row_line m) s ts h e
 
-pub row_end : (m : ℕ) (s : v.Row × ℕ) (ts : List Token) (o : Token) (after : List Token) (t : v.Row) (l : ℕ) (whole : Read Token (v.Row × ℕ)) → s.0.ended ≡ false → first_of kind (k.comma ∷ []) ts ≡ Some (o, after) → starts_with kind E1 after ≡ false → t ≡ v.close_row s.0 → l ≡ s.1 → items m s ts ≡ whole → whole ≡ Found (t, l) after
-row_end m s ts o after t l whole h e i j d w = items_end (items m) (k.comma ∷ []) E1 (item_on m) (λ s. (v.close_row s.0, s.1)) (λ s ts. Found s ts) (λ s. s.0.ended ≡ false) (row_line m) s ts o after (t, l) whole h e i (rw (j, d) refl) w
+pub row_end : (m : ℕ) (s : v.Row × ℕ) (ts : List Token) (o : Token) (after : List Token) (t : v.Row) (l : ℕ) (whole : Read Token (v.Row × ℕ)) → s.0.ended ≡ false → first_of kind (k.comma ∷ []) ts ≡ Some (o, after) → starts_with kind expr_begins after ≡ false → t ≡ v.close_row s.0 → l ≡ s.1 → items m s ts ≡ whole → whole ≡ Found (t, l) after
+row_end m s ts o after t l whole h e i j d w = items_end (items m) (k.comma ∷ []) expr_begins (item_on m) (λ s. (v.close_row s.0, s.1)) (λ s ts. Found s ts) (λ s. s.0.ended ≡ false) (row_line m) s ts o after (t, l) whole h e i (rw (j, d) refl) w
 
-pub row_fails : (m : ℕ) (s : v.Row × ℕ) (ts : List Token) (o : Token) (after : List Token) (stop : Stop) (whole : Read Token (v.Row × ℕ)) → s.0.ended ≡ false → first_of kind (k.comma ∷ []) ts ≡ Some (o, after) → starts_with kind E1 after ≡ true → FailsAs stop (item_on m s after) → items m s ts ≡ whole → FailsAs stop whole
-row_fails m s ts o after stop whole h e i d w = items_fails (items m) (k.comma ∷ []) E1 (item_on m) (λ s. (v.close_row s.0, s.1)) (λ s ts. Found s ts) (λ s. s.0.ended ≡ false) (row_line m) s ts o after stop whole h e i d w
+pub row_fails : (m : ℕ) (s : v.Row × ℕ) (ts : List Token) (o : Token) (after : List Token) (stop : Stop) (whole : Read Token (v.Row × ℕ)) → s.0.ended ≡ false → first_of kind (k.comma ∷ []) ts ≡ Some (o, after) → starts_with kind expr_begins after ≡ true → FailsAs stop (item_on m s after) → items m s ts ≡ whole → FailsAs stop whole
+row_fails m s ts o after stop whole h e i d w = items_fails (items m) (k.comma ∷ []) expr_begins (item_on m) (λ s. (v.close_row s.0, s.1)) (λ s ts. Found s ts) (λ s. s.0.ended ≡ false) (row_line m) s ts o after stop whole h e i d w
 
-pub row_next : (m : ℕ) (s : v.Row × ℕ) (ts : List Token) (o : Token) (after : List Token) (t : v.Row × ℕ) (rest : List Token) (whole : Read Token (v.Row × ℕ)) → s.0.ended ≡ false → first_of kind (k.comma ∷ []) ts ≡ Some (o, after) → starts_with kind E1 after ≡ true → item_on m s after ≡ Found t rest → items m s ts ≡ whole → items m t rest ≡ whole
-row_next m s ts o after t rest whole h e i d w = items_next (items m) (k.comma ∷ []) E1 (item_on m) (λ s. (v.close_row s.0, s.1)) (λ s ts. Found s ts) (λ s. s.0.ended ≡ false) (row_line m) s ts o after t rest whole h e i d w
+pub row_next : (m : ℕ) (s : v.Row × ℕ) (ts : List Token) (o : Token) (after : List Token) (t : v.Row × ℕ) (rest : List Token) (whole : Read Token (v.Row × ℕ)) → s.0.ended ≡ false → first_of kind (k.comma ∷ []) ts ≡ Some (o, after) → starts_with kind expr_begins after ≡ true → item_on m s after ≡ Found t rest → items m s ts ≡ whole → items m t rest ≡ whole
+row_next m s ts o after t rest whole h e i d w = items_next (items m) (k.comma ∷ []) expr_begins (item_on m) (λ s. (v.close_row s.0, s.1)) (λ s ts. Found s ts) (λ s. s.0.ended ≡ false) (row_line m) s ts o after t rest whole h e i d w
 
 pairs_done : (m : ℕ) (s : v.Pairs × ℕ) (ts : List Token) → pairs_more m (no_more s.0, s.1) ts ≡ Found (no_more s.0, s.1) ts
 pairs_done m s ts = round_commas expressions (m - 1) no_reader (readers expressions no_reader m) (readers expressions no_reader (m - 1)) (all_eat m) (all_eat (m - 1)) (λ q. absurd q) {S = pairs} (λ r. not r.ended) (k.comma ∷ []) (λ r _. r) pair no_more (no_more s.0, s.1) ts
 
-pairs_both : (m : ℕ) (s : v.Pairs × ℕ) (ts : List Token) → cond (starts_with kind E1 ts) (reads_part m pair s ts >>= λ y. pairs_more m y.0 y.1) (pairs_more m (no_more s.0, s.1) ts) ≡ cond (starts_with kind E1 ts) (pair_on m s ts >>= λ y. pairs_more m y.0 y.1) (Found (no_more s.0, s.1) ts)
-pairs_both m s ts = ap (λ v. cond (starts_with kind E1 ts) (reads_part m pair s ts >>= λ y. pairs_more m y.0 y.1) v) (pairs_done m s ts) ∙ ap (λ v. cond (starts_with kind E1 ts) (v >>= λ y. pairs_more m y.0 y.1) (Found (no_more s.0, s.1) ts)) (pair_is m s ts)
+pairs_both : (m : ℕ) (s : v.Pairs × ℕ) (ts : List Token) → cond (starts_with kind expr_begins ts) (reads_part m pair s ts >>= λ y. pairs_more m y.0 y.1) (pairs_more m (no_more s.0, s.1) ts) ≡ cond (starts_with kind expr_begins ts) (pair_on m s ts >>= λ y. pairs_more m y.0 y.1) (Found (no_more s.0, s.1) ts)
+pairs_both m s ts = ap (λ v. cond (starts_with kind expr_begins ts) (reads_part m pair s ts >>= λ y. pairs_more m y.0 y.1) v) (pairs_done m s ts) ∙ ap (λ v. cond (starts_with kind expr_begins ts) (v >>= λ y. pairs_more m y.0 y.1) (Found (no_more s.0, s.1) ts)) (pair_is m s ts)
 
-pub pairs_line : (m : ℕ) (s : v.Pairs × ℕ) (ts : List Token) → s.0.ended ≡ false → pairs_more m s ts ≡ pick (first_of kind (k.comma ∷ []) ts) (λ o. cond (starts_with kind E1 o.1) (pair_on m s o.1 >>= λ y. pairs_more m y.0 y.1) (Found (no_more s.0, s.1) o.1)) (Found s ts)
+pub pairs_line : (m : ℕ) (s : v.Pairs × ℕ) (ts : List Token) → s.0.ended ≡ false → pairs_more m s ts ≡ pick (first_of kind (k.comma ∷ []) ts) (λ o. cond (starts_with kind expr_begins o.1) (pair_on m s o.1 >>= λ y. pairs_more m y.0 y.1) (Found (no_more s.0, s.1) o.1)) (Found s ts)
 pairs_line m s ts h = round_commas expressions (m - 1) no_reader (readers expressions no_reader m) (readers expressions no_reader (m - 1)) (all_eat m) (all_eat (m - 1)) (λ q. absurd q) {S = pairs} (λ r. not r.ended) (k.comma ∷ []) (λ r _. r) pair no_more s ts
-    ∙ ap (λ b. cond (not b) (pick (first_of kind (k.comma ∷ []) ts) (λ o. cond (starts_with kind E1 o.1) (reads_part m pair s o.1 >>= λ y. pairs_more m y.0 y.1) (pairs_more m (no_more s.0, s.1) o.1)) (Found s ts)) (Found s ts)) h
+    ∙ ap (λ b. cond (not b) (pick (first_of kind (k.comma ∷ []) ts) (λ o. cond (starts_with kind expr_begins o.1) (reads_part m pair s o.1 >>= λ y. pairs_more m y.0 y.1) (pairs_more m (no_more s.0, s.1) o.1)) (Found s ts)) (Found s ts)) h
     ∙ pick_eq (first_of kind (k.comma ∷ []) ts) _ _ (Found s ts) (λ o. pairs_both m s o.1)
 
 pub pairs_over : (m : ℕ) (s : v.Pairs × ℕ) (ts : List Token) → s.0.ended ≡ false → first_of kind (k.comma ∷ []) ts ≡ None → pairs_more m s ts ≡ Found s ts
-pairs_over m s ts h e = items_over (pairs_more m) (k.comma ∷ []) E1 (pair_on m) (λ s. (no_more s.0, s.1)) (λ s ts. Found s ts) (λ s. s.0.ended ≡ false) (pairs_line m) s ts h e
+pairs_over m s ts h e = items_over (pairs_more m) (k.comma ∷ []) expr_begins (pair_on m) (λ s. (no_more s.0, s.1)) (λ s ts. Found s ts) (λ s. s.0.ended ≡ false) (pairs_line m) s ts h e
 
-pub pairs_end : (m : ℕ) (s : v.Pairs × ℕ) (ts : List Token) (o : Token) (after : List Token) (t : v.Pairs) (l : ℕ) (whole : Read Token (v.Pairs × ℕ)) → s.0.ended ≡ false → first_of kind (k.comma ∷ []) ts ≡ Some (o, after) → starts_with kind E1 after ≡ false → t ≡ no_more s.0 → l ≡ s.1 → pairs_more m s ts ≡ whole → whole ≡ Found (t, l) after
-pairs_end m s ts o after t l whole h e i j d w = items_end (pairs_more m) (k.comma ∷ []) E1 (pair_on m) (λ s. (no_more s.0, s.1)) (λ s ts. Found s ts) (λ s. s.0.ended ≡ false) (pairs_line m) s ts o after (t, l) whole h e i (rw (j, d) refl) w
+pub pairs_end : (m : ℕ) (s : v.Pairs × ℕ) (ts : List Token) (o : Token) (after : List Token) (t : v.Pairs) (l : ℕ) (whole : Read Token (v.Pairs × ℕ)) → s.0.ended ≡ false → first_of kind (k.comma ∷ []) ts ≡ Some (o, after) → starts_with kind expr_begins after ≡ false → t ≡ no_more s.0 → l ≡ s.1 → pairs_more m s ts ≡ whole → whole ≡ Found (t, l) after
+pairs_end m s ts o after t l whole h e i j d w = items_end (pairs_more m) (k.comma ∷ []) expr_begins (pair_on m) (λ s. (no_more s.0, s.1)) (λ s ts. Found s ts) (λ s. s.0.ended ≡ false) (pairs_line m) s ts o after (t, l) whole h e i (rw (j, d) refl) w
 
-pub pairs_fails : (m : ℕ) (s : v.Pairs × ℕ) (ts : List Token) (o : Token) (after : List Token) (stop : Stop) (whole : Read Token (v.Pairs × ℕ)) → s.0.ended ≡ false → first_of kind (k.comma ∷ []) ts ≡ Some (o, after) → starts_with kind E1 after ≡ true → FailsAs stop (pair_on m s after) → pairs_more m s ts ≡ whole → FailsAs stop whole
-pairs_fails m s ts o after stop whole h e i d w = items_fails (pairs_more m) (k.comma ∷ []) E1 (pair_on m) (λ s. (no_more s.0, s.1)) (λ s ts. Found s ts) (λ s. s.0.ended ≡ false) (pairs_line m) s ts o after stop whole h e i d w
+pub pairs_fails : (m : ℕ) (s : v.Pairs × ℕ) (ts : List Token) (o : Token) (after : List Token) (stop : Stop) (whole : Read Token (v.Pairs × ℕ)) → s.0.ended ≡ false → first_of kind (k.comma ∷ []) ts ≡ Some (o, after) → starts_with kind expr_begins after ≡ true → FailsAs stop (pair_on m s after) → pairs_more m s ts ≡ whole → FailsAs stop whole
+pairs_fails m s ts o after stop whole h e i d w = items_fails (pairs_more m) (k.comma ∷ []) expr_begins (pair_on m) (λ s. (no_more s.0, s.1)) (λ s ts. Found s ts) (λ s. s.0.ended ≡ false) (pairs_line m) s ts o after stop whole h e i d w
 
-pub pairs_next : (m : ℕ) (s : v.Pairs × ℕ) (ts : List Token) (o : Token) (after : List Token) (t : v.Pairs × ℕ) (rest : List Token) (whole : Read Token (v.Pairs × ℕ)) → s.0.ended ≡ false → first_of kind (k.comma ∷ []) ts ≡ Some (o, after) → starts_with kind E1 after ≡ true → pair_on m s after ≡ Found t rest → pairs_more m s ts ≡ whole → pairs_more m t rest ≡ whole
-pairs_next m s ts o after t rest whole h e i d w = items_next (pairs_more m) (k.comma ∷ []) E1 (pair_on m) (λ s. (no_more s.0, s.1)) (λ s ts. Found s ts) (λ s. s.0.ended ≡ false) (pairs_line m) s ts o after t rest whole h e i d w
+pub pairs_next : (m : ℕ) (s : v.Pairs × ℕ) (ts : List Token) (o : Token) (after : List Token) (t : v.Pairs × ℕ) (rest : List Token) (whole : Read Token (v.Pairs × ℕ)) → s.0.ended ≡ false → first_of kind (k.comma ∷ []) ts ≡ Some (o, after) → starts_with kind expr_begins after ≡ true → pair_on m s after ≡ Found t rest → pairs_more m s ts ≡ whole → pairs_more m t rest ≡ whole
+pairs_next m s ts o after t rest whole h e i d w = items_next (pairs_more m) (k.comma ∷ []) expr_begins (pair_on m) (λ s. (no_more s.0, s.1)) (λ s ts. Found s ts) (λ s. s.0.ended ≡ false) (pairs_line m) s ts o after t rest whole h e i d w
 
 args_done : (m : ℕ) (s : v.Args × ℕ) (ts : List Token) → args_more m (v.end_args s.0, s.1) ts ≡ Found (v.end_args s.0, s.1) ts
 args_done m s ts = round_commas expressions (m - 1) no_reader (readers expressions no_reader m) (readers expressions no_reader (m - 1)) (all_eat m) (all_eat (m - 1)) (λ q. absurd q) {S = args} (λ r. not r.ended) (k.comma ∷ []) (λ r _. r) arg v.end_args (v.end_args s.0, s.1) ts
 
-args_both : (m : ℕ) (s : v.Args × ℕ) (ts : List Token) → cond (starts_with kind E1 ts) (reads_part m arg s ts >>= λ y. args_more m y.0 y.1) (args_more m (v.end_args s.0, s.1) ts) ≡ cond (starts_with kind E1 ts) (arg_on m s ts >>= λ y. args_more m y.0 y.1) (Found (v.end_args s.0, s.1) ts)
+args_both : (m : ℕ) (s : v.Args × ℕ) (ts : List Token) → cond (starts_with kind expr_begins ts) (reads_part m arg s ts >>= λ y. args_more m y.0 y.1) (args_more m (v.end_args s.0, s.1) ts) ≡ cond (starts_with kind expr_begins ts) (arg_on m s ts >>= λ y. args_more m y.0 y.1) (Found (v.end_args s.0, s.1) ts)
 unfolding arg_on
-args_both m s ts = ap (λ z. cond (starts_with kind E1 ts) (reads_part m arg s ts >>= λ y. args_more m y.0 y.1) z) (args_done m s ts)
+args_both m s ts = ap (λ z. cond (starts_with kind expr_begins ts) (reads_part m arg s ts >>= λ y. args_more m y.0 y.1) z) (args_done m s ts)
 
-pub args_line : (m : ℕ) (s : v.Args × ℕ) (ts : List Token) → s.0.ended ≡ false → args_more m s ts ≡ pick (first_of kind (k.comma ∷ []) ts) (λ o. cond (starts_with kind E1 o.1) (arg_on m s o.1 >>= λ y. args_more m y.0 y.1) (Found (v.end_args s.0, s.1) o.1)) (Found s ts)
+pub args_line : (m : ℕ) (s : v.Args × ℕ) (ts : List Token) → s.0.ended ≡ false → args_more m s ts ≡ pick (first_of kind (k.comma ∷ []) ts) (λ o. cond (starts_with kind expr_begins o.1) (arg_on m s o.1 >>= λ y. args_more m y.0 y.1) (Found (v.end_args s.0, s.1) o.1)) (Found s ts)
 args_line m s ts h = round_commas expressions (m - 1) no_reader (readers expressions no_reader m) (readers expressions no_reader (m - 1)) (all_eat m) (all_eat (m - 1)) (λ q. absurd q) {S = args} (λ r. not r.ended) (k.comma ∷ []) (λ r _. r) arg v.end_args s ts
-    ∙ ap (λ b. cond (not b) (pick (first_of kind (k.comma ∷ []) ts) (λ o. cond (starts_with kind E1 o.1) (reads_part m arg s o.1 >>= λ y. args_more m y.0 y.1) (args_more m (v.end_args s.0, s.1) o.1)) (Found s ts)) (Found s ts)) h
+    ∙ ap (λ b. cond (not b) (pick (first_of kind (k.comma ∷ []) ts) (λ o. cond (starts_with kind expr_begins o.1) (reads_part m arg s o.1 >>= λ y. args_more m y.0 y.1) (args_more m (v.end_args s.0, s.1) o.1)) (Found s ts)) (Found s ts)) h
     ∙ pick_eq (first_of kind (k.comma ∷ []) ts) _ _ (Found s ts) (λ o. args_both m s o.1)
 
 pub args_over : (m : ℕ) (s : v.Args × ℕ) (ts : List Token) → s.0.ended ≡ false → first_of kind (k.comma ∷ []) ts ≡ None → args_more m s ts ≡ Found s ts
-args_over m s ts h e = items_over (args_more m) (k.comma ∷ []) E1 (arg_on m) (λ s. (v.end_args s.0, s.1)) (λ s ts. Found s ts) (λ s. s.0.ended ≡ false) (args_line m) s ts h e
+args_over m s ts h e = items_over (args_more m) (k.comma ∷ []) expr_begins (arg_on m) (λ s. (v.end_args s.0, s.1)) (λ s ts. Found s ts) (λ s. s.0.ended ≡ false) (args_line m) s ts h e
 
-pub args_end : (m : ℕ) (s : v.Args × ℕ) (ts : List Token) (o : Token) (after : List Token) (t : v.Args) (l : ℕ) (whole : Read Token (v.Args × ℕ)) → s.0.ended ≡ false → first_of kind (k.comma ∷ []) ts ≡ Some (o, after) → starts_with kind E1 after ≡ false → t ≡ v.end_args s.0 → l ≡ s.1 → args_more m s ts ≡ whole → whole ≡ Found (t, l) after
-args_end m s ts o after t l whole h e i j d w = items_end (args_more m) (k.comma ∷ []) E1 (arg_on m) (λ s. (v.end_args s.0, s.1)) (λ s ts. Found s ts) (λ s. s.0.ended ≡ false) (args_line m) s ts o after (t, l) whole h e i (rw (j, d) refl) w
+pub args_end : (m : ℕ) (s : v.Args × ℕ) (ts : List Token) (o : Token) (after : List Token) (t : v.Args) (l : ℕ) (whole : Read Token (v.Args × ℕ)) → s.0.ended ≡ false → first_of kind (k.comma ∷ []) ts ≡ Some (o, after) → starts_with kind expr_begins after ≡ false → t ≡ v.end_args s.0 → l ≡ s.1 → args_more m s ts ≡ whole → whole ≡ Found (t, l) after
+args_end m s ts o after t l whole h e i j d w = items_end (args_more m) (k.comma ∷ []) expr_begins (arg_on m) (λ s. (v.end_args s.0, s.1)) (λ s ts. Found s ts) (λ s. s.0.ended ≡ false) (args_line m) s ts o after (t, l) whole h e i (rw (j, d) refl) w
 
-pub args_fails : (m : ℕ) (s : v.Args × ℕ) (ts : List Token) (o : Token) (after : List Token) (stop : Stop) (whole : Read Token (v.Args × ℕ)) → s.0.ended ≡ false → first_of kind (k.comma ∷ []) ts ≡ Some (o, after) → starts_with kind E1 after ≡ true → FailsAs stop (arg_on m s after) → args_more m s ts ≡ whole → FailsAs stop whole
-args_fails m s ts o after stop whole h e i d w = items_fails (args_more m) (k.comma ∷ []) E1 (arg_on m) (λ s. (v.end_args s.0, s.1)) (λ s ts. Found s ts) (λ s. s.0.ended ≡ false) (args_line m) s ts o after stop whole h e i d w
+pub args_fails : (m : ℕ) (s : v.Args × ℕ) (ts : List Token) (o : Token) (after : List Token) (stop : Stop) (whole : Read Token (v.Args × ℕ)) → s.0.ended ≡ false → first_of kind (k.comma ∷ []) ts ≡ Some (o, after) → starts_with kind expr_begins after ≡ true → FailsAs stop (arg_on m s after) → args_more m s ts ≡ whole → FailsAs stop whole
+args_fails m s ts o after stop whole h e i d w = items_fails (args_more m) (k.comma ∷ []) expr_begins (arg_on m) (λ s. (v.end_args s.0, s.1)) (λ s ts. Found s ts) (λ s. s.0.ended ≡ false) (args_line m) s ts o after stop whole h e i d w
 
-pub args_next : (m : ℕ) (s : v.Args × ℕ) (ts : List Token) (o : Token) (after : List Token) (t : v.Args × ℕ) (rest : List Token) (whole : Read Token (v.Args × ℕ)) → s.0.ended ≡ false → first_of kind (k.comma ∷ []) ts ≡ Some (o, after) → starts_with kind E1 after ≡ true → arg_on m s after ≡ Found t rest → args_more m s ts ≡ whole → args_more m t rest ≡ whole
-args_next m s ts o after t rest whole h e i d w = items_next (args_more m) (k.comma ∷ []) E1 (arg_on m) (λ s. (v.end_args s.0, s.1)) (λ s ts. Found s ts) (λ s. s.0.ended ≡ false) (args_line m) s ts o after t rest whole h e i d w
+pub args_next : (m : ℕ) (s : v.Args × ℕ) (ts : List Token) (o : Token) (after : List Token) (t : v.Args × ℕ) (rest : List Token) (whole : Read Token (v.Args × ℕ)) → s.0.ended ≡ false → first_of kind (k.comma ∷ []) ts ≡ Some (o, after) → starts_with kind expr_begins after ≡ true → arg_on m s after ≡ Found t rest → args_more m s ts ≡ whole → args_more m t rest ≡ whole
+args_next m s ts o after t rest whole h e i d w = items_next (args_more m) (k.comma ∷ []) expr_begins (arg_on m) (λ s. (v.end_args s.0, s.1)) (λ s ts. Found s ts) (λ s. s.0.ended ≡ false) (args_line m) s ts o after t rest whole h e i d w
 
 -- arg = expr | NAME "=" expr
 pub arg_shape : (m : ℕ) (s : v.Args × ℕ) (ts : List Token) → arg_on m s ts ≡ (reads (m - 1) expr ts >>= λ e. seen_or (Found (v.plain_arg (s.0, e.0.0), max s.1 e.0.1) e.1)
@@ -111,10 +111,10 @@ unfolding arg_on
 arguments_shape m ts h = line m arguments ts h ∙ bind_eq (wanted kind (k.left_paren ∷ []) ts) _ _ (λ o rest. ap (λ z. pick (first_of kind (k.right_paren ∷ []) rest) (λ c. Found (v.no_args, 1) c.1) z) (sym (walked_on expressions (m - 1) no_reader (readers expressions no_reader m) (readers expressions no_reader (m - 1)) {S = args} {A = args} {B = finished} arg (v.no_args, ground) rest (λ p. args_behind m p.0 p.1))))
 
 -- as the code meets them
-pub row_stops : (m : ℕ) (s : v.Row × ℕ) (ts : List Token) (o : Token) (after : List Token) (stop : Stop) (whole : Read Token (v.Row × ℕ)) → s.0.ended ≡ false → first_of kind (k.comma ∷ []) ts ≡ Some (o, after) → starts_with kind E1 after ≡ true → FailsAs stop (reads (m - 1) expr after) → items m s ts ≡ whole → FailsAs stop whole
+pub row_stops : (m : ℕ) (s : v.Row × ℕ) (ts : List Token) (o : Token) (after : List Token) (stop : Stop) (whole : Read Token (v.Row × ℕ)) → s.0.ended ≡ false → first_of kind (k.comma ∷ []) ts ≡ Some (o, after) → starts_with kind expr_begins after ≡ true → FailsAs stop (reads (m - 1) expr after) → items m s ts ≡ whole → FailsAs stop whole
 row_stops m s ts o after stop whole h e i d w = row_fails m s ts o after stop whole h e i (fails_on stop (reads (m - 1) expr after) (item_on m s after) (λ y. Found (v.item s.0 y.0.0, max s.1 y.0.1) y.1) d refl) w
 
-pub row_goes : (m : ℕ) (s : v.Row × ℕ) (ts : List Token) (o : Token) (after : List Token) (y : Tree × ℕ) (rest : List Token) (t : v.Row) (l : ℕ) (whole : Read Token (v.Row × ℕ)) → s.0.ended ≡ false → first_of kind (k.comma ∷ []) ts ≡ Some (o, after) → starts_with kind E1 after ≡ true → reads (m - 1) expr after ≡ Found y rest → t ≡ v.item s.0 y.0 → l ≡ max s.1 y.1 → items m s ts ≡ whole → items m (t, l) rest ≡ whole
+pub row_goes : (m : ℕ) (s : v.Row × ℕ) (ts : List Token) (o : Token) (after : List Token) (y : Tree × ℕ) (rest : List Token) (t : v.Row) (l : ℕ) (whole : Read Token (v.Row × ℕ)) → s.0.ended ≡ false → first_of kind (k.comma ∷ []) ts ≡ Some (o, after) → starts_with kind expr_begins after ≡ true → reads (m - 1) expr after ≡ Found y rest → t ≡ v.item s.0 y.0 → l ≡ max s.1 y.1 → items m s ts ≡ whole → items m (t, l) rest ≡ whole
 row_goes m s ts o after y rest t l whole h e i d a b w = row_next m s ts o after (t, l) rest whole h e i (ap (λ r. r >>= λ y. Found (v.item s.0 y.0.0, max s.1 y.0.1) y.1) d ∙ rw (a, b) refl) w
 
 pub arg_takes : (m : ℕ) (s : v.Args × ℕ) (ts : List Token) (y : v.Args × ℕ) (rest : List Token) → arg_on m s ts ≡ Found y rest → length rest < length ts

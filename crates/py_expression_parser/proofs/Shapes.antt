@@ -18,30 +18,30 @@ use Rattle.py_tree.specs.declared.op.BinOp.TheVariants as binary
 use Rattle.py_tree.specs.Trees.{Tree, Empty, Text, Dict, Name, Number, True, False, NoneTree, Tuple, Unary, Binary, Not, IfElse}
 use Rattle.py_cursor.specs.py_expressions.Sorts.{other, atom, primary, power, unary, negation, compare, disjunct, expr, exprs, nothing, prefix, tree, quoted, row, pairs}
 use Rattle.grammar.specs.Table.{when, give, ◌⨾◌, ◌∣◌}
-use Rattle.py_cursor.specs.py_expressions.Lines.{expressions, no_reader, prefixes, pair, key, mark, part, E1, A0}
+use Rattle.py_cursor.specs.py_expressions.Lines.{expressions, no_reader, prefixes, pair, key, mark, part, expr_begins, literal_begins}
 use Rattle.py_nodes.specs.Parts.{no_pairs}
 use Rattle.py_expression_parser.specs.Reads.{reads, reads_all, reads_part, operator_list}
 use Rattle.py_expression_parser.specs.Pieces.{constant_on, leaf_on, texts_on, texts_more, group_on, list_on, dict_on, items, pairs_more, pair_on}
 use Rattle.py_expression_parser.proofs.Lines.{line, all_eat, room_goes, room_stays, two_goes, two_stays}
 
 -- no level is left
-pub expr_none : (m : ℕ) (ts : List Token) → m ≡ 0 → reads m expr ts ≡ deep_at (λ t. has (kind t) E1) ts
+pub expr_none : (m : ℕ) (ts : List Token) → m ≡ 0 → reads m expr ts ≡ deep_at (λ t. has (kind t) expr_begins) ts
 expr_none m ts e = ap (λ v. reads v expr ts) e ∙ no_levels expressions no_reader expr ts
 
-pub exprs_none : (m : ℕ) (ts : List Token) → m ≡ 0 → reads m exprs ts ≡ deep_at (λ t. has (kind t) E1) ts
+pub exprs_none : (m : ℕ) (ts : List Token) → m ≡ 0 → reads m exprs ts ≡ deep_at (λ t. has (kind t) expr_begins) ts
 exprs_none m ts e = ap (λ v. reads v exprs ts) e ∙ no_levels expressions no_reader exprs ts
 
-pub other_none : (m : ℕ) (ts : List Token) → m ≡ 0 → reads m other ts ≡ deep_at (λ t. has (kind t) A0) ts
+pub other_none : (m : ℕ) (ts : List Token) → m ≡ 0 → reads m other ts ≡ deep_at (λ t. has (kind t) literal_begins) ts
 other_none m ts e = ap (λ v. reads v other ts) e ∙ no_levels expressions no_reader other ts
 
-pub expr_blocked : (m : ℕ) (ts : List Token) (stop : Stop) → m ≡ 0 → IsBlocked (starts_with kind E1 ts) ts stop → FailsAs stop (reads m expr ts)
-expr_blocked m ts stop e b = subst (λ r. FailsAs stop r) (sym (expr_none m ts e)) (blocked_as (Tree × ℕ) E1 ts stop b)
+pub expr_blocked : (m : ℕ) (ts : List Token) (stop : Stop) → m ≡ 0 → IsBlocked (starts_with kind expr_begins ts) ts stop → FailsAs stop (reads m expr ts)
+expr_blocked m ts stop e b = subst (λ r. FailsAs stop r) (sym (expr_none m ts e)) (blocked_as (Tree × ℕ) expr_begins ts stop b)
 
-pub exprs_blocked : (m : ℕ) (ts : List Token) (stop : Stop) → m ≡ 0 → IsBlocked (starts_with kind E1 ts) ts stop → FailsAs stop (reads m exprs ts)
-exprs_blocked m ts stop e b = subst (λ r. FailsAs stop r) (sym (exprs_none m ts e)) (blocked_as (Tree × ℕ) E1 ts stop b)
+pub exprs_blocked : (m : ℕ) (ts : List Token) (stop : Stop) → m ≡ 0 → IsBlocked (starts_with kind expr_begins ts) ts stop → FailsAs stop (reads m exprs ts)
+exprs_blocked m ts stop e b = subst (λ r. FailsAs stop r) (sym (exprs_none m ts e)) (blocked_as (Tree × ℕ) expr_begins ts stop b)
 
-pub other_blocked : (m : ℕ) (ts : List Token) (stop : Stop) → m ≡ 0 → IsBlocked (starts_with kind A0 ts) ts stop → FailsAs stop (reads m other ts)
-other_blocked m ts stop e b = subst (λ r. FailsAs stop r) (sym (other_none m ts e)) (blocked_as (Tree × ℕ) A0 ts stop b)
+pub other_blocked : (m : ℕ) (ts : List Token) (stop : Stop) → m ≡ 0 → IsBlocked (starts_with kind literal_begins ts) ts stop → FailsAs stop (reads m other ts)
+other_blocked m ts stop e b = subst (λ r. FailsAs stop r) (sym (other_none m ts e)) (blocked_as (Tree × ℕ) literal_begins ts stop b)
 
 -- expr = or [ "if" or "else" expr ]
 pub expr_shape : (m : ℕ) (ts : List Token) → 0 < m → reads m expr ts ≡ (reads m disjunct ts >>= λ y. pick (first_of kind (k.if ∷ []) y.1) (λ o. cond (fits (m - 1) y.0.1)

@@ -2,7 +2,7 @@ ghost use Rattle.std.specs.Prelude.{◌≡◌, ◌∷◌, []};
 ghost use Rattle.grammar_code.specs.Walk.{starts_with};
 ghost use Rattle.py_cursor.specs.token_kinds.Kinds.{kind};
 ghost use Rattle.py_cursor.specs.token_kinds.Numbers as k;
-ghost use Rattle.py_cursor.specs.py_expressions.Lines.{A0, E1};
+ghost use Rattle.py_cursor.specs.py_expressions.Lines.{literal_begins, expr_begins};
 ghost use Rattle.py_cursor.specs.Cursor.{IsBlocked};
 ghost use Rattle.py_expression_parser.specs.Pieces.{trailer_marks};
 
@@ -60,21 +60,21 @@ pub const TRAILERS: [Sign; 3] = [
 
 /// Whether an expression begins with the first token.
 pub fn begins_expression(p: &Parser<'_>) -> bool
-    ensures { result ≡ starts_with kind E1 p.now.rest.now }
+    ensures { result ≡ starts_with kind expr_begins p.now.rest.now }
 {
     p.at_any(&BEGINS_EXPRESSION)
 }
 
 /// Reading stops where an expression is wanted and no level is left.
 pub fn no_expression(p: &mut Parser<'_>)
-    ensures { IsBlocked (starts_with kind E1 p.old.rest.now) p.old.rest.now p.new.stop }
+    ensures { IsBlocked (starts_with kind expr_begins p.old.rest.now) p.old.rest.now p.new.stop }
 {
     p.stop_blocked(&BEGINS_EXPRESSION);
 }
 
 /// Reading stops where an atom that is no name is wanted and no level is left.
 pub fn no_other(p: &mut Parser<'_>)
-    ensures { IsBlocked (starts_with kind A0 p.old.rest.now) p.old.rest.now p.new.stop }
+    ensures { IsBlocked (starts_with kind literal_begins p.old.rest.now) p.old.rest.now p.new.stop }
 {
     p.stop_blocked(&BEGINS_OTHER);
 }

@@ -220,90 +220,90 @@ body exprs = only expr ⨾ commaed (part expr v.item)
 body targets = only single ⨾ (room (token {A = places} (k.comma ∷ []) (λ p _. v.places_from p) ⨾ (part single v.one_place ∣ give v.no_place) ⨾ many (when (λ r. not r.ended) (key k.comma ⨾ (part single v.one_place ∣ give v.no_place))) ⨾ node (λ r. Unpack r.all)) ∣ give One)
 
 -- SETS: what a line begins with, and what goes on behind what it has read
-abbrev pub A0 : List ℕ
-A0 = k.number ∷ k.true ∷ k.false ∷ k.none ∷ k.text ∷ k.left_paren ∷ k.left_bracket ∷ k.left_brace ∷ []
+abbrev pub literal_begins : List ℕ
+literal_begins = k.number ∷ k.true ∷ k.false ∷ k.none ∷ k.text ∷ k.left_paren ∷ k.left_bracket ∷ k.left_brace ∷ []
 
-abbrev pub A1 : List ℕ
-A1 = k.name ∷ A0
+abbrev pub atom_begins : List ℕ
+atom_begins = k.name ∷ literal_begins
 
-abbrev pub U1 : List ℕ
-U1 = k.minus ∷ k.plus ∷ k.tilde ∷ A1
+abbrev pub unary_begins : List ℕ
+unary_begins = k.minus ∷ k.plus ∷ k.tilde ∷ atom_begins
 
-abbrev pub E1 : List ℕ
-E1 = k.not ∷ U1
+abbrev pub expr_begins : List ℕ
+expr_begins = k.not ∷ unary_begins
 
 abbrev pub begins : Name → List ℕ
-begins other = A0
-begins atom = A1
+begins other = literal_begins
+begins atom = atom_begins
 begins arguments = k.left_paren ∷ []
 begins slice = k.colon ∷ []
-begins single = A1
-begins targets = A1
-begins primary = A1
-begins power = A1
-begins unary = U1
-begins prod = U1
-begins sum = U1
-begins shift = U1
-begins band = U1
-begins xor = U1
-begins bitor = U1
-begins compare = U1
-begins negation = E1
-begins conjunct = E1
-begins disjunct = E1
-begins expr = E1
-begins exprs = E1
+begins single = atom_begins
+begins targets = atom_begins
+begins primary = atom_begins
+begins power = atom_begins
+begins unary = unary_begins
+begins prod = unary_begins
+begins sum = unary_begins
+begins shift = unary_begins
+begins band = unary_begins
+begins xor = unary_begins
+begins bitor = unary_begins
+begins compare = unary_begins
+begins negation = expr_begins
+begins conjunct = expr_begins
+begins disjunct = expr_begins
+begins expr = expr_begins
+begins exprs = expr_begins
 
-abbrev pub GA : List ℕ
-GA = k.dot ∷ k.left_paren ∷ k.left_bracket ∷ k.text ∷ []
+abbrev pub atom_goes : List ℕ
+atom_goes = k.dot ∷ k.left_paren ∷ k.left_bracket ∷ k.text ∷ []
 
-abbrev pub GU : List ℕ
-GU = k.double_star ∷ GA
+abbrev pub power_goes : List ℕ
+power_goes = k.double_star ∷ atom_goes
 
-abbrev pub GP : List ℕ
-GP = k.star ∷ k.double_slash ∷ k.percent ∷ GU
+abbrev pub prod_goes : List ℕ
+prod_goes = k.star ∷ k.double_slash ∷ k.percent ∷ power_goes
 
-abbrev pub GS : List ℕ
-GS = k.plus ∷ k.minus ∷ GP
+abbrev pub sum_goes : List ℕ
+sum_goes = k.plus ∷ k.minus ∷ prod_goes
 
-abbrev pub GB : List ℕ
-GB = k.ampersand ∷ k.left_shift ∷ k.right_shift ∷ GS
+abbrev pub band_goes : List ℕ
+band_goes = k.ampersand ∷ k.left_shift ∷ k.right_shift ∷ sum_goes
 
-abbrev pub GX : List ℕ
-GX = k.bar ∷ k.caret ∷ GB
+abbrev pub bitor_goes : List ℕ
+bitor_goes = k.bar ∷ k.caret ∷ band_goes
 
-abbrev pub GC : List ℕ
-GC = keys (comparisons.0 ∷ comparisons.1) ++ k.not ∷ k.is ∷ GX
+abbrev pub compare_goes : List ℕ
+compare_goes = keys (comparisons.0 ∷ comparisons.1) ++ k.not ∷ k.is ∷ bitor_goes
 
-abbrev pub GE : List ℕ
-GE = k.if ∷ k.or ∷ k.and ∷ GC
+abbrev pub choice_goes : List ℕ
+choice_goes = k.if ∷ k.or ∷ k.and ∷ compare_goes
 
-abbrev pub GR : List ℕ
-GR = k.comma ∷ GE ++ E1
+abbrev pub exprs_goes : List ℕ
+exprs_goes = k.comma ∷ choice_goes ++ expr_begins
 
 abbrev pub expr_goes : Name → List ℕ
 expr_goes other = k.text ∷ []
 expr_goes atom = k.text ∷ []
 expr_goes arguments = []
 expr_goes slice = []
-expr_goes single = GA
-expr_goes targets = k.comma ∷ A1 ++ GA
-expr_goes primary = GA
-expr_goes power = GU
-expr_goes unary = GU
-expr_goes prod = GP
-expr_goes sum = GS
-expr_goes shift = k.left_shift ∷ k.right_shift ∷ GS
-expr_goes band = GB
-expr_goes xor = k.caret ∷ GB
-expr_goes bitor = GX
-expr_goes compare = GC
-expr_goes negation = GC
-expr_goes conjunct = k.and ∷ GC
-expr_goes disjunct = k.or ∷ k.and ∷ GC
-expr_goes expr = GE
-expr_goes exprs = GR
+expr_goes single = atom_goes
+expr_goes targets = k.comma ∷ atom_begins ++ atom_goes
+expr_goes primary = atom_goes
+expr_goes power = power_goes
+expr_goes unary = power_goes
+expr_goes prod = prod_goes
+expr_goes sum = sum_goes
+expr_goes shift = k.left_shift ∷ k.right_shift ∷ sum_goes
+expr_goes band = band_goes
+expr_goes xor = k.caret ∷ band_goes
+expr_goes bitor = bitor_goes
+expr_goes compare = compare_goes
+expr_goes negation = compare_goes
+expr_goes conjunct = k.and ∷ compare_goes
+expr_goes disjunct = k.or ∷ k.and ∷ compare_goes
+expr_goes expr = choice_goes
+expr_goes exprs = exprs_goes
 
 -- THE GRAMMAR OF EXPRESSIONS; it names no other
 abbrev pub expressions : Grammar

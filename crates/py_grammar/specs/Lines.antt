@@ -181,28 +181,28 @@ lines body = require k.newline ⨾ require k.indent ⨾ line {A = block} stmts (
 lines source = require k.end ⨾ node (λ _. NoStatement) ∣ line {A = block} stmts (λ _ b. b) ⨾ require k.end
 
 -- SETS
-abbrev pub SI : List ℕ
-SI = k.del ∷ k.pass ∷ k.break ∷ k.continue ∷ k.return ∷ k.assert ∷ k.global ∷ k.raise ∷ k.yield ∷ k.import ∷ k.from ∷ l.E1
+abbrev pub simple_begins : List ℕ
+simple_begins = k.del ∷ k.pass ∷ k.break ∷ k.continue ∷ k.return ∷ k.assert ∷ k.global ∷ k.raise ∷ k.yield ∷ k.import ∷ k.from ∷ l.expr_begins
 
-abbrev pub ST : List ℕ
-ST = k.if ∷ k.while ∷ k.for ∷ k.try ∷ k.with ∷ k.def ∷ k.class ∷ k.at ∷ SI
+abbrev pub stmt_begins : List ℕ
+stmt_begins = k.if ∷ k.while ∷ k.for ∷ k.try ∷ k.with ∷ k.def ∷ k.class ∷ k.at ∷ simple_begins
 
 abbrev pub block_begins : BlockName → List ℕ
-block_begins simple = SI
-block_begins simples = SI
-block_begins stmt = ST
-block_begins stmts = ST
-block_begins body = k.newline ∷ SI
-block_begins source = k.end ∷ ST
+block_begins simple = simple_begins
+block_begins simples = simple_begins
+block_begins stmt = stmt_begins
+block_begins stmts = stmt_begins
+block_begins body = k.newline ∷ simple_begins
+block_begins source = k.end ∷ stmt_begins
 
 abbrev pub clause_words : List ℕ
 clause_words = k.elif ∷ k.else ∷ k.except ∷ k.finally ∷ []
 
 abbrev pub block_goes : BlockName → List ℕ
-block_goes simple = k.yield ∷ keys (changes.0 ∷ changes.1) ++ k.equal ∷ k.as_word ∷ l.GR
+block_goes simple = k.yield ∷ keys (changes.0 ∷ changes.1) ++ k.equal ∷ k.as_word ∷ l.exprs_goes
 block_goes simples = []
 block_goes stmt = clause_words
-block_goes stmts = clause_words ++ ST
+block_goes stmts = clause_words ++ stmt_begins
 block_goes body = []
 block_goes source = []
 

@@ -480,7 +480,8 @@ fn module_names(alloc: Global) -> Result<Names, OutOfMemory>
     Ok(names)
 }
 
-fn ascii_text(alloc: Global, text: &str) -> Result<PyText, OutOfMemory>
+/// A text of ASCII characters.
+pub fn ascii_text(alloc: Global, text: &str) -> Result<PyText, OutOfMemory>
     ensures { IfOk result (λ t. t ≡ text.now) }
 {
     let mut chars = Vec::new(alloc);

@@ -58,7 +58,7 @@ pub fn exc_below(class: ExcClass, other: ExcClass) -> bool
 }
 
 /// The base of a class of the heap.
-fn base_of(obj: Option<&Obj>) -> Option<ObjId>
+pub fn base_of(obj: Option<&Obj>) -> Option<ObjId>
     ensures { result ≡ classes.base_of (option_copied obj.entry) }
 {
     match obj {

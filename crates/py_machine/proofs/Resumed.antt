@@ -1,26 +1,25 @@
 -- How begins and resumptions by the runner go on, and what is told of them.
-use Rattle.std.proofs.Common.{◌≡◌, ◌∙◌, ℕ, List, [], Some, None, Ok, sym, ap, refl}
+use Rattle.std.proofs.Common.{◌≡◌, ◌∙◌, ℕ, List, [], true, is_some, Option, Some, None, Ok, sym, ap, refl}
 use Rattle.run_tree.specs.Todo.{Done}
 use Rattle.py_core.specs.declared.stmt.CoreFn.{CoreFn}
 use Rattle.py_values.specs.declared.value.Value.{Value}
 use Rattle.lower_law.specs.py_world.Arguments.{positional_arguments}
 use Rattle.lower_law.specs.py_world.Calls.{entered, invoke}
 use Rattle.lower_law.specs.py_world.Outcome.{call_end, raised}
-use Rattle.lower_law.specs.py_world.Resuming.{BegunBody, Sent, begun_by, begun_over, opened_by_runner, resumed, sent_end}
+use Rattle.lower_law.specs.py_world.Resuming.{BegunBody, Sent, abandon_of, begun_by, begun_over, frozen_at, is_out, opened_by_runner, resumed, sent_end}
 use Rattle.lower_law.specs.py_world.Runs.{begun_by_runner, ended_by, start}
 use Rattle.lower_law.specs.py_world.Site.{no_call}
-use Rattle.lower_law.specs.py_world.World.{Locals, FunctionCode, state}
+use Rattle.lower_law.specs.py_world.World.{Frozen, Locals, FunctionCode, state}
 use Rattle.lower_law.specs.core_meaning.Meaning.{CoreWorld, core, core_begin, core_resume}
+use Rattle.lower_law.specs.core_meaning.Requests.{Layer}
 use Rattle.lower_law.specs.core_meaning.Statements.{entry, remains}
 use Rattle.machine_state.specs.declared.frame.Frame.{Frame}
-use Rattle.machine_state.specs.declared.frozen.FrozenFrame.{FrozenFrame}
 use Rattle.machine_state.specs.declared.place.Location.{Location}
-use Rattle.machine_state.specs.Places.{CoreEnding, CoreOutcome, CoreRest, CoreState, ends, outcome, site_of}
+use Rattle.machine_state.specs.Places.{CoreEnding, CoreOutcome, CoreRest, CoreState, ends, outcome}
 use Rattle.machine_state.specs.declared.frame.End.{End}
 use Rattle.machine_state.specs.declared.machine.Machine.{Machine}
-use Rattle.machine_state.specs.Frames.{after_stack, frozen_some, layers_of, outer_of, machine_rest, state_of}
+use Rattle.machine_state.specs.Frames.{after_stack, outer_of, machine_rest, state_of}
 use Rattle.machine_state.proofs.Costs.{ends_done}
-use Rattle.machine_frames.specs.Frozen.{FoundIn}
 use Rattle.machine_runner.specs.declared.misfit.Misfit.{Misfit}
 use Rattle.machine_runner.specs.declared.openings.Opening.TheVariants.{Body, Refused, Call}
 use Rattle.machine_runner.specs.Begun.{Begins}
@@ -66,14 +65,19 @@ module _ (f : Value) (args : List Value) (budget : ℕ) (w w' : CoreWorld) (s : 
   called_misfits x begins told = rw is (ap (λ t. begun_by budget (ends budget t)) begins ∙ ended_told budget (raised x.raise x.trace (start w)) ∙ (rw is at told))
 
 -- what remains of a body, in a machine
-pub wakes : (budget : ℕ) (m : Machine) (x : FrozenFrame) (e : End) (sent : Sent) (w : CoreWorld) (ending : CoreEnding) → m.left ≡ budget → state_of m ≡ state x.locals [] w
-    → ((o : CoreOutcome) → machine_rest m o ≡ remains (layers_of x.stack) (site_of x.here [] None) o (λ o. Done (call_end (start w) o))) → ((s : CoreState) → outcome e s ≡ sent_end sent s)
-    → ends m.left (machine_rest m (outcome e (state_of m))) ≡ ending → ends budget (resumed core (frozen_some x) sent w) ≡ ending
+pub wakes : (budget : ℕ) (m : Machine) (x : Frozen (List Layer)) (e : End) (sent : Sent) (w : CoreWorld) (ending : CoreEnding) → m.left ≡ budget → state_of m ≡ state x.locals [] w
+    → ((o : CoreOutcome) → machine_rest m o ≡ remains x.rest x.site o (λ o. Done (call_end (start w) o))) → ((s : CoreState) → outcome e s ≡ sent_end sent s)
+    → ends m.left (machine_rest m (outcome e (state_of m))) ≡ ending → ends budget (resumed core x sent w) ≡ ending
 wakes budget m x e sent w ending left is rest end run =
-    ap (λ (n : ℕ). ends n (resumed core (frozen_some x) sent w)) (sym left)
-    ∙ ap (ends m.left) (sym (rest (outcome e (state_of m)) ∙ ap (λ (o : CoreOutcome). remains (layers_of x.stack) (site_of x.here [] None) o (λ o. Done (call_end (start w) o))) (end (state_of m) ∙ ap (sent_end sent) is))) ∙ run
+    ap (λ (n : ℕ). ends n (resumed core x sent w)) (sym left)
+    ∙ ap (ends m.left) (sym (rest (outcome e (state_of m)) ∙ ap (λ (o : CoreOutcome). remains x.rest x.site o (λ o. Done (call_end (start w) o))) (end (state_of m) ∙ ap (sent_end sent) is))) ∙ run
 
 -- a frame that is out
-pub frame_resumes : (n : ℕ) (sent : Sent) (budget : ℕ) (w w1 w' : CoreWorld) (x : FrozenFrame) (b : BegunBody) → FoundIn (Some x) n w w1
-    → begun_by budget (ends budget (resumed core (frozen_some x) sent w1)) ≡ (b, w') → core_resume n sent budget w ≡ (b, w')
-frame_resumes n sent budget w w1 w' x b found told = rw (found.0, ← found.1) told
+module _ (n : ℕ) (sent : Sent) (budget : ℕ) (w w' : CoreWorld) (ending : CoreEnding) (b : BegunBody)
+    (runs : (f : Frozen (List Layer)) → frozen_at n w ≡ Some f → ends budget (resumed core f sent (abandon_of n w)) ≡ ending) (told : begun_by budget ending ≡ (b, w')) where
+  found_resumes : (o : Option (Frozen (List Layer))) → frozen_at n w ≡ o → is_some o ≡ true → core_resume n sent budget w ≡ (b, w')
+  found_resumes (Some f) is out = rw is (ap (begun_by budget) (runs f is) ∙ told)
+  found_resumes None is out = absurd cc
+
+  pub frame_resumes : is_out n w ≡ true → core_resume n sent budget w ≡ (b, w')
+  frame_resumes out = found_resumes (frozen_at n w) refl out

@@ -1,5 +1,5 @@
 -- What a world of core code shows of its sources.
-use Rattle.std.proofs.Common.{◌≡◌, ◌∙◌, ℕ, List, [], ◌∷◌, ◌++◌, map, Option, Some, Bool, true, false, cond, refl, sym, ap, subst}
+use Rattle.std.proofs.Common.{◌≡◌, ◌∙◌, ℕ, List, [], ◌∷◌, ◌++◌, map, Option, Some, None, Bool, true, false, cond, refl, sym, ap, subst}
 use Rattle.std.proofs.Math.Logic.{∥∥₁_map}
 use Rattle.lower_law.specs.source_meaning.Requests.{Script}
 use Rattle.py_core.specs.declared.stmt.Core.{Core}
@@ -119,6 +119,14 @@ fault_cond false x o q h = h
 pub fault_viewed : (path : List ℕ) (xs : List (CodedSource Core)) → fault_of (source_at path (map file_view xs)) ≡ fault_of (source_at path xs)
 fault_viewed path [] = refl
 fault_viewed path (x ∷ xs) = fault_cond (name_eq path x.path) x (source_at path xs) (source_at path (map file_view xs)) (fault_viewed path xs)
+
+absent_cond : (b : Bool) (x : CodedSource Core) (o : Option (CodedSource Core)) (q : Option (CodedSource Script)) → (q ≡ None → o ≡ None) → cond b (Some (file_view x)) q ≡ None → cond b (Some x) o ≡ None
+absent_cond true x o q h e = absurd cc
+absent_cond false x o q h e = h e
+
+pub absent_viewed : (path : List ℕ) (xs : List (CodedSource Core)) → source_at path (map file_view xs) ≡ None → source_at path xs ≡ None
+absent_viewed path [] h = refl
+absent_viewed path (x ∷ xs) h = absent_cond (name_eq path x.path) x (source_at path xs) (source_at path (map file_view xs)) (absent_viewed path xs) h
 
 line_cond : (b : Bool) (n : ℕ) (x : CodedSource Core) (o : Option (CodedSource Core)) (q : Option (CodedSource Script)) → line_in q n ≡ line_in o n → line_in (cond b (Some (file_view x)) q) n ≡ line_in (cond b (Some x) o) n
 line_cond true n x o q h = refl

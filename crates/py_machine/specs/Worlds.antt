@@ -1,5 +1,5 @@
 -- How the calls change a world, and what they tell of it.
-use Rattle.std.specs.Prelude.{ℕ, Bool, true, false, List, [], ◌∷◌, ◌++◌, Option, Some, None, Result, Ok, Err}
+use Rattle.std.specs.Prelude.{ℕ, List, [], ◌∷◌, ◌++◌, Option, Some, None, Result, Ok, Err}
 use Rattle.std.specs.Borrow.{Bor}
 use Rattle.py_source.specs.declared.fault.SourceFault.{SourceFault}
 use Rattle.lower_law.specs.source_meaning.Requests.{Script}
@@ -9,7 +9,6 @@ use Rattle.py_values.specs.declared.object.Obj.TheVariants as obj
 use Rattle.py_values.specs.declared.value.Value.{Value}
 use Rattle.lower_law.specs.py_world.World.{CodedSource, CodeOrFault, Code, Fault}
 use Rattle.py_kinds.specs.Builtins.{first_heap}
-use Rattle.machine_state.specs.declared.frozen.FrozenFrame.{FrozenFrame}
 use Rattle.lower_law.specs.source_meaning.Meaning.{SourceWorld}
 use Rattle.lower_law.specs.Sourced.{module_of}
 use Rattle.lower_law.specs.Lowered.{LoweredModule}
@@ -34,12 +33,6 @@ Stands (Fault fault) = Unit {0}
 
 abbrev pub with_source : CodedSource Script → SourceWorld → SourceWorld
 with_source x w = record { sources = w.sources ++ x ∷ []; modules = w.modules; heap = w.heap; codes = w.codes; printed = w.printed; frozen = w.frozen; traces = w.traces }
-
--- whether a frame is kept at a place
-abbrev pub is_kept : Option (Option FrozenFrame) → Bool
-is_kept (Some (Some f)) = true
-is_kept (Some None) = false
-is_kept None = false
 
 -- a world behind want of memory: nothing of its code runs any more, and no frame is out
 abbrev pub spent_world : SourceWorld → SourceWorld

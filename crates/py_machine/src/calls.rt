@@ -54,7 +54,7 @@ fn go_on(m: &mut Machine, turned: TurnEnd) -> Result<Stop, OutOfMemory>
 
 /// Runs a call where nothing is open.
 pub fn run_call(m: &mut Machine, f: Value, args: &[Value]) -> Result<Stop, OutOfMemory>
-    requires { m.old.stack ≡ [] }
+    requires { m.old.stack.own ≡ [] }
     ensures { IfOk result (λ stop. ends m.old.left (calls.invoke entry f (positional_arguments args.now) no_call (state_of m.old) (λ o. Done (call_end (state_of m.old) o))) ≡ stopped stop m.new) }
 {
     let args = plain_arguments(m.alloc, args)?;
@@ -70,7 +70,7 @@ fn call_fitting(
     args: &[Value],
     budget: u64,
 ) -> Result<Ended, OutOfMemory>
-    requires stack { m.old.stack ≡ [] }
+    requires stack { m.old.stack.own ≡ [] }
     requires left { m.old.left ≡ budget }
     ensures { IfOk result (λ e. runs.told_by budget (ends budget (calls.invoke entry f (positional_arguments args.now) no_call (state_of m.old) (λ o. Done (call_end (state_of m.old) o)))) ≡ (e, world_of m.new)) }
 {

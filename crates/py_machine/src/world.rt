@@ -13,12 +13,12 @@ use crate::{calls, load, yields};
 use machine_frames::frozen;
 use machine_load::Ended;
 use machine_runner::sources::text_of;
-use machine_runner::{lines, sources};
-use machine_state::frozen::FrozenFrame;
 use machine_state::locals::Locals;
 use machine_state::machine::Machine;
+use machine_state::modules::ModuleTable;
 use machine_state::place::{Location, Place};
 use machine_state::source::{SourceCode, SourceFile};
+use machine_state::sources::SourceTable;
 use machine_state::stack::ControlStack;
 use machine_state::traces::Traces;
 use py_core::Core;
@@ -77,14 +77,13 @@ impl World {
         Ok(World {
             machine: Machine {
                 alloc,
-                sources: Vec::new(alloc),
-                modules: Vec::new(alloc),
+                sources: SourceTable::new(alloc),
+                modules: ModuleTable::new(alloc),
                 heap: first_heap(alloc)?,
                 codes: Vec::new(alloc),
                 printed: Vec::new(alloc),
-                frozen: Vec::new(alloc),
                 traces: Traces::new(alloc),
-                stack: ControlStack::new(alloc),
+                stack: ControlStack::new(alloc)?,
                 locals: Locals::new(alloc),
                 temps: Vec::new(alloc),
                 here,
@@ -109,11 +108,14 @@ pub fn add_source(
     let path = text_of(alloc, path)?;
     let bytes = Vec::from_slice(alloc, bytes)?;
     let code = source_code(code);
-    world
-        .machine
-        .sources
-        .push(SourceFile::new(path, bytes, code))?;
-    Ok(())
+    let source = SourceFile::new(alloc, path, bytes, code)?;
+    match world.machine.sources.push(source) {
+        Ok(()) => Ok(()),
+        Err(fault) => {
+            forget_code(&mut world.machine);
+            Err(fault)
+        }
+    }
 }
 
 fn source_code(code: Result<Core, SourceFault>) -> SourceCode
@@ -148,10 +150,10 @@ fn source_fault(source: &SourceFile) -> Option<SourceFault>
     }
 }
 
-fn fault_in(all: &[SourceFile], path: &str) -> Option<SourceFault>
+fn fault_in(all: &SourceTable, path: &str) -> Option<SourceFault>
     ensures { result ≡ fault_of (source_at (chars path.now) all.now) }
 {
-    match sources::find(all, path) {
+    match all.find_text(path) {
         Some(source) => source_fault(source),
         None => None,
     }
@@ -164,11 +166,11 @@ pub fn line<'w>(world: &'w World, path: &str, number: u32) -> Option<&'w str>
     line_in(&world.machine.sources, path, number)
 }
 
-fn line_in<'w>(all: &'w [SourceFile], path: &str, number: u32) -> Option<&'w str>
+fn line_in<'w>(all: &'w SourceTable, path: &str, number: u32) -> Option<&'w str>
     ensures { option_map told_line result ≡ line_at (chars path.now) number all.now }
 {
-    match sources::find(all, path) {
-        Some(source) => lines::source_line(source.bytes(), number),
+    match all.find_text(path) {
+        Some(source) => source.line(number),
         None => None,
     }
 }
@@ -264,21 +266,8 @@ pub fn resume(
 pub fn is_out(world: &World, frozen: &Frozen) -> bool
     ensures { result ≡ is_out frozen.now world.now }
 {
-    is_out_among(&world.machine.frozen, frozen.number())
+    frozen::is_out(&world.machine, frozen.number())
 }
-
-/// Whether a machine keeps the frame of this number.
-fn is_out_among(frozen: &[Option<FrozenFrame>], number: usize) -> bool
-    ensures { result ≡ is_kept (slice_get frozen.now number) }
-{
-    match frozen.get(number) {
-        Some(Some(_)) => true,
-        Some(None) => false,
-        None => false,
-    }
-}
-
-ghost use Rattle.py_machine.specs.Worlds.{is_kept};
 
 /// Gives up a body that has stopped at a `yield` and is out: nothing of it runs any more.
 pub fn abandon(world: &mut World, frozen: Frozen)
@@ -303,14 +292,14 @@ pub fn give_up(world: &mut World, frozen: Frozen)
 
 /// Gives up all code, in a machine that want of memory stopped.
 fn forget_code(m: &mut Machine)
-    ensures same { m.new ≡ record m.old { sources = m.new.sources; codes = m.new.codes; frozen = m.new.frozen } }
-    ensures sources { m.new.sources.items ≡ [] }
+    ensures same { m.new ≡ record m.old { sources = m.new.sources; codes = m.new.codes; stack = m.new.stack } }
+    ensures sources { m.new.sources ≡ [] }
     ensures codes { m.new.codes.items ≡ [] }
-    ensures frozen { m.new.frozen.items ≡ [] }
+    ensures frozen { m.new.stack.frozen ≡ [] }
 {
-    m.sources = Vec::new(m.alloc);
+    m.sources = SourceTable::new(m.alloc);
     m.codes = Vec::new(m.alloc);
-    m.frozen = Vec::new(m.alloc);
+    m.stack.forget();
 }
 
 /// Executes a module, at most once per world, within a budget of steps. A path without code gives `None` at no step.

@@ -10,21 +10,20 @@ ghost use Rattle.lower_law.specs.py_world.Site.{no_call};
 ghost use Rattle.lower_law.specs.core_meaning.Meaning.{core, core_begin, core_resume};
 ghost use Rattle.lower_law.specs.core_meaning.Statements.{entry};
 ghost use Rattle.machine_state.specs.Places.{CoreState, ends, outcome};
-ghost use Rattle.machine_state.specs.Frames.{frozen_some, state_of, world_of};
+ghost use Rattle.machine_state.specs.Frames.{state_of, world_of};
 ghost use Rattle.machine_stmt.specs.Stops.{stopped};
 ghost use Rattle.py_machine.specs.Yields.{sent_of, told_begun};
 
 use crate::calls::run_call;
 use crate::end::finish;
 use crate::resuming::{Begun, BegunOut, Frozen, Sent};
-use machine_frames::frozen::{freeze, take};
+use machine_frames::frozen::freeze;
 use machine_frames::wake::wake;
 use machine_load::{Ended, Outcome, Thrown};
 use machine_runner::misfit::{Misfit, find_misfit, refuse, reset};
 use machine_runner::openings::{Opening, find_opening};
 use machine_state::code::Code;
 use machine_state::frame::End;
-use machine_state::frozen::FrozenFrame;
 use machine_state::locals::Locals;
 use machine_state::machine::{Machine, NextAction, Origin};
 use machine_stmt::call_fitting;
@@ -80,7 +79,7 @@ fn tell(m: &mut Machine, stop: Stop, budget: u64) -> Result<Begun, OutOfMemory>
 
 /// Runs the body of a yield function with its names, where nothing is open.
 fn run_body(m: &mut Machine, code: Code, names: Locals) -> Result<Stop, OutOfMemory>
-    requires { m.old.stack ≡ [] }
+    requires { m.old.stack.own ≡ [] }
     ensures { IfOk result (λ stop. ends m.old.left (calls.entered entry code (Ok names) no_call (state_of m.old) (λ o. Done (call_end (state_of m.old) o))) ≡ stopped stop m.new) }
 {
     let doing = call_fitting(m, code, names, Origin::Runner)?;
@@ -90,7 +89,7 @@ fn run_body(m: &mut Machine, code: Code, names: Locals) -> Result<Stop, OutOfMem
 
 /// Begins the body of a yield function, where nothing is open.
 fn begin_body(m: &mut Machine, code: Code, names: Locals, budget: u64) -> Result<Begun, OutOfMemory>
-    requires stack { m.old.stack ≡ [] }
+    requires stack { m.old.stack.own ≡ [] }
     requires left { m.old.left ≡ budget }
     ensures { IfOk result (λ b. resuming.begun_by budget (ends budget (calls.entered entry code (Ok names) no_call (state_of m.old) (λ o. Done (call_end (state_of m.old) o)))) ≡ (told_begun b, world_of m.new)) }
 {
@@ -101,7 +100,7 @@ fn begin_body(m: &mut Machine, code: Code, names: Locals, budget: u64) -> Result
 
 /// Calls what the arguments fit, where nothing is open.
 fn begin_call(m: &mut Machine, f: Value, args: &[Value], budget: u64) -> Result<Begun, OutOfMemory>
-    requires stack { m.old.stack ≡ [] }
+    requires stack { m.old.stack.own ≡ [] }
     requires left { m.old.left ≡ budget }
     ensures { IfOk result (λ b. resuming.begun_by budget (ends budget (calls.invoke entry f (positional_arguments args.now) no_call (state_of m.old) (λ o. Done (call_end (state_of m.old) o)))) ≡ (told_begun b, world_of m.new)) }
 {
@@ -129,7 +128,7 @@ fn begin_called(
     args: &[Value],
     budget: u64,
 ) -> Result<Begun, OutOfMemory>
-    requires stack { m.old.stack ≡ [] }
+    requires stack { m.old.stack.own ≡ [] }
     requires left { m.old.left ≡ budget }
     requires state { state_of m.old ≡ runs.start (world_of m.old) }
     ensures { IfOk result (λ b. resuming.begun_by budget (ends budget (runs.begun_by_runner core f args.now (state_of m.old))) ≡ (told_begun b, world_of m.new)) }
@@ -166,46 +165,27 @@ fn end_of(sent: Sent) -> End
     }
 }
 
-/// Runs what remains of a body, with what it is given.
-fn run_frame(
-    m: &mut Machine,
-    frame: FrozenFrame,
-    sent: Sent,
-    budget: u64,
-) -> Result<Stop, OutOfMemory>
-    ensures { IfOk result (λ stop. ends budget (resuming.resumed core (frozen_some frame) (sent_of sent) (world_of m.old)) ≡ stopped stop m.new) }
+/// Runs what remains of the body of a number, which is out, with what it is given.
+fn run_frame(m: &mut Machine, number: usize, sent: Sent, budget: u64) -> Result<Stop, OutOfMemory>
+    requires { resuming.is_out number (world_of m.old) ≡ true }
+    ensures { IfOk result (λ stop. (f : CoreFrozen) → resuming.frozen_at number (world_of m.old) ≡ Some f
+        → ends budget (resuming.resumed core f (sent_of sent) (resuming.abandon_of number (world_of m.old))) ≡ stopped stop m.new) }
 {
     let end = end_of(sent);
-    wake(m, frame, budget)?;
+    wake(m, number, budget)?;
     let stop = run(m, NextAction::Back(end))?;
     Ok(stop)
 }
 
-/// Goes on with what remains of a body.
-fn go_on(m: &mut Machine, frame: FrozenFrame, sent: Sent, budget: u64) -> Result<Begun, OutOfMemory>
-    ensures { IfOk result (λ b. resuming.begun_by budget (ends budget (resuming.resumed core (frozen_some frame) (sent_of sent) (world_of m.old))) ≡ (told_begun b, world_of m.new)) }
-{
-    let stop = run_frame(m, frame, sent, budget)?;
-    let begun = tell(m, stop, budget)?;
-    Ok(begun)
-}
-
-/// Takes the frame of a number, which is out.
-fn take_out(m: &mut Machine, number: usize) -> FrozenFrame
-    requires { resuming.is_out number (world_of m.old) ≡ true }
-    ensures { FoundIn (Some result) number (world_of m.old) (world_of m.new) }
-{
-    take(m, number).unwrap()
-}
-
 ghost use Rattle.std.specs.Prelude.{true, Some};
-ghost use Rattle.machine_frames.specs.Frozen.{FoundIn};
+ghost use Rattle.machine_frames.specs.Remaining.{CoreFrozen};
 
 /// A resumption of a frozen frame that is out, by its number.
 pub fn resume(m: &mut Machine, number: usize, sent: Sent, budget: u64) -> Result<Begun, OutOfMemory>
     requires { resuming.is_out number (world_of m.old) ≡ true }
     ensures { IfOk result (λ b. core_resume number (sent_of sent) budget (world_of m.old) ≡ (told_begun b, world_of m.new)) }
 {
-    let frame = take_out(m, number);
-    go_on(m, frame, sent, budget)
+    let stop = run_frame(m, number, sent, budget)?;
+    let begun = tell(m, stop, budget)?;
+    Ok(begun)
 }

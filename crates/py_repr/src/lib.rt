@@ -23,4 +23,4 @@ pub mod repr;
 mod show;
 mod shower;
 pub mod shown;
-mod words;
+pub mod words;

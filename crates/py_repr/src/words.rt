@@ -26,7 +26,7 @@ fn is_one(n: i128) -> bool
 }
 
 /// A digit to the base 16.
-fn hex_digit(n: u8) -> char
+pub fn hex_digit(n: u8) -> char
     requires { n < 16 }
     ensures { result ≡ words.hex_digit n }
 {
@@ -44,7 +44,7 @@ fn has(c: char, text: &[char]) -> bool
 }
 
 /// The quote in which a text is shown.
-fn quote_of(text: &[char]) -> char
+pub fn quote_of(text: &[char]) -> char
     ensures { result ≡ words.quote_of text.now }
 {
     match (has('\'', text), has('"', text)) {

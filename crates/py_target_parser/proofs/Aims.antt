@@ -20,7 +20,7 @@ use Rattle.py_cursor.specs.token_kinds.Numbers as k
 use Rattle.py_cursor.specs.py_expressions.Values as v
 use Rattle.py_cursor.specs.py_expressions.Values.{at_of, place_in, tree_of, Aim, Target, Carrier}
 use Rattle.py_cursor.specs.py_expressions.Sorts.{aim, place, places, tree, other, single, targets, taker}
-use Rattle.py_cursor.specs.py_expressions.Lines.{expressions, no_reader, key, part, attribute_place, aim_step, A1}
+use Rattle.py_cursor.specs.py_expressions.Lines.{expressions, no_reader, key, part, attribute_place, aim_step, atom_begins}
 use Rattle.py_cursor.specs.declared.stop.Stop.{Stop}
 use Rattle.py_cursor.specs.Cursor.{FailsAs, IsBlocked}
 use Rattle.py_cursor.proofs.Loops.{blocked_as, begun_over, begun_deep, begun_fails, begun_next, items_over, items_end, items_fails, items_next, fails_on}
@@ -28,17 +28,17 @@ use Rattle.py_expression_parser.specs.Reads.{reads, reads_part}
 use Rattle.py_target_parser.specs.Aims.{as_target, aim_of, aim_tall, IsPlace, start_on, aims, step_on, places_more}
 use Rattle.py_expression_parser.proofs.Lines.{line, takes as line_takes, all_eat, room_goes, room_stays}
 
-pub single_none : (m : ℕ) (ts : List Token) → m ≡ 0 → reads m single ts ≡ deep_at (λ t. has (kind t) A1) ts
+pub single_none : (m : ℕ) (ts : List Token) → m ≡ 0 → reads m single ts ≡ deep_at (λ t. has (kind t) atom_begins) ts
 single_none m ts e = ap (λ v. reads v single ts) e ∙ no_levels expressions no_reader single ts
 
-pub single_blocked : (m : ℕ) (ts : List Token) (stop : Stop) → m ≡ 0 → IsBlocked (starts_with kind A1 ts) ts stop → FailsAs stop (reads m single ts)
-single_blocked m ts stop e b = subst (λ r. FailsAs stop r) (sym (single_none m ts e)) (blocked_as (Place × ℕ) A1 ts stop b)
+pub single_blocked : (m : ℕ) (ts : List Token) (stop : Stop) → m ≡ 0 → IsBlocked (starts_with kind atom_begins ts) ts stop → FailsAs stop (reads m single ts)
+single_blocked m ts stop e b = subst (λ r. FailsAs stop r) (sym (single_none m ts e)) (blocked_as (Place × ℕ) atom_begins ts stop b)
 
-pub targets_none : (m : ℕ) (ts : List Token) → m ≡ 0 → reads m targets ts ≡ deep_at (λ t. has (kind t) A1) ts
+pub targets_none : (m : ℕ) (ts : List Token) → m ≡ 0 → reads m targets ts ≡ deep_at (λ t. has (kind t) atom_begins) ts
 targets_none m ts e = ap (λ v. reads v targets ts) e ∙ no_levels expressions no_reader targets ts
 
-pub targets_blocked : (m : ℕ) (ts : List Token) (stop : Stop) → m ≡ 0 → IsBlocked (starts_with kind A1 ts) ts stop → FailsAs stop (reads m targets ts)
-targets_blocked m ts stop e b = subst (λ r. FailsAs stop r) (sym (targets_none m ts e)) (blocked_as (Taker × ℕ) A1 ts stop b)
+pub targets_blocked : (m : ℕ) (ts : List Token) (stop : Stop) → m ≡ 0 → IsBlocked (starts_with kind atom_begins ts) ts stop → FailsAs stop (reads m targets ts)
+targets_blocked m ts stop e b = subst (λ r. FailsAs stop r) (sym (targets_none m ts e)) (blocked_as (Taker × ℕ) atom_begins ts stop b)
 
 -- single = NAME | primary "." NAME | primary "[" expr "]"
 pub single_shape : (m : ℕ) (ts : List Token) → 0 < m → reads m single ts ≡ (start_on m ts >>= λ y. aims m y.0 y.1)
@@ -168,25 +168,25 @@ step_takes m s ts y rest e = go (starts_with kind (k.dot ∷ []) ts) refl (step_
     go false i f = part_eats expressions (m - 1) no_reader (readers expressions no_reader m) (readers expressions no_reader (m - 1)) (all_eat m) (all_eat (m - 1)) (λ q. absurd q) {S = tree} {A = aim} aim_step refl s ts y rest f
 
 -- TARGETS with commas between them
-pub places_line : (m : ℕ) (s : v.Places × ℕ) (ts : List Token) → s.0.ended ≡ false → places_more m s ts ≡ pick (first_of kind (k.comma ∷ []) ts) (λ o. cond (starts_with kind A1 o.1) ((reads (m - 1) single o.1 >>= λ y. Found (v.one_place s.0 y.0.0, max s.1 y.0.1) y.1) >>= λ y. places_more m y.0 y.1) (Found (v.no_place s.0, s.1) o.1)) (Found s ts)
+pub places_line : (m : ℕ) (s : v.Places × ℕ) (ts : List Token) → s.0.ended ≡ false → places_more m s ts ≡ pick (first_of kind (k.comma ∷ []) ts) (λ o. cond (starts_with kind atom_begins o.1) ((reads (m - 1) single o.1 >>= λ y. Found (v.one_place s.0 y.0.0, max s.1 y.0.1) y.1) >>= λ y. places_more m y.0 y.1) (Found (v.no_place s.0, s.1) o.1)) (Found s ts)
 places_line m s ts h = round_commas expressions (m - 1) no_reader (readers expressions no_reader m) (readers expressions no_reader (m - 1)) (all_eat m) (all_eat (m - 1)) (λ q. absurd q) {S = places} (λ r. not r.ended) (k.comma ∷ []) (λ r _. r) (part single v.one_place) v.no_place s ts
-    ∙ ap (λ b. cond (not b) (pick (first_of kind (k.comma ∷ []) ts) (λ o. cond (starts_with kind A1 o.1) (reads_part m {S = places} (part single v.one_place) s o.1 >>= λ y. places_more m y.0 y.1) (places_more m (v.no_place s.0, s.1) o.1)) (Found s ts)) (Found s ts)) h
-    ∙ pick_eq (first_of kind (k.comma ∷ []) ts) _ _ (Found s ts) (λ o. ap (λ z. cond (starts_with kind A1 o.1) (reads_part m {S = places} (part single v.one_place) s o.1 >>= λ y. places_more m y.0 y.1) z) (round_commas expressions (m - 1) no_reader (readers expressions no_reader m) (readers expressions no_reader (m - 1)) (all_eat m) (all_eat (m - 1)) (λ q. absurd q) {S = places} (λ r. not r.ended) (k.comma ∷ []) (λ r _. r) (part single v.one_place) v.no_place (v.no_place s.0, s.1) o.1))
+    ∙ ap (λ b. cond (not b) (pick (first_of kind (k.comma ∷ []) ts) (λ o. cond (starts_with kind atom_begins o.1) (reads_part m {S = places} (part single v.one_place) s o.1 >>= λ y. places_more m y.0 y.1) (places_more m (v.no_place s.0, s.1) o.1)) (Found s ts)) (Found s ts)) h
+    ∙ pick_eq (first_of kind (k.comma ∷ []) ts) _ _ (Found s ts) (λ o. ap (λ z. cond (starts_with kind atom_begins o.1) (reads_part m {S = places} (part single v.one_place) s o.1 >>= λ y. places_more m y.0 y.1) z) (round_commas expressions (m - 1) no_reader (readers expressions no_reader m) (readers expressions no_reader (m - 1)) (all_eat m) (all_eat (m - 1)) (λ q. absurd q) {S = places} (λ r. not r.ended) (k.comma ∷ []) (λ r _. r) (part single v.one_place) v.no_place (v.no_place s.0, s.1) o.1))
 
 abbrev place_step : ℕ → v.Places × ℕ → List Token → Read Token (v.Places × ℕ)
 place_step m s ts = reads (m - 1) single ts >>= λ y. Found (v.one_place s.0 y.0.0, max s.1 y.0.1) y.1
 
 pub places_over : (m : ℕ) (s : v.Places × ℕ) (ts : List Token) → s.0.ended ≡ false → first_of kind (k.comma ∷ []) ts ≡ None → places_more m s ts ≡ Found s ts
-places_over m s ts h e = items_over (places_more m) (k.comma ∷ []) A1 (place_step m) (λ s. (v.no_place s.0, s.1)) (λ s ts. Found s ts) (λ s. s.0.ended ≡ false) (places_line m) s ts h e
+places_over m s ts h e = items_over (places_more m) (k.comma ∷ []) atom_begins (place_step m) (λ s. (v.no_place s.0, s.1)) (λ s ts. Found s ts) (λ s. s.0.ended ≡ false) (places_line m) s ts h e
 
-pub places_end : (m : ℕ) (s : v.Places × ℕ) (ts : List Token) (o : Token) (after : List Token) (p : v.Places) (l : ℕ) (whole : Read Token (v.Places × ℕ)) → s.0.ended ≡ false → first_of kind (k.comma ∷ []) ts ≡ Some (o, after) → starts_with kind A1 after ≡ false → p ≡ v.no_place s.0 → l ≡ s.1 → places_more m s ts ≡ whole → whole ≡ Found (p, l) after
-places_end m s ts o after p l whole h e i j d w = items_end (places_more m) (k.comma ∷ []) A1 (place_step m) (λ s. (v.no_place s.0, s.1)) (λ s ts. Found s ts) (λ s. s.0.ended ≡ false) (places_line m) s ts o after (p, l) whole h e i (rw (j, d) refl) w
+pub places_end : (m : ℕ) (s : v.Places × ℕ) (ts : List Token) (o : Token) (after : List Token) (p : v.Places) (l : ℕ) (whole : Read Token (v.Places × ℕ)) → s.0.ended ≡ false → first_of kind (k.comma ∷ []) ts ≡ Some (o, after) → starts_with kind atom_begins after ≡ false → p ≡ v.no_place s.0 → l ≡ s.1 → places_more m s ts ≡ whole → whole ≡ Found (p, l) after
+places_end m s ts o after p l whole h e i j d w = items_end (places_more m) (k.comma ∷ []) atom_begins (place_step m) (λ s. (v.no_place s.0, s.1)) (λ s ts. Found s ts) (λ s. s.0.ended ≡ false) (places_line m) s ts o after (p, l) whole h e i (rw (j, d) refl) w
 
-pub places_fails : (m : ℕ) (s : v.Places × ℕ) (ts : List Token) (o : Token) (after : List Token) (stop : Stop) (whole : Read Token (v.Places × ℕ)) → s.0.ended ≡ false → first_of kind (k.comma ∷ []) ts ≡ Some (o, after) → starts_with kind A1 after ≡ true → FailsAs stop (reads (m - 1) single after) → places_more m s ts ≡ whole → FailsAs stop whole
-places_fails m s ts o after stop whole h e i d w = items_fails (places_more m) (k.comma ∷ []) A1 (place_step m) (λ s. (v.no_place s.0, s.1)) (λ s ts. Found s ts) (λ s. s.0.ended ≡ false) (places_line m) s ts o after stop whole h e i (fails_on stop (reads (m - 1) single after) (place_step m s after) (λ y. Found (v.one_place s.0 y.0.0, max s.1 y.0.1) y.1) d refl) w
+pub places_fails : (m : ℕ) (s : v.Places × ℕ) (ts : List Token) (o : Token) (after : List Token) (stop : Stop) (whole : Read Token (v.Places × ℕ)) → s.0.ended ≡ false → first_of kind (k.comma ∷ []) ts ≡ Some (o, after) → starts_with kind atom_begins after ≡ true → FailsAs stop (reads (m - 1) single after) → places_more m s ts ≡ whole → FailsAs stop whole
+places_fails m s ts o after stop whole h e i d w = items_fails (places_more m) (k.comma ∷ []) atom_begins (place_step m) (λ s. (v.no_place s.0, s.1)) (λ s ts. Found s ts) (λ s. s.0.ended ≡ false) (places_line m) s ts o after stop whole h e i (fails_on stop (reads (m - 1) single after) (place_step m s after) (λ y. Found (v.one_place s.0 y.0.0, max s.1 y.0.1) y.1) d refl) w
 
-pub places_next : (m : ℕ) (s : v.Places × ℕ) (ts : List Token) (o : Token) (after : List Token) (y : Place × ℕ) (rest : List Token) (p : v.Places) (l : ℕ) (whole : Read Token (v.Places × ℕ)) → s.0.ended ≡ false → first_of kind (k.comma ∷ []) ts ≡ Some (o, after) → starts_with kind A1 after ≡ true → reads (m - 1) single after ≡ Found y rest → p ≡ v.one_place s.0 y.0 → l ≡ max s.1 y.1 → places_more m s ts ≡ whole → places_more m (p, l) rest ≡ whole
-places_next m s ts o after y rest p l whole h e i d a b w = items_next (places_more m) (k.comma ∷ []) A1 (place_step m) (λ s. (v.no_place s.0, s.1)) (λ s ts. Found s ts) (λ s. s.0.ended ≡ false) (places_line m) s ts o after (p, l) rest whole h e i (ap (λ r. r >>= λ y. Found (v.one_place s.0 y.0.0, max s.1 y.0.1) y.1) d ∙ rw (a, b) refl) w
+pub places_next : (m : ℕ) (s : v.Places × ℕ) (ts : List Token) (o : Token) (after : List Token) (y : Place × ℕ) (rest : List Token) (p : v.Places) (l : ℕ) (whole : Read Token (v.Places × ℕ)) → s.0.ended ≡ false → first_of kind (k.comma ∷ []) ts ≡ Some (o, after) → starts_with kind atom_begins after ≡ true → reads (m - 1) single after ≡ Found y rest → p ≡ v.one_place s.0 y.0 → l ≡ max s.1 y.1 → places_more m s ts ≡ whole → places_more m (p, l) rest ≡ whole
+places_next m s ts o after y rest p l whole h e i d a b w = items_next (places_more m) (k.comma ∷ []) atom_begins (place_step m) (λ s. (v.no_place s.0, s.1)) (λ s ts. Found s ts) (λ s. s.0.ended ≡ false) (places_line m) s ts o after (p, l) rest whole h e i (ap (λ r. r >>= λ y. Found (v.one_place s.0 y.0.0, max s.1 y.0.1) y.1) d ∙ rw (a, b) refl) w
 
 -- target = single { "," single } [ "," ]
 pub targets_shape : (m : ℕ) (ts : List Token) → 0 < m → reads m targets ts ≡ (reads m single ts >>= λ y. cond (starts_with kind (k.comma ∷ []) y.1) (cond (fits (m - 1) y.0.1) (places_more m (v.places_from y.0.0, y.0.1) y.1 >>= λ r. Found (Unpack r.0.0.all, 1 + r.0.1) r.1) (Deep y.1)) (Found (One y.0.0, y.0.1) y.1))

@@ -3,36 +3,9 @@
 ghost use Rattle.std.specs.Prelude.{◌≡◌, ◌<◌, ◌++◌, OnOk};
 ghost use Rattle.py_repr.specs.Words as words;
 
+use py_repr::words::{hex_digit, quote_of};
 use py_values::OutOfMemory;
 use py_values::end::push_ascii;
-
-/// A digit to the base 16.
-fn hex_digit(n: u8) -> char
-    requires { n < 16 }
-    ensures { result ≡ words.hex_digit n }
-{
-    if n < 10 {
-        char::from(b'0' + n)
-    } else {
-        char::from(b'a' - 10 + n)
-    }
-}
-
-fn has(c: char, text: &[char]) -> bool
-    ensures { result ≡ words.has c text.now }
-{
-    text.iter().any(|d| *d == c)
-}
-
-/// The quote in which a text is shown.
-fn quote_of(text: &[char]) -> char
-    ensures { result ≡ words.quote_of text.now }
-{
-    match (has('\'', text), has('"', text)) {
-        (true, false) => '"',
-        _ => '\'',
-    }
-}
 
 fn push_hex(chars: &mut Vec<char>, n: u8) -> Result<(), OutOfMemory>
     ensures { OnOk result (chars.new.items ≡ chars.old.items ++ words.hex n) }

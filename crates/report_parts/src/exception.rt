@@ -4,19 +4,10 @@ ghost use Rattle.report_parts.specs.Exceptions.{at_frame, at_some, error_char, e
 
 use crate::blanks::stripped;
 use crate::report::{Frame, Text, Told};
+use seq::push_chars;
 use std::alloc::AllocError;
 use std::fmt::Write;
 use texts::push_line;
-
-/// Pushes characters.
-pub fn push_chars(out: &mut String, chars: &[char]) -> Result<(), AllocError>
-    ensures { OnOk result (string_bytes out.new ≡ string_bytes out.old ++ encode_utf8_all chars.now) }
-{
-    for c in chars {
-        out.push(*c)?;
-    }
-    Ok(())
-}
 
 fn first_line_of(chars: &[char]) -> &[char]
     ensures { result.now ≡ before_first is_line_feed chars.now }

@@ -27,8 +27,7 @@ mod outcome;
 mod report;
 
 pub use exception::{
-    push_at_frame, push_chars, push_first_line, push_short_told, push_strict, push_strict_first,
-    push_told,
+    push_at_frame, push_first_line, push_short_told, push_strict, push_strict_first, push_told,
 };
 pub use outcome::{Outcome, Phase, any_error, any_failed, is_failed, is_raised};
 pub use report::{

@@ -6,8 +6,8 @@ ghost use Rattle.fixture_world.specs.fixture_calls.Arguments.{names_request};
 ghost use Rattle.fixture_world.specs.Items.{id_in};
 ghost use Rattle.test_suite.specs.Suites.{fixture_at};
 
-use report_parts::{Text, push_chars};
-use seq::{OutOfMemory, PyText, Seq};
+use report_parts::Text;
+use seq::{OutOfMemory, PyText, Seq, encoded};
 use session_types::{DefId, Scope};
 use std::alloc::Global;
 use test_suite::{FixtureParam, Suite};
@@ -22,21 +22,13 @@ pub(crate) fn fixture_scope(suite: &Suite, def: DefId) -> Scope
     }
 }
 
-fn text_of(alloc: Global, name: &[char]) -> Result<Text, OutOfMemory>
-    ensures { IfOk result (λ text. text ≡ encode_utf8_all name.now) }
-{
-    let mut text = String::new(alloc);
-    push_chars(&mut text, name)?;
-    Ok(Text::from_string(text))
-}
-
 /// The name of a definition's fixture.
 pub(crate) fn fixture_name(alloc: Global, suite: &Suite, def: DefId) -> Result<Text, OutOfMemory>
     ensures { IfOk result (λ name. name ≡ (fixture_texts suite.now def).name) }
 {
     match suite.fixture(def) {
-        Some(fixture) => text_of(alloc, fixture.name.chars()),
-        None => text_of(alloc, &[]),
+        Some(fixture) => encoded(alloc, fixture.name.chars()),
+        None => encoded(alloc, &[]),
     }
 }
 
@@ -62,7 +54,7 @@ fn push_text(alloc: Global, texts: &mut Seq<Text>, name: &PyText) -> Result<(), 
     if names_request(name.chars()) {
         return Ok(());
     }
-    let text = text_of(alloc, name.chars())?;
+    let text = encoded(alloc, name.chars())?;
     texts.push(text)?;
     Ok(())
 }

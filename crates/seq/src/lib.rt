@@ -60,6 +60,6 @@ mod memory;
 mod tests;
 mod text;
 
-pub use list::Seq;
+pub use list::{Seq, push_all};
 pub use memory::OutOfMemory;
-pub use text::{ByteText, CharText, PyText};
+pub use text::{ByteText, CharText, PyText, encoded, push_chars};

@@ -142,3 +142,15 @@ impl<T: Hash> Hash for Seq<T> {
         self.items().hash(state);
     }
 }
+
+/// Puts the values of a list behind those of another.
+pub fn push_all<T: Drop>(list: &mut Seq<T>, more: Seq<T>) -> Result<(), OutOfMemory>
+    ensures { OnOk result (list.new ≡ list.old ++ more) }
+{
+    let mut left = more.into_vec();
+    'rest: while !left.is_empty() {
+        let one = left.remove(0);
+        list.push(one)?;
+    }
+    Ok(())
+}

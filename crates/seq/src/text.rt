@@ -1,4 +1,4 @@
-ghost use Rattle.std.specs.Prelude.{◌≡◌, IfOk, chars, string_bytes};
+ghost use Rattle.std.specs.Prelude.{◌≡◌, ◌++◌, IfOk, OnOk, chars, encode_utf8_all, string_bytes};
 
 use crate::list::Seq;
 use crate::memory::OutOfMemory;
@@ -107,4 +107,23 @@ impl Clone for ByteText {
             text: self.text.clone()?,
         })
     }
+}
+
+/// Puts characters behind a text, in UTF-8.
+pub fn push_chars(out: &mut String, chars: &[char]) -> Result<(), AllocError>
+    ensures { OnOk result (string_bytes out.new ≡ string_bytes out.old ++ encode_utf8_all chars.now) }
+{
+    for c in chars {
+        out.push(*c)?;
+    }
+    Ok(())
+}
+
+/// The text of characters, in UTF-8.
+pub fn encoded(alloc: Global, chars: &[char]) -> Result<ByteText, OutOfMemory>
+    ensures { IfOk result (λ text. text ≡ encode_utf8_all chars.now) }
+{
+    let mut text = String::new(alloc);
+    push_chars(&mut text, chars)?;
+    Ok(ByteText { text })
 }

@@ -29,6 +29,66 @@ fn wrong_within(alloc: Global, name: &str, budget: u64) -> Result<Option<Product
     Ok(product_within(wrong(alloc, name, 0)?, budget))
 }
 
+/// A call of `dict`, under a budget: an empty one, or a copy.
+fn dict_call(
+    alloc: Global,
+    heap: &Heap,
+    args: &[Value],
+    named: &[(PyText, Value)],
+    budget: u64,
+) -> Result<Option<Product>, OutOfMemory>
+    ensures { IfOk result (λ p. p ≡ within_steps budget (calls.sequence_call_of SequenceCall.Dict heap.now args.now named.now)) }
+{
+    if has_none(args, named) {
+        let made = Effect::New(Obj::Dict(Dict::new(alloc)), 0);
+        return Ok(product_within(plain(alloc, made), budget));
+    }
+    match dict_in(heap, sole(args, named)) {
+        Some(other) => Ok(product_within(copy_made(alloc, other, 0)?, budget)),
+        None => wrong_within(alloc, "dict", budget),
+    }
+}
+
+/// A call of `enumerate`, under a budget.
+fn enumerate_call(
+    alloc: Global,
+    heap: &Heap,
+    args: &[Value],
+    named: &[(PyText, Value)],
+    budget: u64,
+) -> Result<Option<Product>, OutOfMemory>
+    ensures { IfOk result (λ p. p ≡ within_steps budget (calls.sequence_call_of SequenceCall.Enumerate heap.now args.now named.now)) }
+{
+    match sole(args, named) {
+        Some(v) => {
+            let gathered = elements_of(alloc, heap, heap.len(), v)?;
+            let product = enumerate_made(alloc, heap, gathered)?;
+            Ok(product_within(product, budget))
+        }
+        None => wrong_within(alloc, "enumerate", budget),
+    }
+}
+
+/// A call of `reversed`, under a budget.
+fn reversed_call(
+    alloc: Global,
+    heap: &Heap,
+    args: &[Value],
+    named: &[(PyText, Value)],
+    budget: u64,
+) -> Result<Option<Product>, OutOfMemory>
+    ensures { IfOk result (λ p. p ≡ within_steps budget (calls.sequence_call_of SequenceCall.Reversed heap.now args.now named.now)) }
+{
+    match sole(args, named) {
+        Some(v) => {
+            let gathered = elements_of(alloc, heap, heap.len(), v)?;
+            let product = reversed_made(alloc, gathered)?;
+            Ok(product_within(product, budget))
+        }
+        None => wrong_within(alloc, "reversed", budget),
+    }
+}
+
 /// A call that makes a sequence or a dict, or asks all elements, under a budget (Python library reference, built-in functions).
 pub fn sequence_call(
     alloc: Global,
@@ -49,24 +109,8 @@ pub fn sequence_call(
             let product = decided_of(alloc, heap, false, "any", sole(args, named))?;
             Ok(product_within(product, budget))
         }
-        SequenceCall::Dict => {
-            if has_none(args, named) {
-                let made = Effect::New(Obj::Dict(Dict::new(alloc)), 0);
-                return Ok(product_within(plain(alloc, made), budget));
-            }
-            match dict_in(heap, sole(args, named)) {
-                Some(other) => Ok(product_within(copy_made(alloc, other, 0)?, budget)),
-                None => wrong_within(alloc, "dict", budget),
-            }
-        }
-        SequenceCall::Enumerate => match sole(args, named) {
-            Some(v) => {
-                let gathered = elements_of(alloc, heap, heap.len(), v)?;
-                let product = enumerate_made(alloc, heap, gathered)?;
-                Ok(product_within(product, budget))
-            }
-            None => wrong_within(alloc, "enumerate", budget),
-        },
+        SequenceCall::Dict => dict_call(alloc, heap, args, named, budget),
+        SequenceCall::Enumerate => enumerate_call(alloc, heap, args, named, budget),
         SequenceCall::List => match sole(args, named) {
             Some(v) => {
                 let gathered = elements_of(alloc, heap, heap.len(), v)?;
@@ -78,14 +122,7 @@ pub fn sequence_call(
             Some(span) => Ok(product_within(span_made(alloc, span)?, budget)),
             None => wrong_within(alloc, "range", budget),
         },
-        SequenceCall::Reversed => match sole(args, named) {
-            Some(v) => {
-                let gathered = elements_of(alloc, heap, heap.len(), v)?;
-                let product = reversed_made(alloc, gathered)?;
-                Ok(product_within(product, budget))
-            }
-            None => wrong_within(alloc, "reversed", budget),
-        },
+        SequenceCall::Reversed => reversed_call(alloc, heap, args, named, budget),
         SequenceCall::Sorted => match (args, reversing(heap, named)) {
             ([v], Some(reverse)) => sorted_value(alloc, heap, reverse, *v, budget),
             _ => wrong_within(alloc, "sorted", budget),

@@ -5,7 +5,7 @@ use Rattle.session_types.specs.declared.journal.Made.{Made}
 use Rattle.session_types.specs.declared.journal.Event.{Event}
 use Rattle.session_types.specs.declared.journal.Event.TheVariants.{Up, UpFailed}
 use Rattle.session_types.specs.Live.{find, dependents}
-use Rattle.session_types.specs.Numbers.{with_number, with_numbers}
+use Rattle.session_types.specs.Numbers.{joined, with_number}
 use Rattle.session_rules.specs.World.{Language, Rules, Item, Slot, LiveInstance, SetUpEnd, Value, Failure, BodyEnd, Returned, Yielded, Raised, NewException, NewRequest}
 use Rattle.session_rules.specs.Teardown.{Grant, SessionState, Step, down_all, in_world}
 
@@ -47,10 +47,10 @@ abbrev pub numbers_of : {L : Language} → List (Grant L) → List ℕ → List 
 numbers_of [] ks = ks
 numbers_of (i ∷ is) ks = numbers_of is (with_number i.order ks)
 
--- the numbers of these, and all on which they depend
+-- the numbers of these and of all on which they depend, each once, the greatest first
 abbrev pub kept_of : {L : Language} → List (Grant L) → List ℕ → List ℕ
 kept_of [] ks = ks
-kept_of (i ∷ is) ks = kept_of is (with_numbers i.bases (with_number i.order ks))
+kept_of (i ∷ is) ks = kept_of is (joined i.bases (joined (i.order ∷ []) ks))
 
 abbrev pub values_of : {L : Language} → List (Grant L) → List L.Value
 values_of given = map (λ i. i.value) given

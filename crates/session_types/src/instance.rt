@@ -1,5 +1,5 @@
+use crate::bases::Bases;
 use crate::def_id::DefId;
-use crate::numbers::Numbers;
 use crate::scope::Scope;
 
 /// A fixture that was set up, or that failed to, and hasn't been torn down.
@@ -14,7 +14,7 @@ pub struct Instance<S = u32> {
     /// Its number in order of set-up.
     pub order: u64,
     /// The numbers of all on which it depends, directly or through others; some of them may be gone.
-    pub bases: Numbers,
+    pub bases: Bases,
     /// What its owner keeps with it.
     pub slot: S,
 }

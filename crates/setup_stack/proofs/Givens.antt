@@ -1,6 +1,6 @@
 -- On what was given.
 use Rattle.std.proofs.Common.{◌≡◌, ℕ, List, [], ◌∷◌, refl, ap, map}
-use Rattle.session_types.specs.Numbers.{with_number, with_numbers}
+use Rattle.session_types.specs.Numbers.{joined, with_number}
 use Rattle.session_rules.specs.World.{Language, Rules}
 use Rattle.session_rules.specs.Demand.{kept_of, numbers_of, values_of}
 use Rattle.setup_stack.specs.declared.answers.Grant.{Grant as CodeGrant}
@@ -17,4 +17,4 @@ orders_same rules (g ∷ gs) ks = orders_same rules gs (with_number g.order ks)
 
 pub bases_same : {L : Language} (rules : Rules L) (gs : List (CodeGrant L.Value)) (ks : List ℕ) → bases_of gs ks ≡ kept_of (grants_of rules gs) ks
 bases_same rules [] ks = refl
-bases_same rules (g ∷ gs) ks = bases_same rules gs (with_numbers g.bases (with_number g.order ks))
+bases_same rules (g ∷ gs) ks = bases_same rules gs (joined g.bases (joined (g.order ∷ []) ks))

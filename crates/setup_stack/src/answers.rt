@@ -1,5 +1,5 @@
 use seq::Seq;
-use session_types::{DefId, Numbers};
+use session_types::{Bases, DefId};
 
 /// What answered a demand.
 #[derive(Drop)]
@@ -9,7 +9,7 @@ pub struct Grant<V> {
     pub order: u64,
     pub value: V,
     /// The numbers of all on which it depends, directly or through others.
-    pub bases: Numbers,
+    pub bases: Bases,
 }
 
 /// The answer to a demand: what was given, or the exceptions, in order.

@@ -24,7 +24,7 @@
 //!   ask that the frames of the live instances are out, each that of one (`StandsWith`), and leave them so (`frames`).
 //! - `abandon_all` lets every frozen frame go that the stack holds, in order of set-up, behind want of memory (`world`, `stack`), and none
 //!   is left (`spent`); the world is spent. `close` ends a stack that holds none, and a stack ends in no other way.
-//! - `close_request`, `finalize_each` and `push_all` are the parts of a teardown that the `request` of a test takes too.
+//! - `close_request` and `finalize_each` are the parts of a teardown that the `request` of a test takes too.
 //! - Laws of definitions: demands and teardowns leave the rest of a session's state as it is (`the_rest_of_a_state_stays`), look at
 //!   no more of an item than `AreAsked` says (`the_rest_of_an_item_does_not_matter`), and what a table answers as a closure may be
 //!   demanded (`what_a_closure_has_is_ready`).
@@ -63,7 +63,6 @@ pub use frame::{AskFrame, Turn};
 pub use law::{
     the_rest_of_a_state_stays, the_rest_of_an_item_does_not_matter, what_a_closure_has_is_ready,
 };
-pub use lists::push_all;
 pub use making::SetUpOutcome;
 pub use stack::SetupStack;
 pub use tearing::{close_request, finalize_each};

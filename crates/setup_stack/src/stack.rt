@@ -23,7 +23,7 @@ ghost use Rattle.fixture_instances.specs.Views.{live_instance, live_instances, s
 
 use crate::answers::{Answer, Grant};
 use crate::frame::{AskFrame, Turn, hand, next_of, open};
-use crate::lists::{bases_of, is_same, orders_of, push_all, values_of};
+use crate::lists::{bases_of, is_same, orders_of, values_of};
 use crate::making::{SetUpOutcome, make, tell};
 use crate::marks::is_marked;
 use crate::standing::{note, stays};
@@ -33,8 +33,8 @@ use fixture_instances::{
 };
 use fixture_table::Table;
 use live_chains::LiveId;
-use seq::{OutOfMemory, Seq};
-use session_types::{DefId, Event, Instance, Made, Numbers};
+use seq::{OutOfMemory, Seq, push_all};
+use session_types::{Bases, DefId, Event, Instance, Made, Numbers};
 use std::alloc::Global;
 
 /// The live instances, the journal, and what answered the demands of the item at hand.
@@ -203,7 +203,7 @@ fn bear<V, E, R>(
 fn answer_with<V, E>(
     def: DefId,
     order: u64,
-    bases: Numbers,
+    bases: Bases,
     told: SetUpEnd<V, Seq<E>>,
 ) -> Answer<V, E>
     ensures { result ≡ answer_with def order bases told }

@@ -16,11 +16,11 @@ use Rattle.grammar_code.proofs.Plain.{line_flat, again_flat}
 use Rattle.py_cursor.specs.token_kinds.Kinds.{kind, text_of}
 use Rattle.py_cursor.specs.token_kinds.Numbers as k
 use Rattle.py_cursor.specs.py_expressions.Sorts as e
-use Rattle.py_cursor.specs.py_expressions.Lines.{E1}
+use Rattle.py_cursor.specs.py_expressions.Lines.{expr_begins}
 use Rattle.py_grammar.specs.Sorts as v
 use Rattle.py_grammar.specs.Sorts.{choice, decor, head, attempt, opening, both as two, block}
 use Rattle.py_grammar.specs.Lines as g
-use Rattle.py_grammar.specs.Lines.{BlockPart, statements, require, on_token, SI, ST}
+use Rattle.py_grammar.specs.Lines.{BlockPart, statements, require, on_token, simple_begins, stmt_begins}
 use Rattle.py_grammar.proofs.Good.{good_statements}
 use Rattle.statement_readers.specs.Reads.{reads_as}
 use Rattle.statement_readers.specs.Turns.{Reader, Turn, On, Out, turned, spin, step_at, turns}
@@ -110,11 +110,11 @@ if_is n at ts = onward (w.arm (λ ts. L n v.body ts) ts) _ _ (onward (reads_as 1
 
 -- HANDLERS
 catch_on : {C : Type 0} (n : ℕ) (a : v.Attempt) (word : Pos) (f : v.Attempt × List Token → Read Token C) (ts : List Token)
-    → cond (starts E1 ts) (reads_as 100 e.expr ts >>= λ x. pick (one k.as_word x.1) (λ o. one_among (k.name ∷ []) o.1 >>= λ u. one_among (k.colon ∷ []) u.1 >>= λ o. L n v.body o.1 >>= λ y. f (record { at = a.at; tried = a.tried; handlers = Handler a.handlers word (Present x.0.0) (Some (text_of u.0)) y.0 }, y.1)) (one_among (k.colon ∷ []) x.1 >>= λ o. L n v.body o.1 >>= λ y. f (record { at = a.at; tried = a.tried; handlers = Handler a.handlers word (Present x.0.0) None y.0 }, y.1)))
+    → cond (starts expr_begins ts) (reads_as 100 e.expr ts >>= λ x. pick (one k.as_word x.1) (λ o. one_among (k.name ∷ []) o.1 >>= λ u. one_among (k.colon ∷ []) u.1 >>= λ o. L n v.body o.1 >>= λ y. f (record { at = a.at; tried = a.tried; handlers = Handler a.handlers word (Present x.0.0) (Some (text_of u.0)) y.0 }, y.1)) (one_among (k.colon ∷ []) x.1 >>= λ o. L n v.body o.1 >>= λ y. f (record { at = a.at; tried = a.tried; handlers = Handler a.handlers word (Present x.0.0) None y.0 }, y.1)))
     (one_among (k.colon ∷ []) ts >>= λ o. L n v.body o.1 >>= λ y. f (record { at = a.at; tried = a.tried; handlers = Handler a.handlers word Absent None y.0 }, y.1))
     ≡ (w.handler (λ ts. L n v.body ts) a.handlers word ts >>= λ hs. f (record { at = a.at; tried = a.tried; handlers = hs.0 }, hs.1))
 unfolding w.handler w.handler_head w.alias_behind w.name_reader w.suite
-catch_on n a word f ts = onward (w.handler_head ts) _ _ (either (starts E1 ts) _ _ _ _ _
+catch_on n a word f ts = onward (w.handler_head ts) _ _ (either (starts expr_begins ts) _ _ _ _ _
     (onward (reads_as 100 e.expr ts) _ _ (next (reads_as 100 e.expr ts) _ _ (λ x rest. onward (w.alias_behind rest) _ _ (choose (one k.as_word rest) _ _ _ _ _
     (λ o. onward (w.name_reader o.1) _ _ (onward (one_among (k.name ∷ []) o.1) _ _ (next (one_among (k.name ∷ []) o.1) _ _ (λ u rest. onward (w.suite (λ ts. L n v.body ts) rest) _ _ (onward (one_among (k.colon ∷ []) rest) _ _ refl)))))
     (onward (w.suite (λ ts. L n v.body ts) rest) _ _ (onward (one_among (k.colon ∷ []) rest) _ _ refl))))))
@@ -230,7 +230,7 @@ moved_on b c r f h false ts = refl
 
 picked_on : (b c : Block) (o : Option (Token × List Token)) (f : Block × List Token → Read Token Block) → ((c : Block) (ts : List Token) → f (g.behind b c, ts) ≡ (f (c, ts) >>= moved b)) → (ts : List Token)
     → (pick o (w.simple_step (g.behind b c)) (Found (Out (g.behind b c)) ts) >>= λ y. turned f y.0 y.1) ≡ ((pick o (w.simple_step c) (Found (Out c) ts) >>= λ y. turned f y.0 y.1) >>= moved b)
-picked_on b c (Some o) f h ts = moved_on b c (w.simple o.1) f h (starts SI o.1) o.1
+picked_on b c (Some o) f h ts = moved_on b c (w.simple o.1) f h (starts simple_begins o.1) o.1
 picked_on b c None f h ts = refl
 
 spin_moved : (b : Block) (m : ℕ) (c : Block) (ts : List Token) → spin (λ b. b) (step_at (k.semicolon ∷ []) (λ b. b) w.simple_step) m (g.behind b c, ts) ≡ (spin (λ b. b) (step_at (k.semicolon ∷ []) (λ b. b) w.simple_step) m (c, ts) >>= moved b)
@@ -247,7 +247,7 @@ simples_behind b ts = bind_eq (w.simple ts) _ _ (λ s rest. ap (λ r. r >>= λ x
 
 pub stmt_behind : (r : Reader Block) (left : Bool) (b : Block) (ts : List Token) → w.stmt r left b ts ≡ (w.stmt r left NoStatement ts >>= moved b)
 unfolding w.stmt
-stmt_behind r left b ts = go (starts w.CO ts) left
+stmt_behind r left b ts = go (starts w.compound_begins ts) left
   where
     go : (x y : Bool) → cond x (cond y (w.compound r ts >>= λ s. Found (Next b s.0) s.1) (Deep ts)) (w.simples b ts) ≡ (cond x (cond y (w.compound r ts >>= λ s. Found (Next NoStatement s.0) s.1) (Deep ts)) (w.simples NoStatement ts) >>= moved b)
     go true true = sym (bind_assoc (w.compound r ts) _ (moved b))
@@ -257,13 +257,13 @@ stmt_behind r left b ts = go (starts w.CO ts) left
 stmt_is : (n : ℕ) (ts : List Token) → L (suc n) v.stmt ts ≡ w.stmt (λ ts. L n v.body ts) (nat_le 1 n) NoStatement ts
 unfolding w.stmt
 stmt_is n ts = line_flat statements good_statements fr n v.stmt refl ts
-    ∙ ap (λ r. cond (starts w.CO ts) (cond (nat_le 1 n) r (Deep ts)) (L (suc n) v.simples ts >>= found)) (compound_is n ts)
-    ∙ ap (λ r. cond (starts w.CO ts) (cond (nat_le 1 n) (w.compound (λ ts. L n v.body ts) ts >>= alone) (Deep ts)) r) (found_is (L (suc n) v.simples ts) ∙ simples_is n ts)
+    ∙ ap (λ r. cond (starts w.compound_begins ts) (cond (nat_le 1 n) r (Deep ts)) (L (suc n) v.simples ts >>= found)) (compound_is n ts)
+    ∙ ap (λ r. cond (starts w.compound_begins ts) (cond (nat_le 1 n) (w.compound (λ ts. L n v.body ts) ts >>= alone) (Deep ts)) r) (found_is (L (suc n) v.simples ts) ∙ simples_is n ts)
 
 -- a statement begins where a token of the set stands
-again_stmt : {A B : Type 0} (ts : List Token) (f : List Token → Read Token A) (h : A × List Token → Read Token B) (z : Read Token B) → cond (starts ST ts) (f ts >>= h) z ≡ pick (first_of kind ST ts) (λ o. f (o.0 ∷ o.1) >>= h) z
+again_stmt : {A B : Type 0} (ts : List Token) (f : List Token → Read Token A) (h : A × List Token → Read Token B) (z : Read Token B) → cond (starts stmt_begins ts) (f ts >>= h) z ≡ pick (first_of kind stmt_begins ts) (λ o. f (o.0 ∷ o.1) >>= h) z
 again_stmt [] f h z = refl
-again_stmt {A} {B} (t ∷ ts) f h z = go (has (kind t) ST)
+again_stmt {A} {B} (t ∷ ts) f h z = go (has (kind t) stmt_begins)
   where
     go : (b : Bool) → cond b (f (t ∷ ts) >>= h) z ≡ pick {X = Token × List Token} (first_if b (t, ts)) (λ o. f (o.0 ∷ o.1) >>= h) z
     go true = refl
@@ -271,12 +271,12 @@ again_stmt {A} {B} (t ∷ ts) f h z = go (has (kind t) ST)
 
 stmts_loop : (n : ℕ) (b : Block) (ts : List Token) → (ML n {S = v.block} (line v.stmt g.behind) (b, ts) >>= found) ≡ (w.stmts_on (λ ts. L n v.body ts) (nat_le 1 n) (b, ts) >>= found)
 unfolding w.stmts_on
-stmts_loop n b ts = rounds _ _ ST (λ x. x) (w.stmt_step (λ ts. L n v.body ts) (nat_le 1 n)) (λ b. b) (λ _. Unit {0}) found found (λ s ts p. refl)
+stmts_loop n b ts = rounds _ _ stmt_begins (λ x. x) (w.stmt_step (λ ts. L n v.body ts) (nat_le 1 n)) (λ b. b) (λ _. Unit {0}) found found (λ s ts p. refl)
     (λ K J h i s ts p. again_flat statements fr n {S = v.block} {A = v.block} (line v.stmt g.behind) refl refl s ts K (found (s, ts))
     ∙ again_stmt ts (λ ts. L (suc n) v.stmt ts) (λ y. K (g.behind s y.0, y.1)) (found (s, ts))
-    ∙ picks (first_of kind ST ts) _ _ _ _ (λ o. ap (λ r. r >>= λ y. K (g.behind s y.0, y.1)) (stmt_is n (o.0 ∷ o.1)) ∙ bind_eq (w.stmt (λ ts. L n v.body ts) (nat_le 1 n) NoStatement (o.0 ∷ o.1)) _ _ (λ y rest. h (g.behind s y) rest tt)
+    ∙ picks (first_of kind stmt_begins ts) _ _ _ _ (λ o. ap (λ r. r >>= λ y. K (g.behind s y.0, y.1)) (stmt_is n (o.0 ∷ o.1)) ∙ bind_eq (w.stmt (λ ts. L n v.body ts) (nat_le 1 n) NoStatement (o.0 ∷ o.1)) _ _ (λ y rest. h (g.behind s y) rest tt)
     ∙ sym (bind_assoc (w.stmt (λ ts. L n v.body ts) (nat_le 1 n) s (o.0 ∷ o.1)) _ (routed J found) ∙ ap (λ r. r >>= λ y. J (y.0, y.1)) (stmt_behind (λ ts. L n v.body ts) (nat_le 1 n) s (o.0 ∷ o.1)) ∙ bind_assoc (w.stmt (λ ts. L n v.body ts) (nat_le 1 n) NoStatement (o.0 ∷ o.1)) (moved s) _)) refl
-    ∙ sym (bind_pick (first_of kind ST ts) (w.stmt_step (λ ts. L n v.body ts) (nat_le 1 n) s) (Found (Out s) ts) (routed J found))) b ts tt
+    ∙ sym (bind_pick (first_of kind stmt_begins ts) (w.stmt_step (λ ts. L n v.body ts) (nat_le 1 n) s) (Found (Out s) ts) (routed J found))) b ts tt
 
 stmts_is : (n : ℕ) (ts : List Token) → L (suc n) v.stmts ts ≡ w.stmts (λ ts. L n v.body ts) (nat_le 1 n) ts
 unfolding w.stmts
@@ -293,7 +293,7 @@ deep_plain {A} c (t ∷ ts) = go (c t)
 
 pub block_is : (n : ℕ) (ts : List Token) → L n v.body ts ≡ w.block_at n ts
 unfolding w.block_at
-block_is zero ts = ap plain (no_levels statements fr v.body ts) ∙ deep_plain (λ t. has (kind t) (k.newline ∷ SI)) ts
+block_is zero ts = ap plain (no_levels statements fr v.body ts) ∙ deep_plain (λ t. has (kind t) (k.newline ∷ simple_begins)) ts
 block_is (suc n) ts = line_flat statements good_statements fr n v.body refl ts
     ∙ picks (one k.newline ts) _ _ _ _ (λ o. bind_eq (one_among (k.indent ∷ []) o.1) _ _ (λ i rest. ap (λ r. r >>= λ x. one_among (k.dedent ∷ []) x.1 >>= λ d. Found x.0 d.1) (stmts_is n rest ∙ ap (λ r. w.stmts r (nat_le 1 n) rest) (fun_ext (block_is n)))))
     (found_is (L (suc n) v.simples ts) ∙ simples_is n ts)

@@ -13,8 +13,8 @@ use Rattle.py_cursor.specs.token_kinds.Kinds.{kind, text_of}
 use Rattle.py_cursor.specs.token_kinds.Numbers as k
 use Rattle.py_cursor.specs.py_expressions.Sorts.{exprs}
 use Rattle.py_cursor.specs.py_expressions.Values.{taker_in}
-use Rattle.py_cursor.specs.py_expressions.Lines.{E1}
-use Rattle.py_grammar.specs.Lines.{SI}
+use Rattle.py_cursor.specs.py_expressions.Lines.{expr_begins}
+use Rattle.py_grammar.specs.Lines.{simple_begins}
 use Rattle.statement_readers.specs.Reads.{reads_as}
 use Rattle.statement_readers.proofs.Expressions.{takes}
 use Rattle.py_cursor.specs.declared.stop.Stop.{Stop}
@@ -129,17 +129,17 @@ pub simples_over : (b : Block) (ts : List Token) → first_of kind (k.semicolon 
 unfolding simples_on
 simples_over b ts e = over (k.semicolon ∷ []) (λ b. b) simple_step b ts e
 
-pub simples_ends : (b : Block) (ts : List Token) (o : Token) (after : List Token) (whole : Read Token Block) → first_of kind (k.semicolon ∷ []) ts ≡ Some (o, after) → starts SI after ≡ false → simples_on (b, ts) ≡ whole → whole ≡ Found b after
+pub simples_ends : (b : Block) (ts : List Token) (o : Token) (after : List Token) (whole : Read Token Block) → first_of kind (k.semicolon ∷ []) ts ≡ Some (o, after) → starts simple_begins after ≡ false → simples_on (b, ts) ≡ whole → whole ≡ Found b after
 unfolding simples_on
-simples_ends b ts o after whole e i w = item_ends SI simple Next simple_takes k.semicolon b ts o after whole e i w
+simples_ends b ts o after whole e i w = item_ends simple_begins simple Next simple_takes k.semicolon b ts o after whole e i w
 
-pub simples_fails : (b : Block) (ts : List Token) (o : Token) (after : List Token) (stop : Stop) (whole : Read Token Block) → first_of kind (k.semicolon ∷ []) ts ≡ Some (o, after) → starts SI after ≡ true → FailsAs stop (simple after) → simples_on (b, ts) ≡ whole → FailsAs stop whole
+pub simples_fails : (b : Block) (ts : List Token) (o : Token) (after : List Token) (stop : Stop) (whole : Read Token Block) → first_of kind (k.semicolon ∷ []) ts ≡ Some (o, after) → starts simple_begins after ≡ true → FailsAs stop (simple after) → simples_on (b, ts) ≡ whole → FailsAs stop whole
 unfolding simples_on
-simples_fails b ts o after stop whole e i d w = item_fails SI simple Next simple_takes k.semicolon b ts o after stop whole e i d w
+simples_fails b ts o after stop whole e i d w = item_fails simple_begins simple Next simple_takes k.semicolon b ts o after stop whole e i d w
 
-pub simples_next : (b : Block) (ts : List Token) (o : Token) (after : List Token) (s : Statement) (rest : List Token) (more : Block) (whole : Read Token Block) → first_of kind (k.semicolon ∷ []) ts ≡ Some (o, after) → starts SI after ≡ true → simple after ≡ Found s rest → more ≡ Next b s → simples_on (b, ts) ≡ whole → simples_on (more, rest) ≡ whole
+pub simples_next : (b : Block) (ts : List Token) (o : Token) (after : List Token) (s : Statement) (rest : List Token) (more : Block) (whole : Read Token Block) → first_of kind (k.semicolon ∷ []) ts ≡ Some (o, after) → starts simple_begins after ≡ true → simple after ≡ Found s rest → more ≡ Next b s → simples_on (b, ts) ≡ whole → simples_on (more, rest) ≡ whole
 unfolding simples_on
-simples_next b ts o after s rest more whole e i d j w = item_next SI simple Next simple_takes k.semicolon b ts o after s rest more whole e i d j w
+simples_next b ts o after s rest more whole e i d j w = item_next simple_begins simple Next simple_takes k.semicolon b ts o after s rest more whole e i d j w
 
 -- ASSIGNMENTS
 pub assignment_none : (at : Pos) (ts : List Target) (e : Tree) → length ts ≡ 0 → assignment at (takers ts) e ≡ Do at e
@@ -158,7 +158,7 @@ assign_keeps at s o after t rest e = go (taker_in s.1) e
     yields all false e = let x = bind_found (one_among (k.yield ∷ []) after) (λ o. yield_to at all o.0.at o.1 >>= λ s. Found (Out s.0) s.1) (On t) rest e in let y = bind_found (yield_to at all x.0.at x.1) (λ s. Found (Out s.0) s.1) (On t) rest x.3 in let f = y.3 in absurd (cc)
 
     go : (x : Option Taker) → pick x (λ t. right_side at (s.0 ++ t ∷ []) after) (Found (Out (assignment at s.0 s.1)) (o ∷ after)) ≡ Found (On t) rest → length rest < suc (length after)
-    go (Some x) e = yields (s.0 ++ x ∷ []) (starts E1 after) e
+    go (Some x) e = yields (s.0 ++ x ∷ []) (starts expr_begins after) e
     go None e = absurd (cc)
 
 pub assigns_over : (at : Pos) (all : List Taker) (e : Tree) (ts : List Token) → first_of kind (k.equal ∷ []) ts ≡ None → assigns at ((all, e), ts) ≡ Found (assignment at all e) ts
@@ -179,24 +179,24 @@ gives_out f (Found x rest) = refl
 gives_out f (Bad rest) = refl
 gives_out f (Deep rest) = refl
 
-pub assigns_yield : (at : Pos) (all : List Taker) (e : Tree) (ts : List Token) (o : Token) (after : List Token) (t : Taker) (more : List Taker) (w : Token) (behind : List Token) (whole : Read Token Statement) → first_of kind (k.equal ∷ []) ts ≡ Some (o, after) → taker_in e ≡ Some t → more ≡ all ++ t ∷ [] → starts E1 after ≡ false → one_among (k.yield ∷ []) after ≡ Found w behind
+pub assigns_yield : (at : Pos) (all : List Taker) (e : Tree) (ts : List Token) (o : Token) (after : List Token) (t : Taker) (more : List Taker) (w : Token) (behind : List Token) (whole : Read Token Statement) → first_of kind (k.equal ∷ []) ts ≡ Some (o, after) → taker_in e ≡ Some t → more ≡ all ++ t ∷ [] → starts expr_begins after ≡ false → one_among (k.yield ∷ []) after ≡ Found w behind
     → assigns at ((all, e), ts) ≡ whole → yield_to at more w.at behind ≡ whole
 unfolding assigns
 assigns_yield at all e ts o after t more w behind whole d i j b f v =
     ap (λ m. yield_to at m w.at behind) j ∙ sym (gives_out (turns (k.equal ∷ []) (λ s. assignment at s.0 s.1) (assign_step at)) (yield_to at (all ++ t ∷ []) w.at behind))
     ∙ sym (goes (k.equal ∷ []) (λ s. assignment at s.0 s.1) (assign_step at) (assign_keeps at) (all, e) ts o after d ∙ rw (i, b, f) refl) ∙ v
 
-pub assigns_bad : (at : Pos) (all : List Taker) (e : Tree) (ts : List Token) (o : Token) (after : List Token) (t : Taker) (stop : Stop) (whole : Read Token Statement) → first_of kind (k.equal ∷ []) ts ≡ Some (o, after) → taker_in e ≡ Some t → starts E1 after ≡ false → FailsAs stop (one_among (k.yield ∷ []) after)
+pub assigns_bad : (at : Pos) (all : List Taker) (e : Tree) (ts : List Token) (o : Token) (after : List Token) (t : Taker) (stop : Stop) (whole : Read Token Statement) → first_of kind (k.equal ∷ []) ts ≡ Some (o, after) → taker_in e ≡ Some t → starts expr_begins after ≡ false → FailsAs stop (one_among (k.yield ∷ []) after)
     → assigns at ((all, e), ts) ≡ whole → FailsAs stop whole
 unfolding assigns
 assigns_bad at all e ts o after t stop whole d i b x v = fails (k.equal ∷ []) (λ s. assignment at s.0 s.1) (assign_step at) (assign_keeps at) (all, e) ts o after stop whole d (rw (i, b) (fails_bind stop (one_among (k.yield ∷ []) after) _ x)) v
 
-pub assigns_fails : (at : Pos) (all : List Taker) (e : Tree) (ts : List Token) (o : Token) (after : List Token) (t : Taker) (stop : Stop) (whole : Read Token Statement) → first_of kind (k.equal ∷ []) ts ≡ Some (o, after) → taker_in e ≡ Some t → starts E1 after ≡ true → FailsAs stop (reads_as 100 exprs after)
+pub assigns_fails : (at : Pos) (all : List Taker) (e : Tree) (ts : List Token) (o : Token) (after : List Token) (t : Taker) (stop : Stop) (whole : Read Token Statement) → first_of kind (k.equal ∷ []) ts ≡ Some (o, after) → taker_in e ≡ Some t → starts expr_begins after ≡ true → FailsAs stop (reads_as 100 exprs after)
     → assigns at ((all, e), ts) ≡ whole → FailsAs stop whole
 unfolding assigns
 assigns_fails at all e ts o after t stop whole d i b x v = fails (k.equal ∷ []) (λ s. assignment at s.0 s.1) (assign_step at) (assign_keeps at) (all, e) ts o after stop whole d (rw (i, b) (fails_bind stop (reads_as 100 exprs after) _ x)) v
 
-pub assigns_next : (at : Pos) (all : List Taker) (e : Tree) (ts : List Token) (o : Token) (after : List Token) (t : Taker) (more : List Taker) (y : Tree) (h : ℕ) (rest : List Token) (whole : Read Token Statement) → first_of kind (k.equal ∷ []) ts ≡ Some (o, after) → taker_in e ≡ Some t → more ≡ all ++ t ∷ [] → starts E1 after ≡ true
+pub assigns_next : (at : Pos) (all : List Taker) (e : Tree) (ts : List Token) (o : Token) (after : List Token) (t : Taker) (more : List Taker) (y : Tree) (h : ℕ) (rest : List Token) (whole : Read Token Statement) → first_of kind (k.equal ∷ []) ts ≡ Some (o, after) → taker_in e ≡ Some t → more ≡ all ++ t ∷ [] → starts expr_begins after ≡ true
     → reads_as 100 exprs after ≡ Found (y, h) rest → assigns at ((all, e), ts) ≡ whole → assigns at ((more, y), rest) ≡ whole
 unfolding assigns
 assigns_next at all e ts o after t more y h rest whole d i j b x v = next (k.equal ∷ []) (λ s. assignment at s.0 s.1) (assign_step at) (assign_keeps at) (all, e) ts o after (more, y) rest whole d (rw (i, b, x, j) refl) v

@@ -9,7 +9,7 @@ use Rattle.grammar_code.specs.Walk.{first_if, first_of, pick}
 use Rattle.py_cursor.specs.token_kinds.Kinds.{kind, text_of}
 use Rattle.py_cursor.specs.token_kinds.Numbers as k
 use Rattle.py_cursor.specs.py_expressions.Sorts.{expr, exprs}
-use Rattle.py_cursor.specs.py_expressions.Lines.{E1}
+use Rattle.py_cursor.specs.py_expressions.Lines.{expr_begins}
 use Rattle.statement_readers.specs.Reads.{reads_as}
 use Rattle.statement_readers.specs.Words.{one_among, starts, one, optional_expr, optional_exprs, expr_behind, name_reader, alias_behind}
 
@@ -37,13 +37,13 @@ pub none_head : (ts : List Token) → head_is (λ t. has (kind t) []) ts ≡ fal
 none_head [] = refl
 none_head (t ∷ ts) = refl
 
-pub optional_expr_on : {A : Type 0} (f : Maybe × List Token → Read Token A) (ts : List Token) → (optional_expr ts >>= f) ≡ cond (starts E1 ts) (reads_as 100 expr ts >>= λ y. f (Present y.0.0, y.1)) (f (Absent, ts))
+pub optional_expr_on : {A : Type 0} (f : Maybe × List Token → Read Token A) (ts : List Token) → (optional_expr ts >>= f) ≡ cond (starts expr_begins ts) (reads_as 100 expr ts >>= λ y. f (Present y.0.0, y.1)) (f (Absent, ts))
 unfolding optional_expr
-optional_expr_on f ts = bind_if (starts E1 ts) _ _ f ∙ ap (λ v. cond (starts E1 ts) v (f (Absent, ts))) (bind_assoc (reads_as 100 expr ts) _ f)
+optional_expr_on f ts = bind_if (starts expr_begins ts) _ _ f ∙ ap (λ v. cond (starts expr_begins ts) v (f (Absent, ts))) (bind_assoc (reads_as 100 expr ts) _ f)
 
-pub optional_exprs_on : {A : Type 0} (f : Maybe × List Token → Read Token A) (ts : List Token) → (optional_exprs ts >>= f) ≡ cond (starts E1 ts) (reads_as 100 exprs ts >>= λ y. f (Present y.0.0, y.1)) (f (Absent, ts))
+pub optional_exprs_on : {A : Type 0} (f : Maybe × List Token → Read Token A) (ts : List Token) → (optional_exprs ts >>= f) ≡ cond (starts expr_begins ts) (reads_as 100 exprs ts >>= λ y. f (Present y.0.0, y.1)) (f (Absent, ts))
 unfolding optional_exprs
-optional_exprs_on f ts = bind_if (starts E1 ts) _ _ f ∙ ap (λ v. cond (starts E1 ts) v (f (Absent, ts))) (bind_assoc (reads_as 100 exprs ts) _ f)
+optional_exprs_on f ts = bind_if (starts expr_begins ts) _ _ f ∙ ap (λ v. cond (starts expr_begins ts) v (f (Absent, ts))) (bind_assoc (reads_as 100 exprs ts) _ f)
 
 pub behind_on : {A : Type 0} (c : ℕ) (f : Maybe × List Token → Read Token A) (ts : List Token) → (expr_behind c ts >>= f) ≡ pick (one c ts) (λ o. reads_as 100 expr o.1 >>= λ y. f (Present y.0.0, y.1)) (f (Absent, ts))
 unfolding expr_behind

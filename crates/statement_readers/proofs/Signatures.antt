@@ -10,7 +10,7 @@ use Rattle.grammar_code.specs.Walk.{first_of, pick}
 use Rattle.py_cursor.specs.token_kinds.Kinds.{kind, text_of}
 use Rattle.py_cursor.specs.token_kinds.Numbers as k
 use Rattle.py_cursor.specs.py_expressions.Sorts.{expr}
-use Rattle.py_cursor.specs.py_expressions.Lines.{E1}
+use Rattle.py_cursor.specs.py_expressions.Lines.{expr_begins}
 use Rattle.py_cursor.specs.declared.stop.Stop.{Stop}
 use Rattle.py_cursor.specs.Cursor.{FailsAs}
 use Rattle.statement_readers.specs.Reads.{reads_as}
@@ -82,7 +82,7 @@ decorators_next ds ts o after x rest more whole e i j w = next (k.at ∷ []) (λ
 
 pub caught_keeps : (ts : List Token) (x : Maybe × Option (List ℕ)) (rest : List Token) → handler_head ts ≡ Found x rest → length rest ≤ length ts
 unfolding handler_head
-caught_keeps ts x rest e = go (starts E1 ts) e
+caught_keeps ts x rest e = go (starts expr_begins ts) e
   where
     go : (b : Bool) → cond b (reads_as 100 expr ts >>= λ c. alias_behind c.1 >>= λ n. Found (Present c.0.0, n.0) n.1) (Found (Absent, None) ts) ≡ Found x rest → length rest ≤ length ts
     go true e = let h = takes_then (reads_as 100 expr ts) _ (length ts) (takes 100 expr ts) (λ c mid b rest i. keeps_bind (alias_behind mid) _ (length mid) (alias_keeps mid) b rest i) x rest e in omega arith

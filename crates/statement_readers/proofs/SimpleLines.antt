@@ -17,11 +17,11 @@ use Rattle.py_cursor.specs.token_kinds.Kinds.{kind, text_of}
 use Rattle.py_cursor.specs.token_kinds.Numbers as k
 use Rattle.py_cursor.specs.py_expressions.Sorts as e
 use Rattle.py_cursor.specs.py_expressions.Values.{at_of, place_in, taker_in}
-use Rattle.py_cursor.specs.py_expressions.Lines.{E1}
+use Rattle.py_cursor.specs.py_expressions.Lines.{expr_begins}
 use Rattle.py_grammar.specs.Sorts as v
 use Rattle.py_grammar.specs.Sorts.{BlockSort, BlockValue, BlockName, block_sort, plain as plain_sort, names as names_sort, twice, change}
 use Rattle.py_grammar.specs.Lines as g
-use Rattle.py_grammar.specs.Lines.{BlockPart, statements, require, on_token, SI, changes}
+use Rattle.py_grammar.specs.Lines.{BlockPart, statements, require, on_token, simple_begins, changes}
 use Rattle.py_grammar.specs.Sources.{expression_readers}
 use Rattle.py_grammar.proofs.Good.{good_statements}
 use Rattle.statement_readers.specs.Reads.{reads_as}
@@ -46,11 +46,11 @@ FL n p s ts f z = flat statements (nat_le 1 n) fr (λ r ts. L (suc n) r ts) (λ 
 abbrev pub ML : (n : ℕ) {S : BlockSort} → BlockPart S S → BlockValue S × List Token → Read Token (BlockValue S)
 ML n p x = many_at (λ s t. has (kind t) (first statements p s)) (λ y. FL n p y.0 y.1 found None) x
 
-raise_is : (at : Pos) (ts : List Token) → cond (starts E1 ts) (reads_as 100 e.expr ts >>= λ y. Found (Raise at (Present y.0.0)) y.1) (Found (Raise at Absent) ts) ≡ w.raise_behind at ts
+raise_is : (at : Pos) (ts : List Token) → cond (starts expr_begins ts) (reads_as 100 e.expr ts >>= λ y. Found (Raise at (Present y.0.0)) y.1) (Found (Raise at Absent) ts) ≡ w.raise_behind at ts
 unfolding w.raise_behind
 raise_is at ts = sym (optional_expr_on (λ v. Found (Raise at v.0) v.1) ts)
 
-yield_is : (at : Pos) (ts : List Token) → cond (starts E1 ts) (reads_as 100 e.exprs ts >>= λ y. Found (YieldOf at at (Present y.0.0)) y.1) (Found (YieldOf at at Absent) ts) ≡ w.yield_behind at ts
+yield_is : (at : Pos) (ts : List Token) → cond (starts expr_begins ts) (reads_as 100 e.exprs ts >>= λ y. Found (YieldOf at at (Present y.0.0)) y.1) (Found (YieldOf at at Absent) ts) ≡ w.yield_behind at ts
 unfolding w.yield_behind
 yield_is at ts = sym (optional_exprs_on (λ v. Found (YieldOf at at v.0) v.1) ts)
 
@@ -185,9 +185,9 @@ assign_step_is : (n : ℕ) (at : Pos) (K : Statement × List Token → Read Toke
     ≡ pick (one k.equal ts) (λ y. pick o (λ t. w.right_side at (all ++ t ∷ []) y.1) (Found (Out (w.assignment at all x)) (y.0 ∷ y.1)) >>= routed J found) (Found (w.assignment at all x) ts)
 unfolding w.yield_to w.optional_exprs
 assign_step_is n at K J h i all x ts p None = value_over at all x ts p ∙ same_rest (k.equal ∷ []) ts (λ ts. Found (w.assignment at all x) ts)
-assign_step_is n at K J h i all x ts p (Some t) = picks (one k.equal ts) _ _ _ _ (λ y. either (starts E1 y.1) _ _ _ _ (routed J found)
+assign_step_is n at K J h i all x ts p (Some t) = picks (one k.equal ts) _ _ _ _ (λ y. either (starts expr_begins y.1) _ _ _ _ (routed J found)
     (onward (reads_as 100 e.exprs y.1) _ _ (next (reads_as 100 e.exprs y.1) _ _ (λ z rest. ap (λ q. K (q, rest)) (value_more at all t z.0) ∙ h (all ++ t ∷ [], z.0) rest (more_begun at all t z.0))))
-    (onward (one_among (k.yield ∷ []) y.1) _ _ (next (one_among (k.yield ∷ []) y.1) _ _ (λ u rest. onward (w.yield_to at (all ++ t ∷ []) u.at rest) _ _ (onward (w.optional_exprs rest) _ _ (either (starts E1 rest) _ _ _ _ _
+    (onward (one_among (k.yield ∷ []) y.1) _ _ (next (one_among (k.yield ∷ []) y.1) _ _ (λ u rest. onward (w.yield_to at (all ++ t ∷ []) u.at rest) _ _ (onward (w.optional_exprs rest) _ _ (either (starts expr_begins rest) _ _ _ _ _
     (onward (reads_as 100 e.exprs rest) _ _ (next (reads_as 100 e.exprs rest) _ _ (λ z rest. i at (all ++ t ∷ []) u.at (Present z.0) rest))) (i at (all ++ t ∷ []) u.at Absent rest))))))) (value_over at all x ts p)
 
 assigns_loop : (n : ℕ) (at : Pos) (all : List Taker) (x : Tree) (ts : List Token) → (all ≡ [] → at_of x ≡ at) → (ML n (seen v.targets_in g.assigned) (value_of at all x, ts) >>= with_statement) ≡ w.assigns at ((all, x), ts)
@@ -227,36 +227,36 @@ first_or false h = absurd (cc)
 left_first : (t : Token) → has (kind t) (k.left_paren ∷ []) ≡ true → (kind t == k.left_paren) ≡ true
 left_first t h = first_or (kind t == k.left_paren) h
 
-left_starts : (ts : List Token) (x : Token × List Token) → one k.left_paren ts ≡ Some x → starts (k.left_paren ∷ E1) ts ≡ true
+left_starts : (ts : List Token) (x : Token × List Token) → one k.left_paren ts ≡ Some x → starts (k.left_paren ∷ expr_begins) ts ≡ true
 left_starts [] x e = absurd (cc)
 left_starts (t ∷ ts) x e = go (has (kind t) (k.left_paren ∷ [])) refl e
   where
-    go : (b : Bool) → has (kind t) (k.left_paren ∷ []) ≡ b → first_if {X = Token × List Token} b (t, ts) ≡ Some x → starts (k.left_paren ∷ E1) (t ∷ ts) ≡ true
-    go true h e = ap (λ b. b || has (kind t) E1) (left_first t h)
+    go : (b : Bool) → has (kind t) (k.left_paren ∷ []) ≡ b → first_if {X = Token × List Token} b (t, ts) ≡ Some x → starts (k.left_paren ∷ expr_begins) (t ∷ ts) ≡ true
+    go true h e = ap (λ b. b || has (kind t) expr_begins) (left_first t h)
     go false h e = absurd (cc)
 
 return_is : (n : ℕ) (at : Pos) (ts : List Token) → FL n {S = v.position} (fork {B = twice} k.left_paren k.yield (λ at _ u. (at, u.at)) (far {A = plain_sort} e.exprs (λ x y. ReturnYield x.0 x.1 (Present y.0)) ⨾ require k.right_paren ∣ token {A = plain_sort} (k.right_paren ∷ []) (λ x _. ReturnYield x.0 x.1 Absent)) e.exprs (λ at x. Return at (Present x.0)) ∣ give (λ at. Return at Absent)) at ts with_statement None ≡ w.return_behind at ts
 unfolding w.return_behind
 return_is n at ts = by ts (one k.left_paren ts) refl
   where
-    plainly : (ts : List Token) → cond (starts (k.left_paren ∷ E1) ts) (reads_as 100 e.exprs ts >>= λ y. Found (Return at (Present y.0.0)) y.1) (Found (Return at Absent) ts) ≡ (w.optional_exprs ts >>= λ v. Found (Return at v.0) v.1)
+    plainly : (ts : List Token) → cond (starts (k.left_paren ∷ expr_begins) ts) (reads_as 100 e.exprs ts >>= λ y. Found (Return at (Present y.0.0)) y.1) (Found (Return at Absent) ts) ≡ (w.optional_exprs ts >>= λ v. Found (Return at v.0) v.1)
     plainly [] = sym (optional_exprs_on (λ v. Found (Return at v.0) v.1) [])
-    plainly (t ∷ ts) = ap (λ b. cond b (reads_as 100 e.exprs (t ∷ ts) >>= λ y. Found (Return at (Present y.0.0)) y.1) (Found (Return at Absent) (t ∷ ts))) (has_again (kind t) k.left_paren E1 refl) ∙ sym (optional_exprs_on (λ v. Found (Return at v.0) v.1) (t ∷ ts))
+    plainly (t ∷ ts) = ap (λ b. cond b (reads_as 100 e.exprs (t ∷ ts) >>= λ y. Found (Return at (Present y.0.0)) y.1) (Found (Return at Absent) (t ∷ ts))) (has_again (kind t) k.left_paren expr_begins refl) ∙ sym (optional_exprs_on (λ v. Found (Return at v.0) v.1) (t ∷ ts))
 
-    yields : (word : Token) (ts : List Token) → cond (starts E1 ts) (reads_as 100 e.exprs ts >>= λ y. one_among (k.right_paren ∷ []) y.1 >>= λ c. Found (ReturnYield at word.at (Present y.0.0)) c.1) (one_among (k.right_paren ∷ []) ts >>= λ c. Found (ReturnYield at word.at Absent) c.1) ≡ (w.optional_exprs ts >>= λ v. one_among (k.right_paren ∷ []) v.1 >>= λ c. Found (ReturnYield at word.at v.0) c.1)
+    yields : (word : Token) (ts : List Token) → cond (starts expr_begins ts) (reads_as 100 e.exprs ts >>= λ y. one_among (k.right_paren ∷ []) y.1 >>= λ c. Found (ReturnYield at word.at (Present y.0.0)) c.1) (one_among (k.right_paren ∷ []) ts >>= λ c. Found (ReturnYield at word.at Absent) c.1) ≡ (w.optional_exprs ts >>= λ v. one_among (k.right_paren ∷ []) v.1 >>= λ c. Found (ReturnYield at word.at v.0) c.1)
     yields word ts = sym (optional_exprs_on (λ v. one_among (k.right_paren ∷ []) v.1 >>= λ c. Found (ReturnYield at word.at v.0) c.1) ts)
 
-    inner : (t : Token) (ts : List Token) → starts (k.left_paren ∷ E1) ts ≡ true → (y : Option (Token × List Token)) → cond (starts (k.left_paren ∷ E1) ts)
+    inner : (t : Token) (ts : List Token) → starts (k.left_paren ∷ expr_begins) ts ≡ true → (y : Option (Token × List Token)) → cond (starts (k.left_paren ∷ expr_begins) ts)
         (pick {X = Token × Token × List Token} (pick {Y = Option (Token × Token × List Token)} y (λ u. Some (t, u.0, u.1)) None)
-        (λ o. cond (starts E1 o.2) (reads_as 100 e.exprs o.2 >>= λ y. one_among (k.right_paren ∷ []) y.1 >>= λ c. Found (ReturnYield at o.1.at (Present y.0.0)) c.1) (one_among (k.right_paren ∷ []) o.2 >>= λ c. Found (ReturnYield at o.1.at Absent) c.1))
+        (λ o. cond (starts expr_begins o.2) (reads_as 100 e.exprs o.2 >>= λ y. one_among (k.right_paren ∷ []) y.1 >>= λ c. Found (ReturnYield at o.1.at (Present y.0.0)) c.1) (one_among (k.right_paren ∷ []) o.2 >>= λ c. Found (ReturnYield at o.1.at Absent) c.1))
         (reads_as 100 e.exprs ts >>= λ y. Found (Return at (Present y.0.0)) y.1)) (Found (Return at Absent) ts)
         ≡ pick y (λ o. w.optional_exprs o.1 >>= λ v. one_among (k.right_paren ∷ []) v.1 >>= λ c. Found (ReturnYield at o.0.at v.0) c.1) (w.optional_exprs ts >>= λ v. Found (Return at v.0) v.1)
     inner t ts h (Some u) = when_true _ _ _ _ h (yields u.0 u.1)
     inner t ts h None = plainly ts
 
-    by : (ts : List Token) (o : Option (Token × List Token)) → one k.left_paren ts ≡ o → cond (starts (k.left_paren ∷ E1) ts)
+    by : (ts : List Token) (o : Option (Token × List Token)) → one k.left_paren ts ≡ o → cond (starts (k.left_paren ∷ expr_begins) ts)
         (pick {X = Token × Token × List Token} (pick {Y = Option (Token × Token × List Token)} o (λ o. pick (one k.yield o.1) (λ u. Some (o.0, u.0, u.1)) None) None)
-        (λ o. cond (starts E1 o.2) (reads_as 100 e.exprs o.2 >>= λ y. one_among (k.right_paren ∷ []) y.1 >>= λ c. Found (ReturnYield at o.1.at (Present y.0.0)) c.1) (one_among (k.right_paren ∷ []) o.2 >>= λ c. Found (ReturnYield at o.1.at Absent) c.1))
+        (λ o. cond (starts expr_begins o.2) (reads_as 100 e.exprs o.2 >>= λ y. one_among (k.right_paren ∷ []) y.1 >>= λ c. Found (ReturnYield at o.1.at (Present y.0.0)) c.1) (one_among (k.right_paren ∷ []) o.2 >>= λ c. Found (ReturnYield at o.1.at Absent) c.1))
         (reads_as 100 e.exprs ts >>= λ y. Found (Return at (Present y.0.0)) y.1)) (Found (Return at Absent) ts)
         ≡ pick (pick o (λ o. one k.yield o.1) None) (λ o. w.optional_exprs o.1 >>= λ v. one_among (k.right_paren ∷ []) v.1 >>= λ c. Found (ReturnYield at o.0.at v.0) c.1) (w.optional_exprs ts >>= λ v. Found (Return at v.0) v.1)
     by ts (Some x) h = inner x.0 ts (left_starts ts x h) (one k.yield x.1)
@@ -280,9 +280,9 @@ unfolding w.simples_on
 simples_loop n f e b ts = rounds _ _ (k.semicolon ∷ []) (λ b. b) w.simple_step (λ b. record { all = b; ended = false }) (λ _. Unit {0}) f (λ y. f (record { all = y.0; ended = false }, y.1)) (λ s ts p. refl)
     (λ K J h i s ts p. again_flat statements fr n {S = v.run} {A = v.run} (when (λ r. not r.ended) (require k.semicolon ⨾ (line v.simple v.one_more ∣ give (λ r. record { all = r.all; ended = true })))) refl refl (record { all = s; ended = false }) ts K (f (record { all = s; ended = false }, ts))
     ∙ picks (one k.semicolon ts) _ _ _ _ (λ o.
-    ap (λ r. cond (starts SI o.1) (L (suc n) v.simple o.1 >>= λ y. K (record { all = Next s y.0; ended = false }, y.1)) r) (i (record { all = s; ended = true }) o.1 (none_head o.1) ∙ e s o.1)
-    ∙ ap (λ r. cond (starts SI o.1) r (f (record { all = s; ended = false }, o.1))) (ap (λ r. r >>= λ y. K (record { all = Next s y.0; ended = false }, y.1)) (simple_is n o.1) ∙ bind_eq (w.simple o.1) _ _ (λ a rest. h (Next s a) rest tt) ∙ sym (bind_assoc (w.simple o.1) _ (routed J (λ y. f (record { all = y.0; ended = false }, y.1)))))
-    ∙ sym (bind_if (starts SI o.1) _ _ (routed J (λ y. f (record { all = y.0; ended = false }, y.1))))) refl
+    ap (λ r. cond (starts simple_begins o.1) (L (suc n) v.simple o.1 >>= λ y. K (record { all = Next s y.0; ended = false }, y.1)) r) (i (record { all = s; ended = true }) o.1 (none_head o.1) ∙ e s o.1)
+    ∙ ap (λ r. cond (starts simple_begins o.1) r (f (record { all = s; ended = false }, o.1))) (ap (λ r. r >>= λ y. K (record { all = Next s y.0; ended = false }, y.1)) (simple_is n o.1) ∙ bind_eq (w.simple o.1) _ _ (λ a rest. h (Next s a) rest tt) ∙ sym (bind_assoc (w.simple o.1) _ (routed J (λ y. f (record { all = y.0; ended = false }, y.1)))))
+    ∙ sym (bind_if (starts simple_begins o.1) _ _ (routed J (λ y. f (record { all = y.0; ended = false }, y.1))))) refl
     ∙ sym (bind_pick (one k.semicolon ts) (w.simple_step s) (Found (Out s) ts) (routed J (λ y. f (record { all = y.0; ended = false }, y.1))))) b ts tt
 
 pub simples_is : (n : ℕ) (ts : List Token) → L (suc n) v.simples ts ≡ w.simples NoStatement ts

@@ -13,12 +13,12 @@ use Rattle.py_cursor.specs.token_kinds.Numbers as k
 use Rattle.py_cursor.specs.py_expressions.Sorts.{expr}
 use Rattle.statement_readers.specs.Reads.{reads_as}
 use Rattle.statement_readers.proofs.Expressions.{takes}
-use Rattle.py_grammar.specs.Lines.{ST}
+use Rattle.py_grammar.specs.Lines.{stmt_begins}
 use Rattle.py_cursor.specs.declared.stop.Stop.{Stop}
 use Rattle.py_cursor.specs.Cursor.{FailsAs}
 use Rattle.statement_readers.specs.Turns.{Reader, On, turns}
 use Rattle.statement_readers.specs.Words as w
-use Rattle.statement_readers.specs.Words.{one_among, starts, one, suite, arm, elif_step, elifs_on, handler_head, handler, handler_step, excepts_on, stmt, stmt_step, stmts_on, stmts, block_at, simples, CO, compound}
+use Rattle.statement_readers.specs.Words.{one_among, starts, one, suite, arm, elif_step, elifs_on, handler_head, handler, handler_step, excepts_on, stmt, stmt_step, stmts_on, stmts, block_at, simples, compound_begins, compound}
 use Rattle.statement_readers.proofs.Turns.{Keeps, over, fails, next, fails_bind, wanted_takes, first_takes, first_whole}
 use Rattle.statement_readers.proofs.Loops.{takes_bind, takes_then, keeps_bind}
 use Rattle.statement_readers.proofs.Signatures.{keeps_then, caught_keeps}
@@ -69,17 +69,17 @@ handlers_next n hs ts o after more rest whole e i v = next (k.except ∷ []) (λ
 stmt_step_keeps : (n : ℕ) → Keeps (stmt_step (block_at n) (nat_le 1 n))
 stmt_step_keeps n b o after t rest e = takes_bind (stmt (block_at n) (nat_le 1 n) b (o ∷ after)) (λ x. On x) (suc (length after)) (λ y rest i. stmt_takes n b (o ∷ after) y rest i) (On t) rest e
 
-pub stmts_over : (n : ℕ) (b : Block) (ts : List Token) → first_of kind ST ts ≡ None → stmts_on (block_at n) (nat_le 1 n) (b, ts) ≡ Found b ts
+pub stmts_over : (n : ℕ) (b : Block) (ts : List Token) → first_of kind stmt_begins ts ≡ None → stmts_on (block_at n) (nat_le 1 n) (b, ts) ≡ Found b ts
 unfolding stmts_on
-stmts_over n b ts e = over ST (λ x. x) (stmt_step (block_at n) (nat_le 1 n)) b ts e
+stmts_over n b ts e = over stmt_begins (λ x. x) (stmt_step (block_at n) (nat_le 1 n)) b ts e
 
-pub stmts_fails : (n : ℕ) (b : Block) (ts : List Token) (o : Token) (after : List Token) (stop : Stop) (whole : Read Token Block) → first_of kind ST ts ≡ Some (o, after) → FailsAs stop (stmt (block_at n) (nat_le 1 n) b ts) → stmts_on (block_at n) (nat_le 1 n) (b, ts) ≡ whole → FailsAs stop whole
+pub stmts_fails : (n : ℕ) (b : Block) (ts : List Token) (o : Token) (after : List Token) (stop : Stop) (whole : Read Token Block) → first_of kind stmt_begins ts ≡ Some (o, after) → FailsAs stop (stmt (block_at n) (nat_le 1 n) b ts) → stmts_on (block_at n) (nat_le 1 n) (b, ts) ≡ whole → FailsAs stop whole
 unfolding stmts_on
-stmts_fails n b ts o after stop whole e i v = fails ST (λ x. x) (stmt_step (block_at n) (nat_le 1 n)) (stmt_step_keeps n) b ts o after stop whole e (fails_bind stop (stmt (block_at n) (nat_le 1 n) b (o ∷ after)) _ (rw (sym (first_whole ST ts o after e)) i)) v
+stmts_fails n b ts o after stop whole e i v = fails stmt_begins (λ x. x) (stmt_step (block_at n) (nat_le 1 n)) (stmt_step_keeps n) b ts o after stop whole e (fails_bind stop (stmt (block_at n) (nat_le 1 n) b (o ∷ after)) _ (rw (sym (first_whole stmt_begins ts o after e)) i)) v
 
-pub stmts_next : (n : ℕ) (b : Block) (ts : List Token) (o : Token) (after : List Token) (more : Block) (rest : List Token) (whole : Read Token Block) → first_of kind ST ts ≡ Some (o, after) → stmt (block_at n) (nat_le 1 n) b ts ≡ Found more rest → stmts_on (block_at n) (nat_le 1 n) (b, ts) ≡ whole → stmts_on (block_at n) (nat_le 1 n) (more, rest) ≡ whole
+pub stmts_next : (n : ℕ) (b : Block) (ts : List Token) (o : Token) (after : List Token) (more : Block) (rest : List Token) (whole : Read Token Block) → first_of kind stmt_begins ts ≡ Some (o, after) → stmt (block_at n) (nat_le 1 n) b ts ≡ Found more rest → stmts_on (block_at n) (nat_le 1 n) (b, ts) ≡ whole → stmts_on (block_at n) (nat_le 1 n) (more, rest) ≡ whole
 unfolding stmts_on
-stmts_next n b ts o after more rest whole e i v = next ST (λ x. x) (stmt_step (block_at n) (nat_le 1 n)) (stmt_step_keeps n) b ts o after more rest whole e (ap (λ ts. stmt (block_at n) (nat_le 1 n) b ts >>= λ x. Found (On x.0) x.1) (sym (first_whole ST ts o after e)) ∙ rw i refl) v
+stmts_next n b ts o after more rest whole e i v = next stmt_begins (λ x. x) (stmt_step (block_at n) (nat_le 1 n)) (stmt_step_keeps n) b ts o after more rest whole e (ap (λ ts. stmt (block_at n) (nat_le 1 n) b ts >>= λ x. Found (On x.0) x.1) (sym (first_whole stmt_begins ts o after e)) ∙ rw i refl) v
 
 -- whether a level is left
 pub left_some : (n : ℕ) → 0 < n → nat_le 1 n ≡ true

@@ -14,8 +14,8 @@ use Rattle.py_cursor.specs.token_kinds.Kinds.{kind, text_of}
 use Rattle.py_cursor.specs.token_kinds.Numbers as k
 use Rattle.py_cursor.specs.py_expressions.Sorts.{expr, exprs, single, targets}
 use Rattle.py_cursor.specs.py_expressions.Values.{at_of, place_in, taker_in}
-use Rattle.py_cursor.specs.py_expressions.Lines.{E1}
-use Rattle.py_grammar.specs.Lines.{SI, ST, changes}
+use Rattle.py_cursor.specs.py_expressions.Lines.{expr_begins}
+use Rattle.py_grammar.specs.Lines.{simple_begins, stmt_begins, changes}
 use Rattle.statement_readers.specs.Reads.{reads_as}
 use Rattle.statement_readers.specs.Turns.{Reader, Turn, On, Out, turns}
 
@@ -23,8 +23,8 @@ abbrev pub starts : List ℕ → List Token → Bool
 starts F ts = starts_with kind F ts
 
 -- what begins a statement with blocks
-abbrev pub CO : List ℕ
-CO = k.if ∷ k.while ∷ k.for ∷ k.try ∷ k.with ∷ k.def ∷ k.class ∷ k.at ∷ []
+abbrev pub compound_begins : List ℕ
+compound_begins = k.if ∷ k.while ∷ k.for ∷ k.try ∷ k.with ∷ k.def ∷ k.class ∷ k.at ∷ []
 
 abbrev pub one_among : List ℕ → Reader Token
 one_among F ts = want kind F ts
@@ -34,10 +34,10 @@ one c ts = first_of kind (c ∷ []) ts
 
 -- an expression, where one begins; one behind a token
 unfoldable pub optional_expr : Reader Maybe
-optional_expr ts = cond (starts E1 ts) (reads_as most_levels expr ts >>= λ x. Found (Present x.0.0) x.1) (Found Absent ts)
+optional_expr ts = cond (starts expr_begins ts) (reads_as most_levels expr ts >>= λ x. Found (Present x.0.0) x.1) (Found Absent ts)
 
 unfoldable pub optional_exprs : Reader Maybe
-optional_exprs ts = cond (starts E1 ts) (reads_as most_levels exprs ts >>= λ x. Found (Present x.0.0) x.1) (Found Absent ts)
+optional_exprs ts = cond (starts expr_begins ts) (reads_as most_levels exprs ts >>= λ x. Found (Present x.0.0) x.1) (Found Absent ts)
 
 unfoldable pub expr_behind : ℕ → Reader Maybe
 expr_behind c ts = pick (one c ts) (λ o. reads_as most_levels expr o.1 >>= λ x. Found (Present x.0.0) x.1) (Found Absent ts)
@@ -112,7 +112,7 @@ unfoldable pub yield_to : Pos → List Taker → Pos → Reader Statement
 yield_to at all word ts = optional_exprs ts >>= λ v. Found (AssignYield at all word v.0) v.1
 
 abbrev pub right_side : Pos → List Taker → Reader (Turn (List Taker × Tree) Statement)
-right_side at all ts = cond (starts E1 ts) (reads_as most_levels exprs ts >>= λ y. Found (On (all, y.0.0)) y.1) (one_among (k.yield ∷ []) ts >>= λ o. yield_to at all o.0.at o.1 >>= λ s. Found (Out s.0) s.1)
+right_side at all ts = cond (starts expr_begins ts) (reads_as most_levels exprs ts >>= λ y. Found (On (all, y.0.0)) y.1) (one_among (k.yield ∷ []) ts >>= λ o. yield_to at all o.0.at o.1 >>= λ s. Found (Out s.0) s.1)
 
 abbrev pub assign_step : Pos → List Taker × Tree → Token × List Token → Read Token (Turn (List Taker × Tree) Statement)
 assign_step at s o = pick (taker_in s.1) (λ t. right_side at (s.0 ++ t ∷ []) o.1) (Found (Out (assignment at s.0 s.1)) (o.0 ∷ o.1))
@@ -140,7 +140,7 @@ simple ts = pick (one k.pass ts) (λ o. Found (Pass o.0.at) o.1) (pick (one k.br
 
 -- simple statements with semicolons between them, behind those of a block
 abbrev pub simple_step : Block → Token × List Token → Read Token (Turn Block Block)
-simple_step b o = cond (starts SI o.1) (simple o.1 >>= λ s. Found (On (Next b s.0)) s.1) (Found (Out b) o.1)
+simple_step b o = cond (starts simple_begins o.1) (simple o.1 >>= λ s. Found (On (Next b s.0)) s.1) (Found (Out b) o.1)
 
 unfoldable pub simples_on : Block × List Token → Read Token Block
 simples_on = turns (k.semicolon ∷ []) (λ b. b) simple_step
@@ -179,7 +179,7 @@ decorators ts = decorator ts >>= λ e. decorators_on (More Empty e.0, e.1)
 
 -- what a handler catches, and the name behind `as`
 unfoldable pub handler_head : Reader (Maybe × Option (List ℕ))
-handler_head ts = cond (starts E1 ts) (reads_as most_levels expr ts >>= λ c. alias_behind c.1 >>= λ n. Found (Present c.0.0, n.0) n.1) (Found (Absent, None) ts)
+handler_head ts = cond (starts expr_begins ts) (reads_as most_levels expr ts >>= λ c. alias_behind c.1 >>= λ n. Found (Present c.0.0, n.0) n.1) (Found (Absent, None) ts)
 
 -- STATEMENTS WITH BLOCKS; b is what reads a block
 module _ (b : Reader Block) where
@@ -242,20 +242,20 @@ module _ (b : Reader Block) where
 
   -- a statement behind those of a block; left says whether a level is left for its blocks
   unfoldable pub stmt : (left : Bool) → Block → Reader Block
-  stmt left before ts = cond (starts CO ts) (cond left (compound ts >>= λ s. Found (Next before s.0) s.1) (Deep ts)) (simples before ts)
+  stmt left before ts = cond (starts compound_begins ts) (cond left (compound ts >>= λ s. Found (Next before s.0) s.1) (Deep ts)) (simples before ts)
 
   abbrev pub stmt_step : (left : Bool) → Block → Token × List Token → Read Token (Turn Block Block)
   stmt_step left before o = stmt left before (o.0 ∷ o.1) >>= λ x. Found (On x.0) x.1
 
   unfoldable pub stmts_on : (left : Bool) → Block × List Token → Read Token Block
-  stmts_on left = turns ST (λ x. x) (stmt_step left)
+  stmts_on left = turns stmt_begins (λ x. x) (stmt_step left)
 
   unfoldable pub stmts : (left : Bool) → Reader Block
   stmts left ts = stmt left NoStatement ts >>= λ x. stmts_on left (x.0, x.1)
 
 -- A BLOCK, with so many levels, its own among them
 unfoldable pub block_at : ℕ → Reader Block
-block_at zero ts = deep_at (λ t. has (kind t) (k.newline ∷ SI)) ts
+block_at zero ts = deep_at (λ t. has (kind t) (k.newline ∷ simple_begins)) ts
 block_at (suc n) ts = pick (one k.newline ts) (λ o. one_among (k.indent ∷ []) o.1 >>= λ i. stmts (block_at n) (nat_le 1 n) i.1 >>= λ x. one_among (k.dedent ∷ []) x.1 >>= λ d. Found x.0 d.1) (simples NoStatement ts)
 
 unfoldable pub source : Reader Block

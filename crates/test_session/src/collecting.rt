@@ -17,6 +17,7 @@ use crate::naming::fixture_names;
 use crate::stack::stacked;
 use cli_words::Options;
 use collect_tree::{CollectFault, FoundSuite, RunSetting};
+use collection_nodes::narrow;
 use edge_io::Files;
 use py_load::has_reading;
 use py_machine::World;
@@ -25,17 +26,6 @@ use selection::Exprs;
 use seq::OutOfMemory;
 use session_frames::collection_leaves_no_frame_out;
 use std::alloc::Global;
-
-/// How many there are.
-fn counted(count: usize) -> Result<u32, OutOfMemory>
-    ensures { IfOk result (λ n. n ≡ count) }
-{
-    match u32::try_from(count) {
-        Ok(count) => Ok(count),
-        // No memory holds so many.
-        Err(_) => Err(OutOfMemory),
-    }
-}
 
 /// What is shown of what was collected in this world.
 fn shown(
@@ -50,7 +40,7 @@ fn shown(
     ensures known { IfOk result (λ c. KnowsTable c.stack) }
 {
     let suite = &found.found.suite;
-    let count = counted(suite.fixtures.items().len())?;
+    let count = narrow(suite.fixtures.items().len())?;
     let items = items_shown(alloc, suite.items.items(), found.selected.items())?;
     let hooks = hooks_shown(alloc, count, &suite.hooks)?;
     let codes = codes_of(alloc, suite)?;

@@ -4,7 +4,7 @@ ghost use Rattle.std.specs.Prelude.{◌≡◌, IfOk, length, option_copied, slic
 ghost use Rattle.test_session.specs.Stacks as stacks;
 
 use collect_names::objects::{function_at, object_in};
-use fixture_definitions::{asked_params, defined_at};
+use fixture_definitions::{arguments_asked, defined_at};
 use fixture_table::{FixtureDef, Table};
 use py_values::heap::Heap;
 use py_values::object::FunctionObj;
@@ -51,22 +51,6 @@ fn has_yield(function: Option<&FunctionObj>) -> bool
         None => false,
     }
 }
-
-/// The arguments of a function, where there is one.
-fn arguments_asked(
-    alloc: Global,
-    in_class: bool,
-    function: Option<&FunctionObj>,
-) -> Result<Seq<PyText>, OutOfMemory>
-    ensures { IfOk result (λ names. names ≡ arguments_asked in_class (option_copied function.entry)) }
-{
-    match function {
-        Some(function) => asked_params(alloc, in_class, function.params.items()),
-        None => Ok(Seq::new(alloc)),
-    }
-}
-
-ghost use Rattle.fixture_definitions.specs.Arguments.{arguments_asked};
 
 /// A fixture with this function.
 fn fixture_of(

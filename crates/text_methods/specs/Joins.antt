@@ -1,13 +1,13 @@
 -- What `join` gives (Python library reference, string methods), as it is made: the texts of the elements are not made by themselves.
 use Rattle.std.specs.Prelude.{ℕ, Bool, List, [], length, codes, is_some, Option, Some, None}
-use Rattle.call_products.specs.Products.{plain, wrong}
+use Rattle.call_products.specs.Products.{plain, too_long, wrong}
 use Rattle.call_products.specs.declared.product.Product.{Product}
 use Rattle.call_products.specs.py_operands.Faults.{not_iterable}
 use Rattle.call_products.specs.py_operands.Texts.{text_of}
 use Rattle.py_values.specs.declared.end.Effect.TheVariants.{Fail}
 use Rattle.py_values.specs.declared.object.Obj.{Obj}
 use Rattle.py_values.specs.declared.value.Value.{Value}
-use Rattle.text_methods.specs.Methods.{Parts, Texts, OtherElements, NoElements, new_text, too_long_at}
+use Rattle.text_methods.specs.Methods.{Parts, Texts, OtherElements, NoElements, new_text}
 use Rattle.text_methods.specs.Pieces.{joined, short_text}
 use Rattle.text_methods.specs.declared.joined.Joined.{Joined}
 use Rattle.text_methods.specs.declared.joined.Joined.TheVariants as end
@@ -36,6 +36,6 @@ joined_by sep NoElements = end.NoElements
 -- what a call of `join` makes of them
 abbrev pub join_made : List ℕ → List ℕ → Joined → Product
 join_made kind t (end.Text s) = new_text (length t) s
-join_made kind t end.TooLong = too_long_at (length t)
+join_made kind t end.TooLong = too_long (length t)
 join_made kind t end.OtherElements = wrong (codes "join") (length t)
 join_made kind t end.NoElements = plain (Fail (not_iterable kind) (length t))

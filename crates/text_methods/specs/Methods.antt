@@ -5,7 +5,7 @@ use Rattle.std.specs.Char.{to_ascii_lowercase, to_ascii_uppercase}
 use Rattle.std.specs.List.{starts_with, ends_with}
 use Rattle.call_products.specs.Arguments.{has_none, sole, pair, sole_text}
 use Rattle.call_products.specs.Elements.{keys_of}
-use Rattle.call_products.specs.Products.{plain, failed, wrong, refs_from}
+use Rattle.call_products.specs.Products.{plain, failed, too_long, wrong, refs_from}
 use Rattle.call_products.specs.declared.product.Product.{Product}
 use Rattle.call_products.specs.py_operands.Search.{first_place}
 use Rattle.call_products.specs.py_operands.Texts.{text_of}
@@ -15,7 +15,7 @@ use Rattle.call_products.specs.py_kinds.Kinds.{kind_name}
 use Rattle.py_values.specs.Limits.{most_elements}
 use Rattle.py_values.specs.declared.builtin.TextMethod.{TextMethod}
 use Rattle.py_values.specs.declared.builtin.TextMethod.TheVariants as method
-use Rattle.py_values.specs.declared.class.ExcClass.TheVariants.{ValueError, MemoryError}
+use Rattle.py_values.specs.declared.class.ExcClass.TheVariants.{ValueError}
 use Rattle.py_values.specs.declared.end.Effect.TheVariants.{Give, New, Fail}
 use Rattle.py_values.specs.declared.object.Obj.{Obj}
 use Rattle.py_values.specs.declared.object.Obj.TheVariants as obj
@@ -32,12 +32,9 @@ given n v = plain (Give v n)
 abbrev pub new_text : ℕ → List ℕ → Product
 new_text n t = plain (New (obj.Text t) (n + length t))
 
-abbrev pub too_long_at : ℕ → Product
-too_long_at n = failed MemoryError (codes "sequence too long") n
-
 abbrev pub text_or_long : ℕ → Option (List ℕ) → Product
 text_or_long n (Some t) = new_text n t
-text_or_long n None = too_long_at n
+text_or_long n None = too_long n
 
 abbrev pub place_value : Option ℕ → Value
 place_value (Some i) = val.Int (pos i)
@@ -46,7 +43,7 @@ place_value None = val.Int (negsuc 0)
 -- a list of new texts behind the heap's last object, behind n steps
 abbrev pub text_list : ℕ → ℕ → List (List ℕ) → Product
 text_list from n ps =
-    if nat_lt most_elements (length ps) then too_long_at n
+    if nat_lt most_elements (length ps) then too_long n
     else record { objects = map obj.Text ps; made = New (obj.List (refs_from from (length ps))) (n + length ps) }
 
 -- `t.split(sep)`: sep isn't empty

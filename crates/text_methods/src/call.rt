@@ -11,7 +11,7 @@ use crate::chars::{is_digits, lower, stripped, upper};
 use crate::joined::{Joined, join_elements};
 use crate::pieces::{joined, pieces, words};
 use call_products::arguments::{has_none, pair, sole, sole_text};
-use call_products::product::{Product, failed, plain, refs, wrong};
+use call_products::product::{Product, failed, plain, refs, too_long, wrong};
 use py_kinds::builtins::text_method_name;
 use py_operands::faults::not_iterable;
 use py_operands::search::first_place;
@@ -50,17 +50,6 @@ fn steps_of(cost: usize, len: usize) -> Result<u64, OutOfMemory>
         Some(steps) => Ok(steps as u64),
         None => Err(OutOfMemory),
     }
-}
-
-fn too_long(alloc: Global, cost: usize) -> Result<Product, OutOfMemory>
-    ensures { IfOk result (λ p. p ≡ methods.too_long_at cost) }
-{
-    failed(
-        alloc,
-        ExcClass::MemoryError,
-        "sequence too long",
-        cost as u64,
-    )
 }
 
 fn text_or_long(alloc: Global, cost: usize, text: Option<PyText>) -> Result<Product, OutOfMemory>

@@ -4,12 +4,11 @@ ghost use Rattle.std.specs.Prelude.{◌≡◌, IfOk, option_map};
 ghost use Rattle.tracebacks.specs.Frames as frames;
 ghost use Rattle.tracebacks.specs.Lines.{told_line};
 
-use crate::messages::encoded;
 use py_machine::{World, line};
 use py_values::object::FunctionObj;
 use py_world::{Trace, TraceFrame};
 use report_parts::{Frame, Frames, Text, Told};
-use seq::{OutOfMemory, PyText};
+use seq::{OutOfMemory, PyText, encoded};
 use std::alloc::Global;
 
 /// A line of a source as a text of its own.

@@ -32,4 +32,4 @@ mod messages;
 
 pub use faults::{fault_text, fault_told};
 pub use frames::{def_frame, frame_told, told};
-pub use messages::{encoded, exception_text, limit_text};
+pub use messages::{exception_text, limit_text};

@@ -20,17 +20,6 @@ const MOST: usize = 65_536;
 
 const LEFT: usize = MOST - 3;
 
-/// The UTF-8 text of characters.
-pub fn encoded(alloc: Global, chars: &[char]) -> Result<Text, OutOfMemory>
-    ensures { IfOk result (λ t. t ≡ encode_utf8_all chars.now) }
-{
-    let mut text = String::new(alloc);
-    for letter in chars {
-        text.push(*letter)?;
-    }
-    Ok(Text::from_string(text))
-}
-
 /// A message that is longer than what is shown of it.
 fn shortened(text: Vec<char>) -> Result<Vec<char>, OutOfMemory>
     ensures { IfOk result (λ t. t.items ≡ take texts.left_told text.items ++ codes "...") }

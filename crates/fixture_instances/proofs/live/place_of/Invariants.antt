@@ -1,9 +1,13 @@
-use Rattle.std.proofs.Common.{◌≡◌, IsSome, drop}
-use Rattle.fixture_instances.specs.Joined.{kept_at}
+use Rattle.std.proofs.Common.{◌<◌, ◌≤◌, ◌-◌, length}
+use Rattle.fixture_instances.specs.Joined.{kept_place}
 use Rattle.fixture_instances.proofs.live.place_of.Given as goal
 
-abbrev pub invariant-loop-place : goal.invariant-loop-place
-invariant-loop-place g l = record {
-  some : IsSome (kept_at l.order (drop l.place l.kept));
-  same : kept_at l.order (drop l.place l.kept) ≡ kept_at l.order l.kept;
+abbrev pub invariant-halves : goal.invariant-halves
+invariant-halves g l = record {
+  low : l.low ≤ kept_place l.order l.kept;
+  high : kept_place l.order l.kept < l.high;
+  within : l.high ≤ length l.kept;
 }
+
+abbrev pub decreases-halves : goal.decreases-halves
+decreases-halves g l = l.high - l.low

@@ -14,9 +14,9 @@ pub returns-clause-next : goal.returns-clause-next
 returns-clause-next c =
     let m = c.args.m.now in
     let m' = c.descend.new.m in
-    let fs = Target (Attribute c.in_ok-clone.field-0 c.args.v) ∷ m.stack in
+    let fs = Target (Attribute c.in_ok-clone.field-0 c.args.v) ∷ m.stack.own in
     let first = eval c.args.e.now.value in
     IfOk-weaker c.descend.result (λ (d : NextAction). todo d m' ≡ first (site_of m.here (outer_of fs) (handled_exception fs)) (state_of m) (after_stack fs m.here))
     (λ (d : NextAction). todo d m' ≡ store_attribute first c.args.name.now c.args.v (site_now m) (state_of m) (machine_rest m))
-    (λ d h. h ∙ attribute_begins m.here m.stack (state_of m) first c.args.name.now c.in_ok-clone.field-0 c.args.v (search rules))
+    (λ d h. h ∙ attribute_begins m.here m.stack.own (state_of m) first c.args.name.now c.in_ok-clone.field-0 c.args.v (search rules))
     c.descend.ensures.next

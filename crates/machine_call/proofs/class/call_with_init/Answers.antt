@@ -12,6 +12,7 @@ use Rattle.machine_state.specs.Frames.{around_by, state_of}
 use Rattle.machine_call.specs.declared.class.CallProgress.{CallProgress}
 use Rattle.machine_call.specs.Called.{Calls, call_rest, with_init}
 use Rattle.machine_call.proofs.Classes.{init_begins, new_ready}
+use Rattle.machine_state.specs.Stacks.{StackView}
 use Rattle.machine_call.proofs.class.call_with_init.Goals as goal
 
 pub call_init-requires : goal.call_init-requires
@@ -32,7 +33,8 @@ returns-clause-next c =
     let grown : c.new_instance.new.heap ≡ x.1 = ap (λ (t : Value × List Obj). t.1) made in
     let same : with_init c.args.init x args (around_by c.args.origin m) (state_of m) (call_rest m)
     ≡ init_called entry c.args.init c.in_ok-v.v (not_callable (kind_name m1.heap c.args.init)) args (around_by c.args.origin m1) (state_of m1) (call_rest m1) =
-    init_begins c.args.origin m m1 c.in_ok-v.v x c.args.init args given grown refl c.in_ok-push.ensures (ap (λ (heap : List Obj). with_heap heap (state_of m)) grown) in
+    init_begins c.args.origin m m1 c.in_ok-v.v x c.args.init args given grown refl c.in_ok-push.ensures
+    (ap (λ (y : StackView). state_of (record m { heap = c.new_instance.new.heap; stack = y })) c.in_ok-push.ensures ∙ ap (λ (heap : List Obj). with_heap heap (state_of m)) grown) in
     IfOk-weaker c.call_init.result
     (λ (k : CallProgress). Calls k c.args.origin args c.call_init.new.m m.left (init_called entry c.args.init c.in_ok-v.v (not_callable (kind_name m1.heap c.args.init)) args (around_by c.args.origin m1) (state_of m1) (call_rest m1)))
     (λ (k : CallProgress). Calls k c.args.origin args c.call_init.new.m m.left (with_init c.args.init x args (around_by c.args.origin m) (state_of m) (call_rest m)))

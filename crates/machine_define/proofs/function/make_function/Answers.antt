@@ -28,7 +28,7 @@ returns-clause-next c =
     (c.deref-3.ensures.value ∙ ap (λ (v : Vec CoreParam Global). v.items) c.deref-2.ensures ∙ ap (λ (x : CoreFn). (out-CoreFn x).params.value.items) c.deref.ensures) in
     IfOk-weaker c.define_as.result
     (λ (d : NextAction). todo d m' ≡ define_as c.args.ds.now (out-CoreFn g).name (val.Ref (id_at c.in_ok-id.id.at)) (site_now m)
-    (state m.locals m.temps.items (record { sources = m.sources.items; modules = m.modules.items; heap = c.add.new.self; codes = c.push.new.self.items; printed = m.printed.items; frozen = map frozen_of m.frozen.items; traces = m.traces })) (machine_rest m))
+    (state m.locals m.temps.items (record { sources = m.sources; modules = m.modules; heap = c.add.new.self; codes = c.push.new.self.items; printed = m.printed.items; frozen = map frozen_of m.stack.frozen; traces = m.traces })) (machine_rest m))
     (λ (d : NextAction). todo d m' ≡ fn_made f c.args.ds.now c.args.defaults.now (site_now m) (state_of m) (machine_rest m))
     (λ d h. h ∙ makes f g m c.push.new.self.items c.add.new.self c.in_ok-code.code c.in_ok-params.params c.in_ok-object.object c.len-at.result c.in_ok-id.id.at c.args.ds.now c.args.defaults.now
     c.deref-4.ensures c.in_ok-code.ensures params c.in_ok-object.ensures at c.in_ok-push.ensures.items c.in_ok-id.ensures.1 c.in_ok-id.ensures.0)

@@ -11,6 +11,7 @@ use Rattle.machine_state.specs.Places.{ends, site_of}
 use Rattle.machine_state.specs.Frames.{after_stack, handled_exception, machine_rest, outer_of, site_now, state_of, todo}
 use Rattle.machine_immediate.specs.AtOnce.{IsImmediate}
 use Rattle.machine_immediate.proofs.AtOnces.{found}
+use Rattle.machine_state.specs.Stacks.{StackView}
 use Rattle.machine_expr.proofs.evaluate.begin_binary.Goals as goal
 
 pub returns-in-Some-clause-next : goal.returns-in-Some-clause-next
@@ -30,7 +31,7 @@ pub returns-in_ok-push-in-None-clause-next : goal.returns-in_ok-push-in-None-cla
 returns-in_ok-push-in-None-clause-next c =
     let m = c.args.m.now in
     let m' = c.begin_part.new.m in
-    let part = λ (fs : List Frame). ends m.left (eval c.args.a.now.value (site_of m.here (outer_of fs) (handled_exception fs)) (state_of m) (after_stack fs m.here)) in
+    let part = λ (x : StackView). ends m.left (eval c.args.a.now.value (site_of m.here (outer_of x.own) (handled_exception x.own)) (state_of (record m { stack = x })) (after_stack x.own m.here)) in
     let whole = λ (y : CoreExpr). ends m.left (binary_part (eval c.args.a.now.value) c.args.op (eval y) (site_now m) (state_of m) (machine_rest m)) in
     IfOk-weaker c.begin_part.result (λ (d : NextAction). ends m'.left (todo d m') ≡ part c.push.new.self)
     (λ (d : NextAction). ends m'.left (todo d m') ≡ whole c.args.b.now.value)

@@ -5,11 +5,14 @@ use Rattle.py_world.specs.Outcome.{if_true}
 use Rattle.py_world.specs.Statements.{branches_on}
 use Rattle.machine_state.specs.core_meaning.Statements.{core_block_body, choice, choices}
 use Rattle.machine_state.specs.declared.machine.NextAction.{NextAction}
-use Rattle.machine_state.specs.Places.{ends}
-use Rattle.machine_state.specs.Frames.{layers_of, machine_rest, site_now, state_of, todo}
+use Rattle.py_core.specs.declared.stmt.CoreBranch.{out-CoreBranch}
+use Rattle.machine_state.specs.core_meaning.Expressions.{eval}
+use Rattle.machine_state.specs.Places.{at_line, ends, site_of}
+use Rattle.machine_state.specs.Frames.{after_stack, handled_exception, layers_of, machine_rest, outer_of, site_now, state_of, todo}
 use Rattle.machine_assign.proofs.machine_turns_lemmas.Same.{same_run}
 use Rattle.machine_flow.proofs.Flows.{branch_tests}
 use Rattle.machine_flow.proofs.Immediately.{branch_there}
+use Rattle.machine_state.specs.Stacks.{StackView}
 use Rattle.machine_flow.proofs.choice.begin_branch.Goals as goal
 
 pub returns-in-Some-clause-next : goal.returns-in-Some-clause-next
@@ -17,7 +20,7 @@ returns-in-Some-clause-next c =
     let m = c.args.m.now in
     let m' = c.choose.new.m in
     let x = c.in-Some.there in
-    let ls = layers_of m.stack in
+    let ls = layers_of m.stack.own in
     let rest = choices ls (drop c.args.next c.args.branches.value.items) in
     let other = core_block_body ls c.args.other.value in
     let scene = (site_now m).scene in
@@ -31,5 +34,8 @@ returns-in-Some-clause-next c =
 pub returns-in_ok-clone-in-None-clause-next : goal.returns-in_ok-clone-in-None-clause-next
 returns-in_ok-clone-in-None-clause-next c =
     let m = c.args.m.now in
-    ap (ends m.left) (branch_tests m.here m.stack (state_of m) c.args.branch.now c.in_ok-clone-in-None.field-0 c.in_ok-body.body c.args.branches c.args.next c.args.other
-    c.push.new.self c.in_ok-push-in-None.ensures c.in_ok-clone-in-None.ensures.cases c.in_ok-body.ensures.cases)
+    let here = at_line (out-CoreBranch c.args.branch.now).at.line m.here in
+    let fs = c.push.new.self.own in
+    ap (λ (x : StackView). ends m.left (eval c.in_ok-clone-in-None.field-0.value (site_of here (outer_of fs) (handled_exception fs)) (state_of (record m { stack = x })) (after_stack fs here))) c.in_ok-push-in-None.ensures
+    ∙ ap (ends m.left) (branch_tests m.here m.stack.own (state_of m) c.args.branch.now c.in_ok-clone-in-None.field-0 c.in_ok-body.body c.args.branches c.args.next c.args.other
+    fs (ap (λ (x : StackView). x.own) c.in_ok-push-in-None.ensures) c.in_ok-clone-in-None.ensures.cases c.in_ok-body.ensures.cases)

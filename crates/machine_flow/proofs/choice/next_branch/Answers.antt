@@ -15,7 +15,7 @@ pub returns-clause-next : goal.returns-clause-next
 returns-clause-next c =
     let m = c.args.m.now in
     let m' = c.begin_branch.new.m in
-    let ls = layers_of m.stack in
+    let ls = layers_of m.stack.own in
     let bs = c.args.branches.value.items in
     let at = c.args.at in
     let b = c.index.result.now in

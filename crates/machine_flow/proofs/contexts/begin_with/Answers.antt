@@ -16,8 +16,8 @@ returns-clause-next c =
     let m = c.args.m.now in
     let m' = c.descend.new.m in
     let e = c.args.e.now in
-    let frames = Flow (Context c.in_ok-kept.kept c.in_ok-block.block) ∷ m.stack in
+    let frames = Flow (Context c.in_ok-kept.kept c.in_ok-block.block) ∷ m.stack.own in
     IfOk-weaker c.descend.result (λ (d : NextAction). todo d m' ≡ eval e.value (site_of m.here (outer_of frames) (handled_exception frames)) (state_of m) (after_stack frames m.here))
     (λ (d : NextAction). todo d m' ≡ with_statement (eval e.value) c.args.name.now (core_block_body [] c.args.body.now.value) (site_now m) (state_of m) (machine_rest m))
-    (λ d h. h ∙ with_begins m.here m.stack (state_of m) e c.args.name.now c.in_ok-kept.kept c.args.body.now c.in_ok-block.block c.in_ok-kept.ensures c.in_ok-block.ensures.cases)
+    (λ d h. h ∙ with_begins m.here m.stack.own (state_of m) e c.args.name.now c.in_ok-kept.kept c.args.body.now c.in_ok-block.block c.in_ok-kept.ensures c.in_ok-block.ensures.cases)
     c.descend.ensures.next

@@ -17,8 +17,8 @@ returns-clause-next c =
     let m = c.args.m.now in
     let m' = c.descend.new.m in
     let test = c.args.test.now in
-    let frames = Flow (Test c.in_ok-clone.field-0 c.in_ok-clone-2.field-0) ∷ m.stack in
+    let frames = Flow (Test c.in_ok-clone.field-0 c.in_ok-clone-2.field-0) ∷ m.stack.own in
     IfOk-weaker c.descend.result (λ (d : NextAction). todo d m' ≡ eval test.value (site_of m.here (outer_of frames) (handled_exception frames)) (state_of m) (after_stack frames m.here))
     (λ (d : NextAction). todo d m' ≡ loop (TurnOf test.value c.args.body.now.value) (eval test.value) (site_now m) (state_of m) (machine_rest m))
-    (λ d h. h ∙ loop_tests m.here m.stack (state_of m) test c.in_ok-clone.field-0 c.args.body.now c.in_ok-clone-2.field-0 c.in_ok-clone.ensures.cases c.in_ok-clone-2.ensures.cases)
+    (λ d h. h ∙ loop_tests m.here m.stack.own (state_of m) test c.in_ok-clone.field-0 c.args.body.now c.in_ok-clone-2.field-0 c.in_ok-clone.ensures.cases c.in_ok-clone-2.ensures.cases)
     c.descend.ensures.next

@@ -16,8 +16,8 @@ returns-clause-next c =
     let m = c.args.m.now in
     let m' = c.descend.new.m in
     let e = c.args.e.now in
-    let frames = Flow (Iterable c.in_ok-clone.field-0 c.in_ok-clone-2.field-0) ∷ m.stack in
+    let frames = Flow (Iterable c.in_ok-clone.field-0 c.in_ok-clone-2.field-0) ∷ m.stack.own in
     IfOk-weaker c.descend.result (λ (d : NextAction). todo d m' ≡ eval e.value (site_of m.here (outer_of frames) (handled_exception frames)) (state_of m) (after_stack frames m.here))
     (λ (d : NextAction). todo d m' ≡ for_statement (ForOf c.args.target.now.value c.args.body.now.value) (eval e.value) (site_now m) (state_of m) (machine_rest m))
-    (λ d h. h ∙ for_begins m.here m.stack (state_of m) c.args.target.now c.in_ok-clone.field-0 e c.args.body.now c.in_ok-clone-2.field-0 c.in_ok-clone.ensures.cases c.in_ok-clone-2.ensures.cases)
+    (λ d h. h ∙ for_begins m.here m.stack.own (state_of m) c.args.target.now c.in_ok-clone.field-0 e c.args.body.now c.in_ok-clone-2.field-0 c.in_ok-clone.ensures.cases c.in_ok-clone-2.ensures.cases)
     c.descend.ensures.next

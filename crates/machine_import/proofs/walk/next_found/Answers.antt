@@ -8,4 +8,4 @@ pub returns-in-Some : goal.returns-in-Some
 returns-in-Some c =
     let m = c.args.m.now in
     sym (c.loop-at.invariant
-    ∙ found_here (source_paths m.sources.items) (path_in m.here.place) c.args.dotted.now c.loop-at.at c.in-Some.path c.loop-at-test.true (sym c.in-Some.is ∙ c.in_ok-path.ensures))
+    ∙ found_here (source_paths m.sources) (path_in m.here.place) c.args.dotted.now c.loop-at.at c.in-Some.path c.loop-at-test.true (sym c.in-Some.is ∙ c.in_ok-path.ensures))

@@ -15,6 +15,6 @@ returns-in-Next-clause-next c =
     let m = c.args.m.now in
     let m' = c.next_statement.new.m in
     let b = c.args.b.value in
-    let turn = λ (e : End). ends m.left (on_next (outcome e (state_of m)) (machine_rest m) (λ s. block_from (layers_of m.stack) b c.args.at (drop c.args.at (stmts_in b)) (site_now m).scene s (machine_rest m))) in
+    let turn = λ (e : End). ends m.left (on_next (outcome e (state_of m)) (machine_rest m) (λ s. block_from (layers_of m.stack.own) b c.args.at (drop c.args.at (stmts_in b)) (site_now m).scene s (machine_rest m))) in
     IfOk-weaker c.next_statement.result (λ (t : TurnEnd). turn end.Next ≡ ending t m') (λ (t : TurnEnd). turn c.args.end ≡ ending t m')
     (λ t h. ap turn c.in-Next.is ∙ h) c.next_statement.ensures.next

@@ -14,9 +14,9 @@ pub returns-clause-next : goal.returns-clause-next
 returns-clause-next c =
     let m = c.args.m.now in
     let m' = c.descend.new.m in
-    let fs = Target (AugmentItem c.in_ok-clone.field-0 c.args.op c.in_ok-clone-2.field-0) ∷ m.stack in
+    let fs = Target (AugmentItem c.in_ok-clone.field-0 c.args.op c.in_ok-clone-2.field-0) ∷ m.stack.own in
     let first = eval c.args.a.now.value in
     IfOk-weaker c.descend.result (λ (d : NextAction). todo d m' ≡ first (site_of m.here (outer_of fs) (handled_exception fs)) (state_of m) (after_stack fs m.here))
     (λ (d : NextAction). todo d m' ≡ augment_item first (eval c.args.i.now.value) c.args.op (eval c.args.e.now.value) (site_now m) (state_of m) (machine_rest m))
-    (λ d h. h ∙ augment_item_begins m.here m.stack (state_of m) first c.args.i.now c.in_ok-clone.field-0 c.args.op c.args.e.now c.in_ok-clone-2.field-0 c.in_ok-clone.ensures.cases c.in_ok-clone-2.ensures.cases)
+    (λ d h. h ∙ augment_item_begins m.here m.stack.own (state_of m) first c.args.i.now c.in_ok-clone.field-0 c.args.op c.args.e.now c.in_ok-clone-2.field-0 c.in_ok-clone.ensures.cases c.in_ok-clone-2.ensures.cases)
     c.descend.ensures.next

@@ -27,10 +27,10 @@ returns-in-Some-clause-next c =
     let t = c.args.thrown in
     let within : at < length (handlers_in g.value) = search rules in
     let here : x ≡ get_or (handlers_in g.value) at x = search rules in
-    let fs' = Unwind (Catch c.in_ok-again.again at) ∷ m.stack in
+    let fs' = Unwind (Catch c.in_ok-again.again at) ∷ m.stack.own in
     IfOk-weaker c.descend.result (λ (d : NextAction). todo d m' ≡ eval class.value (site_of m.here (outer_of fs') (handled_exception fs')) (state_of m) (after_stack fs' m.here))
-    (λ (d : NextAction). todo d m' ≡ handlers_on (handlings (layers_of m.stack) (drop at (handlers_in g.value))) t.exc t.trace (site_now m) (state_of m) (machine_rest m))
-    (λ d h. h ∙ class_begins m.here m.stack fs' (state_of m) t g c.in_ok-again.again at x class within here c.in-Some.is c.requires refl c.in_ok-again.ensures.cases)
+    (λ (d : NextAction). todo d m' ≡ handlers_on (handlings (layers_of m.stack.own) (drop at (handlers_in g.value))) t.exc t.trace (site_now m) (state_of m) (machine_rest m))
+    (λ d h. h ∙ class_begins m.here m.stack.own fs' (state_of m) t g c.in_ok-again.again at x class within here c.in-Some.is c.requires refl c.in_ok-again.ensures.cases)
     c.descend.ensures.next
 
 pub returns-in-Some-clause-work : goal.returns-in-Some-clause-work
@@ -60,7 +60,7 @@ returns-clause-next c =
     let hs = handlers_in c.args.guard.value in
     let at = c.args.at in
     let x = c.handler-handler.result.now in
-    let ls = layers_of m.stack in
+    let ls = layers_of m.stack.own in
     let t = c.args.thrown in
     let within : at < length hs = search rules in
     let here : x ≡ get_or hs at x = search rules in

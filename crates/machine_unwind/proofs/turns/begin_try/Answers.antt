@@ -1,21 +1,23 @@
-use Rattle.std.proofs.Common.{◌≡◌, ◌∙◌}
+use Rattle.std.proofs.Common.{◌≡◌, ◌∙◌, ap}
 use Rattle.std.proofs.lemmas.Result.{IfOk-weaker}
 use Rattle.machine_state.specs.core_meaning.Statements.{core_block_body, try_at}
 use Rattle.machine_state.specs.declared.machine.NextAction.{NextAction}
 use Rattle.machine_state.specs.Places.{site_of}
 use Rattle.machine_state.specs.Frames.{after_stack, handled_exception, layers_of, outer_of, machine_rest, site_now, state_of, todo}
 use Rattle.machine_unwind.proofs.Ends.{try_begins}
+use Rattle.machine_state.specs.Stacks.{StackView}
 use Rattle.machine_unwind.proofs.turns.begin_try.Goals as goal
 
 pub returns-clause-next : goal.returns-clause-next
 returns-clause-next c =
     let m = c.args.m.now in
     let m' = c.begin_block.new.m in
-    let fs' = c.push.new.self in
+    let fs' = c.push.new.self.own in
     let b = c.in_ok-block.block in
     let body = c.args.body.now in
     let g = c.args.guard.now in
-    IfOk-weaker c.begin_block.result (λ (d : NextAction). todo d m' ≡ core_block_body (layers_of fs') b.value (site_of m.here (outer_of fs') (handled_exception fs')).scene (state_of m) (after_stack fs' m.here))
-    (λ (d : NextAction). todo d m' ≡ try_at (layers_of m.stack) body.value g.value (site_now m) (state_of m) (machine_rest m))
-    (λ d h. h ∙ try_begins m.here m.stack fs' (state_of m) body.value b.value g c.in_ok-again.again c.in_ok-block.ensures.cases c.in_ok-again.ensures.cases c.in_ok-push.ensures)
+    let after = λ (x : StackView). core_block_body (layers_of fs') b.value (site_of m.here (outer_of fs') (handled_exception fs')).scene (state_of (record m { stack = x })) (after_stack fs' m.here) in
+    IfOk-weaker c.begin_block.result (λ (d : NextAction). todo d m' ≡ after c.push.new.self)
+    (λ (d : NextAction). todo d m' ≡ try_at (layers_of m.stack.own) body.value g.value (site_now m) (state_of m) (machine_rest m))
+    (λ d h. h ∙ ap after c.in_ok-push.ensures ∙ try_begins m.here m.stack.own fs' (state_of m) body.value b.value g c.in_ok-again.again c.in_ok-block.ensures.cases c.in_ok-again.ensures.cases (ap (λ (x : StackView). x.own) c.in_ok-push.ensures))
     c.begin_block.ensures.next

@@ -4,7 +4,7 @@ use Rattle.grammar_code.specs.Walk.{starts_with}
 use Rattle.py_cursor.specs.token_kinds.Kinds.{kind}
 use Rattle.py_cursor.specs.token_kinds.Numbers as k
 use Rattle.py_cursor.specs.py_expressions.Sorts.{expr}
-use Rattle.py_cursor.specs.py_expressions.Lines.{E1}
+use Rattle.py_cursor.specs.py_expressions.Lines.{expr_begins}
 use Rattle.py_nodes.specs.Parts.{row_of, pairs_of, args_of, chain_of, maybe_of, high_of}
 use Rattle.py_cursor.proofs.Loops.{first_takes, meant_takes}
 use Rattle.py_expression_parser.specs.Reads.{operators_of}
@@ -40,10 +40,10 @@ pub expressions-returns-clause-reads : goal.expressions-returns-clause-reads
 expressions-returns-clause-reads t c = let b : starts_with kind (k.comma ∷ []) c.expression.new.p.rest.now ≡ true = cc in node_reads c.tuple_node.result c.items.new.p.rest.now c.made-2.result c.made-2.new.self _ _ _ c.made-2.ensures.makes c.tuple_node.ensures.tree c.tuple_node.ensures.height (exprs_whole c.args.levels c.args.p.now.rest.now (tree c.in-Some.first.expr.value) c.in-Some.first.height c.expression.new.p.rest.now (row_of c.in-Some-made.row) c.in-Some-made.row.all.height (row_of c.in-Some-items.row) c.in-Some-items.row.all.height c.items.new.p.rest.now _ _ c.in-Some.first.some (omega arith) c.in-Some.ensures.reads b (rw c.in-Some-made.ensures.makes.0 at c.first_item.ensures.row) (rw c.in-Some-made.ensures.makes.0 at c.first_item.ensures.height) (rw c.in-Some-made.ensures.makes.1 at c.in-Some-items.ensures.reads) refl refl)
 
 pub items-returns-then-not-begins_expression-clause-reads : goal.items-returns-then-not-begins_expression-clause-reads
-items-returns-then-not-begins_expression-clause-reads t c = let b : starts_with kind E1 c.take_op.new.self.rest.now ≡ false = cc in row_end c.args.levels (row_of c.loop-comma.row, c.loop-comma.row.all.height) c.loop-comma.p.rest.now c.in-Some._comma.now c.take_op.new.self.rest.now (row_of c.end_row.result) c.end_row.result.all.height _ c.loop-comma.invariant.unended c.in-Some.ensures b c.end_row.ensures.row c.end_row.ensures.height c.loop-comma.invariant.reads
+items-returns-then-not-begins_expression-clause-reads t c = let b : starts_with kind expr_begins c.take_op.new.self.rest.now ≡ false = cc in row_end c.args.levels (row_of c.loop-comma.row, c.loop-comma.row.all.height) c.loop-comma.p.rest.now c.in-Some._comma.now c.take_op.new.self.rest.now (row_of c.end_row.result) c.end_row.result.all.height _ c.loop-comma.invariant.unended c.in-Some.ensures b c.end_row.ensures.row c.end_row.ensures.height c.loop-comma.invariant.reads
 
 pub items-returns-in_default-expression-clause-reads : goal.items-returns-in_default-expression-clause-reads
-items-returns-in_default-expression-clause-reads t c = let b : starts_with kind E1 c.take_op.new.self.rest.now ≡ true = cc in row_stops c.args.levels (row_of c.loop-comma.row, c.loop-comma.row.all.height) c.loop-comma.p.rest.now c.in-Some._comma.now c.take_op.new.self.rest.now c.expression.new.p.stop _ c.loop-comma.invariant.unended c.in-Some.ensures b c.in_default-expression.ensures.reads c.loop-comma.invariant.reads
+items-returns-in_default-expression-clause-reads t c = let b : starts_with kind expr_begins c.take_op.new.self.rest.now ≡ true = cc in row_stops c.args.levels (row_of c.loop-comma.row, c.loop-comma.row.all.height) c.loop-comma.p.rest.now c.in-Some._comma.now c.take_op.new.self.rest.now c.expression.new.p.stop _ c.loop-comma.invariant.unended c.in-Some.ensures b c.in_default-expression.ensures.reads c.loop-comma.invariant.reads
 
 pub items-returns-in_default-made-clause-reads : goal.items-returns-in_default-made-clause-reads
 items-returns-in_default-made-clause-reads t c = rw (c.in_default-made.ensures.makes) tt
@@ -52,7 +52,7 @@ pub items-loop-comma-smaller : goal.items-loop-comma-smaller
 items-loop-comma-smaller t c = omega (arith, ap length c.in-Some-made.ensures.makes.1, first_takes (k.comma ∷ []) c.loop-comma.p.rest.now c.in-Some._comma.now c.take_op.new.self.rest.now c.in-Some.ensures, takes (c.args.levels - 1) expr c.take_op.new.self.rest.now (tree c.in-Some-expression.next.expr.value, c.in-Some-expression.next.height) c.expression.new.p.rest.now c.in-Some-expression.ensures.reads)
 
 pub items-loop-comma-preserved : goal.items-loop-comma-preserved
-items-loop-comma-preserved t c = let b : starts_with kind E1 c.take_op.new.self.rest.now ≡ true = cc in let r = rw c.in-Some-made.ensures.makes.0 at c.add_item.ensures.row in let h = rw c.in-Some-made.ensures.makes.0 at c.add_item.ensures.height in record {
+items-loop-comma-preserved t c = let b : starts_with kind expr_begins c.take_op.new.self.rest.now ≡ true = cc in let r = rw c.in-Some-made.ensures.makes.0 at c.add_item.ensures.row in let h = rw c.in-Some-made.ensures.makes.0 at c.add_item.ensures.height in record {
   reads = rw (c.in-Some-made.ensures.makes.1) (row_goes c.args.levels (row_of c.loop-comma.row, c.loop-comma.row.all.height) c.loop-comma.p.rest.now c.in-Some._comma.now c.take_op.new.self.rest.now (tree c.in-Some-expression.next.expr.value, c.in-Some-expression.next.height) c.expression.new.p.rest.now (row_of c.in-Some-made.more) c.in-Some-made.more.all.height _ c.loop-comma.invariant.unended c.in-Some.ensures b c.in-Some-expression.ensures.reads r h c.loop-comma.invariant.reads);
   unended = ap (λ r. r.ended) r;
   low = omega (arith, c.in-Some-expression.ensures.fits, h, c.loop-comma.invariant.low);
@@ -272,32 +272,32 @@ pub arguments-returns-clause-reads : goal.arguments-returns-clause-reads
 arguments-returns-clause-reads t c = rw (arguments_shape c.args.levels c.args.p.now.rest.now c.requires.some, c.in-Some.ensures, c.in_default-take_op.ensures.0, sym c.in_default-take_op.ensures.1, rw (c.no_arguments-none.ensures.args, c.no_arguments-none.ensures.height) at c.in-Some-argument.ensures.reads, c.in-Some-more_arguments.ensures.reads, c.in-Some-expect_op.ensures) refl
 
 pub more_arguments-returns-then-not-begins_expression-clause-reads : goal.more_arguments-returns-then-not-begins_expression-clause-reads
-more_arguments-returns-then-not-begins_expression-clause-reads t c = let b : starts_with kind E1 c.take_op.new.self.rest.now ≡ false = cc in args_end c.args.levels (args_of c.loop-comma.all, c.loop-comma.all.all.height) c.loop-comma.p.rest.now c.in-Some._comma.now c.take_op.new.self.rest.now (args_of c.end_arguments.result) c.end_arguments.result.all.height _ c.loop-comma.invariant.unended c.in-Some.ensures b c.end_arguments.ensures.args c.end_arguments.ensures.height c.loop-comma.invariant.reads
+more_arguments-returns-then-not-begins_expression-clause-reads t c = let b : starts_with kind expr_begins c.take_op.new.self.rest.now ≡ false = cc in args_end c.args.levels (args_of c.loop-comma.all, c.loop-comma.all.all.height) c.loop-comma.p.rest.now c.in-Some._comma.now c.take_op.new.self.rest.now (args_of c.end_arguments.result) c.end_arguments.result.all.height _ c.loop-comma.invariant.unended c.in-Some.ensures b c.end_arguments.ensures.args c.end_arguments.ensures.height c.loop-comma.invariant.reads
 
 pub more_arguments-returns-in_default-argument-clause-reads : goal.more_arguments-returns-in_default-argument-clause-reads
-more_arguments-returns-in_default-argument-clause-reads t c = let b : starts_with kind E1 c.take_op.new.self.rest.now ≡ true = cc in args_fails c.args.levels (args_of c.loop-comma.all, c.loop-comma.all.all.height) c.loop-comma.p.rest.now c.in-Some._comma.now c.take_op.new.self.rest.now c.argument.new.p.stop _ c.loop-comma.invariant.unended c.in-Some.ensures b c.in_default-argument.ensures.reads c.loop-comma.invariant.reads
+more_arguments-returns-in_default-argument-clause-reads t c = let b : starts_with kind expr_begins c.take_op.new.self.rest.now ≡ true = cc in args_fails c.args.levels (args_of c.loop-comma.all, c.loop-comma.all.all.height) c.loop-comma.p.rest.now c.in-Some._comma.now c.take_op.new.self.rest.now c.argument.new.p.stop _ c.loop-comma.invariant.unended c.in-Some.ensures b c.in_default-argument.ensures.reads c.loop-comma.invariant.reads
 
 pub more_arguments-loop-comma-smaller : goal.more_arguments-loop-comma-smaller
 more_arguments-loop-comma-smaller t c = omega (arith, first_takes (k.comma ∷ []) c.loop-comma.p.rest.now c.in-Some._comma.now c.take_op.new.self.rest.now c.in-Some.ensures, arg_takes c.args.levels (args_of c.loop-comma.all, c.loop-comma.all.all.height) c.take_op.new.self.rest.now (args_of c.in-Some-argument.more, c.in-Some-argument.more.all.height) c.argument.new.p.rest.now c.in-Some-argument.ensures.reads)
 
 pub more_arguments-loop-comma-preserved : goal.more_arguments-loop-comma-preserved
-more_arguments-loop-comma-preserved t c = let b : starts_with kind E1 c.take_op.new.self.rest.now ≡ true = cc in record {
+more_arguments-loop-comma-preserved t c = let b : starts_with kind expr_begins c.take_op.new.self.rest.now ≡ true = cc in record {
   reads = args_next c.args.levels (args_of c.loop-comma.all, c.loop-comma.all.all.height) c.loop-comma.p.rest.now c.in-Some._comma.now c.take_op.new.self.rest.now (args_of c.in-Some-argument.more, c.in-Some-argument.more.all.height) c.argument.new.p.rest.now _ c.loop-comma.invariant.unended c.in-Some.ensures b c.in-Some-argument.ensures.reads c.loop-comma.invariant.reads;
   unended = c.in-Some-argument.ensures.open;
   low = c.in-Some-argument.ensures.fits;
 }
 
 pub more_pairs-returns-then-not-begins_expression-clause-reads : goal.more_pairs-returns-then-not-begins_expression-clause-reads
-more_pairs-returns-then-not-begins_expression-clause-reads t c = let b : starts_with kind E1 c.take_op.new.self.rest.now ≡ false = cc in pairs_end c.args.levels (pairs_of c.loop-comma.all, max c.loop-comma.all.names.height c.loop-comma.all.values.height) c.loop-comma.p.rest.now c.in-Some._comma.now c.take_op.new.self.rest.now (pairs_of c.end_pairs.result) (max c.end_pairs.result.names.height c.end_pairs.result.values.height) _ c.loop-comma.invariant.unended c.in-Some.ensures b c.end_pairs.ensures.pairs (omega (arith, c.end_pairs.ensures.names, c.end_pairs.ensures.values)) c.loop-comma.invariant.reads
+more_pairs-returns-then-not-begins_expression-clause-reads t c = let b : starts_with kind expr_begins c.take_op.new.self.rest.now ≡ false = cc in pairs_end c.args.levels (pairs_of c.loop-comma.all, max c.loop-comma.all.names.height c.loop-comma.all.values.height) c.loop-comma.p.rest.now c.in-Some._comma.now c.take_op.new.self.rest.now (pairs_of c.end_pairs.result) (max c.end_pairs.result.names.height c.end_pairs.result.values.height) _ c.loop-comma.invariant.unended c.in-Some.ensures b c.end_pairs.ensures.pairs (omega (arith, c.end_pairs.ensures.names, c.end_pairs.ensures.values)) c.loop-comma.invariant.reads
 
 pub more_pairs-returns-in_default-pair-clause-reads : goal.more_pairs-returns-in_default-pair-clause-reads
-more_pairs-returns-in_default-pair-clause-reads t c = let b : starts_with kind E1 c.take_op.new.self.rest.now ≡ true = cc in pairs_fails c.args.levels (pairs_of c.loop-comma.all, max c.loop-comma.all.names.height c.loop-comma.all.values.height) c.loop-comma.p.rest.now c.in-Some._comma.now c.take_op.new.self.rest.now c.pair.new.p.stop _ c.loop-comma.invariant.unended c.in-Some.ensures b c.in_default-pair.ensures.reads c.loop-comma.invariant.reads
+more_pairs-returns-in_default-pair-clause-reads t c = let b : starts_with kind expr_begins c.take_op.new.self.rest.now ≡ true = cc in pairs_fails c.args.levels (pairs_of c.loop-comma.all, max c.loop-comma.all.names.height c.loop-comma.all.values.height) c.loop-comma.p.rest.now c.in-Some._comma.now c.take_op.new.self.rest.now c.pair.new.p.stop _ c.loop-comma.invariant.unended c.in-Some.ensures b c.in_default-pair.ensures.reads c.loop-comma.invariant.reads
 
 pub more_pairs-loop-comma-smaller : goal.more_pairs-loop-comma-smaller
 more_pairs-loop-comma-smaller t c = omega (arith, first_takes (k.comma ∷ []) c.loop-comma.p.rest.now c.in-Some._comma.now c.take_op.new.self.rest.now c.in-Some.ensures, pair_takes c.args.levels (pairs_of c.loop-comma.all, max c.loop-comma.all.names.height c.loop-comma.all.values.height) c.take_op.new.self.rest.now (pairs_of c.in-Some-pair.more, max c.in-Some-pair.more.names.height c.in-Some-pair.more.values.height) c.pair.new.p.rest.now c.in-Some-pair.ensures.reads)
 
 pub more_pairs-loop-comma-preserved : goal.more_pairs-loop-comma-preserved
-more_pairs-loop-comma-preserved t c = let b : starts_with kind E1 c.take_op.new.self.rest.now ≡ true = cc in record {
+more_pairs-loop-comma-preserved t c = let b : starts_with kind expr_begins c.take_op.new.self.rest.now ≡ true = cc in record {
   reads = pairs_next c.args.levels (pairs_of c.loop-comma.all, max c.loop-comma.all.names.height c.loop-comma.all.values.height) c.loop-comma.p.rest.now c.in-Some._comma.now c.take_op.new.self.rest.now (pairs_of c.in-Some-pair.more, max c.in-Some-pair.more.names.height c.in-Some-pair.more.values.height) c.pair.new.p.rest.now _ c.loop-comma.invariant.unended c.in-Some.ensures b c.in-Some-pair.ensures.reads c.loop-comma.invariant.reads;
   unended = (c.in-Some-pair.ensures.open ∙ c.loop-comma.invariant.unended);
   low = c.in-Some-pair.ensures.fits;

@@ -18,4 +18,4 @@ returns c =
     let m = c.args.m.now in
     let goes = λ (x : Arguments). ends m.left (invoke entry c.args.f x no_call (state_of m) (λ (o : CoreOutcome). Done (call_end (state_of m) o))) in
     ap goes (sym c.in_ok-args.ensures)
-    ∙ (runner_calls m.stack m.here m.left (state_of m) c.args.f (arguments_in c.in_ok-args.args) c.requires ∙ (c.in_ok-turned.ensures.next ∙ c.in_ok-stop.ensures))
+    ∙ (runner_calls m.stack.own m.here m.left (state_of m) c.args.f (arguments_in c.in_ok-args.args) c.requires ∙ (c.in_ok-turned.ensures.next ∙ c.in_ok-stop.ensures))

@@ -8,7 +8,7 @@ use Rattle.py_machine.proofs.world.give_up.Goals as goal
 
 pub invariant_of-world : goal.invariant_of-world
 invariant_of-world c =
-    let m = c.forget_code.new.m in bare_sound m.sources.items m.modules.items m.heap m.codes.items m.printed.items (map frozen_of m.frozen.items) m.traces c.forget_code.ensures.sources c.forget_code.ensures.codes (ap (map frozen_of) c.forget_code.ensures.frozen)
+    let m = c.forget_code.new.m in bare_sound m.sources m.modules m.heap m.codes.items m.printed.items (map frozen_of m.stack.frozen) m.traces c.forget_code.ensures.sources c.forget_code.ensures.codes (ap (map frozen_of) c.forget_code.ensures.frozen)
 
 pub returns : goal.returns
 returns c =

@@ -25,7 +25,7 @@ invariant_of-world c =
 
 pub invariant_of-world-in-Err : goal.invariant_of-world-in-Err
 invariant_of-world-in-Err c =
-    let m = c.forget_code.new.m in bare_sound m.sources.items m.modules.items m.heap m.codes.items m.printed.items (map frozen_of m.frozen.items) m.traces c.forget_code.ensures.sources c.forget_code.ensures.codes (ap (map frozen_of) c.forget_code.ensures.frozen)
+    let m = c.forget_code.new.m in bare_sound m.sources m.modules m.heap m.codes.items m.printed.items (map frozen_of m.stack.frozen) m.traces c.forget_code.ensures.sources c.forget_code.ensures.codes (ap (map frozen_of) c.forget_code.ensures.frozen)
 
 pub returns-in-Ok-clause-told : goal.returns-in-Ok-clause-told
 returns-in-Ok-clause-told c =

@@ -18,6 +18,6 @@ pub returns : goal.returns
 returns c =
     let m = c.args.m.now in
     let m1 = c.call_fitting.new.m in
-    body_enters m.stack m.here m.left (state_of m) c.args.code c.args.names c.requires
-    ∙ runs_on m.left m1.left (todo c.in_ok-doing.doing m1) (entered entry c.args.code (Ok c.args.names) (record { trace = outer_of m.stack; depth = 0; handling = None }) (state_of m) (λ (o : CoreOutcome). machine_rest m (call_end (state_of m) o)))
+    body_enters m.stack.own m.here m.left (state_of m) c.args.code c.args.names c.requires
+    ∙ runs_on m.left m1.left (todo c.in_ok-doing.doing m1) (entered entry c.args.code (Ok c.args.names) (record { trace = outer_of m.stack.own; depth = 0; handling = None }) (state_of m) (λ (o : CoreOutcome). machine_rest m (call_end (state_of m) o)))
     (stopped c.in_ok-stop.stop c.run.new.m) c.call_fitting.ensures.left c.in_ok-doing.ensures.next c.in_ok-stop.ensures

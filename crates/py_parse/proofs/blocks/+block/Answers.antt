@@ -4,7 +4,7 @@ use Rattle.py_tree.specs.Statements.{statement, block, branches, handlers}
 use Rattle.py_tree.specs.declared.stmt.Handler.{Handler as HandlerNode}
 use Rattle.py_tree.specs.declared.stmt.Stmt.{Stmt}
 use Rattle.statement_readers.proofs.Suites.{left_some}
-use Rattle.statement_readers.specs.Words.{starts, CO, stmt, stmts}
+use Rattle.statement_readers.specs.Words.{starts, compound_begins, stmt, stmts}
 use Rattle.std.specs.declared.vec.Vec.{Vec}
 use Rattle.py_cursor.specs.token_kinds.Numbers as k
 use Rattle.statement_readers.proofs.Turns.{first_takes}
@@ -278,19 +278,19 @@ trying-returns t c =
 pub statement-returns-then-not-at_any : goal.statement-returns-then-not-at_any
 unfolding stmt
 statement-returns-then-not-at_any t c =
-    let b : starts CO c.args.p.now.rest.now ≡ false = cc in
+    let b : starts compound_begins c.args.p.now.rest.now ≡ false = cc in
     rw b c.simples.ensures
 
 pub statement-returns-in_default : goal.statement-returns-in_default
 unfolding stmt
 statement-returns-in_default t c =
-    let b : starts CO c.args.p.now.rest.now ≡ true = cc in
+    let b : starts compound_begins c.args.p.now.rest.now ≡ true = cc in
     rw (b, left_some c.args.levels (omega arith)) (part_fails c.compound.new.p.stop _ _ c.in_default.ensures)
 
 pub statement-returns : goal.statement-returns
 unfolding stmt
 statement-returns t c =
-    let b : starts CO c.args.p.now.rest.now ≡ true = cc in
+    let b : starts compound_begins c.args.p.now.rest.now ≡ true = cc in
     made_reads (λ (x : Vec Stmt Global). block x.items) c.add_stmt.result c.compound.new.p.rest.now c.made.result c.made.new.self _ _ c.made.ensures.makes c.add_stmt.ensures (rw (b, left_some c.args.levels (omega arith), c.in-Some.ensures) refl)
 
 pub statements-returns-in_default : goal.statements-returns-in_default
